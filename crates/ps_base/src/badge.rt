@@ -1,0 +1,24 @@
+//! Badges.
+ghost use Rattle.std.specs.Prelude.{◌≡◌, IfOk};
+
+use crate::name::Name;
+use std::alloc::{AllocError, Global};
+
+/// Who sends: a name, and its group's place in the list of groups, 0 the highest.
+#[derive(Debug, Drop)]
+pub struct Badge {
+    pub name: Name,
+    pub rank: u8,
+}
+
+impl Badge {
+    /// The same badge.
+    pub fn copy(&self, alloc: Global) -> Result<Badge, AllocError>
+        ensures { IfOk result (λ b. b ≡ self.now) }
+    {
+        Ok(Badge {
+            name: self.name.copy(alloc)?,
+            rank: self.rank,
+        })
+    }
+}

@@ -1,0 +1,67 @@
+//! Numbers of connections and rooms, and moments.
+use std::fmt;
+use std::marker::Model;
+
+/// The number of a connection, from 1.
+#[derive(Clone, Copy, Debug, PartialEq, Eq, PartialOrd, Ord, Hash)]
+pub struct ConnNo(pub u32);
+
+impl Model for ConnNo {
+    ghost use Rattle.std.specs.Prelude.{ℕ};
+
+    ghost Value = { ℕ };
+
+    ghost view = { λ c. c.0 };
+
+    ghost inverse = { λ n. record { 0 = n } };
+}
+
+impl fmt::Display for ConnNo {
+    ghost use Rattle.std.specs.Prelude.{Some};
+    ghost use Rattle.std.specs.Fmt.{decimal};
+
+    ghost output = { λ c. Some (decimal c) };
+
+    fn fmt<W: fmt::Write>(&self, f: &mut fmt::Formatter<W>) -> fmt::Result {
+        write!(f, "{}", self.0)
+    }
+}
+
+/// The number of a room: a chat room's place in the configuration, or 15 and a battle's number.
+#[derive(Clone, Copy, Debug, PartialEq, Eq, PartialOrd, Ord, Hash)]
+pub struct RoomNo(pub u32);
+
+impl Model for RoomNo {
+    ghost use Rattle.std.specs.Prelude.{ℕ};
+
+    ghost Value = { ℕ };
+
+    ghost view = { λ r. r.0 };
+
+    ghost inverse = { λ n. record { 0 = n } };
+}
+
+/// A moment, in seconds from the start.
+#[derive(Clone, Copy, Debug, PartialEq, Eq, PartialOrd, Ord, Hash)]
+pub struct Moment(pub u64);
+
+impl Model for Moment {
+    ghost use Rattle.std.specs.Prelude.{ℕ};
+
+    ghost Value = { ℕ };
+
+    ghost view = { λ m. m.0 };
+
+    ghost inverse = { λ n. record { 0 = n } };
+}
+
+impl fmt::Display for Moment {
+    ghost use Rattle.std.specs.Prelude.{Some};
+    ghost use Rattle.std.specs.Fmt.{decimal};
+
+    ghost output = { λ m. Some (decimal m) };
+
+    fn fmt<W: fmt::Write>(&self, f: &mut fmt::Formatter<W>) -> fmt::Result {
+        write!(f, "{}", self.0)
+    }
+}
