@@ -1,0 +1,13 @@
+//! What psd needs of the outside, as traits, with versions in memory and over std.
+//!
+//! Each trait has a count of faults, which never falls, and answers `Failed` only where that count
+//! rose in the call. What an object holds is told or not: the versions in memory tell it, and the
+//! adapters to the real outside tell nothing that std doesn't.
+#![tactic(auto)]
+
+pub mod sink;
+pub mod source;
+
+/// A call that the outside refused.
+#[derive(Clone, Copy, Debug, PartialEq, Eq)]
+pub struct Failed;
