@@ -1,5 +1,1 @@
-pub mod InputLemmas
-pub mod ItemLemmas
-pub mod LimitLemmas
-pub mod LineLemmas
-pub mod ScriptLemmas
+pub mod PlayLemmas

@@ -1,6 +1,7 @@
-pub mod Controls
-pub mod Ends
-pub mod Groups
-pub mod Items
-pub mod Limits
-pub mod Scripts
+pub mod Entries
+pub mod Halls
+pub mod Plain
+pub mod Requests
+pub mod Tables
+pub mod Transcript
+pub mod Worlds

@@ -1,7 +1,10 @@
 //! Replays a recorded script of connections.
 #![tactic(auto)]
 
-pub mod group;
-pub mod input;
-pub mod item;
-pub mod script;
+pub mod hall;
+pub mod place;
+pub mod plain;
+pub mod play;
+pub mod print;
+pub mod request;
+pub mod table;

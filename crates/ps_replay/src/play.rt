@@ -1,0 +1,92 @@
+//! What an entry prints, to each connection in ascending number.
+ghost use Rattle.std.specs.Prelude.{◌≡◌, ◌++◌, ◌==◌, [], OnOk, string_bytes, slice_get, if◌then◌else◌};
+ghost use Rattle.ps_room.specs.Rooms.{role, message_of, message, after};
+ghost use Rattle.ps_replay.specs.Worlds.{in_hall, in_room, rooms_after, room_message};
+ghost use Rattle.ps_replay.specs.Transcript.{printed, with_place};
+ghost use Rattle.ps_replay.specs.Tables.{each_to};
+
+use crate::print;
+use ps_base::number::{ConnNo, RoomNo};
+use ps_base::text::Text;
+use ps_room::entry::{Entry, Told};
+use ps_room::room::{Room, message};
+use std::alloc::{AllocError, Global};
+
+/// Prints lines of the hall, which go to one of the connections from 1 to `count`.
+pub fn push_hall(
+    out: &mut String,
+    count: u32,
+    to: ConnNo,
+    lines: &[Text],
+) -> Result<(), AllocError>
+    ensures { OnOk result (string_bytes out.new ≡ string_bytes out.old
+        ++ each_to (λ conn. printed conn (with_place in_hall (if conn == to then lines.now else []))) count) }
+{
+    for i in 0..count {
+        let conn = ConnNo(i + 1);
+        if conn == to {
+            print::push_message(out, conn, lines)?;
+        }
+    }
+    Ok(())
+}
+
+// Prints what an entry of a room gives, to the connections from 1 to `count`.
+fn push_room(
+    out: &mut String,
+    count: u32,
+    no: RoomNo,
+    room: &Room,
+    sender: ConnNo,
+    told: &Told,
+) -> Result<(), AllocError>
+    ensures { OnOk result (string_bytes out.new ≡ string_bytes out.old
+        ++ each_to (λ conn. printed conn (with_place (in_room no) (message_of conn (role conn room.now) sender told.now))) count) }
+{
+    for i in 0..count {
+        let conn = ConnNo(i + 1);
+        let lines = message(conn, room.role(conn), sender, told);
+        print::push_room_message(out, conn, no, lines)?;
+    }
+    Ok(())
+}
+
+// Prints an entry of a room to the connections from 1 to `count`, and applies it.
+fn play_room(
+    alloc: Global,
+    out: &mut String,
+    count: u32,
+    no: RoomNo,
+    room: &mut Room,
+    entry: Entry,
+) -> Result<(), AllocError>
+    ensures state { OnOk result (room.new ≡ after room.old entry) }
+    ensures text { OnOk result (string_bytes out.new ≡ string_bytes out.old
+        ++ each_to (λ conn. printed conn (with_place (in_room no) (message conn room.old entry))) count) }
+{
+    let told = room.told(alloc, &entry)?;
+    push_room(out, count, no, room, entry.conn, &told)?;
+    room.apply(entry, told.line)
+}
+
+/// Prints an entry of one of the rooms to the connections from 1 to `count`, and applies it. Where no
+/// room has the number, nothing is printed and nothing changes.
+pub fn play_rooms(
+    alloc: Global,
+    out: &mut String,
+    count: u32,
+    rooms: &mut [Room],
+    no: RoomNo,
+    entry: Entry,
+) -> Result<(), AllocError>
+    ensures state { OnOk result (rooms.new ≡ rooms_after rooms.old no entry) }
+    ensures text { OnOk result (string_bytes out.new ≡ string_bytes out.old
+        ++ each_to (λ conn. printed conn (with_place (in_room no) (room_message conn entry (slice_get rooms.old no)))) count) }
+{
+    let place = no.0 as usize;
+    if place >= rooms.len() {
+        return Ok(());
+    }
+    play_room(alloc, out, count, no, &mut rooms[place], entry)?;
+    Ok(())
+}

@@ -1,0 +1,5 @@
+pub mod InputLemmas
+pub mod ItemLemmas
+pub mod LimitLemmas
+pub mod LineLemmas
+pub mod ScriptLemmas

@@ -1,0 +1,6 @@
+pub mod Controls
+pub mod Ends
+pub mod Groups
+pub mod Items
+pub mod Limits
+pub mod Scripts

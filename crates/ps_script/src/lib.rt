@@ -1,0 +1,7 @@
+//! Recorded scripts of connections: how one is read, line by line.
+#![tactic(auto)]
+
+pub mod group;
+pub mod input;
+pub mod item;
+pub mod script;
