@@ -1,1 +1,3 @@
+pub mod FlowLemmas
 pub mod PlayLemmas
+pub mod RankLemmas

@@ -16,7 +16,7 @@ use Rattle.ps_replay.specs.declared.place.Placed.TheVariants.{Hall, Room}
 use Rattle.ps_script.specs.Groups.{rank_of, lowest}
 use Rattle.ps_replay.specs.Halls.{HallRecord, badge_of}
 use Rattle.ps_replay.specs.Requests.{request_of}
-use Rattle.ps_replay.specs.Worlds.{World, world_of}
+use Rattle.ps_replay.specs.Worlds.{world_of}
 
 -- ---- what lines give that make no entry
 

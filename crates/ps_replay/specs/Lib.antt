@@ -1,4 +1,5 @@
 pub mod Entries
+pub mod Flow
 pub mod Halls
 pub mod Plain
 pub mod Requests

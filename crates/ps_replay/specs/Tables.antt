@@ -1,10 +1,10 @@
 -- A replay's state, which its code keeps in the place of a history.
-use Rattle.std.specs.Prelude.{◌≡◌, ℕ, zero, suc, List, [], ◌∷◌, ◌++◌, Option, Some, None}
+use Rattle.std.specs.Prelude.{ℕ, zero, suc, List, [], ◌∷◌, ◌++◌, Option, Some, None}
 use Rattle.ps_script.specs.declared.item.Item.{Item}
 use Rattle.ps_replay.specs.declared.place.Ranked.{Ranked}
 use Rattle.ps_replay.specs.declared.place.Placed.{Placed}
 use Rattle.ps_replay.specs.Halls.{opened}
-use Rattle.ps_replay.specs.Worlds.{World, place_of, world_opening, world_after, world_message, world_of}
+use Rattle.ps_replay.specs.Worlds.{World, place_of, world_opening, world_after, world_message}
 use Rattle.ps_replay.specs.Entries.{place_item, moment_after}
 use Rattle.ps_replay.specs.Transcript.{printed, with_place}
 

@@ -1,5 +1,5 @@
 -- The hall and the rooms together, and what their entries make of them.
-use Rattle.std.specs.Prelude.{ℕ, suc, List, [], ◌∷◌, ◌++◌, slice_get, slice_set, codes, Option, Some, None, ◌==◌, if◌then◌else◌}
+use Rattle.std.specs.Prelude.{ℕ, suc, List, [], ◌∷◌, slice_get, slice_set, codes, Option, Some, None, ◌==◌, if◌then◌else◌}
 use Rattle.std.specs.Option.{option_map_or}
 use Rattle.std.specs.List.{filter_map}
 use Rattle.ps_room.specs.declared.entry.Entry.{Entry}

@@ -6,5 +6,6 @@ pub mod place;
 pub mod plain;
 pub mod play;
 pub mod print;
+pub mod replay;
 pub mod request;
 pub mod table;

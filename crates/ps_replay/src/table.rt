@@ -31,7 +31,7 @@ impl Model for Table {
 }
 
 impl Table {
-    ghost use Rattle.ps_replay.specs.Tables.{fresh, item_entry, entry_text};
+    ghost use Rattle.ps_replay.specs.Tables.{fresh, item_entry, entry_text, item_text, item_after};
     ghost use Rattle.ps_replay.specs.Worlds.{world_after};
     ghost use Rattle.ps_replay.specs.Entries.{place_item, place_request, to_lobby, moment_after};
 
@@ -160,5 +160,41 @@ impl Table {
     {
         let count = self.hall.opened() as u32;
         play::play_rooms(alloc, out, count, &mut self.rooms, no, entry)
+    }
+
+    // Prints an entry, and applies it.
+    fn push_entry(
+        &mut self,
+        alloc: Global,
+        placed: Placed,
+        out: &mut String,
+    ) -> Result<(), AllocError>
+        requires { length self.old.world.hall.seats < 2 ^ 31 }
+        ensures state { OnOk result (self.new ≡ record self.old { world = world_after self.old.world placed }) }
+        ensures text { OnOk result (string_bytes out.new ≡ string_bytes out.old ++ entry_text self.old.world placed) }
+    {
+        match placed {
+            Placed::Hall(entry) => self.push_hall_entry(alloc, entry, out),
+            Placed::Room(no, entry) => self.push_room_entry(alloc, no, entry, out),
+        }
+    }
+
+    /// Prints what a line prints, and goes on to the state after it.
+    pub fn play(&mut self, alloc: Global, item: &Item, out: &mut String) -> Result<(), AllocError>
+        requires { length self.old.world.hall.seats < 2 ^ 31 }
+        ensures state { OnOk result (self.new ≡ item_after self.old item.now) }
+        ensures text { OnOk result (string_bytes out.new ≡ string_bytes out.old ++ item_text self.old item.now) }
+    {
+        match self.entry(alloc, item)? {
+            None => {
+                self.pass(item);
+                Ok(())
+            }
+            Some(placed) => {
+                self.push_entry(alloc, placed, out)?;
+                self.pass(item);
+                Ok(())
+            }
+        }
     }
 }

@@ -2,4 +2,5 @@ pub mod InputLemmas
 pub mod ItemLemmas
 pub mod LimitLemmas
 pub mod LineLemmas
+pub mod OneScript
 pub mod ScriptLemmas

@@ -2,5 +2,6 @@ pub mod Controls
 pub mod Ends
 pub mod Groups
 pub mod Items
+pub mod Laws
 pub mod Limits
 pub mod Scripts

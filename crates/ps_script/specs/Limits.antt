@@ -1,5 +1,6 @@
 -- The limits of an input: 200,000 lines and 16,777,216 bytes.
-use Rattle.std.specs.Prelude.{ℕ, ◌+◌, List, [], ◌∷◌, Option, Some, None, nat_le, ◌==◌, if◌then◌else◌}
+use Rattle.std.specs.Prelude.{ℕ, ◌+◌, ◌≤◌, List, [], ◌∷◌, length, Option, Some, None, nat_le, ◌==◌, if◌then◌else◌}
+use Rattle.std.specs.Io.KnownBytes.{Consumes}
 
 -- the count that first goes past its limit, after this many bytes and newlines: a byte behind the last newline is of one more line
 abbrev pub long_from : ℕ → ℕ → List ℕ → Option ℕ
@@ -16,3 +17,9 @@ breaks_from breaks (b ∷ bytes) = breaks_from (if b == 10 then breaks + 1 else 
 
 abbrev pub breaks_of : List ℕ → ℕ
 breaks_of bytes = breaks_from 0 bytes
+
+-- what was read is a front of what was left, and at most one byte more than the limit
+pub record ReadsFew (old new : Option (List ℕ)) : Type 0 where
+  pub front : List ℕ
+  pub taken : Consumes old new front
+  pub few : length front ≤ 16777217

@@ -2,7 +2,7 @@
 ghost use Rattle.std.specs.Prelude.{◌≡◌, ◌≤◌, ◌<◌, ◌+◌, ℕ, ◌++◌, length, IfOk, IfSome, IfErr, OnErr, Some, None, Ok, Err, vec_len};
 ghost use Rattle.std.specs.Io.KnownBytes.{Consumes, IsAtEnd};
 ghost use Rattle.ps_outside.specs.Causes.{Rose};
-ghost use Rattle.ps_script.specs.Limits.{long_of, breaks_of};
+ghost use Rattle.ps_script.specs.Limits.{long_of, breaks_of, ReadsFew};
 
 use ps_outside::source::Source;
 use std::alloc::{AllocError, AllocFailed, Global};
@@ -58,6 +58,7 @@ pub fn read_input<S: Source>(alloc: Global, source: &mut S) -> Result<Vec<u8>, I
     ensures end { IfOk result (λ _. IsAtEnd (S.left source.new)) }
     ensures within { IfOk result (λ v. (long_of v.items ≡ None) × (length v.items ≤ 16777216)) }
     ensures long { (count : ℕ) → result ≡ Err (InputEnd.Long count) → IfSome (S.left source.old) (λ input. long_of input ≡ Some count) }
+    ensures bounded { ReadsFew (S.left source.old) (S.left source.new) }
     ensures later { S.faults source.old ≤ S.faults source.new }
     ensures fault { result ≡ Err InputEnd.ReadFault → Rose (S.faults source.old) (S.faults source.new) }
 {

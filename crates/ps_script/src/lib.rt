@@ -4,4 +4,5 @@
 pub mod group;
 pub mod input;
 pub mod item;
+pub mod law;
 pub mod script;

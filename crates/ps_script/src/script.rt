@@ -1,9 +1,10 @@
 //! A script: its lines, in order.
-ghost use Rattle.std.specs.Prelude.{◌≡◌, ◌≢◌, ◌∷◌, ◌<◌, ◌≤◌, ◌^◌, ℕ, length, IfOk, IfErr, OnOk, OnErr, None, slice_index};
+ghost use Rattle.std.specs.Prelude.{◌≡◌, ◌≢◌, ◌∷◌, ◌<◌, ◌≤◌, ◌^◌, ℕ, List, length, IfOk, IfErr, OnOk, OnErr, None, slice_index};
 ghost use Rattle.std.specs.Str.Lines.{lines, strip_carriage_return};
 ghost use Rattle.ps_script.specs.Controls.{has_control};
 ghost use Rattle.ps_script.specs.Scripts.{is_open, closed_in, fault_of, IsLine, IsScript};
-ghost use Rattle.ps_script.specs.Ends.{EndsLine, EndsScript};
+ghost use Rattle.ps_script.specs.Ends.{EndsLine, EndsScript, IsNoScript};
+ghost use Rattle.ps_script.specs.declared.item.Item.{Item};
 
 use crate::group;
 use crate::item::{self, Item};
@@ -276,8 +277,8 @@ fn read_line(alloc: Global, seen: &Seen, line: &[u8]) -> Result<Item, LineEnd>
     }
 }
 
-/// Reads a script.
-pub fn read_script(alloc: Global, bytes: &[u8]) -> Result<Vec<Item>, ScriptEnd>
+// Reads the lines of a script.
+fn read_lines(alloc: Global, bytes: &[u8]) -> Result<Vec<Item>, ScriptEnd>
     requires { length bytes.now < 2 ^ 32 }
     ensures found { IfOk result (λ v. IsScript bytes.now v.items) }
     ensures few { IfOk result (λ v. length v.items ≤ length bytes.now) }
@@ -301,4 +302,21 @@ pub fn read_script(alloc: Global, bytes: &[u8]) -> Result<Vec<Item>, ScriptEnd>
         rest = after;
     }
     Ok(items)
+}
+
+/// Reads a script. A text is one script at most; `Bad` comes exactly where it is none, with the number
+/// of the first line that no script has there, counted from 1, and what is wrong with it.
+pub fn read_script(alloc: Global, bytes: &[u8]) -> Result<Vec<Item>, ScriptEnd>
+    requires { length bytes.now < 2 ^ 32 }
+    ensures found { IfOk result (λ v. IsScript bytes.now v.items) }
+    ensures one { IfOk result (λ v. (items : List Item) → IsScript bytes.now items → items ≡ v.items) }
+    ensures few { IfOk result (λ v. length v.items ≤ length bytes.now) }
+    ensures bad { IfErr result (EndsScript bytes.now) }
+    ensures none { IfErr result (IsNoScript bytes.now) }
+{
+    match read_lines(alloc, bytes) {
+        Err(ScriptEnd::Bad(line, kind)) => Err(ScriptEnd::Bad(line, kind)),
+        Err(ScriptEnd::NoMemory) => Err(ScriptEnd::NoMemory),
+        Ok(items) => Ok(items),
+    }
 }

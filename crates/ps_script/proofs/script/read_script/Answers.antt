@@ -1,16 +1,8 @@
-use Rattle.std.proofs.lemmas.List.{length-append}
-use Rattle.std.proofs.Common.{◌∷◌, [], arith, ap, ◌∙◌}
-use Rattle.ps_script.specs.Scripts.{next}
-use Rattle.ps_script.proofs.ScriptLemmas.{Reads-more, seen_after_more}
+use Rattle.ps_script.proofs.OneScript.{one_script, no_script}
 use Rattle.ps_script.proofs.script.read_script.Goals as goal
 
-pub loop-rest-preserved : goal.loop-rest-preserved
-loop-rest-preserved c =
-    let inv = c.loop-rest.invariant in
-    let items-are = c.in_ok-push-in-Ok.ensures.items in
-    record {
-      reads = rw items-are (Reads-more c.args.bytes.now c.loop-rest.rest.now c.first_line.result.0.now c.first_line.result.1.now c.loop-rest.items.items c.in-Ok.item c.loop-rest.count inv.reads c.first_line.ensures.lines c.in-Ok.ensures.found.0 (rw inv.seen at c.in-Ok.ensures.found.1));
-      seen = rw (items-are, seen_after_more) (c.in_ok-pass-in-Ok.ensures.ok ∙ ap (λ s. next s c.in-Ok.item) inv.seen);
-      few = rw items-are (omega (arith, length-append c.loop-rest.items.items (c.in-Ok.item ∷ []), inv.few));
-      room = omega (arith, inv.room, c.first_line.ensures.shorter);
-    }
+pub returns-in-Err-Bad-clause-none : goal.returns-in-Err-Bad-clause-none
+returns-in-Err-Bad-clause-none c = λ items h. no_script c.args.bytes.now items c.in-Err-Bad.line c.in-Err-Bad.kind (rw c.in-Err-Bad.field-0-is at c.in-Err-Bad.ensures.bad) h
+
+pub returns-in-Ok-clause-one : goal.returns-in-Ok-clause-one
+returns-in-Ok-clause-one c = λ items h. one_script c.args.bytes.now items c.in-Ok.items.items h c.in-Ok.ensures.found

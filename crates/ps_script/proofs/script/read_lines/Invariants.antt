@@ -1,7 +1,7 @@
 use Rattle.std.proofs.Common.{◌≡◌, ◌+◌, ◌≤◌, length}
 use Rattle.ps_script.specs.Scripts.{start, seen_after}
 use Rattle.ps_script.proofs.ScriptLemmas.{Reads}
-use Rattle.ps_script.proofs.script.read_script.Given as goal
+use Rattle.ps_script.proofs.script.read_lines.Given as goal
 
 abbrev pub invariant-loop-rest : goal.invariant-loop-rest
 invariant-loop-rest l = record {

@@ -1,0 +1,78 @@
+-- How far a replay has come: what was written, what waits, and what is still to be printed.
+use Rattle.std.proofs.Common.{◌≡◌, ℕ, ◌+◌, ◌-◌, ◌≤◌, List, [], ◌∷◌, ◌++◌, length, Option, Some, None, refl, sym, ap, ◌∙◌, subst, arith, append_assoc}
+use Rattle.std.specs.Io.KnownBytes.{Appends}
+use Rattle.std.proofs.KnownBytes.{Appends-trans, Appends-nil}
+use Rattle.std.proofs.lemmas.List.{append-nil, length-append, length-set}
+use Rattle.ps_outside.specs.Sinks.{AppendsFront}
+use Rattle.ps_script.specs.declared.item.Item.{Item}
+use Rattle.ps_replay.specs.declared.place.HallCmd.{HallCmd}
+use Rattle.ps_replay.specs.declared.place.HallCmd.TheVariants as hall_commands
+use Rattle.ps_replay.specs.declared.place.Placed.{Placed}
+use Rattle.ps_replay.specs.declared.place.Placed.TheVariants.{Hall, Room}
+use Rattle.ps_replay.specs.Halls.{HallRecord, hall_by, badge_for}
+use Rattle.ps_replay.specs.Worlds.{World, world_after}
+use Rattle.ps_replay.specs.Flow.{MovesFront}
+use Rattle.ps_replay.specs.Tables.{State, item_entry, world_by, item_text, item_after, text_from}
+
+pub record Came (old new : Option (List ℕ)) (all pending : List ℕ) (s : State) (rest : List Item) : Type 0 where
+  pub front : List ℕ
+  pub wrote : Appends old new front
+  pub parts : all ≡ front ++ (pending ++ text_from s rest)
+
+pub Came-start : (old : Option (List ℕ)) (s : State) (items : List Item) → Came old old (text_from s items) [] s items
+Came-start old s items = record { front = []; wrote = Appends-nil old; parts = refl }
+
+pub Came-more : (old mid new : Option (List ℕ)) (all pending now : List ℕ) (s : State) (i : Item) (rest : List Item) → Came old mid all pending s (i ∷ rest) → MovesFront mid new (pending ++ item_text s i) now → Came old new all now (item_after s i) rest
+Came-more old mid new all pending now s i rest c m = record {
+  front = c.front ++ m.front;
+  wrote = Appends-trans old mid new c.front m.front c.wrote m.grew;
+  parts =
+      c.parts
+      ∙ ap (λ (x : List ℕ). c.front ++ x) (sym (append_assoc pending (item_text s i) (text_from (item_after s i) rest)) ∙ ap (λ (x : List ℕ). x ++ text_from (item_after s i) rest) m.parts ∙ append_assoc m.front now (text_from (item_after s i) rest))
+      ∙ sym (append_assoc c.front m.front (now ++ text_from (item_after s i) rest));
+}
+
+-- a front of what waits is a front of all
+pub Came-stopped : (old mid new : Option (List ℕ)) (all pending : List ℕ) (s : State) (i : Item) (rest : List Item) → Came old mid all pending s (i ∷ rest) → AppendsFront mid new (pending ++ item_text s i) → AppendsFront old new all
+Came-stopped old mid new all pending s i rest c a =
+    let tail = text_from (item_after s i) rest in
+    record {
+      front = c.front ++ a.front;
+      rest = a.rest ++ tail;
+      parts =
+          c.parts
+          ∙ ap (λ (x : List ℕ). c.front ++ x) (sym (append_assoc pending (item_text s i) tail) ∙ ap (λ (x : List ℕ). x ++ tail) a.parts ∙ append_assoc a.front a.rest tail)
+          ∙ sym (append_assoc c.front a.front (a.rest ++ tail));
+      grew = Appends-trans old mid new c.front a.front c.wrote a.grew;
+    }
+
+pub Came-last : (old mid new : Option (List ℕ)) (all pending : List ℕ) (s : State) → Came old mid all pending s [] → AppendsFront mid new pending → AppendsFront old new all
+Came-last old mid new all pending s c a = record {
+  front = c.front ++ a.front;
+  rest = a.rest;
+  parts = c.parts ∙ ap (λ (x : List ℕ). c.front ++ x) (append-nil pending ∙ a.parts) ∙ sym (append_assoc c.front a.front a.rest);
+  grew = Appends-trans old mid new c.front a.front c.wrote a.grew;
+}
+
+pub Came-all : (old mid new : Option (List ℕ)) (all pending now : List ℕ) (s : State) → Came old mid all pending s [] → MovesFront mid new pending now → now ≡ [] → Appends old new all
+Came-all old mid new all pending now s c m empty =
+    let waited : pending ≡ m.front = m.parts ∙ ap (λ (x : List ℕ). m.front ++ x) empty ∙ append-nil m.front in
+    let whole : all ≡ c.front ++ m.front = c.parts ∙ ap (λ (x : List ℕ). c.front ++ x) (append-nil pending ∙ waited) in
+    subst (λ (x : List ℕ). Appends old new x) (sym whole) (Appends-trans old mid new c.front m.front c.wrote m.grew)
+
+-- ---- a line opens one connection at most
+
+seats_by : (h : HallRecord) (conn : ℕ) (cmd : HallCmd) → length (hall_by h conn cmd).seats ≤ length h.seats + 1
+seats_by h conn hall_commands.Open = omega (arith, length-append h.seats (None ∷ []))
+seats_by h conn (hall_commands.Name name) = omega (arith, length-set h.seats (conn - 1) (Some (badge_for h name)))
+
+seats_after : (w : World) (p : Placed) → length (world_after w p).hall.seats ≤ length w.hall.seats + 1
+seats_after w (Hall e) = seats_by w.hall e.conn e.cmd
+seats_after w (Room room e) = omega arith
+
+seats_option : (w : World) (o : Option Placed) → length (world_by w o).hall.seats ≤ length w.hall.seats + 1
+seats_option w None = omega arith
+seats_option w (Some p) = seats_after w p
+
+pub opens_one : (s : State) (i : Item) → length (item_after s i).world.hall.seats ≤ length s.world.hall.seats + 1
+opens_one s i = seats_option s.world (item_entry s i)
