@@ -1,5 +1,5 @@
 -- What is left between the spaces at both ends.
-use Rattle.std.proofs.Common.{◌≡◌, ◌≢◌, ℕ, ◌-◌, ◌==◌, List, [], ◌∷◌, ◌++◌, length, take, drop, Option, Some, None, refl, sym, ap, ◌∙◌, arith, lit<, inl, inr}
+use Rattle.std.proofs.Common.{◌≡◌, ◌≢◌, ℕ, ◌-◌, List, [], ◌∷◌, ◌++◌, length, take, drop, Option, Some, None, refl, sym, ap, ◌∙◌, arith, lit<, inl, inr}
 use Rattle.std.specs.Prelude.{reverse, IfSome}
 use Rattle.std.specs.Str.Pattern.{CutsPrefixes, CutsSuffixes, IsFullyTrimmed, FindsCharPrefix, FindsCharSuffix, IsTrimStartMatches, IsTrimEndMatches}
 use Rattle.std.proofs.lemmas.Bool.Decides.{eqb_tells}

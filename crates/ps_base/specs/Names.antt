@@ -1,5 +1,5 @@
 -- The name that a text is, or its first fault.
-use Rattle.std.specs.Prelude.{◌≡◌, ℕ, ◌-◌, ◌^◌, ◌==◌, Bool, ◌||◌, List, [], ◌∷◌, length, reverse, Option, Some, None, Result, Ok, Err, min, nat_lt, if◌then◌else◌}
+use Rattle.std.specs.Prelude.{◌≡◌, ℕ, ◌==◌, Bool, ◌||◌, List, [], ◌∷◌, length, reverse, Option, Some, None, Result, Ok, Err, nat_lt, if◌then◌else◌}
 use Rattle.std.specs.List.{position}
 use Rattle.std.specs.Str.{chars}
 use Rattle.ps_base.specs.Ids.{id_of}
@@ -42,7 +42,7 @@ clean None text = fitting (length (chars text)) text
 abbrev pub left_name : List ℕ → Result (List ℕ) NameFault
 left_name text = clean (position is_bad (chars text)) text
 
-abbrev pub name_in : List ℕ → Result (List ℕ) NameFault
+unfoldable pub name_in : List ℕ → Result (List ℕ) NameFault
 name_in text = left_name (between_spaces text)
 
 -- What a call that found this fault was to find: this fault, but want of memory may come at any text.

@@ -137,6 +137,7 @@ fn between_spaces(text: &str) -> &str
 /// The faults, in the order in which they are told: `BadChar` where a character is outside U+0020
 /// to U+007E or is `|` or `,`, `Long` past 18 characters, `Empty` where the id is empty.
 /// `NoMemory` may come at any text.
+#[tactic(auto, unfolding(crate::specs::Names::name_in))]
 pub fn read_name(alloc: Global, text: &str) -> Result<Name, NameFault>
     ensures name { IfOk result (λ n. name_in text.now ≡ Ok n) }
     ensures fault { IfErr result (λ f. IsNameFault f (name_in text.now)) }

@@ -2,8 +2,7 @@
 use Rattle.std.specs.Prelude.{ℕ, List, [], ◌∷◌, Option, Some, None, Result, Ok, Err, ⊤}
 use Rattle.std.specs.Str.{chars}
 use Rattle.ps_base.specs.Ids.{id_of}
-use Rattle.ps_base.specs.Numbers.{number_in}
-use Rattle.ps_lines.specs.Parts.{at_first, at_last, after_space}
+use Rattle.ps_lines.specs.Parts.{at_first, after_space}
 use Rattle.ps_lines.specs.declared.command.CommandFault.{CommandFault}
 use Rattle.ps_lines.specs.declared.command.CommandFault.TheVariants.{BadArgs}
 

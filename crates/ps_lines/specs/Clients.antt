@@ -21,5 +21,5 @@ readable None = Err NotUtf8
 readable (Some text) = barred (at_first 124 text)
 
 -- the room and the text: at most 8,192 bytes of UTF-8, parted at the first bar
-abbrev pub client : List ℕ → Result (List ℕ × List ℕ) ClientFault
+unfoldable pub client : List ℕ → Result (List ℕ × List ℕ) ClientFault
 client bytes = if nat_lt 8192 (length bytes) then Err (Long (counted (length bytes))) else readable (text_of bytes)

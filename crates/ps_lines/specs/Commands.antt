@@ -1,5 +1,5 @@
 -- The command that a client's text stands for. A text has at most one.
-use Rattle.std.specs.Prelude.{ℕ, Bool, true, false, List, codes, Option, Some, None, Result, Ok, Err, nat_lt}
+use Rattle.std.specs.Prelude.{ℕ, Bool, true, false, List, codes, Option, Some, None, Result, Err, nat_lt}
 use Rattle.std.specs.List.{list_any}
 use Rattle.ps_base.specs.Cuts.{after_front}
 use Rattle.ps_lines.specs.Parts.{at_first}

@@ -45,6 +45,7 @@ fn text_of(bytes: &[u8]) -> Option<&str>
 ///
 /// The faults, in the order in which they are told: `Long` for more than 8,192 bytes, `NotUtf8`
 /// where the bytes aren't UTF-8, `NoBar` where no `|` is there. Takes no memory.
+#[tactic(auto, unfolding(crate::specs::Clients::client))]
 pub fn read_client(bytes: &[u8]) -> Result<ClientMsg<'_>, ClientFault>
     ensures message { IfOk result (λ m. client bytes.now ≡ Ok (m.room.now, m.text.now)) }
     ensures fault { IfErr result (λ f. client bytes.now ≡ Err f) }

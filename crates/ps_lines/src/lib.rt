@@ -9,4 +9,6 @@ pub mod order;
 mod parts;
 pub mod read;
 mod room_rows;
+#[cfg(test)]
+mod tests;
 mod word;

@@ -61,7 +61,12 @@ fn has_control(text: &str) -> bool
 }
 
 /// A line behind its slash, whose text has a control character or not.
-fn worded(alloc: Global, control: bool, word: &str, rest: Option<&str>) -> Result<Parsed, CommandFault>
+fn worded(
+    alloc: Global,
+    control: bool,
+    word: &str,
+    rest: Option<&str>,
+) -> Result<Parsed, CommandFault>
     ensures { Gives result (worded control (word_of word.now) (option_copied rest.entry)) }
 {
     match word_of(word) {

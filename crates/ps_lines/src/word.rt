@@ -164,9 +164,7 @@ fn room_word(word: &str) -> Option<Word>
 fn hall_word(word: &str) -> Option<Word>
     ensures { result ≡ hall_word word.now }
 {
-    own_word(word)
-        .or(challenge_word(word))
-        .or(user_word(word))
+    own_word(word).or(challenge_word(word)).or(user_word(word))
 }
 
 /// The command that a word names, if it is in one of the tables.
