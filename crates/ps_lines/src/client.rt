@@ -10,10 +10,12 @@ use thiserror::Error;
 /// The most bytes that a client's text has.
 pub const CLIENT_LIMIT: usize = 8192;
 
-/// `ROOMID|TEXT` of PROTOCOL.md.
+/// A client's message, `ROOMID|TEXT` of PROTOCOL.md.
 #[derive(Clone, Copy, Debug, PartialEq, Eq)]
 pub struct ClientMsg<'a> {
+    /// What stands before the first `|`: the id of a room, which may be empty.
     pub room: &'a str,
+    /// What stands behind it, further bars included.
     pub text: &'a str,
 }
 

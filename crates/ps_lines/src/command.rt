@@ -99,10 +99,12 @@ pub enum HallCmd {
     Report { number: u32, winner: Option<u8> },
 }
 
-/// A command to a room or to the hall.
+/// The command that a text stands for.
 #[derive(Debug, Drop)]
 pub enum Parsed {
+    /// A command to a room: the one that it names itself, for `Join`, and else that of its message.
     Room(Command),
+    /// A command to the hall, whatever room its message names.
     Hall(HallCmd),
 }
 
