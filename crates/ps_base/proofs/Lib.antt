@@ -1,3 +1,4 @@
 pub mod CutLemmas
 pub mod IdLemmas
+pub mod NameLemmas
 pub mod NumberLemmas

@@ -1,14 +1,16 @@
 -- Where a text is the numeral of a number.
-use Rattle.std.proofs.Common.{◌≡◌, ◌≢◌, ℕ, ◌^◌, ◌<◌, ◌==◌, true, not, ◌&&◌, List, [], ◌∷◌, length, get_or, Ok, Err, refl, sym, ap, ◌∙◌, arith, inl, inr}
+use Rattle.std.proofs.Common.{◌≡◌, ◌≢◌, ℕ, ◌^◌, ◌<◌, ◌==◌, Bool, true, false, cond, ltb, not, ◌&&◌, List, [], ◌∷◌, length, get_or, Some, None, Ok, Err, refl, sym, ap, ◌∙◌, arith, inl, inr}
 use Rattle.std.specs.Fmt.{decimal}
 use Rattle.std.specs.Str.{IsUtf8}
 use Rattle.std.specs.Str.Parse.{ParsesUnsigned, AllDigits, digits_value}
 use Rattle.std.proofs.lemmas.Bool.{cases_lt}
 use Rattle.std.proofs.lemmas.Bool.Decides.{nat_tests}
-use Rattle.std.proofs.lemmas.Fmt.{decimal_nonempty, first_decimal, IsAscii-decimal, parse-decimal, decimal-digits_value, decimal_digit}
+use Rattle.std.proofs.lemmas.Fmt.{decimal_is_IsNumeral, decimal_nonempty, first_decimal, IsAscii-decimal, parse-decimal, decimal-digits_value, decimal_digit}
 use Rattle.std.proofs.lemmas.Str.{IsUtf8-from_ascii}
 use Rattle.std.proofs.lemmas.Str.Parse.{IsNumeralModel, numerals_by_value, tells_digits, parse_plain}
-use Rattle.ps_base.specs.Numbers.{IsNumeral, is_plain}
+use Rattle.std.specs.Str.{bytes_eq}
+use Rattle.std.proofs.lemmas.Slice.Eq.{bytes_eq-Decides}
+use Rattle.ps_base.specs.Numbers.{IsNumeral, is_plain, number_in}
 
 own : IsNumeralModel (AllDigits 10) (digits_value 10)
 own = numerals_by_value (AllDigits 10) tells_digits
@@ -62,3 +64,26 @@ utf8_numeral bs n h = rw h.spelled (IsUtf8-from_ascii (decimal n) (IsAscii-decim
 
 pub not_refused : (E : Type 0) (bs : List ℕ) (e : E) (n : ℕ) → ParsesUnsigned 32 10 bs (Err e) → IsNumeral bs n → ⊥
 not_refused E bs e n h i = let k : Err e ≡ Ok n = parse-decimal 32 n bs (Err e) i.small (omega arith) i.spelled h in cc
+
+pub number_is : (text : List ℕ) (n : ℕ) → IsNumeral text n → number_in text ≡ Some n
+unfolding number_in
+number_is text n h =
+    let e : digits_value 10 text ≡ n = rw h.spelled ((decimal_is_IsNumeral n (omega arith)).1) in
+    let same : bytes_eq text (decimal n) ≡ true = (bytes_eq-Decides text (decimal n)).1 h.spelled in
+    let small : ltb n (2 ^ 32) ≡ true = grind (arith, nat_tests, h.small) in
+    rw (e, same, small) refl
+
+both : (a b : Bool) → (a && b) ≡ true → (a ≡ true) × (b ≡ true)
+both true b h = (refl, h)
+both false b h = absurd cc
+
+pub number_none : (text : List ℕ) → ((n : ℕ) → IsNumeral text n → ⊥) → number_in text ≡ None
+unfolding number_in
+number_none text none = by_test _ refl
+  where
+    by_test : (b : Bool) → (bytes_eq text (decimal (digits_value 10 text)) && ltb (digits_value 10 text) (2 ^ 32)) ≡ b → cond b (Some (digits_value 10 text)) None ≡ None
+    by_test true e =
+        let t = both _ _ e in
+        let small : digits_value 10 text < 2 ^ 32 = grind (arith, nat_tests, t.1) in
+        absurd (none (digits_value 10 text) (record { spelled = (bytes_eq-Decides text (decimal (digits_value 10 text))).0 t.0; small = small }))
+    by_test false e = refl

@@ -1,4 +1,7 @@
-//! Numbers of connections and rooms, and moments.
+//! Numbers of connections and rooms, moments, and counts.
+ghost use Rattle.std.specs.Prelude.{◌≡◌};
+ghost use Rattle.ps_base.specs.Numbers.{counted};
+
 use std::fmt;
 use std::marker::Model;
 
@@ -64,4 +67,11 @@ impl fmt::Display for Moment {
     fn fmt<W: fmt::Write>(&self, f: &mut fmt::Formatter<W>) -> fmt::Result {
         write!(f, "{}", self.0)
     }
+}
+
+/// A count as a `u32`: `u32::MAX` where it is greater.
+pub fn counted(n: usize) -> u32
+    ensures { result ≡ counted n }
+{
+    u32::try_from(n).unwrap_or(u32::MAX)
 }

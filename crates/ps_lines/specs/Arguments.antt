@@ -1,0 +1,50 @@
+-- The arguments of a command. What follows the command's word and one space is None where the space is missing.
+use Rattle.std.specs.Prelude.{ℕ, List, [], ◌∷◌, Option, Some, None, Result, Ok, Err, ⊤}
+use Rattle.std.specs.Str.{chars}
+use Rattle.ps_base.specs.Ids.{id_of}
+use Rattle.ps_lines.specs.Parts.{at_first, after_space}
+use Rattle.ps_lines.specs.declared.command.CommandFault.{CommandFault}
+use Rattle.ps_lines.specs.declared.command.CommandFault.TheVariants.{BadArgs}
+
+-- a command without arguments: nothing follows
+abbrev pub nothing : Option (List ℕ) → Result ⊤ CommandFault
+nothing None = Ok tt
+nothing (Some text) = Err (BadArgs 1)
+
+-- a text, which may be empty
+abbrev pub argument : Option (List ℕ) → Result (List ℕ) CommandFault
+argument None = Err (BadArgs 1)
+argument (Some text) = Ok text
+
+-- an id that isn't empty
+abbrev pub filled : ℕ → List ℕ → Result (List ℕ) CommandFault
+filled which [] = Err (BadArgs which)
+filled which (b ∷ bytes) = Ok (b ∷ bytes)
+
+-- USER or FORMAT: a text whose id isn't empty
+abbrev pub id_at : ℕ → List ℕ → Result (List ℕ) CommandFault
+id_at which text = filled which (id_of text)
+
+-- the one character of a list
+abbrev pub only : ℕ → List ℕ → Result ℕ CommandFault
+only which [] = Err (BadArgs which)
+only which (c ∷ []) = Ok c
+only which (c ∷ d ∷ more) = Err (BadArgs which)
+
+-- SYMBOL: one character
+abbrev pub symbol_at : ℕ → List ℕ → Result ℕ CommandFault
+symbol_at which text = only which (chars text)
+
+-- two arguments, of which the second may be missing with its comma
+abbrev pub parted : List ℕ → Option (List ℕ × List ℕ) → List ℕ × Option (List ℕ)
+parted text None = (text, None)
+parted text (Some parts) = (parts.0, Some (after_space parts.1))
+
+-- the arguments before and after the first comma and the one space behind it
+abbrev pub two : List ℕ → List ℕ × Option (List ℕ)
+two text = parted text (at_first 44 text)
+
+-- a second argument that may not be missing
+abbrev pub second : Option (List ℕ) → Result (List ℕ) CommandFault
+second None = Err (BadArgs 2)
+second (Some text) = Ok text

@@ -1,0 +1,14 @@
+//! Client texts, and the commands that they stand for.
+#![tactic(auto)]
+
+mod argument;
+pub mod client;
+pub mod command;
+mod hall_rows;
+pub mod order;
+mod parts;
+pub mod read;
+mod room_rows;
+#[cfg(test)]
+mod tests;
+mod word;
