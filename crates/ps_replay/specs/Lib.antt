@@ -1,8 +1,11 @@
 pub mod Entries
 pub mod Flow
 pub mod Halls
+pub mod OneEntry
+pub mod Outcomes
 pub mod Plain
 pub mod Requests
+pub mod Statuses
 pub mod Tables
 pub mod Transcript
 pub mod Worlds

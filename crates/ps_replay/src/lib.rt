@@ -8,4 +8,6 @@ pub mod play;
 pub mod print;
 pub mod replay;
 pub mod request;
+pub mod run;
+pub mod status;
 pub mod table;

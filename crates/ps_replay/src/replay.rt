@@ -147,3 +147,22 @@ fn replay_from<K: Sink>(
         Ok(()) => Ok(()),
     }
 }
+
+/// Writes the transcript of the lines of a script. Where memory or the sink fails a front of it was
+/// written.
+pub fn replay<K: Sink>(alloc: Global, items: &[Item], out: &mut K) -> Result<(), ReplayEnd>
+    requires { length items.now < 2 ^ 31 }
+    ensures wrote { OnOk result (Appends (K.written out.old) (K.written out.new) (output items.now)) }
+    ensures err { OnErr result (AppendsFront (K.written out.old) (K.written out.new) (output items.now)) }
+    ensures later { K.faults out.old ≤ K.faults out.new }
+    ensures fault { result ≡ Err ReplayEnd.WriteFault → Rose (K.faults out.old) (K.faults out.new) }
+{
+    let ranks = match ranks_of(alloc, items) {
+        Err(_) => return Err(ReplayEnd::NoMemory),
+        Ok(ranks) => ranks,
+    };
+    match Table::new(alloc, ranks) {
+        Err(_) => Err(ReplayEnd::NoMemory),
+        Ok(table) => replay_from(alloc, table, items, out),
+    }
+}

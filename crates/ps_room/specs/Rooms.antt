@@ -124,11 +124,11 @@ role conn r = role_of (member conn r)
 
 -- whether a connection in this role sees what has this audience
 abbrev pub sees : ℕ → Role → Audience → Bool
+sees conn role (One other) = conn == other
 sees conn Outside All = false
 sees conn (Spectator rank) All = true
 sees conn Outside (Rank lowest) = false
 sees conn (Spectator rank) (Rank lowest) = nat_le rank lowest
-sees conn role (One other) = conn == other
 
 -- the last hundred of the logged lines
 abbrev pub backlog : List (List ℕ) → List (List ℕ)

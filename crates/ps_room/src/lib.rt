@@ -2,6 +2,7 @@
 #![tactic(auto)]
 
 pub mod entry;
+pub mod law;
 pub mod line;
 pub mod members;
 pub mod room;

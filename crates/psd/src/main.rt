@@ -1,0 +1,76 @@
+//! The program.
+#![tactic(auto)]
+
+use ps_outside::sink::StdSink;
+use ps_outside::source::StdSource;
+use ps_replay::run::run;
+use ps_replay::status::Status;
+use std::process::ExitCode;
+use std::{env, io};
+
+const HELP: &str = "\
+psd, a battle server of the kind that Pokemon Showdown players connect to.
+
+Usage:
+  psd replay     reads a recorded script of connections from standard input, and
+                 writes what each connection is sent to standard output
+  psd --help     prints this help
+  psd --version  prints the program's version, and the toolchain that proved it
+
+README.md has the form of scripts and transcripts, and docs/PROTOCOL.md every
+line. A run that does not end well prints one line on standard error, and ends
+with the number of that line's status.
+";
+
+const VERSION: &str = "\
+psd 0.1.0
+rattle-kit-13f logic dac8208d650f15bf
+";
+
+fn words(rt: &HostRuntime) -> io::Result<Vec<String>> {
+    let mut words = Vec::new(rt.alloc());
+    for word in env::args(rt)?.skip(1) {
+        words
+            .push(word)
+            .map_err(|_| io::Error::from(io::ErrorKind::OutOfMemory))?;
+    }
+    Ok(words)
+}
+
+/// What is printed in place of a run, where the first word asks for it.
+fn told(words: &[String]) -> Option<&'static str> {
+    match words {
+        [] => None,
+        [first, ..] => match first.as_str() {
+            "--help" => Some(HELP),
+            "--version" => Some(VERSION),
+            _ => None,
+        },
+    }
+}
+
+fn status_of(rt: &HostRuntime, words: &[String]) -> Status {
+    let mut input = StdSource::new(rt.reader());
+    let mut out = StdSink::new(io::writer(rt));
+    run(rt.alloc(), words, &mut input, &mut out)
+}
+
+fn main(rt: HostRuntime) -> ExitCode {
+    let status = match words(&rt) {
+        // Words that aren't UTF-8.
+        Err(_) => Status::Usage { word: 0 },
+        Ok(words) => match told(&words) {
+            Some(text) => {
+                return match print!(rt; "{text}") {
+                    Ok(()) => ExitCode::from(0),
+                    Err(_) => ExitCode::from(Status::WriteFault.number()),
+                };
+            }
+            None => status_of(&rt, &words),
+        },
+    };
+    if status != Status::Done {
+        let _ = eprintln!(rt; "psd: {status}");
+    }
+    ExitCode::from(status.number())
+}
