@@ -1,0 +1,61 @@
+//! What a group list says.
+ghost use Rattle.std.specs.Prelude.{◌≡◌};
+
+use ps_base::id::Id;
+use ps_base::text::Text;
+use ps_data::ids::HasId;
+
+/// What a group may be allowed to do.
+#[derive(Clone, Copy, Debug, PartialEq, Eq)]
+pub enum Perm {
+    Announce,
+    Modnote,
+    Warn,
+    Mute,
+    Ban,
+    Modchat,
+    Promote,
+}
+
+/// Over whom a permission reaches: the letters of its text.
+#[derive(Clone, Copy, Debug, PartialEq, Eq)]
+pub struct Jurisdiction {
+    /// `u`: those of a lower rank.
+    pub under: bool,
+    /// `s`: oneself.
+    pub oneself: bool,
+    /// `a`: everybody.
+    pub all: bool,
+}
+
+/// The permissions that a group has of its own. Each that is `None` is the inherited group's.
+#[derive(Clone, Copy, Debug, PartialEq, Eq)]
+pub struct Permissions {
+    pub announce: Option<Jurisdiction>,
+    pub modnote: Option<Jurisdiction>,
+    pub warn: Option<Jurisdiction>,
+    pub mute: Option<Jurisdiction>,
+    pub ban: Option<Jurisdiction>,
+    pub modchat: Option<Jurisdiction>,
+    pub promote: Option<Jurisdiction>,
+}
+
+/// A group.
+#[derive(Debug, Drop)]
+pub struct Group {
+    /// What stands before the names of its users.
+    pub symbol: char,
+    pub id: Id,
+    pub name: Text,
+    /// The symbol of the lower group whose permissions it has where it has none of its own.
+    pub inherit: Option<char>,
+    pub permissions: Permissions,
+}
+
+impl HasId for Group {
+    ghost id_of = { λ g. g.id };
+
+    fn id(&self) -> &str {
+        self.id.as_str()
+    }
+}
