@@ -61,12 +61,19 @@ fn reaches(jurisdiction: Jurisdiction, actor: u8, target: Option<u8>, is_self: b
 {
     match target {
         None => jurisdiction.under || jurisdiction.oneself || jurisdiction.all,
-        Some(target) => jurisdiction.all || (jurisdiction.oneself && is_self) || (jurisdiction.under && is_below(target, actor)),
+        Some(target) => jurisdiction.all
+            || (jurisdiction.oneself && is_self)
+            || (jurisdiction.under && is_below(target, actor)),
     }
 }
 
 /// Whether a permission lets an actor act, on the target if there is one.
-pub(crate) fn is_allowed(permission: Option<Jurisdiction>, actor: u8, target: Option<u8>, is_self: bool) -> bool
+pub(crate) fn is_allowed(
+    permission: Option<Jurisdiction>,
+    actor: u8,
+    target: Option<u8>,
+    is_self: bool,
+) -> bool
     ensures { result ≡ allows permission actor target is_self }
 {
     match permission {

@@ -1,9 +1,10 @@
 //! What a group list says.
-ghost use Rattle.std.specs.Prelude.{◌≡◌};
+ghost use Rattle.std.specs.Prelude.{◌≡◌, IfOk};
 
 use ps_base::id::Id;
 use ps_base::text::Text;
 use ps_data::ids::HasId;
+use std::alloc::{AllocError, Global};
 
 /// What a group may be allowed to do.
 #[derive(Clone, Copy, Debug, PartialEq, Eq)]
@@ -50,6 +51,21 @@ pub struct Group {
     /// The symbol of the lower group whose permissions it has where it has none of its own.
     pub inherit: Option<char>,
     pub permissions: Permissions,
+}
+
+impl Group {
+    /// The same group.
+    pub fn copy(&self, alloc: Global) -> Result<Group, AllocError>
+        ensures { IfOk result (λ g. g ≡ self.now) }
+    {
+        Ok(Group {
+            symbol: self.symbol,
+            id: self.id.copy(alloc)?,
+            name: self.name.copy(alloc)?,
+            inherit: self.inherit,
+            permissions: self.permissions,
+        })
+    }
 }
 
 impl HasId for Group {

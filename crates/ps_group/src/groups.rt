@@ -1,11 +1,12 @@
 //! The list of groups.
-ghost use Rattle.std.specs.Prelude.{◌≡◌, ◌<◌, ◌≤◌, length, IfSome};
+ghost use Rattle.std.specs.Prelude.{◌≡◌, ◌<◌, ◌≤◌, length, IfSome, IfOk};
 ghost use Rattle.ps_group.specs.Ranks.{in_force, rank_of, symbol_of};
 ghost use Rattle.ps_group.specs.Can.{can, reaches_all};
 
 use crate::can::{held, is_allowed, is_over_all};
 use crate::group::{Group, Perm};
 use ps_base::list::List;
+use std::alloc::{AllocError, Global};
 use std::marker::Model;
 
 /// The groups, highest first: 1 to 16. A rank is a place in this list, 0 the highest; one past the
@@ -44,6 +45,16 @@ fn symbol_at(groups: &[Group], rank: u8) -> char
     }
 }
 
+fn copies(alloc: Global, groups: &[Group]) -> Result<Vec<Group>, AllocError>
+    ensures { IfOk result (λ v. v.items ≡ groups.now) }
+{
+    let mut copies = Vec::new(alloc);
+    for group in groups {
+        copies.push(group.copy(alloc)?)?;
+    }
+    Ok(copies)
+}
+
 impl Groups {
     /// The groups of a list. Takes no memory.
     pub(crate) fn from_list(list: Vec<Group>) -> Groups
@@ -54,6 +65,15 @@ impl Groups {
         Groups {
             list: List::from_vec(list),
         }
+    }
+
+    /// The same groups.
+    pub fn copy(&self, alloc: Global) -> Result<Groups, AllocError>
+        ensures { IfOk result (λ g. g ≡ self.now) }
+    {
+        Ok(Groups {
+            list: List::from_vec(copies(alloc, self.list.as_slice())?),
+        })
     }
 
     /// The number of groups, 1 to 16.
@@ -104,7 +124,12 @@ impl Groups {
             None => None,
             Some(rank) => Some(self.in_force(rank)),
         };
-        is_allowed(held(perm, actor, self.list.as_slice()), actor, target, is_self)
+        is_allowed(
+            held(perm, actor, self.list.as_slice()),
+            actor,
+            target,
+            is_self,
+        )
     }
 
     /// Whether the actor's permission has `a`, so that it reaches everybody.

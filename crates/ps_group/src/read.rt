@@ -69,7 +69,12 @@ fn has_symbol(groups: &[Group], symbol: char) -> bool
 }
 
 #[tactic(auto, unfolding(crate::specs::Reading::own_symbol_in))]
-fn own_symbol(alloc: Global, before: &[Group], after: &[Value], value: &Value) -> Result<char, Refusal>
+fn own_symbol(
+    alloc: Global,
+    before: &[Group],
+    after: &[Value],
+    value: &Value,
+) -> Result<char, Refusal>
     ensures { Gives result (own_symbol_in before.now (map view after.now) (view value.now)) }
 {
     let symbol = symbol(alloc, value)?;
@@ -143,7 +148,11 @@ fn inherit(alloc: Global, after: &[Value], value: &Value) -> Result<Option<char>
 {
     match (value.get("inherit"), after) {
         (None, []) => Ok(None),
-        _ => at_key(alloc, "inherit", lower(alloc, after, required(alloc, value, "inherit")?)),
+        _ => at_key(
+            alloc,
+            "inherit",
+            lower(alloc, after, required(alloc, value, "inherit")?),
+        ),
     }
 }
 
@@ -226,8 +235,16 @@ fn group(alloc: Global, before: &[Group], after: &[Value], value: &Value) -> Res
     ensures { Gives result (group_in before.now (map view after.now) (view value.now)) }
 {
     object(alloc, value)?;
-    let symbol = at_key(alloc, "symbol", own_symbol(alloc, before, after, required(alloc, value, "symbol")?))?;
-    let id = at_key(alloc, "id", own_id(alloc, before, required(alloc, value, "id")?))?;
+    let symbol = at_key(
+        alloc,
+        "symbol",
+        own_symbol(alloc, before, after, required(alloc, value, "symbol")?),
+    )?;
+    let id = at_key(
+        alloc,
+        "id",
+        own_id(alloc, before, required(alloc, value, "id")?),
+    )?;
     let name = at_key(alloc, "name", name(alloc, required(alloc, value, "name")?))?;
     let inherit = inherit(alloc, after, value)?;
     let permissions = permissions_at(alloc, value)?;
@@ -247,7 +264,13 @@ struct GroupForm;
 impl ItemForm<Group> for GroupForm {
     ghost reading = { λ _. group_in_sixteen };
 
-    fn read(&self, alloc: Global, before: &[Group], after: &[Value], value: &Value) -> Result<Group, Refusal> {
+    fn read(
+        &self,
+        alloc: Global,
+        before: &[Group],
+        after: &[Value],
+        value: &Value,
+    ) -> Result<Group, Refusal> {
         if before.len() < 16 {
             group(alloc, before, after, value)
         } else {
