@@ -127,7 +127,9 @@ fn text_of(alloc: Global, inwards: &[Part]) -> Result<String, AllocError>
 /// The first place at which a value isn't in its form.
 #[derive(Debug, Drop)]
 pub struct Fault {
+    /// The way to the value.
     pub path: Path,
+    /// Why it isn't in its form.
     pub kind: DataKind,
 }
 

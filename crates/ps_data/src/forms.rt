@@ -1,5 +1,5 @@
 //! The plain forms of a value.
-ghost use Rattle.std.specs.Prelude.{◌≡◌, ◌≤◌, ◌≤ℤ◌, length, map, true, false, IfOk, IfSome, IfNone};
+ghost use Rattle.std.specs.Prelude.{◌≡◌, ◌≤◌, ◌≤ℤ◌, length, map, true, false, Some, IfOk, OnOk, IfSome, IfNone};
 ghost use Rattle.std.specs.Str.{is_utf8};
 ghost use Rattle.serde_json.specs.Read.{read as read_text};
 ghost use Rattle.serde_json.specs.View.{view};
@@ -43,7 +43,8 @@ pub fn json(alloc: Global, bytes: &[u8]) -> Result<Value, Refusal>
 
 /// A test that has to hold; a fault of this kind where it doesn't.
 pub fn ensure(alloc: Global, holds: bool, kind: DataKind) -> Result<(), Refusal>
-    ensures { Gives result (ensure kind holds) }
+    ensures gives { Gives result (ensure kind holds) }
+    ensures holds { OnOk result (holds ≡ true) }
 {
     if holds {
         Ok(())
@@ -54,7 +55,8 @@ pub fn ensure(alloc: Global, holds: bool, kind: DataKind) -> Result<(), Refusal>
 
 /// What was found; a fault of this kind where nothing was.
 pub fn found<T>(alloc: Global, found: Option<T>, kind: DataKind) -> Result<T, Refusal>
-    ensures { Gives result (some_or kind found) }
+    ensures gives { Gives result (some_or kind found) }
+    ensures same { IfOk result (λ x. found ≡ Some x) }
 {
     match found {
         Some(x) => Ok(x),

@@ -82,7 +82,9 @@ pub fn list_at<T: Drop, F: ItemForm<T>>(
 /// The form of a whole number from `low` to `high`.
 #[derive(Clone, Copy, Debug, PartialEq, Eq)]
 pub struct NumberForm {
+    /// The least number.
     pub low: u64,
+    /// The greatest number.
     pub high: u64,
 }
 

@@ -9,12 +9,19 @@ use std::alloc::{AllocError, Global};
 /// What a group may be allowed to do.
 #[derive(Clone, Copy, Debug, PartialEq, Eq)]
 pub enum Perm {
+    /// To announce something to a room.
     Announce,
+    /// To leave a note for a room's staff.
     Modnote,
+    /// To warn a member.
     Warn,
+    /// To mute a member, and to end that.
     Mute,
+    /// To ban a user from a room, and to end that.
     Ban,
+    /// To set the lowest rank that may talk in a room.
     Modchat,
+    /// To give a member a rank in a room.
     Promote,
 }
 
@@ -46,10 +53,13 @@ pub struct Permissions {
 pub struct Group {
     /// What stands before the names of its users.
     pub symbol: char,
+    /// The name in a configuration.
     pub id: Id,
+    /// The name for people. It may be empty.
     pub name: Text,
     /// The symbol of the lower group whose permissions it has where it has none of its own.
     pub inherit: Option<char>,
+    /// The permissions of its own.
     pub permissions: Permissions,
 }
 
