@@ -1,0 +1,4 @@
+pub mod Deeper
+pub mod Each
+pub mod Items
+pub mod Texts

@@ -1,0 +1,5 @@
+pub mod Paths
+pub mod Parts
+pub mod Reading
+pub mod Forms
+pub mod Lists

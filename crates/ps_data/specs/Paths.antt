@@ -1,0 +1,27 @@
+-- The way from a value to one inside it, and its text.
+use Rattle.std.specs.Prelude.{ℕ, List, [], ◌∷◌, ◌++◌, Bool, true, false, if◌then◌else◌}
+use Rattle.std.specs.Fmt.{decimal}
+
+-- to what an object has at a key, or to an item of an array
+pub data Step : Type 0 where
+  Key : List ℕ → Step
+  Index : ℕ → Step
+
+-- a key after a dot, but for the first step, and a place in brackets
+abbrev pub step_text : Bool → Step → List ℕ
+step_text first (Key key) = if first then key else 46 ∷ key
+step_text first (Index i) = 91 ∷ decimal i ++ 93 ∷ []
+
+abbrev pub steps_text : Bool → List Step → List ℕ
+steps_text first [] = []
+steps_text first (s ∷ steps) = step_text first s ++ steps_text false steps
+
+-- a path as text, like `moves[3].effect.kind`
+abbrev pub path_text : List Step → List ℕ
+path_text steps = steps_text true steps
+
+-- the place in an array that a path begins with, and 0 where it begins with none
+abbrev pub first_index : List Step → ℕ
+first_index [] = 0
+first_index (Key key ∷ steps) = 0
+first_index (Index i ∷ steps) = i

@@ -1,0 +1,71 @@
+-- Reading a value by a form: what the value stands for, or its first fault.
+use Rattle.std.specs.Prelude.{◌≡◌, ℕ, List, [], ◌∷◌, Option, Some, None, Result, Ok, Err, Bool, ⊤, if◌then◌else◌}
+use Rattle.serde_json.specs.Data.{Data}
+use Rattle.serde_json.specs.Find.{get}
+use Rattle.ps_data.specs.Paths.{Step, Key}
+use Rattle.ps_data.specs.declared.fault.DataKind.{DataKind}
+use Rattle.ps_data.specs.declared.fault.DataKind.TheVariants.{Shape}
+use Rattle.ps_data.specs.declared.fault.Fault.{Fault}
+use Rattle.ps_data.specs.declared.fault.Refusal.{Refusal}
+use Rattle.ps_data.specs.declared.fault.Refusal.TheVariants as refusals
+
+-- one reading after another: the first fault is the fault of both
+infixl 10 ◌>>=◌
+abbrev pub ◌>>=◌ : {A B : Type 0} → Result A Fault → (A → Result B Fault) → Result B Fault
+(Ok x) >>= next = next x
+(Err fault) >>= next = Err fault
+
+-- a fault of the value itself
+abbrev pub refuse : {A : Type 0} → DataKind → Result A Fault
+refuse kind = Err (record { path = []; kind = kind })
+
+-- a fault of a value inside is one step further down
+abbrev pub under : {A : Type 0} → Step → Result A Fault → Result A Fault
+under step (Ok x) = Ok x
+under step (Err fault) = Err (record { path = step ∷ fault.path; kind = fault.kind })
+
+-- what there is, or else a fault
+abbrev pub some_or : {A : Type 0} → DataKind → Option A → Result A Fault
+some_or kind None = refuse kind
+some_or kind (Some x) = Ok x
+
+-- a test that has to hold
+abbrev pub ensure : DataKind → Bool → Result ⊤ Fault
+ensure kind holds = if holds then Ok tt else refuse kind
+
+-- what an object has at a key that must be there
+abbrev pub there : List ℕ → Data → Result Data Fault
+there key d = under (Key key) (some_or Shape (get key d))
+
+-- a key that must be there, with a value in the form
+abbrev pub required : {A : Type 0} → List ℕ → (Data → Result A Fault) → Data → Result A Fault
+required key form d = there key d >>= λ v. under (Key key) (form v)
+
+abbrev pub if_there : {A : Type 0} → A → (Data → Result A Fault) → Option Data → Result A Fault
+if_there x form None = Ok x
+if_there x form (Some d) = form d
+
+-- a key that may be missing, and then stands for the default x
+abbrev pub optional : {A : Type 0} → List ℕ → A → (Data → Result A Fault) → Data → Result A Fault
+optional key x form d = if_there x (λ v. under (Key key) (form v)) (get key d)
+
+-- ---- What a function that reads returned, beside what reading gives. Want of memory may come in its place.
+
+abbrev pub Fails : {A : Type 0} → Refusal → Result A Fault → Type 0
+Fails refusals.NoMemory read = Unit {0}
+Fails (refusals.Fault fault) read = read ≡ Err fault
+
+abbrev pub Gives : {A : Type 0} → Result A Refusal → Result A Fault → Type 0
+Gives (Ok x) read = read ≡ Ok x
+Gives (Err refusal) read = Fails refusal read
+
+-- the same, where what was returned is seen by view
+abbrev pub GivesBy : {A B : Type 0} → (A → B) → Result A Refusal → Result B Fault → Type 0
+GivesBy view (Ok x) read = read ≡ Ok (view x)
+GivesBy view (Err refusal) read = Fails refusal read
+
+-- a refusal that tells the same fault one step further down
+abbrev pub IsDeeper : Step → Refusal → Refusal → Type 0
+IsDeeper step refusals.NoMemory deeper = deeper ≡ refusals.NoMemory
+IsDeeper step (refusals.Fault fault) refusals.NoMemory = Unit {0}
+IsDeeper step (refusals.Fault fault) (refusals.Fault deeper) = deeper ≡ record { path = step ∷ fault.path; kind = fault.kind }

@@ -1,0 +1,63 @@
+-- What a rank may do, and over whom.
+use Rattle.std.specs.Prelude.{ℕ, ◌+◌, ◌==◌, ◌&&◌, ◌||◌, Bool, false, List, [], ◌∷◌, drop, slice_get, Option, Some, None, if◌then◌else◌}
+use Rattle.ps_group.specs.declared.group.Jurisdiction.{Jurisdiction}
+use Rattle.ps_group.specs.declared.group.Permissions.{Permissions}
+use Rattle.ps_group.specs.declared.group.Group.{Group}
+use Rattle.ps_group.specs.declared.group.Perm.{Perm}
+use Rattle.ps_group.specs.declared.group.Perm.TheVariants as perms
+use Rattle.ps_group.specs.Ranks.{is_below, in_force}
+
+-- a group's own permission
+abbrev pub own : Perm → Permissions → Option Jurisdiction
+own perms.Announce p = p.announce
+own perms.Modnote p = p.modnote
+own perms.Warn p = p.warn
+own perms.Mute p = p.mute
+own perms.Ban p = p.ban
+own perms.Modchat p = p.modchat
+own perms.Promote p = p.promote
+
+-- A permission that is absent is that of the inherited group, and none at the end of the chain.
+abbrev pub own_or : Option Jurisdiction → Option ℕ → (ℕ → Option Jurisdiction) → Option Jurisdiction
+own_or (Some jurisdiction) inherit inherited = Some jurisdiction
+own_or None None inherited = None
+own_or None (Some symbol) inherited = inherited symbol
+
+-- the permission of the group with the symbol, which inherits a group further down
+abbrev pub held_by : Perm → ℕ → List Group → Option Jurisdiction
+held_by perm symbol [] = None
+held_by perm symbol (g ∷ lower) = if g.symbol == symbol then own_or (own perm g.permissions) g.inherit (λ s. held_by perm s lower) else held_by perm symbol lower
+
+-- the permission of a group above the lower ones
+abbrev pub held_above : Perm → Option Group → List Group → Option Jurisdiction
+held_above perm None lower = None
+held_above perm (Some g) lower = own_or (own perm g.permissions) g.inherit (λ s. held_by perm s lower)
+
+-- the permission of a rank
+unfoldable pub held : Perm → ℕ → List Group → Option Jurisdiction
+held perm rank groups = held_above perm (slice_get groups rank) (drop (rank + 1) groups)
+
+-- Without a target: where the permission's text isn't empty. With one: where it has `a`, or has `s` and the target is
+-- the actor, or has `u` and the target's rank is lower.
+abbrev pub reaches : Jurisdiction → ℕ → Option ℕ → Bool → Bool
+reaches j actor None is_self = j.under || j.oneself || j.all
+reaches j actor (Some target) is_self = j.all || (j.oneself && is_self) || (j.under && is_below target actor)
+
+abbrev pub allows : Option Jurisdiction → ℕ → Option ℕ → Bool → Bool
+allows None actor target is_self = false
+allows (Some j) actor target is_self = reaches j actor target is_self
+
+abbrev pub target_in_force : Option ℕ → List Group → Option ℕ
+target_in_force None groups = None
+target_in_force (Some rank) groups = Some (in_force rank groups)
+
+abbrev pub can : List Group → ℕ → Option ℕ → Bool → Perm → Bool
+can groups actor target is_self perm = allows (held perm (in_force actor groups) groups) (in_force actor groups) (target_in_force target groups) is_self
+
+-- whether the permission's text has `a`
+abbrev pub has_all : Option Jurisdiction → Bool
+has_all None = false
+has_all (Some j) = j.all
+
+abbrev pub reaches_all : List Group → ℕ → Perm → Bool
+reaches_all groups actor perm = has_all (held perm (in_force actor groups) groups)

@@ -1,0 +1,40 @@
+-- The groups where a configuration names none.
+use Rattle.std.specs.Prelude.{List, [], ◌∷◌, codes, Option, Some, None, true, false}
+use Rattle.ps_group.specs.declared.group.Jurisdiction.{Jurisdiction}
+use Rattle.ps_group.specs.declared.group.Group.{Group}
+use Rattle.ps_group.specs.Reading.{no_permissions}
+
+-- `u`
+abbrev pub under : Option Jurisdiction
+under = Some (record { under = true; oneself = false; all = false })
+
+-- `a`
+abbrev pub all : Option Jurisdiction
+all = Some (record { under = false; oneself = false; all = true })
+
+-- `~`
+abbrev pub admin : Group
+admin = record { symbol = 126; id = codes "admin"; name = codes "Administrator"; inherit = Some 35; permissions = record { announce = None; modnote = None; warn = all; mute = all; ban = all; modchat = None; promote = all } }
+
+-- `#`
+abbrev pub owner : Group
+owner = record { symbol = 35; id = codes "owner"; name = codes "Room Owner"; inherit = Some 64; permissions = record { announce = None; modnote = None; warn = None; mute = None; ban = None; modchat = None; promote = under } }
+
+-- `@`
+abbrev pub moderator : Group
+moderator = record { symbol = 64; id = codes "mod"; name = codes "Moderator"; inherit = Some 37; permissions = record { announce = all; modnote = None; warn = None; mute = None; ban = under; modchat = all; promote = None } }
+
+-- `%`
+abbrev pub driver : Group
+driver = record { symbol = 37; id = codes "driver"; name = codes "Driver"; inherit = Some 43; permissions = record { announce = None; modnote = all; warn = under; mute = under; ban = None; modchat = None; promote = None } }
+
+-- `+`
+abbrev pub voice : Group
+voice = record { symbol = 43; id = codes "voice"; name = codes "Voice"; inherit = Some 32; permissions = no_permissions }
+
+-- the space
+abbrev pub user : Group
+user = record { symbol = 32; id = codes "user"; name = codes "User"; inherit = None; permissions = no_permissions }
+
+unfoldable pub default_groups : List Group
+default_groups = admin ∷ owner ∷ moderator ∷ driver ∷ voice ∷ user ∷ []

@@ -1,0 +1,5 @@
+pub mod Ranks
+pub mod Can
+pub mod Reading
+pub mod Faults
+pub mod Defaults

@@ -1,0 +1,13 @@
+//! Groups: ranks, and what each of them may do.
+#![tactic(auto)]
+
+pub mod can;
+pub mod defaults;
+pub mod group;
+pub mod groups;
+pub mod rank;
+pub mod read;
+#[cfg(test)]
+mod tests;
+
+pub use ps_data::fault::DataKind;
