@@ -161,7 +161,7 @@ housed_room n r (suc room) e house by = rw (eqb-suc-zero room) house
 housed_next : (ranks : List Ranked) (h : List Placed) (p : Placed) → Housed (count_at ranks h) (room_at 0 h).members → IsOpened (count_at ranks (h ++ p ∷ [])) (sender p) → Housed (count_at ranks (h ++ p ∷ [])) (room_at 0 (h ++ p ∷ [])).members
 housed_next ranks h p house by =
     let grown : Housed (count_at ranks (h ++ p ∷ [])) (room_at 0 h).members =
-        Housed-more (count_at ranks h) (count_at ranks (h ++ p ∷ [])) (room_at 0 h).members (subst (λ (w : World). count_at ranks h ≤ opened w.hall) (sym (world_more ranks h p)) (grows (world_of ranks h) p)) house in
+    Housed-more (count_at ranks h) (count_at ranks (h ++ p ∷ [])) (room_at 0 h).members (subst (λ (w : World). count_at ranks h ≤ opened w.hall) (sym (world_more ranks h p)) (grows (world_of ranks h) p)) house in
     subst (λ (r : Record). Housed (count_at ranks (h ++ p ∷ [])) r.members) (sym (room_more 0 h p)) (housed_step (count_at ranks (h ++ p ∷ [])) (room_at 0 h) p grown by)
   where
     housed_step : (n : ℕ) (r : Record) (p : Placed) → Housed n r.members → IsOpened n (sender p) → Housed n (run_record r (room_of 0 (p ∷ []))).members

@@ -119,10 +119,10 @@ has_badge : (ss : List Speaker) (ranks : List Ranked) (h : List Placed) (n : ℕ
 has_badge ss ranks h n s agree at is =
     badge_by (slice_get (world_of ranks h).hall.seats (n - 1))
     (sym (slice_get-map is_some (world_of ranks h).hall.seats (n - 1))
-      ∙ ap (λ (x : List Bool). slice_get x (n - 1)) (sym agree)
-      ∙ slice_get-map named ss (n - 1)
-      ∙ ap (option_map named) at
-      ∙ ap (λ (x : Bool). Some x) is)
+    ∙ ap (λ (x : List Bool). slice_get x (n - 1)) (sym agree)
+    ∙ slice_get-map named ss (n - 1)
+    ∙ ap (option_map named) at
+    ∙ ap (λ (x : Bool). Some x) is)
 
 kept_names : (ss : List Speaker) (n : ℕ) (s t : Speaker) → slice_get ss (n - 1) ≡ Some s → named s ≡ true → named t ≡ true → map named (slice_set ss (n - 1) t) ≡ map named ss
 kept_names ss n s t at before after = map-set_same named ss (n - 1) t s (after ∙ sym before ∙ ap named (sym (get_or_from_slice_get ss (n - 1) s s at)))
@@ -201,7 +201,7 @@ each_from line ss ranks moment h (Open n ∷ is) e agree =
     let t = from_if (nat_le n 256) (Some (ss ++ silent ∷ [])) s.0 s.1 in
     let now : ss ++ silent ∷ [] ≡ s.0 = (let k = t.1 in cc) in
     let next : Agree s.0 ranks (h ++ p ∷ []) =
-        ap (map named) (sym now) ∙ map-append named ss (silent ∷ []) ∙ ap (λ (x : List Bool). x ++ false ∷ []) agree ∙ sym (map-append is_some (world_of ranks h).hall.seats (None ∷ [])) ∙ sym (seated_more ranks h p) in
+    ap (map named) (sym now) ∙ map-append named ss (silent ∷ []) ∙ ap (λ (x : List Bool). x ++ false ∷ []) agree ∙ sym (map-append is_some (world_of ranks h).hall.seats (None ∷ [])) ∙ sym (seated_more ranks h p) in
     ap (λ (x : List Deed). opens n ∷ x) (each_from (line + 1) s.0 ranks moment (h ++ p ∷ []) is s.2 next)
 each_from line ss ranks moment h (Send n text ∷ is) e agree =
     let s = from_step line (plain_step ss (Send n text)) (λ ts. unplain_from (line + 1) ts is) e in

@@ -121,9 +121,10 @@ tame_from s ranks moment h (l ∷ ls) (Close n ∷ is) a e = idle_tame ranks mom
 tame_from s ranks moment h (l ∷ ls) (Open n ∷ is) a e =
     let number = opens_next s n a.1 in
     let more = open_count ranks h n in
-    let p = Hall (record { conn = n; cmd = hall_commands.Open }) in
-    ((omega (arith, number), omega (arith, number, more, e)),
-      tame_from (next s (Open n)) ranks moment (h ++ p ∷ []) ls is a.2 (length-append s.opened (true ∷ []) ∙ ap (λ (x : ℕ). x + 1) e ∙ sym more))
+    let p = Hall (record { conn = n; cmd = hall_commands.Open }) in (
+      (omega (arith, number), omega (arith, number, more, e)),
+      tame_from (next s (Open n)) ranks moment (h ++ p ∷ []) ls is a.2 (length-append s.opened (true ∷ []) ∙ ap (λ (x : ℕ). x + 1) e ∙ sym more),
+    )
 tame_from s ranks moment h (l ∷ ls) (Send n text ∷ is) a e =
     let o = option_and_then (place_request moment (world_of ranks h).hall n) (request_of text) in
     let q = quiet_sent moment n (world_of ranks h).hall (request_of text) in

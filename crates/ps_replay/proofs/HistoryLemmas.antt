@@ -96,7 +96,7 @@ text_is ranks moment h (i ∷ is) =
     let o = place_item moment (world_of ranks h).hall i in
     let later = entries_from ranks (moment_after moment i) (h ++ option_to_list o) is in
     let after_is : text_from (item_after (state_at ranks moment h) i) is ≡ flat_map print (messages_from ranks (h ++ option_to_list o) later) =
-        ap (λ (w : World). text_from (record { moment = moment_after moment i; world = w }) is) (option_world ranks h o) ∙ text_is ranks (moment_after moment i) (h ++ option_to_list o) is in
+    ap (λ (w : World). text_from (record { moment = moment_after moment i; world = w }) is) (option_world ranks h o) ∙ text_is ranks (moment_after moment i) (h ++ option_to_list o) is in
     ap (λ (x : List ℕ). x ++ text_from (item_after (state_at ranks moment h) i) is) (option_text ranks h o)
     ∙ ap (λ (x : List ℕ). flat_map print (messages_from ranks h (option_to_list o)) ++ x) after_is
     ∙ sym (flat_map-append print (messages_from ranks h (option_to_list o)) (messages_from ranks (h ++ option_to_list o) later))

@@ -3,7 +3,6 @@ ghost use Rattle.std.specs.Prelude.{◌≡◌, ◌++◌, ◌∷◌, ◌<◌, ◌
 ghost use Rattle.std.specs.Option.{option_copied};
 ghost use Rattle.ps_replay.specs.Halls.{rank_in, open_lines, name_lines};
 
-use ps_script::group::LOWEST;
 use crate::place::{HallCmd, HallEntry, Ranked};
 use ps_base::badge::Badge;
 use ps_base::id::Id;
@@ -11,6 +10,7 @@ use ps_base::name::Name;
 use ps_base::number::ConnNo;
 use ps_base::text::Text;
 use ps_room::line;
+use ps_script::group::LOWEST;
 use std::alloc::{AllocError, Global};
 use std::marker::Model;
 

@@ -2,9 +2,9 @@
 ghost use Rattle.std.specs.Prelude.{◌≡◌, ◌<◌, ◌^◌, IfOk, Some, None, MatchBool, length};
 ghost use Rattle.ps_replay.specs.Plain.{has_id, is_taken, spoken, speaks, plain_step, unplain_line};
 
-use ps_script::item::Item;
 use crate::request::{Request, request_of};
 use ps_base::id::{Id, to_id};
+use ps_script::item::Item;
 use std::alloc::{AllocError, Global};
 
 /// How many connections may open in a plain script.

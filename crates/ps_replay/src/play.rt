@@ -13,12 +13,7 @@ use ps_room::room::{Room, message};
 use std::alloc::{AllocError, Global};
 
 /// Prints lines of the hall, which go to one of the connections from 1 to `count`.
-pub fn push_hall(
-    out: &mut String,
-    count: u32,
-    to: ConnNo,
-    lines: &[Text],
-) -> Result<(), AllocError>
+pub fn push_hall(out: &mut String, count: u32, to: ConnNo, lines: &[Text]) -> Result<(), AllocError>
     ensures { OnOk result (string_bytes out.new ≡ string_bytes out.old
         ++ each_to (λ conn. printed conn (with_place in_hall (if conn == to then lines.now else []))) count) }
 {

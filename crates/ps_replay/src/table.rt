@@ -2,7 +2,6 @@
 ghost use Rattle.std.specs.Prelude.{◌≡◌, ◌++◌, ◌<◌, ◌^◌, IfOk, OnOk, string_bytes, length};
 
 use crate::hall::Hall;
-use ps_script::item::Item;
 use crate::place::{HallCmd, HallEntry, Placed, Ranked};
 use crate::play;
 use crate::request::{Request, request_of};
@@ -11,6 +10,7 @@ use ps_base::number::{ConnNo, Moment, RoomNo};
 use ps_base::text::Text;
 use ps_room::entry::{Command, Entry, Told};
 use ps_room::room::Room;
+use ps_script::item::Item;
 use std::alloc::{AllocError, Global};
 use std::marker::Model;
 

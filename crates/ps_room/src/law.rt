@@ -7,5 +7,4 @@ ghost use Rattle.ps_room.specs.Answers.{IsAnswered};
 /// line.
 pub fn law_of_answers()
     ensures { (r : Record) (e : Entry) → IsAnswered r e }
-{
-}
+{}

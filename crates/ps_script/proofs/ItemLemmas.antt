@@ -49,7 +49,6 @@ no_send line rest digits text e f first none n t h =
     let parts = first_space h.digits t digits text (same ∙ f) (numeral_no_space h.digits n h.numeral) first in
     none n (subst (λ (x : List ℕ). IsNumeral x n) parts.0 h.numeral)
 
-
 pub char_some : (c : ℕ) → 0 < length (encode c)
 char_some c = omega (arith, length-le-encodes (c ∷ []), length-append (encode c) [])
 

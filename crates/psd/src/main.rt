@@ -8,6 +8,9 @@ use ps_replay::status::Status;
 use std::process::ExitCode;
 use std::{env, io};
 
+#[cfg(test)]
+mod tests;
+
 const HELP: &str = "\
 psd, a battle server of the kind that Pokemon Showdown players connect to.
 

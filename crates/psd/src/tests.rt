@@ -1,0 +1,156 @@
+//! Rows that show what the program does, worked out by hand.
+use ps_base::decimal::read_u32;
+use ps_base::id::{read_id, to_id};
+use ps_outside::sink::{MemSink, SureSink};
+use ps_outside::source::{MemSource, SureSource};
+use ps_replay::run::run;
+use ps_replay::status::Status;
+use ps_script::script::ScriptKind;
+use std::alloc::{AllocError, Global};
+use std::test::Fail;
+
+const LOBBY: &str =
+    "G % ann\n+1\n+2\n>1 |/trn Ann,0,\n>2 |/trn Bob,0,\n>1 |/join lobby\n>2 |/join lobby\n>1 lobby|/modnote watch\n>2 lobby|hi\n";
+
+const QUIET_LOBBY: &str =
+    "G % ann\n+1\n+2\n>1 |/trn Ann,0,\n>2 |/trn Bob,0,\n>1 |/join lobby\n>2 |/join lobby\n>2 lobby|hi\n";
+
+const LOBBY_OF_BOB: &str =
+    "2< |challstr|0-2\n2. |updateuser| Guest 2|0|0|{}\n2. |formats|\n2< |updateuser| Bob|1|0|{}\n2< >lobby\n2. |init|chat\n2. |title|Lobby\n2. |users|2,%Ann, Bob\n2< >lobby\n2. |c:|0| Bob|hi\n";
+
+const BAD_SCRIPT: Status = Status::BadScript {
+    line: 0,
+    kind: ScriptKind::Form,
+};
+
+fn words_of(alloc: Global, words: &[&str]) -> Result<Vec<String>, AllocError> {
+    let mut list = Vec::new(alloc);
+    for word in words {
+        list.push(String::from_str(alloc, word)?)?;
+    }
+    Ok(list)
+}
+
+fn replay(
+    alloc: Global,
+    input: &[u8],
+    read: &[u64],
+    write: &[u64],
+) -> Result<(Status, Vec<u8>), AllocError> {
+    let words = words_of(alloc, &["replay"])?;
+    let mut source = MemSource::new(input.to_vec(alloc)?, read.to_vec(alloc)?);
+    let mut sink = MemSink::new(alloc, write.to_vec(alloc)?);
+    let status = run(alloc, &words, &mut source, &mut sink);
+    Ok((status, sink.bytes().to_vec(alloc)?))
+}
+
+/// The lines of connection 2.
+fn lines_of_two(alloc: Global, bytes: &[u8]) -> Result<String, AllocError> {
+    let mut lines = String::new(alloc);
+    let text = std::str::from_utf8(bytes).unwrap_or("");
+    for line in text.lines() {
+        if line.starts_with("2") {
+            lines.push_str(line)?;
+            lines.push_str("\n")?;
+        }
+    }
+    Ok(lines)
+}
+
+#[test]
+fn words_that_are_no_command(rt: HostRuntime) -> Result<(), Fail> {
+    let alloc = rt.alloc();
+    let rows: &[(&[&str], u32)] = &[
+        (&[], 0),
+        (&["drill"], 0),
+        (&["replay", "x"], 1),
+        (&["Replay"], 0),
+    ];
+    for (words, word) in rows {
+        let words = words_of(alloc, words)?;
+        let mut source = SureSource::new(Vec::new(alloc));
+        let mut sink = SureSink::new(alloc);
+        let status = run(alloc, &words, &mut source, &mut sink);
+        assert_eq!(rt; status, Status::Usage { word: *word });
+    }
+    Ok(())
+}
+
+#[test]
+fn scripts_by_their_status(rt: HostRuntime) -> Result<(), Fail> {
+    let alloc = rt.alloc();
+    let rows: &[(&str, Status)] = &[
+        ("", Status::Done),
+        ("; a comment\r\n\r\n", Status::Done),
+        (LOBBY, Status::Done),
+        ("+1\n>1 |/pm a, b\n", Status::NotBuilt { line: 2 }),
+        ("+1\n-1\n", Status::NotBuilt { line: 2 }),
+        ("+1\n>1 lobby|hi", Status::NotBuilt { line: 2 }),
+        ("T 5\nT 4\n", BAD_SCRIPT),
+        ("+2\n", BAD_SCRIPT),
+        ("; a \u{7f}\n", BAD_SCRIPT),
+        ("G \u{e9} ann\n", BAD_SCRIPT),
+    ];
+    for (input, status) in rows {
+        let (told, _) = replay(alloc, input.as_bytes(), &[], &[])?;
+        assert_eq!(rt; told, *status, "{input:?}");
+    }
+    let lines = vec![in alloc; b'\n'; 200_000]?;
+    let (told, _) = replay(alloc, &lines, &[], &[])?;
+    assert_eq!(rt; told, Status::Done);
+    let lines = vec![in alloc; b'\n'; 200_001]?;
+    let (told, written) = replay(alloc, &lines, &[], &[])?;
+    assert_eq!(rt; told, Status::ScriptLong { count: 200_001 });
+    assert_eq!(rt; written.len(), 0);
+    Ok(())
+}
+
+#[test]
+fn staff_note_is_unseen(rt: HostRuntime) -> Result<(), Fail> {
+    let alloc = rt.alloc();
+    let (_, noted) = replay(alloc, LOBBY.as_bytes(), &[], &[])?;
+    let (_, quiet) = replay(alloc, QUIET_LOBBY.as_bytes(), &[], &[])?;
+    let noted = lines_of_two(alloc, &noted)?;
+    let quiet = lines_of_two(alloc, &quiet)?;
+    assert_eq!(rt; noted.as_str(), LOBBY_OF_BOB);
+    assert_eq!(rt; quiet.as_str(), LOBBY_OF_BOB);
+    Ok(())
+}
+
+#[test]
+fn faults_of_the_outside(rt: HostRuntime) -> Result<(), Fail> {
+    let alloc = rt.alloc();
+    let (told, written) = replay(alloc, LOBBY.as_bytes(), &[1], &[])?;
+    assert_eq!(rt; told, Status::ReadFault);
+    assert_eq!(rt; written.len(), 0);
+    let (told, written) = replay(alloc, LOBBY.as_bytes(), &[2], &[])?;
+    assert_eq!(rt; told, Status::ReadFault);
+    assert_eq!(rt; written.len(), 0);
+    let (told, _) = replay(alloc, LOBBY.as_bytes(), &[], &[1])?;
+    assert_eq!(rt; told, Status::WriteFault);
+    Ok(())
+}
+
+#[test]
+fn ids_and_numbers(rt: HostRuntime) -> Result<(), Fail> {
+    let alloc = rt.alloc();
+    let ids: &[(&str, &str)] = &[(" Mr. Mime_2 ", "mrmime2"), ("...", ""), ("\u{c9}", "")];
+    for (text, id) in ids {
+        let told = to_id(alloc, text)?;
+        assert_eq!(rt; told.as_str(), *id);
+    }
+    assert!(rt; read_id(alloc, "")?.is_none());
+    assert!(rt; read_id(alloc, "a-b")?.is_none());
+    let numbers: &[(&str, Option<u32>)] = &[
+        ("0", Some(0)),
+        ("01", None),
+        ("+1", None),
+        ("", None),
+        ("4294967295", Some(u32::MAX)),
+        ("4294967296", None),
+    ];
+    for (text, number) in numbers {
+        assert_eq!(rt; read_u32(text.as_bytes()), *number, "{text:?}");
+    }
+    Ok(())
+}
