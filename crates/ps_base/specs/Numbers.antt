@@ -12,7 +12,7 @@ pub record IsNumeral (text : List ℕ) (n : ℕ) : Type 0 where
 unfoldable pub number_in : List ℕ → Option ℕ
 number_in text = if bytes_eq text (decimal (digits_value 10 text)) && nat_lt (digits_value 10 text) (2 ^ 32) then Some (digits_value 10 text) else None
 
--- no sign, and no zero before another byte
+-- no sign, and no zero before another byte: for the code alone
 abbrev pub is_plain : List ℕ → Bool
 is_plain [] = false
 is_plain (b ∷ []) = not (b == 43)

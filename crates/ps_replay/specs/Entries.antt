@@ -28,7 +28,8 @@ ranking (Open n) = None
 ranking (Send n text) = None
 ranking (Close n) = None
 
--- the ranks that the lines of a script give
+-- the ranks that the lines of a script give. All of them stand before the first opening, so they hold for the whole script;
+-- each symbol of a script has a group, so `lowest` is never taken here
 abbrev pub ranks_of : List Item → List Ranked
 ranks_of items = filter_map ranking items
 

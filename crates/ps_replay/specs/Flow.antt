@@ -1,4 +1,4 @@
--- Text on its way to a sink.
+-- Text on its way to a sink: for the code's buffer alone.
 use Rattle.std.specs.Prelude.{◌≡◌, ℕ, List, ◌++◌, Option}
 use Rattle.std.specs.Io.KnownBytes.{Appends}
 

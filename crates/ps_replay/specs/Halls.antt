@@ -25,7 +25,7 @@ hall_opening ranks = record { ranks = ranks; seats = [] }
 abbrev pub opened : HallRecord → ℕ
 opened h = length h.seats
 
--- the rank of an id: of two lines, the later holds
+-- the rank of an id, by the list from first to last: a later line for the same id replaces the rank
 abbrev pub rank_in : List Ranked → List ℕ → ℕ
 rank_in ranks id = fold (λ rank r. if bytes_eq r.id id then r.rank else rank) lowest ranks
 
@@ -37,6 +37,7 @@ badge_for h name = record { name = name; rank = rank_in h.ranks (id_of name) }
 abbrev pub badge_of : ℕ → HallRecord → Option Badge
 badge_of conn h = option_and_then (λ badge. badge) (slice_get h.seats (conn - 1))
 
+-- an opening is of the next number; a name is always applied, since plain scripts meet no refusal of one
 abbrev pub hall_by : HallRecord → ℕ → HallCmd → HallRecord
 hall_by h conn Open = record h { seats = h.seats ++ None ∷ [] }
 hall_by h conn (Name name) = record h { seats = slice_set h.seats (conn - 1) (Some (badge_for h name)) }

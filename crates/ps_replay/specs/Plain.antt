@@ -1,6 +1,11 @@
--- Plain scripts: those that are replayed so far. At most 256 connections open and none closes; each sends at
--- most 4,096 texts, first its name, whose id nobody else has, and then joins of the lobby while it is no
--- member, and texts and notes there.
+-- Plain scripts: those that are replayed so far.
+-- 1. At most 256 connections open.
+-- 2. The first text of each is its name, whose id nobody else has, and it sends no second one.
+-- 3. Each later text is a join of the lobby while it isn't a member, a note there or a text there.
+-- 4. Notes and texts are as `Requests` reads them.
+-- 5. No connection sends more than 4,096 texts.
+-- 6. None closes.
+-- All of it is said of scripts: an Open has the next number, and a Send that of an open connection.
 use Rattle.std.specs.Prelude.{ℕ, ◌+◌, ◌-◌, Bool, true, false, List, [], ◌∷◌, ◌++◌, slice_get, slice_set, Option, Some, None, option_and_then, is_some, nat_le, nat_lt, if◌then◌else◌}
 use Rattle.std.specs.Option.{option_map}
 use Rattle.std.specs.List.{list_any}
@@ -21,11 +26,11 @@ abbrev pub has_id : List ℕ → Option (List ℕ) → Bool
 has_id id None = false
 has_id id (Some other) = bytes_eq other id
 
--- whether a connection has this id
+-- whether any connection has this id
 abbrev pub is_taken : List Speaker → List ℕ → Bool
 is_taken ss id = list_any (λ s. has_id id s.id) ss
 
--- a speaker after a text; None where the text breaks a condition
+-- a speaker after a text; None where the text breaks a condition: a name by who has none yet, and all else by who has one
 abbrev pub spoken : List Speaker → Speaker → Request → Option Speaker
 spoken ss s (requests.Name name) = if is_some s.id then None else (if is_taken ss (id_of name) then None else Some (record { id = Some (id_of name); texts = s.texts + 1; joined = s.joined }))
 spoken ss s requests.Join = if is_some s.id then (if s.joined then None else Some (record { id = s.id; texts = s.texts + 1; joined = true })) else None
@@ -49,10 +54,11 @@ abbrev pub unplain_by : ℕ → Option (List Speaker) → (List Speaker → Opti
 unplain_by line None more = Some line
 unplain_by line (Some ss) more = more ss
 
--- the first line that breaks a condition
+-- the first line that breaks a condition, from this line on
 abbrev pub unplain_from : ℕ → List Speaker → List Item → Option ℕ
 unplain_from line ss [] = None
 unplain_from line ss (i ∷ is) = unplain_by line (plain_step ss i) (λ ts. unplain_from (line + 1) ts is)
 
+-- the first line, counted from 1, that breaks a condition; None exactly for a plain script
 abbrev pub unplain_line : List Item → Option ℕ
 unplain_line items = unplain_from 1 [] items

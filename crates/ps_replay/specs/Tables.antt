@@ -1,4 +1,4 @@
--- A replay's state, which its code keeps in the place of a history.
+-- A replay's state, which its code keeps in the place of a history. No statement of the top call rests on this file.
 use Rattle.std.specs.Prelude.{ℕ, zero, suc, List, [], ◌∷◌, ◌++◌, Option, Some, None}
 use Rattle.ps_script.specs.declared.item.Item.{Item}
 use Rattle.ps_replay.specs.declared.place.Ranked.{Ranked}

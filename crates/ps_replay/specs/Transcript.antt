@@ -11,7 +11,7 @@ use Rattle.ps_replay.specs.Entries.{ranks_of, entries}
 
 -- ---- messages
 
--- what one connection is sent from one place at one entry
+-- what one connection is sent from one place at one entry, without the line `>ROOMID`
 pub record Message : Type 0 where
   pub conn : ℕ
   pub place : Place
@@ -76,6 +76,6 @@ same_place (in_room room) (in_room other) = room == other
 abbrev pub picked : ℕ → Place → Message → List (List (List ℕ))
 picked conn place m = if m.conn == conn && same_place place m.place then m.lines ∷ [] else []
 
--- a connection's messages from a place, in order
+-- a connection's messages from a place, in order, as the view of that place has them
 abbrev pub block : ℕ → Place → List Message → List (List (List ℕ))
 block conn place ms = flat_map (picked conn place) ms

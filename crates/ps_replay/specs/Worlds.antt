@@ -77,7 +77,7 @@ abbrev pub rooms_of : ℕ → List Record → List Placed → List Record
 rooms_of room [] h = []
 rooms_of room (r ∷ rs) h = run_record r (room_of room h) ∷ rooms_of (suc room) rs h
 
--- the record of all after a history, each place by its own entries
+-- the record of all after a history, each place by its own entries; one entry more is one step more of `world_after`
 abbrev pub world_of : List Ranked → List Placed → World
 world_of ranks h = record { hall = hall_run (hall_opening ranks) (hall_of h); rooms = rooms_of 0 openings h }
 

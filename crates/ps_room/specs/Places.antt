@@ -1,4 +1,4 @@
--- The places of members in a list, by connection.
+-- The places of members in a list, by connection: for the code's index alone, and no statement rests on it.
 use Rattle.std.specs.Prelude.{◌≡◌, ℕ, suc, ◌==◌, List, [], ◌∷◌, Option, Some, None, if◌then◌else◌}
 use Rattle.std.specs.Option.{option_map}
 use Rattle.std.specs.Ordering.{nat_cmp}

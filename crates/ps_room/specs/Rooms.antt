@@ -32,7 +32,8 @@ member conn r = find (λ m. m.conn == conn) r.members
 
 -- ---- the verdict
 
--- staff, to whom notes go, are the groups down to this place
+-- the place of staff: notes go to members of this rank or a higher one, and by the default groups these are also
+-- the ones who may leave one
 abbrev pub staff : ℕ
 staff = 3
 
@@ -66,9 +67,13 @@ applied_line badge moment (Modnote text) = record { audience = Rank staff; logge
 abbrev pub refused_line : ℕ → Why → ChatLine
 refused_line conn why = record { audience = One conn; logged = false; text = error_line why }
 
+-- the line of an entry that is allowed
+abbrev pub allowed_line : Record → Entry → ChatLine
+allowed_line r e = applied_line (badge_of (member e.conn r) e.badge) e.moment e.cmd
+
 abbrev pub line_by : Option Why → Record → Entry → ChatLine
 line_by (Some why) r e = refused_line e.conn why
-line_by None r e = applied_line (badge_of (member e.conn r) e.badge) e.moment e.cmd
+line_by None r e = allowed_line r e
 
 -- the one line that an entry makes
 abbrev pub line_of : Record → Entry → ChatLine
@@ -84,7 +89,7 @@ with_line r l = if l.logged then record r { logged = r.logged ++ l.text ∷ [] }
 
 -- the record after an entry that is applied
 abbrev pub applied : Record → Entry → Record
-applied r e = with_line (with_member r e e.cmd) (line_by None r e)
+applied r e = with_line (with_member r e e.cmd) (allowed_line r e)
 
 abbrev pub after_by : Option Why → Record → Entry → Record
 after_by (Some why) r e = r
@@ -130,7 +135,7 @@ sees conn (Spectator rank) All = true
 sees conn Outside (Rank lowest) = false
 sees conn (Spectator rank) (Rank lowest) = nat_le rank lowest
 
--- the last hundred of the logged lines
+-- the last hundred of the logged lines; each of them is for All, so the backlog is the same for every role
 abbrev pub backlog : List (List ℕ) → List (List ℕ)
 backlog lines = drop (length lines - 100) lines
 
@@ -159,7 +164,8 @@ abbrev pub init_or : Option (List (List ℕ)) → List (List ℕ) → List (List
 init_or None lines = lines
 init_or (Some init) lines = init
 
--- what a connection in this role is sent of what an entry of `sender` gives
+-- what a connection in this role is sent of what an entry of `sender` gives: who joins is sent the init in the place of
+-- the line, and everybody else the line, if it is for it
 abbrev pub message_of : ℕ → Role → ℕ → Told → List (List ℕ)
 message_of conn role sender t = init_or (if conn == sender then t.init else None) (line_if (sees conn role t.line.audience) t.line.text)
 

@@ -25,7 +25,7 @@ pub record IsSend (line : List ℕ) (n : ℕ) (text : List ℕ) : Type 0 where
 abbrev pub IsCharFirst : List ℕ → ℕ → List ℕ → Type 0
 IsCharFirst text c rest = text ≡ encode_utf8 c ++ rest
 
--- `G `, a character, a space and an id that isn't empty
+-- `G `, a character, a space and an id: one or more of a to z and 0 to 9
 pub record IsGroup (line : List ℕ) (symbol : ℕ) (id : List ℕ) : Type 0 where
   pub spelled : line ≡ codes "G " ++ encode_utf8 symbol ++ 32 ∷ id
   pub named : id_in id ≡ Some id

@@ -12,7 +12,7 @@ use Rattle.ps_script.specs.Items.{IsItem}
 
 pub record IsLine (line : List ℕ) (i : Item) : Type 0 where
   pub utf8 : IsUtf8 line
-  pub plain : has_control line ≡ false
+  pub no_control : has_control line ≡ false
   pub item : IsItem line i
 
 -- the moment, and of each connection that opened, in order from 1, whether it is open still
@@ -30,7 +30,7 @@ is_open opened (suc n) = unwrap_or (slice_get opened n) false
 abbrev pub closed_in : List Bool → ℕ → List Bool
 closed_in opened n = slice_set opened (n - 1) false
 
--- what is wrong with a line of this item after these
+-- the first of Order, Group, Many and Long that is wrong with a line of this item after these
 abbrev pub fault_of : Seen → Item → Option ScriptKind
 fault_of s Nothing = None
 fault_of s (Moment n) = if nat_lt n s.moment then Some kinds.Order else None
