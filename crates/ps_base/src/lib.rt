@@ -8,4 +8,5 @@ pub mod id;
 pub mod list;
 pub mod name;
 pub mod number;
+pub mod pack_kind;
 pub mod text;

@@ -1,0 +1,3 @@
+pub mod Forms
+pub mod Packed
+pub mod Scan

@@ -1,0 +1,5 @@
+//! Packed teams (TEAMS.md of the simulator), read and written.
+#![tactic(auto)]
+
+pub mod fault;
+pub mod set;
