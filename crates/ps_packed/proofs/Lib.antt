@@ -6,3 +6,8 @@ pub mod Splits
 pub mod SpreadLaws
 pub mod LevelLaws
 pub mod FormLaws
+pub mod Bytes
+pub mod Runs
+pub mod Ends
+pub mod Places
+pub mod Longest

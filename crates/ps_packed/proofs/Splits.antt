@@ -1,7 +1,8 @@
 -- What a character more makes of the pieces of a text.
-use Rattle.std.proofs.Common.{◌≡◌, ℕ, suc, ◌≤◌, ◌==◌, Bool, true, false, cond, eqb, List, [], ◌∷◌, ◌++◌, length, refl, ap, ◌∙◌, arith}
+use Rattle.std.proofs.Common.{◌≡◌, ℕ, suc, ◌+◌, ◌<◌, ◌≤◌, ◌==◌, Bool, true, false, cond, eqb, List, [], ◌∷◌, ◌++◌, length, drop, get_or, refl, ap, sym, ◌∙◌, arith, add-one}
 use Rattle.std.specs.List.{slice_split, onto_first}
 use Rattle.std.proofs.lemmas.List.{length-append}
+use Rattle.std.proofs.Math.Seq.{drop-cons}
 
 -- the last piece gets a character
 unfoldable pub snoc_last : ℕ → List (List ℕ) → List (List ℕ)
@@ -66,3 +67,19 @@ grown_long false x p (q ∷ ps) = omega (arith, grown_long false x q ps)
 -- a character makes one piece more at most
 pub pieces_grow : (c x : ℕ) (xs : List ℕ) → length (slice_split (λ b. b == c) (xs ++ x ∷ [])) ≤ suc (length (slice_split (λ b. b == c) xs))
 pieces_grow c x xs = let s = some_piece c xs in rw (split_snoc c x xs, s.2) (grown_long (eqb x c) x s.0 s.1)
+
+onto_long : (x : ℕ) (p : List ℕ) (ps : List (List ℕ)) → length (onto_first x (p ∷ ps)) ≡ length (p ∷ ps)
+onto_long x p ps = refl
+
+more_pieces : (b : Bool) (x : ℕ) (p : List ℕ) (ps : List (List ℕ)) → length (cond b ([] ∷ p ∷ ps) (onto_first x (p ∷ ps))) ≡ length (p ∷ ps) + cond b 1 0
+more_pieces true x p ps = omega arith
+more_pieces false x p ps = omega arith
+
+-- a character in front makes one piece more, or none
+pub pieces_before : (c x : ℕ) (b : Bool) (xs : List ℕ) → eqb x c ≡ b → length (slice_split (λ y. y == c) (x ∷ xs)) ≡ length (slice_split (λ y. y == c) xs) + cond b 1 0
+pieces_before c x b xs e = let s = some_piece c xs in rw (e, s.2) (more_pieces b x s.0 s.1)
+
+pub pieces_at : (c : ℕ) (xs : List ℕ) (i x : ℕ) (b : Bool) → i < length xs → x ≡ get_or xs i x → eqb x c ≡ b → length (slice_split (λ y. y == c) (drop i xs)) ≡ length (slice_split (λ y. y == c) (drop (i + 1) xs)) + cond b 1 0
+pieces_at c xs i x b lt is e =
+    let parts : drop i xs ≡ x ∷ drop (suc i) xs = drop-cons xs i x lt ∙ ap (λ (y : ℕ). y ∷ drop (suc i) xs) (sym is) in
+    ap (λ (u : List ℕ). length (slice_split (λ y. y == c) u)) parts ∙ pieces_before c x b (drop (suc i) xs) e ∙ ap (λ k. length (slice_split (λ y. y == c) (drop k xs)) + cond b 1 0) (sym (add-one i))

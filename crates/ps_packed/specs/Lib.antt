@@ -1,3 +1,4 @@
+pub mod Fields
 pub mod Forms
 pub mod Packed
 pub mod Scan

@@ -2,4 +2,7 @@
 #![tactic(auto)]
 
 pub mod fault;
+mod field;
+mod forms;
+mod scan;
 pub mod set;
