@@ -11,3 +11,6 @@ pub mod Runs
 pub mod Ends
 pub mod Places
 pub mod Longest
+pub mod Unique
+pub mod Ids
+pub mod Reading

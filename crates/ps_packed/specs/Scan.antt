@@ -1,11 +1,11 @@
 -- Going through a text character by character.
-use Rattle.std.specs.Prelude.{◌≡◌, ℕ, zero, suc, ◌+◌, ◌-◌, ◌==◌, ◌&&◌, ◌||◌, List, [], ◌∷◌, ◌++◌, length, Bool, true, false, not, Option, Some, None, option_and_then, Result, Ok, Err, ⊤, nat_lt, nat_le, if◌then◌else◌}
+use Rattle.std.specs.Prelude.{◌≡◌, ℕ, zero, suc, ◌+◌, ◌-◌, ◌==◌, ◌&&◌, ◌||◌, List, [], ◌∷◌, ◌++◌, length, map, Bool, true, false, not, Option, Some, None, option_and_then, Result, Ok, Err, ⊤, nat_lt, nat_le, if◌then◌else◌}
 use Rattle.std.specs.List.{list_all, list_any}
 use Rattle.ps_packed.specs.declared.set.Set.{Set}
 use Rattle.ps_packed.specs.declared.fault.PackFault.{PackFault}
 use Rattle.ps_packed.specs.declared.fault.PackFault.TheVariants as faults
 use Rattle.ps_packed.specs.Forms.{is_field_char, Form, words, moves, spread, letter, level, are_digits, number_of, is_number, parts, are_numbers, is_zero, is_letter, in_form, form_of, last}
-use Rattle.ps_packed.specs.Packed.{is_nil, IsTeam, IsFault}
+use Rattle.ps_packed.specs.Packed.{is_nil, IsTeam, IsFault, rows_of, set_of}
 
 -- some text of the form begins so
 unfoldable pub prefix_ok : Form → List ℕ → Bool
@@ -83,3 +83,7 @@ Refuses text faults.NoMemory = Unit {0}
 abbrev pub Scans : List ℕ → Result ⊤ PackFault → Type 0
 Scans text (Ok u) = (team : List Set) × IsTeam text team
 Scans text (Err e) = Refuses text e
+
+-- what the sets of a text stand for
+abbrev pub team_of : List ℕ → List Set
+team_of text = map set_of (rows_of text)

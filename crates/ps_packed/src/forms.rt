@@ -137,7 +137,7 @@ fn part_count(word: &[char]) -> usize
     count
 }
 
-fn is_zero(word: &[char]) -> bool
+pub fn is_zero(word: &[char]) -> bool
     ensures { result ≡ is_zero word.now }
 {
     match word {

@@ -4,5 +4,7 @@
 pub mod fault;
 mod field;
 mod forms;
+mod read;
 mod scan;
 pub mod set;
+pub mod team;
