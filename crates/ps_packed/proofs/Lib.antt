@@ -14,3 +14,4 @@ pub mod Longest
 pub mod Unique
 pub mod Ids
 pub mod Reading
+pub mod Joins

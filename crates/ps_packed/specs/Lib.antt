@@ -1,3 +1,4 @@
+pub mod Canon
 pub mod Fields
 pub mod Forms
 pub mod Packed

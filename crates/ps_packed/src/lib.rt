@@ -8,3 +8,4 @@ mod read;
 mod scan;
 pub mod set;
 pub mod team;
+pub mod write;
