@@ -15,3 +15,4 @@ pub mod Unique
 pub mod Ids
 pub mod Reading
 pub mod Joins
+pub mod Counts

@@ -76,7 +76,7 @@ placed_next front s b u p e =
         })
     ]
 
-end_snoc : {A : Type 0} (d : A) (xs : List A) (y : A) → end_of d (xs ++ y ∷ []) ≡ y
+pub end_snoc : {A : Type 0} (d : A) (xs : List A) (y : A) → end_of d (xs ++ y ∷ []) ≡ y
 end_snoc d [] y = refl
 end_snoc d (x ∷ xs) y = end_snoc x xs y
 

@@ -1,11 +1,11 @@
 -- Going through a text character by character.
-use Rattle.std.specs.Prelude.{◌≡◌, ℕ, zero, suc, ◌+◌, ◌-◌, ◌==◌, ◌&&◌, ◌||◌, List, [], ◌∷◌, ◌++◌, length, map, Bool, true, false, not, Option, Some, None, option_and_then, Result, Ok, Err, ⊤, nat_lt, nat_le, if◌then◌else◌}
+use Rattle.std.specs.Prelude.{◌≡◌, ℕ, zero, suc, ◌+◌, ◌-◌, ◌==◌, ◌&&◌, ◌||◌, List, [], ◌∷◌, ◌++◌, ◌≤◌, length, map, drop, Bool, true, false, not, Option, Some, None, option_and_then, Result, Ok, Err, ⊤, nat_lt, nat_le, if◌then◌else◌}
 use Rattle.std.specs.List.{list_all, list_any}
 use Rattle.ps_packed.specs.declared.set.Set.{Set}
 use Rattle.ps_packed.specs.declared.fault.PackFault.{PackFault}
 use Rattle.ps_packed.specs.declared.fault.PackFault.TheVariants as faults
-use Rattle.ps_packed.specs.Forms.{is_field_char, Form, words, moves, spread, letter, level, are_digits, number_of, is_number, parts, are_numbers, is_zero, is_letter, in_form, form_of, last}
-use Rattle.ps_packed.specs.Packed.{is_nil, IsTeam, IsFault, rows_of, set_of}
+use Rattle.ps_packed.specs.Forms.{is_field_char, Form, words, moves, spread, letter, level, are_digits, number_of, is_number, parts, is_id_letter, has_id, id_count, are_numbers, is_zero, is_letter, in_form, form_of, last}
+use Rattle.ps_packed.specs.Packed.{is_nil, IsTeam, IsFault, rows_of, end_of, set_of}
 
 -- some text of the form begins so
 unfoldable pub prefix_ok : Form → List ℕ → Bool
@@ -30,6 +30,25 @@ need moves w = 0
 need (spread zero_alone most) w = spread_need zero_alone w
 need (letter letters) w = 0
 need level w = level_need w
+
+-- the part after the last comma
+abbrev pub last_part : List ℕ → List ℕ
+last_part w = end_of [] (parts w)
+
+-- where the last part of a text between commas begins, and how many parts have an id
+pub record CountsOf (word : List ℕ) (part ids : ℕ) : Type 0 where
+  pub within : part ≤ length word
+  pub last_is : last_part word ≡ drop part word
+  pub ids_are : ids ≡ id_count word
+
+-- a character gives the part its id
+abbrev pub gives_id : List ℕ → ℕ → Bool
+gives_id part c = not (c == 44) && is_id_letter c && not (has_id part)
+
+-- what a character that was tried leaves
+abbrev pub Grows : Bool → Bool → List ℕ → ℕ → List ℕ → Type 0
+Grows true fits old c new = (fits ≡ true) × (new ≡ old ++ c ∷ [])
+Grows false fits old c new = (fits ≡ false) × (new ≡ old)
 
 -- the field's text so far, whether the set's first field was empty, which field it is, and how many sets are done
 pub record State : Type 0 where

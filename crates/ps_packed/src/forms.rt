@@ -8,10 +8,17 @@ ghost use Rattle.ps_packed.specs.Scan.{prefix_ok, need};
 use crate::field::Field;
 use std::alloc::{AllocError, Global};
 
+/// Whether a field may have the character.
+pub fn is_field_char(c: char) -> bool
+    ensures { result ≡ is_field_char c }
+{
+    c >= ' ' && c != '|' && c != ']'
+}
+
 fn are_field_chars(word: &[char]) -> bool
     ensures { result ≡ list_all is_field_char word.now }
 {
-    word.iter().all(|c| *c >= ' ' && *c != '|' && *c != ']')
+    word.iter().all(|c| is_field_char(*c))
 }
 
 fn are_digits(word: &[char]) -> bool
@@ -46,7 +53,8 @@ fn is_number(most: u32, word: &[char]) -> bool
     are_digits(word) && word.len() <= 3 && number(word) <= most
 }
 
-fn is_id_letter(c: char) -> bool
+/// Whether an id keeps the character.
+pub fn is_id_letter(c: char) -> bool
     ensures { result ≡ is_id_letter c }
 {
     c.is_ascii_alphanumeric()

@@ -8,4 +8,7 @@ mod read;
 mod scan;
 pub mod set;
 pub mod team;
+mod word;
 pub mod write;
+#[cfg(test)]
+mod tests;

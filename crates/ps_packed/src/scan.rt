@@ -8,7 +8,8 @@ ghost use Rattle.ps_packed.specs.Scan.{start, step, accepts, need_of, nameless_a
 
 use crate::fault::PackFault;
 use crate::field::Field;
-use crate::forms::{begins_field, field_need, id_count, is_field};
+use crate::forms::{field_need, id_count, is_field};
+use crate::word::Word;
 use ps_base::pack_kind::PackKind;
 use std::alloc::{AllocError, Global};
 use std::marker::Model;
@@ -20,7 +21,7 @@ const MOST: usize = 4096;
 /// was empty, and how many sets are done.
 #[derive(Drop)]
 struct Scan {
-    word: Vec<char>,
+    word: Word,
     bare: bool,
     field: Field,
     sets: usize,
@@ -32,7 +33,7 @@ impl Model for Scan {
 
     ghost Value = { State };
 
-    ghost view = { λ s. record { word = s.word.items; bare = s.bare; field = place s.field; sets = s.sets } };
+    ghost view = { λ s. record { word = s.word; bare = s.bare; field = place s.field; sets = s.sets } };
 }
 
 /// Whether the set has no name so far.
@@ -100,7 +101,7 @@ impl Scan {
         ensures { result ≡ start }
     {
         Scan {
-            word: Vec::new(alloc),
+            word: Word::new(alloc),
             bare: true,
             field: Field::Nick,
             sets: 0,
@@ -110,19 +111,20 @@ impl Scan {
     /// Takes the next character, or answers false and stays as it is.
     #[tactic(auto, unfolding(crate::specs::Scan::step))]
     fn step(&mut self, alloc: Global, c: char) -> Result<bool, AllocError>
+        requires { prefix_ok (form_of self.old.field) self.old.word ≡ true }
         ensures { IfOk result (λ went. Steps went (step self.old c) self.old self.new) }
     {
         if c == '|' {
-            if self.field.is_last() || !is_field(alloc, self.field, &self.word)? || !may_end(self.bare, self.field, &self.word) {
+            if self.field.is_last() || !is_field(alloc, self.field, self.word.as_slice())? || !may_end(self.bare, self.field, self.word.as_slice()) {
                 return Ok(false);
             }
-            self.bare = is_nameless(self.bare, self.field, &self.word);
+            self.bare = is_nameless(self.bare, self.field, self.word.as_slice());
             self.word.clear();
             self.field = self.field.next();
             return Ok(true);
         }
         if c == ']' {
-            if !self.field.is_last() || !is_field(alloc, self.field, &self.word)? || self.sets >= 5 {
+            if !self.field.is_last() || !is_field(alloc, self.field, self.word.as_slice())? || self.sets >= 5 {
                 return Ok(false);
             }
             self.word.clear();
@@ -131,11 +133,9 @@ impl Scan {
             self.sets += 1;
             return Ok(true);
         }
-        self.word.push(c)?;
-        if begins_field(alloc, self.field, &self.word)? {
+        if self.word.try_push(alloc, self.field, c)? {
             return Ok(true);
         }
-        self.word.pop();
         Ok(false)
     }
 
@@ -144,13 +144,13 @@ impl Scan {
     fn kind(&self, alloc: Global, next: Option<char>) -> Result<PackKind, AllocError>
         ensures { IfOk result (λ k. k ≡ kind_of (nameless_at self.now.bare self.now.field self.now.word) self.now.sets self.now.field self.now.word next) }
     {
-        if is_nameless(self.bare, self.field, &self.word) {
+        if is_nameless(self.bare, self.field, self.word.as_slice()) {
             return Ok(PackKind::EmptySet);
         }
         if is_out(self.field, next) {
             return Ok(PackKind::Bars);
         }
-        if is_too_many(alloc, self.sets, self.field, &self.word, next)? {
+        if is_too_many(alloc, self.sets, self.field, self.word.as_slice(), next)? {
             return Ok(PackKind::Count);
         }
         if self.field.is_numeric() {
@@ -165,12 +165,12 @@ impl Scan {
         ensures value { result ≡ need_of self.now }
         ensures small { result ≤ 18 }
     {
-        let name = if is_nameless(self.bare, self.field, &self.word) {
+        let name = if is_nameless(self.bare, self.field, self.word.as_slice()) {
             1
         } else {
             0
         };
-        field_need(self.field, &self.word) + self.field.left() + name
+        field_need(self.field, self.word.as_slice()) + self.field.left() + name
     }
 
     /// Whether the text may end here.
@@ -181,7 +181,7 @@ impl Scan {
         if !self.field.is_last() {
             return Ok(false);
         }
-        is_field(alloc, self.field, &self.word)
+        is_field(alloc, self.field, self.word.as_slice())
     }
 }
 

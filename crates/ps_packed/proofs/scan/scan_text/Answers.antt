@@ -17,6 +17,9 @@ returns-then-at-ge-MOST c =
     let l = longest_here text c.loop-i.i c.loop-i.scan c.requires a (past_limit text c.loop-i.i c.loop-i.scan c.loop-i-test.true far) in
     (record { count = c.loop-i.i; longest = l; place = c.loop-i.invariant.place; kind_is = long_limit text c.loop-i.i c.loop-i.scan a far }, no_team_here text c.loop-i.i l c.loop-i-test.true)
 
+pub step-requires : goal.step-requires
+step-requires c = c.loop-i.invariant.alive.valid.front
+
 pub returns-then-not-branch : goal.returns-then-not-branch
 returns-then-not-branch c =
     let text = c.args.text.now in
