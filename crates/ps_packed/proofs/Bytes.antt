@@ -44,3 +44,7 @@ scalars_front (c ∷ a) b e = let k = and_true _ (all_scalars (a ++ b)) e in bot
 
 pub scalars_take : (n : ℕ) (text : List ℕ) → all_scalars text ≡ true → all_scalars (take n text) ≡ true
 scalars_take n text e = scalars_front (take n text) _ (ap all_scalars (take-append-drop n text) ∙ e)
+
+pub scalars_back : (a b : List ℕ) → all_scalars (a ++ b) ≡ true → all_scalars b ≡ true
+scalars_back [] b e = e
+scalars_back (c ∷ a) b e = let k = and_true _ (all_scalars (a ++ b)) e in scalars_back a b k.1

@@ -16,3 +16,6 @@ pub mod Ids
 pub mod Reading
 pub mod Joins
 pub mod Counts
+pub mod CanonNumbers
+pub mod CanonMoves
+pub mod CanonNames

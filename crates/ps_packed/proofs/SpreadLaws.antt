@@ -49,7 +49,7 @@ front_made : (zero_alone : Bool) (most : ℕ) (w : List ℕ) → are_numbers mos
 unfolding prefix_ok
 front_made zero_alone most w e le = both _ _ e (le-leb _ _ le)
 
-zero_is : (w : List ℕ) → is_zero w ≡ true → w ≡ 48 ∷ []
+pub zero_is : (w : List ℕ) → is_zero w ≡ true → w ≡ 48 ∷ []
 zero_is [] e = absurd cc
 zero_is (c ∷ []) e = ap (λ (d : ℕ). d ∷ []) (eqb-true _ _ e)
 zero_is (c ∷ d ∷ w) e = absurd cc

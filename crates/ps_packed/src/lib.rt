@@ -10,5 +10,3 @@ pub mod set;
 pub mod team;
 mod word;
 pub mod write;
-#[cfg(test)]
-mod tests;
