@@ -19,3 +19,4 @@ pub mod Counts
 pub mod CanonNumbers
 pub mod CanonMoves
 pub mod CanonNames
+pub mod CanonTeams

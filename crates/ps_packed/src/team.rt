@@ -2,7 +2,8 @@
 ghost use Rattle.std.specs.Prelude.{◌≡◌, IfOk, IfErr, List, ℕ};
 ghost use Rattle.std.specs.Str.{chars};
 ghost use Rattle.ps_packed.specs.declared.set.Set.{Set};
-ghost use Rattle.ps_packed.specs.Packed.{IsTeam};
+ghost use Rattle.ps_packed.specs.Packed.{HasText, IsTeam};
+ghost use Rattle.ps_packed.specs.Canon.{canon};
 ghost use Rattle.ps_packed.specs.Scan.{Refuses};
 
 use crate::fault::PackFault;
@@ -72,5 +73,11 @@ pub fn read_team(alloc: Global, text: &str) -> Result<Team, PackFault>
 /// No text has two teams.
 pub fn one_team()
     ensures { (text : List ℕ) (a b : List Set) → IsTeam text a → IsTeam text b → a ≡ b }
+{
+}
+
+/// The canonical text of a team that some text has is a text of it.
+pub fn canonical_is()
+    ensures { (t : List Set) → HasText t → IsTeam (chars (canon t)) t }
 {
 }

@@ -1,6 +1,7 @@
 //! Writes packed teams.
 ghost use Rattle.std.specs.Prelude.{◌≡◌, ◌==◌, ◌<◌, [], ◌∷◌, length, map, IfOk, chars, nat_le};
 ghost use Rattle.std.specs.List.{join_with_byte, list_all};
+ghost use Rattle.ps_packed.specs.Packed.{IsTeam};
 ghost use Rattle.ps_packed.specs.Canon.{nick_text, species_text, moves_text, are_all, ev_text, evs_text, iv_text, ivs_text, gender_text, shiny_text, level_text, set_fields, canon};
 
 use crate::set::Set;
@@ -223,11 +224,21 @@ fn set_texts(alloc: Global, sets: &[Set]) -> Result<Vec<Text>, AllocError>
     Ok(texts)
 }
 
-/// The canonical text of a team, the one that `read_team` reads as this team and that leaves out what
-/// an empty field means: the species that is the nickname, six EVs of 252, six IVs of 31, level 100.
-pub fn write_team(alloc: Global, team: &Team) -> Result<Text, AllocError>
-    ensures { IfOk result (λ t. t ≡ canon team.now) }
+fn team_text(alloc: Global, sets: &[Set]) -> Result<Text, AllocError>
+    ensures { IfOk result (λ t. t ≡ canon sets.now) }
 {
-    let texts = set_texts(alloc, team.sets())?;
+    let texts = set_texts(alloc, sets)?;
     joined(alloc, &texts, ']')
+}
+
+/// The canonical text of a team, which `read_team` reads as this team again. It leaves out what an
+/// empty field means: the species that is the nickname, six EVs of 252, six IVs of 31, level 100.
+/// Fails only where an allocation does.
+pub fn write_team(alloc: Global, team: &Team) -> Result<Text, AllocError>
+    ensures text { IfOk result (λ t. t ≡ canon team.now) }
+    // It is a text of the team.
+    ensures again { IfOk result (λ t. IsTeam (chars t) team.now) }
+{
+    let sets = team.sets();
+    team_text(alloc, sets)
 }
