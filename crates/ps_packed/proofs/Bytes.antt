@@ -7,7 +7,7 @@ use Rattle.std.proofs.lemmas.Bool.{ltb-true, lt-ltb}
 use Rattle.std.proofs.lemmas.List.{length-append, take-append-drop}
 use Rattle.std.proofs.lemmas.Str.{encodes-append, encode_ascii, length-le-encodes}
 use Rattle.ps_packed.specs.Packed.{bytes_of}
-use Rattle.ps_packed.proofs.Tests.{and_true, both}
+use Rattle.ps_packed.proofs.Truths.{and_true, both}
 use Rattle.ps_packed.proofs.Laws.{is_low}
 
 pub bytes_append : (a b : List ℕ) → bytes_of (a ++ b) ≡ bytes_of a + bytes_of b

@@ -10,7 +10,7 @@ use Rattle.ps_base.specs.Ids.{lower, is_id_byte, id_of}
 use Rattle.ps_packed.specs.Forms.{is_field_char, moves, parts, is_id_letter, has_id, are_short, id_count, ids_of, in_form}
 use Rattle.ps_packed.specs.Packed.{bytes_of}
 use Rattle.ps_packed.specs.Canon.{moves_text}
-use Rattle.ps_packed.proofs.Tests.{and_true, or_true, both}
+use Rattle.ps_packed.proofs.Truths.{and_true, or_true, both}
 use Rattle.ps_packed.proofs.Laws.{is_low}
 use Rattle.ps_packed.proofs.MoveLaws.{IsMoves, moves_facts, moves_made}
 use Rattle.ps_packed.proofs.Unique.{Lacks, split_join}

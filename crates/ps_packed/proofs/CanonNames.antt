@@ -8,7 +8,7 @@ use Rattle.std.proofs.lemmas.Str.{chars-encodes, encodes_same}
 use Rattle.ps_packed.specs.Forms.{is_field_char, words, in_form}
 use Rattle.ps_packed.specs.Packed.{is_nil, or_other, bytes_of}
 use Rattle.ps_packed.specs.Canon.{nick_text, species_text}
-use Rattle.ps_packed.proofs.Tests.{and_true, both}
+use Rattle.ps_packed.proofs.Truths.{and_true, both}
 use Rattle.ps_packed.proofs.WordLaws.{IsWords, words_facts, words_made}
 
 -- the canonical texts in characters, from those that a row has

@@ -9,7 +9,7 @@ use Rattle.std.proofs.lemmas.List.Splits.{join_with_byte-slice_split}
 use Rattle.ps_packed.specs.Forms.{Form, are_digits, number_after, number_of, is_number, parts, is_spread_char, are_numbers, is_zero, is_spread, is_level, evs, ivs, level, in_form}
 use Rattle.ps_packed.specs.Packed.{six, evs_of, iv_of, ivs_of, level_of, bytes_of}
 use Rattle.ps_packed.specs.Canon.{are_all, ev_text, evs_text, iv_text, ivs_text, level_text}
-use Rattle.ps_packed.proofs.Tests.{and_true, or_true, both, either_left, either_right, nil_of}
+use Rattle.ps_packed.proofs.Truths.{and_true, or_true, both, either_left, either_right, nil_of}
 use Rattle.ps_packed.proofs.Laws.{is_low}
 use Rattle.ps_packed.proofs.LevelLaws.{IsNumber, number_facts, number_made, number_append, IsLevel, level_facts, level_made}
 use Rattle.ps_packed.proofs.SpreadLaws.{spread_cases, numbers_facts, numbers_made, zero_is}

@@ -10,7 +10,7 @@ use Rattle.ps_packed.specs.declared.set.Set.{Set}
 use Rattle.ps_packed.specs.Forms.{moves, level, evs, ivs, gender, shiny, is_letter, ids_of, in_form, form_of}
 use Rattle.ps_packed.specs.Packed.{is_nil, is_nameless, or_other, field, evs_of, gender_of, ivs_of, level_of, set_of, bytes_of, AreFields, IsRow, team_text, IsFreeTeam, IsTeamOf, IsTeam, HasText}
 use Rattle.ps_packed.specs.Canon.{nick_text, species_text, moves_text, evs_text, gender_text, ivs_text, shiny_text, level_text, set_fields, canon}
-use Rattle.ps_packed.proofs.Tests.{and_true, both}
+use Rattle.ps_packed.proofs.Truths.{and_true, both}
 use Rattle.ps_packed.proofs.Bytes.{low_encodes, low_scalars}
 use Rattle.ps_packed.proofs.Joins.{total, join_bytes, joined_shorter, join_encodes, scalars_joined, scalars_each}
 use Rattle.ps_packed.proofs.Unique.{fields_long}

@@ -7,7 +7,7 @@ use Rattle.std.proofs.lemmas.List.Folds.{list_all-append}
 use Rattle.ps_packed.specs.Forms.{is_field_char, moves, parts, is_id_letter, has_id, are_short, id_count, in_form}
 use Rattle.ps_packed.specs.Packed.{end_of}
 use Rattle.ps_packed.specs.Scan.{prefix_ok, last_part, CountsOf, gives_id}
-use Rattle.ps_packed.proofs.Tests.{and_true, both}
+use Rattle.ps_packed.proofs.Truths.{and_true, both}
 use Rattle.ps_packed.proofs.MoveLaws.{IsMoves, moves_facts}
 use Rattle.ps_packed.proofs.Splits.{grown, some_piece, split_snoc, grown_end}
 use Rattle.ps_packed.proofs.Places.{end_snoc}

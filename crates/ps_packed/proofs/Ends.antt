@@ -7,7 +7,7 @@ use Rattle.std.proofs.lemmas.Bool.{cases_lt}
 use Rattle.ps_packed.specs.Forms.{in_form, form_of, last}
 use Rattle.ps_packed.specs.Packed.{is_nil}
 use Rattle.ps_packed.specs.Scan.{prefix_ok, need, State, start, step, run, accepts, need_of, nameless_at, bar_named}
-use Rattle.ps_packed.proofs.Tests.{both, not_false}
+use Rattle.ps_packed.proofs.Truths.{both, not_false}
 use Rattle.ps_packed.proofs.Laws.{Laws, is_low}
 use Rattle.ps_packed.proofs.FormLaws.{laws_of, empty_ok, nothing_ok}
 use Rattle.ps_packed.proofs.Runs.{at, step_bar, step_inner, run_step, run_then, word_runs, accepts_last, last_of, some_is, some_step, Stepped, by_bar, by_bracket, by_inner, stepped}

@@ -7,7 +7,7 @@ use Rattle.std.proofs.lemmas.List.{append-nil, take_more, length-append}
 use Rattle.std.proofs.lemmas.Bool.{lt-ltb}
 use Rattle.std.proofs.lemmas.Str.{encodes-append, encode_ascii}
 use Rattle.ps_packed.specs.Packed.{bytes_of}
-use Rattle.ps_packed.proofs.Tests.{and_true, both}
+use Rattle.ps_packed.proofs.Truths.{and_true, both}
 use Rattle.ps_packed.proofs.Bytes.{bytes_append, low_bytes, low_scalars, scalars_append, scalars_front, scalars_back}
 
 join_more : (c : ℕ) (p : List ℕ) (ps : List (List ℕ)) (q : List ℕ) → join_with_byte c (p ∷ (ps ++ q ∷ [])) ≡ join_with_byte c (p ∷ ps) ++ c ∷ q

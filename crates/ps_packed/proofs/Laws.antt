@@ -4,7 +4,7 @@ use Rattle.std.specs.List.{list_all}
 use Rattle.std.specs.Prelude.{nat_lt}
 use Rattle.ps_packed.specs.Forms.{Form, is_field_char, in_form}
 use Rattle.ps_packed.specs.Scan.{prefix_ok, need}
-use Rattle.ps_packed.proofs.Tests.{and_true, both}
+use Rattle.ps_packed.proofs.Truths.{and_true, both}
 
 -- a character of a field is no bar and no bracket
 abbrev pub is_inner : ℕ → Bool

@@ -6,7 +6,7 @@ use Rattle.std.proofs.lemmas.List.{length-append, append-nil}
 use Rattle.std.proofs.lemmas.List.Folds.{list_all-append}
 use Rattle.ps_packed.specs.Forms.{are_digits, number_after, number_of, is_number, is_level, level, in_form}
 use Rattle.ps_packed.specs.Scan.{prefix_ok, need, level_need}
-use Rattle.ps_packed.proofs.Tests.{and_true, or_true, both, either_left, either_right, all_front, nil_of}
+use Rattle.ps_packed.proofs.Truths.{and_true, or_true, both, either_left, either_right, all_front, nil_of}
 use Rattle.ps_packed.proofs.Laws.{Laws, is_inner}
 
 -- ---- numbers

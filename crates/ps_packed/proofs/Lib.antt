@@ -1,4 +1,4 @@
-pub mod Tests
+pub mod Truths
 pub mod Laws
 pub mod WordLaws
 pub mod MoveLaws

@@ -5,7 +5,7 @@ use Rattle.std.proofs.lemmas.Bool.{leb-true, le-leb}
 use Rattle.std.proofs.lemmas.List.{length-append, append-nil}
 use Rattle.ps_packed.specs.Forms.{is_field_char, moves, parts, is_id_letter, has_id, are_short, id_count, in_form}
 use Rattle.ps_packed.specs.Scan.{prefix_ok, need}
-use Rattle.ps_packed.proofs.Tests.{and_true, or_true, both, either_left, either_right, all_front}
+use Rattle.ps_packed.proofs.Truths.{and_true, or_true, both, either_left, either_right, all_front}
 use Rattle.ps_packed.proofs.Laws.{Laws, field_inner}
 
 -- each part is the front of the part in its place

@@ -4,7 +4,7 @@ use Rattle.std.specs.List.{slice_split}
 use Rattle.std.proofs.lemmas.List.{length-append, map-append}
 use Rattle.ps_packed.specs.Packed.{is_nil, is_nameless, rows_of, end_of, sets_done, row_at_end, field_at_end, word_at_end}
 use Rattle.ps_packed.specs.Scan.{State, start, step, nameless_at, bar_named}
-use Rattle.ps_packed.proofs.Tests.{not_false}
+use Rattle.ps_packed.proofs.Truths.{not_false}
 use Rattle.ps_packed.proofs.Runs.{Stepped, by_bar, by_bracket, by_inner, stepped}
 use Rattle.ps_packed.proofs.Splits.{grown, split_snoc, grown_end}
 

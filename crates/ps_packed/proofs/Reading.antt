@@ -8,7 +8,7 @@ use Rattle.std.proofs.lemmas.List.{append-nil, take_more}
 use Rattle.std.proofs.lemmas.Str.{encodes-append}
 use Rattle.ps_packed.specs.Forms.{is_number, number_of, parts, is_zero, is_spread, evs, ivs, level, in_form, form_of}
 use Rattle.ps_packed.specs.Packed.{is_nil, or_other, AreFields, IsRow, field, set_of}
-use Rattle.ps_packed.proofs.Tests.{and_true}
+use Rattle.ps_packed.proofs.Truths.{and_true}
 use Rattle.ps_packed.proofs.Unique.{pieces_long}
 use Rattle.ps_packed.proofs.LevelLaws.{level_facts}
 use Rattle.ps_packed.proofs.SpreadLaws.{spread_cases, numbers_facts}

@@ -9,7 +9,7 @@ use Rattle.std.proofs.lemmas.List.Folds.{list_all-append}
 use Rattle.ps_packed.specs.Forms.{in_form, form_of, last}
 use Rattle.ps_packed.specs.Packed.{is_nil, is_nameless, AreFields, IsRow, team_text, IsFreeTeam}
 use Rattle.ps_packed.specs.Scan.{prefix_ok, State, start, step, run, accepts, nameless_at, bar_named}
-use Rattle.ps_packed.proofs.Tests.{and_true, both, not_false, is_not}
+use Rattle.ps_packed.proofs.Truths.{and_true, both, not_false, is_not}
 use Rattle.ps_packed.proofs.Laws.{Laws, is_inner}
 use Rattle.ps_packed.proofs.FormLaws.{laws_of}
 

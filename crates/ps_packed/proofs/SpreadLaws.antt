@@ -6,7 +6,7 @@ use Rattle.std.proofs.lemmas.List.{length-append, append-nil}
 use Rattle.std.proofs.lemmas.List.Folds.{list_all-append}
 use Rattle.ps_packed.specs.Forms.{is_number, parts, is_spread_char, are_numbers, is_zero, is_spread, spread, in_form}
 use Rattle.ps_packed.specs.Scan.{prefix_ok, need, spread_need}
-use Rattle.ps_packed.proofs.Tests.{and_true, or_true, both, either_left, either_right, all_front}
+use Rattle.ps_packed.proofs.Truths.{and_true, or_true, both, either_left, either_right, all_front}
 use Rattle.ps_packed.proofs.Laws.{Laws, is_inner}
 use Rattle.ps_packed.proofs.LevelLaws.{number_made, number_front}
 use Rattle.ps_packed.proofs.MoveLaws.{Below, parts_below}

@@ -8,7 +8,7 @@ use Rattle.ps_packed.specs.declared.set.Set.{Set}
 use Rattle.ps_packed.specs.Forms.{in_form, form_of, last}
 use Rattle.ps_packed.specs.Packed.{AreFields, IsRow, set_of, team_text, IsTeamOf, IsTeam, rows_of}
 use Rattle.ps_packed.specs.Scan.{team_of}
-use Rattle.ps_packed.proofs.Tests.{and_true, both, not_false}
+use Rattle.ps_packed.proofs.Truths.{and_true, both, not_false}
 use Rattle.ps_packed.proofs.Laws.{Laws, is_inner}
 use Rattle.ps_packed.proofs.FormLaws.{laws_of}
 

@@ -5,7 +5,7 @@ use Rattle.std.proofs.lemmas.Bool.{leb-true, le-leb}
 use Rattle.std.proofs.lemmas.List.{length-append, append-nil}
 use Rattle.ps_packed.specs.Forms.{is_field_char, Form, words, letter, is_letter, in_form}
 use Rattle.ps_packed.specs.Scan.{prefix_ok, need}
-use Rattle.ps_packed.proofs.Tests.{and_true, or_true, both, all_front}
+use Rattle.ps_packed.proofs.Truths.{and_true, or_true, both, all_front}
 use Rattle.ps_packed.proofs.Laws.{Laws, is_inner, field_inner}
 
 pub record IsWords (most : ℕ) (w : List ℕ) : Type 0 where
