@@ -179,7 +179,7 @@ ids_found : (m : List ℕ) → IsMoves m → AllByRecursion IsIdPart (ids_of m)
 unfolding are_short
 ids_found m f = ids_made (parts m) f.are
 
-ids_few : (m : List ℕ) → IsMoves m → length (ids_of m) ≤ 4
+pub ids_few : (m : List ℕ) → IsMoves m → length (ids_of m) ≤ 4
 unfolding id_count
 ids_few m f = omega (arith, length_mapped (filter has_id (parts m)), f.few)
 

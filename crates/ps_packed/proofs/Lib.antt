@@ -20,3 +20,4 @@ pub mod CanonNumbers
 pub mod CanonMoves
 pub mod CanonNames
 pub mod CanonTeams
+pub mod SetRanges

@@ -1,6 +1,7 @@
 //! Goes through a text character by character.
 ghost use Rattle.std.specs.Prelude.{◌≡◌, ◌≤◌, ◌==◌, [], ◌∷◌, ◌++◌, true, IfOk};
 ghost use Rattle.std.specs.Str.{all_scalars};
+ghost use Rattle.ps_packed.specs.declared.fault.PackFault.TheVariants.{Fault};
 ghost use Rattle.ps_packed.specs.Fields.{place};
 ghost use Rattle.ps_packed.specs.Forms.{form_of, last};
 ghost use Rattle.ps_packed.specs.Packed.{is_out, is_too_many, kind_of, bytes_of};
@@ -193,6 +194,16 @@ fn byte_count(c: char) -> usize
     c.len_utf8()
 }
 
+fn fault(at: usize, kind: PackKind) -> PackFault
+    requires { at ≤ 4096 }
+    ensures { result ≡ Fault at kind }
+{
+    PackFault::Fault {
+        at: at as u32,
+        kind,
+    }
+}
+
 /// Whether a text is a team's, and else why it isn't.
 pub fn scan_text(alloc: Global, text: &[char]) -> Result<(), PackFault>
     requires { all_scalars text.now ≡ true }
@@ -202,34 +213,22 @@ pub fn scan_text(alloc: Global, text: &[char]) -> Result<(), PackFault>
     let mut at = 0;
     for i in 0..text.len() {
         if at >= MOST {
-            return Err(PackFault::Fault {
-                at: at as u32,
-                kind: PackKind::Long,
-            });
+            return Err(fault(at, PackKind::Long));
         }
         let next = text[i];
         if !scan.step(alloc, next)? {
             let kind = scan.kind(alloc, Some(next))?;
-            return Err(PackFault::Fault {
-                at: at as u32,
-                kind,
-            });
+            return Err(fault(at, kind));
         }
         let after = at + byte_count(next);
         if after + scan.need() > MOST {
-            return Err(PackFault::Fault {
-                at: at as u32,
-                kind: PackKind::Long,
-            });
+            return Err(fault(at, PackKind::Long));
         }
         at = after;
     }
     if !scan.accepts(alloc)? {
         let kind = scan.kind(alloc, None)?;
-        return Err(PackFault::Fault {
-            at: at as u32,
-            kind,
-        });
+        return Err(fault(at, kind));
     }
     Ok(())
 }

@@ -32,13 +32,19 @@ impl Model for Team {
     ghost invariant = { λ t. HasText t.sets };
 }
 
+#[tactic(auto, using(crate::proofs::SetRanges::team_facts))]
 impl Team {
+    ghost use Rattle.std.specs.Prelude.{◌<◌, ◌≤◌, length, All};
     ghost use Rattle.ps_packed.specs.Packed.{HasText};
+    ghost use Rattle.ps_packed.specs.Ranges.{HasRanges};
 
     /// The sets, in the order of the text.
     pub fn sets(&self) -> &[Set]
         ensures value { result.now ≡ self.now }
         ensures has_text { HasText self.now }
+        ensures some { 0 < length self.now }
+        ensures few { length self.now ≤ 6 }
+        ensures ranges { All HasRanges self.now }
     {
         self.sets.as_slice()
     }

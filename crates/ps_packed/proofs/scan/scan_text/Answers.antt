@@ -1,7 +1,7 @@
 use Rattle.std.proofs.Common.{◌≡◌, ◌<◌, ◌+◌, ap, sym, subst, ◌∙◌, refl, ℕ, Some, None, ◌≤◌, arith, length, get_or, take}
 use Rattle.std.proofs.Math.Seq.{take-length}
 use Rattle.ps_packed.specs.Packed.{bytes_of}
-use Rattle.ps_packed.specs.Scan.{State, step, need_of}
+use Rattle.ps_packed.specs.Scan.{State, step, need_of, Refuses}
 use Rattle.ps_packed.proofs.Ends.{step_valid}
 use Rattle.ps_packed.proofs.Longest.{IsAlive, start_alive, alive_next, next_at, read_at, kind_in, longest_here, longest_end, no_team_here, no_team_end, found_end, stops, past_limit, too_far, long_limit, long_room, kind_here, kind_end}
 use Rattle.ps_packed.proofs.scan.scan_text.Goals as goal
@@ -15,7 +15,7 @@ returns-then-at-ge-MOST c =
     let a = c.loop-i.invariant.alive in
     let far = rw c.loop-i.invariant.place at c.if-at-ge-MOST.true in
     let l = longest_here text c.loop-i.i c.loop-i.scan c.requires a (past_limit text c.loop-i.i c.loop-i.scan c.loop-i-test.true far) in
-    (record { count = c.loop-i.i; longest = l; place = c.loop-i.invariant.place; kind_is = long_limit text c.loop-i.i c.loop-i.scan a far }, no_team_here text c.loop-i.i l c.loop-i-test.true)
+    subst (Refuses text) (sym c.fault.ensures) (record { count = c.loop-i.i; longest = l; place = c.loop-i.invariant.place; kind_is = long_limit text c.loop-i.i c.loop-i.scan a far }, no_team_here text c.loop-i.i l c.loop-i-test.true)
 
 pub step-requires : goal.step-requires
 step-requires c = c.loop-i.invariant.alive.valid.front
@@ -30,7 +30,7 @@ returns-then-not-branch c =
     let l = longest_here text c.loop-i.i c.loop-i.scan c.requires a (stops text c.loop-i.i c.loop-i.scan stopped) in
     let k = subst (λ (y : ℕ). c.in_ok-kind.kind ≡ kind_in c.loop-i.scan (Some y)) x (rw none.1 at c.in_ok-kind.ensures) in
     let small = rw c.loop-i.invariant.place at c.if-at-ge-MOST.false in
-    (record { count = c.loop-i.i; longest = l; place = c.loop-i.invariant.place; kind_is = kind_here text c.loop-i.i c.loop-i.scan c.in_ok-kind.kind a c.loop-i-test.true small stopped k }, no_team_here text c.loop-i.i l c.loop-i-test.true)
+    subst (Refuses text) (sym c.fault-then-not-branch.ensures) (record { count = c.loop-i.i; longest = l; place = c.loop-i.invariant.place; kind_is = kind_here text c.loop-i.i c.loop-i.scan c.in_ok-kind.kind a c.loop-i-test.true small stopped k }, no_team_here text c.loop-i.i l c.loop-i-test.true)
 
 pub need-requires : goal.need-requires
 need-requires c =
@@ -46,7 +46,7 @@ returns-then-after-need-gt-MOST c =
     let bytes : bytes_of (take (c.loop-i.i + 1) text) ≡ c.loop-i.at + c.byte_count.result = next_at text c.loop-i.i c.index-text-i.result c.loop-i.at c.byte_count.result c.loop-i-test.true x c.loop-i.invariant.place c.byte_count.ensures.value in
     let far : 4096 < bytes_of (take (c.loop-i.i + 1) text) + need_of c.step.new.self = omega (arith, bytes, c.if-after-need-gt-MOST.true, c.need.ensures.value) in
     let l = longest_here text c.loop-i.i c.loop-i.scan c.requires a (too_far text c.loop-i.i c.loop-i.scan c.step.new.self some far) in
-    (record { count = c.loop-i.i; longest = l; place = c.loop-i.invariant.place; kind_is = long_room text c.loop-i.i c.loop-i.scan c.step.new.self c.requires a c.loop-i-test.true some }, no_team_here text c.loop-i.i l c.loop-i-test.true)
+    subst (Refuses text) (sym c.fault-then-after-need-gt-MOST.ensures) (record { count = c.loop-i.i; longest = l; place = c.loop-i.invariant.place; kind_is = long_room text c.loop-i.i c.loop-i.scan c.step.new.self c.requires a c.loop-i-test.true some }, no_team_here text c.loop-i.i l c.loop-i-test.true)
 
 pub loop-i-preserved : goal.loop-i-preserved
 loop-i-preserved c =
@@ -65,7 +65,7 @@ returns-then-not-branch-2 c =
     let refused = sym c.in_ok-accepts.ensures ∙ c.if-not-branch-2.true in
     let l = longest_end text c.loop-i.scan c.requires a in
     let place : c.loop-i.at ≡ bytes_of (take (length text) text) = c.loop-i.invariant.place ∙ ap (λ i. bytes_of (take i text)) end in
-    (record { count = length text; longest = l; place = place; kind_is = kind_end text c.loop-i.scan c.in_ok-kind-2.kind a refused c.in_ok-kind-2.ensures }, no_team_end text c.loop-i.scan a refused)
+    subst (Refuses text) (sym c.fault-then-not-branch-2.ensures) (record { count = length text; longest = l; place = place; kind_is = kind_end text c.loop-i.scan c.in_ok-kind-2.kind a refused c.in_ok-kind-2.ensures }, no_team_end text c.loop-i.scan a refused)
 
 pub returns : goal.returns
 returns c =
