@@ -1,8 +1,7 @@
 -- The canonical text of moves.
-use Rattle.std.proofs.Common.{◌≡◌, ◌≢◌, ℕ, zero, suc, ◌+◌, ◌<◌, ◌≤◌, ◌==◌, ◌&&◌, ◌||◌, Bool, true, false, not, cond, eqb, leb, List, [], ◌∷◌, ◌++◌, length, map, filter, refl, sym, ap, ◌∙◌, inl, inr, ◌⊎◌, arith}
+use Rattle.std.proofs.Common.{◌≡◌, ◌≢◌, ℕ, suc, ◌<◌, ◌≤◌, ◌==◌, ◌&&◌, Bool, true, false, not, cond, leb, List, [], ◌∷◌, length, map, filter, refl, sym, ap, ◌∙◌, inl, inr, ◌⊎◌, arith}
 use Rattle.std.specs.List.{list_all, list_any, AllByRecursion, join_with_byte}
 use Rattle.std.proofs.lemmas.Bool.{leb-true, le-leb, ne_eqb, lt-leb, lt-ltb}
-use Rattle.std.proofs.lemmas.List.{length-append}
 use Rattle.std.proofs.lemmas.List.Folds.{list_all-append}
 use Rattle.std.proofs.lemmas.List.Splits.{join_with_byte-slice_split}
 use Rattle.std.proofs.Math.Bool.{and-false}
@@ -30,9 +29,9 @@ record IdByte (b : ℕ) : Type 0 where
 
 range_of : (b : ℕ) → is_id_byte b ≡ true → ((97 ≤ b) × (b ≤ 122)) ⊎ ((48 ≤ b) × (b ≤ 57))
 range_of b e = elim (or_true (leb 97 b && leb b 122) (leb 48 b && leb b 57) e) [
-    | inl h ↦ (let a = and_true (leb 97 b) (leb b 122) h in inl (leb-true _ _ a.0, leb-true _ _ a.1))
-    | inr h ↦ (let a = and_true (leb 48 b) (leb b 57) h in inr (leb-true _ _ a.0, leb-true _ _ a.1))
-  ]
+  | inl h ↦ (let a = and_true (leb 97 b) (leb b 122) h in inl (leb-true _ _ a.0, leb-true _ _ a.1))
+  | inr h ↦ (let a = and_true (leb 48 b) (leb b 57) h in inr (leb-true _ _ a.0, leb-true _ _ a.1))
+]
 
 made_byte : (b : ℕ) → 48 ≤ b → b ≤ 122 → b ≢ 93 → (leb 65 b && leb b 90) ≡ false → IdByte b
 made_byte b le most ne small = record {
@@ -43,9 +42,9 @@ made_byte b le most ne small = record {
 
 id_byte : (b : ℕ) → is_id_byte b ≡ true → IdByte b
 id_byte b e = elim (range_of b e) [
-    | inl h ↦ made_byte b (omega (arith, h.0)) h.1 (λ z. omega (arith, z, h.0)) (rw (lt-leb b 90 (omega (arith, h.0))) (and-false (leb 65 b)))
-    | inr h ↦ made_byte b h.0 (omega (arith, h.1)) (λ z. omega (arith, z, h.1)) (rw (lt-leb 65 b (omega (arith, h.1))) refl)
-  ]
+  | inl h ↦ made_byte b (omega (arith, h.0)) h.1 (λ z. omega (arith, z, h.0)) (rw (lt-leb b 90 (omega (arith, h.0))) (and-false (leb 65 b)))
+  | inr h ↦ made_byte b h.0 (omega (arith, h.1)) (λ z. omega (arith, z, h.1)) (rw (lt-leb 65 b (omega (arith, h.1))) refl)
+]
 
 ids_field : (p : List ℕ) → list_all is_id_byte p ≡ true → list_all is_field_char p ≡ true
 ids_field [] e = refl

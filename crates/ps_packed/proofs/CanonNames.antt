@@ -1,15 +1,13 @@
 -- The canonical texts of nickname and species.
-use Rattle.std.proofs.Common.{◌≡◌, ◌≢◌, ℕ, ◌+◌, ◌<◌, ◌≤◌, ◌==◌, ◌&&◌, Bool, true, false, cond, leb, List, [], ◌∷◌, ◌++◌, length, chars, bytes_eq, encode_utf8_all, refl, sym, ap, subst, ◌∙◌, inl, inr, ◌⊎◌, arith}
-use Rattle.std.specs.List.{list_all}
+use Rattle.std.proofs.Common.{◌≡◌, ℕ, ◌+◌, ◌≤◌, ◌&&◌, Bool, true, false, leb, List, [], ◌∷◌, length, chars, bytes_eq, encode_utf8_all, refl, sym, ap, ◌∙◌, arith}
 use Rattle.std.specs.Str.{all_scalars}
 use Rattle.std.proofs.lemmas.Bool.{leb-true, le-leb}
 use Rattle.std.proofs.lemmas.Slice.Eq.{bytes_eq-Decides}
 use Rattle.std.proofs.lemmas.Str.{chars-encodes, encodes_same}
-use Rattle.ps_packed.specs.Forms.{is_field_char, words, in_form}
+use Rattle.ps_packed.specs.Forms.{words, in_form}
 use Rattle.ps_packed.specs.Packed.{is_nil, or_other, bytes_of}
 use Rattle.ps_packed.specs.Canon.{nick_text, species_text}
-use Rattle.ps_packed.proofs.Truths.{and_true, both}
-use Rattle.ps_packed.proofs.WordLaws.{IsWords, words_facts, words_made}
+use Rattle.ps_packed.proofs.WordLaws.{words_facts, words_made}
 
 -- the canonical texts in characters, from those that a row has
 pub record AreNames (n s : List ℕ) : Type 0 where
@@ -66,12 +64,32 @@ wider w e = le-leb _ _ (words_facts 18 w e).short
 -- only the species is there
 from_species : (b : Bool) (c : ℕ) (s : List ℕ) → leb (length (c ∷ s)) 18 ≡ b → in_form (words 32) (c ∷ s) ≡ true → all_scalars (c ∷ s) ≡ true → AreNames [] (c ∷ s)
 from_species true c s h e l = record {
-  nick = c ∷ s; species = []; nick_fits = narrower (c ∷ s) e h; species_fits = nothing_fits 32; named = refl; nick_back = refl; species_back = refl;
-  short = omega arith; nick_scalars = l; species_scalars = refl; nick_is = sym (nick_kept (c ∷ s) l h); species_is = sym (species_left (c ∷ s) l h);
+  nick = c ∷ s;
+  species = [];
+  nick_fits = narrower (c ∷ s) e h;
+  species_fits = nothing_fits 32;
+  named = refl;
+  nick_back = refl;
+  species_back = refl;
+  short = omega arith;
+  nick_scalars = l;
+  species_scalars = refl;
+  nick_is = sym (nick_kept (c ∷ s) l h);
+  species_is = sym (species_left (c ∷ s) l h);
 }
 from_species false c s h e l = record {
-  nick = []; species = c ∷ s; nick_fits = nothing_fits 18; species_fits = e; named = refl; nick_back = refl; species_back = refl;
-  short = omega arith; nick_scalars = refl; species_scalars = l; nick_is = sym (nick_left (c ∷ s) l h); species_is = sym (species_long (c ∷ s) l h);
+  nick = [];
+  species = c ∷ s;
+  nick_fits = nothing_fits 18;
+  species_fits = e;
+  named = refl;
+  nick_back = refl;
+  species_back = refl;
+  short = omega arith;
+  nick_scalars = refl;
+  species_scalars = l;
+  nick_is = sym (nick_left (c ∷ s) l h);
+  species_is = sym (species_long (c ∷ s) l h);
 }
 
 -- only the nickname is there
@@ -79,22 +97,51 @@ from_nick : (c : ℕ) (n : List ℕ) → in_form (words 18) (c ∷ n) ≡ true �
 from_nick c n e l =
     let h = wider (c ∷ n) e in
     record {
-      nick = c ∷ n; species = []; nick_fits = e; species_fits = nothing_fits 32; named = refl; nick_back = refl; species_back = refl;
-      short = omega arith; nick_scalars = l; species_scalars = refl; nick_is = sym (nick_kept (c ∷ n) l h); species_is = sym (species_left (c ∷ n) l h);
+      nick = c ∷ n;
+      species = [];
+      nick_fits = e;
+      species_fits = nothing_fits 32;
+      named = refl;
+      nick_back = refl;
+      species_back = refl;
+      short = omega arith;
+      nick_scalars = l;
+      species_scalars = refl;
+      nick_is = sym (nick_kept (c ∷ n) l h);
+      species_is = sym (species_left (c ∷ n) l h);
     }
 
 -- both are there, alike or not
 from_both : (b : Bool) (c : ℕ) (n : List ℕ) (d : ℕ) (s : List ℕ) → bytes_eq (encode_utf8_all (d ∷ s)) (encode_utf8_all (c ∷ n)) ≡ b → in_form (words 18) (c ∷ n) ≡ true → in_form (words 32) (d ∷ s) ≡ true → all_scalars (c ∷ n) ≡ true → all_scalars (d ∷ s) ≡ true → AreNames (c ∷ n) (d ∷ s)
 from_both false c n d s h e f l k = record {
-  nick = c ∷ n; species = d ∷ s; nick_fits = e; species_fits = f; named = refl; nick_back = refl; species_back = refl;
-  short = omega arith; nick_scalars = l; species_scalars = k; nick_is = sym (nick_kept (c ∷ n) l (wider (c ∷ n) e)); species_is = sym (species_kept (c ∷ n) (d ∷ s) h);
+  nick = c ∷ n;
+  species = d ∷ s;
+  nick_fits = e;
+  species_fits = f;
+  named = refl;
+  nick_back = refl;
+  species_back = refl;
+  short = omega arith;
+  nick_scalars = l;
+  species_scalars = k;
+  nick_is = sym (nick_kept (c ∷ n) l (wider (c ∷ n) e));
+  species_is = sym (species_kept (c ∷ n) (d ∷ s) h);
 }
 from_both true c n d s h e f l k =
     let same : d ∷ s ≡ c ∷ n = encodes_same (d ∷ s) (c ∷ n) ((bytes_eq-Decides (encode_utf8_all (d ∷ s)) (encode_utf8_all (c ∷ n))).0 h) in
     let w = wider (c ∷ n) e in
     record {
-      nick = c ∷ n; species = []; nick_fits = e; species_fits = nothing_fits 32; named = refl; nick_back = refl; species_back = sym same;
-      short = omega arith; nick_scalars = l; species_scalars = refl; nick_is = sym (nick_kept (c ∷ n) l w);
+      nick = c ∷ n;
+      species = [];
+      nick_fits = e;
+      species_fits = nothing_fits 32;
+      named = refl;
+      nick_back = refl;
+      species_back = sym same;
+      short = omega arith;
+      nick_scalars = l;
+      species_scalars = refl;
+      nick_is = sym (nick_kept (c ∷ n) l w);
       species_is = sym (ap (λ (u : List ℕ). species_text (encode_utf8_all (c ∷ n)) (encode_utf8_all u)) same ∙ species_left (c ∷ n) l w);
     }
 

@@ -1,17 +1,17 @@
 -- The canonical texts of EVs, IVs and levels.
-use Rattle.std.proofs.Common.{◌≡◌, ◌≢◌, ℕ, zero, suc, ◌+◌, ◌-◌, ◌*◌, ◌/◌, ◌%◌, ◌^◌, ◌<◌, ◌≤◌, ◌==◌, ◌&&◌, ◌||◌, Bool, true, false, not, cond, eqb, ltb, leb, eq-eqb, List, [], ◌∷◌, ◌++◌, length, map, replicate, decimal, refl, sym, ap, subst, ◌∙◌, inl, inr, ◌⊎◌, arith}
+use Rattle.std.proofs.Common.{◌≡◌, ◌≢◌, ℕ, zero, suc, ◌+◌, ◌/◌, ◌%◌, ◌^◌, ◌<◌, ◌≤◌, ◌&&◌, Bool, true, false, not, cond, eqb, leb, eq-eqb, List, [], ◌∷◌, ◌++◌, length, map, replicate, decimal, refl, sym, ap, ◌∙◌, inl, inr, arith}
 use Rattle.std.specs.List.{list_all, AllByRecursion, join_with_byte}
 use Rattle.std.proofs.lemmas.Bool.{leb-true, le-leb, eqb-true, ne_eqb, lt-ltb, cases_eq}
 use Rattle.std.proofs.lemmas.Fmt.{decimal_by_steps, length-decimal-le, decimal_nonempty}
-use Rattle.std.proofs.lemmas.List.{length-append, length-map}
+use Rattle.std.proofs.lemmas.List.{length-map}
 use Rattle.std.proofs.lemmas.List.Folds.{list_all-append}
 use Rattle.std.proofs.lemmas.List.Splits.{join_with_byte-slice_split}
 use Rattle.ps_packed.specs.Forms.{Form, are_digits, number_after, number_of, is_number, parts, is_spread_char, are_numbers, is_zero, is_spread, is_level, evs, ivs, level, in_form}
 use Rattle.ps_packed.specs.Packed.{six, evs_of, iv_of, ivs_of, level_of, bytes_of}
 use Rattle.ps_packed.specs.Canon.{are_all, ev_text, evs_text, iv_text, ivs_text, level_text}
-use Rattle.ps_packed.proofs.Truths.{and_true, or_true, both, either_left, either_right, nil_of}
+use Rattle.ps_packed.proofs.Truths.{and_true, or_true, both, either_left, either_right}
 use Rattle.ps_packed.proofs.Laws.{is_low}
-use Rattle.ps_packed.proofs.LevelLaws.{IsNumber, number_facts, number_made, number_append, IsLevel, level_facts, level_made}
+use Rattle.ps_packed.proofs.LevelLaws.{IsNumber, number_facts, number_made, number_append, level_facts, level_made}
 use Rattle.ps_packed.proofs.SpreadLaws.{spread_cases, numbers_facts, numbers_made, zero_is}
 use Rattle.ps_packed.proofs.Bytes.{low_bytes, length_bytes}
 use Rattle.ps_packed.proofs.Unique.{Lacks, split_join}
@@ -96,11 +96,11 @@ spelled_none most of text p e h = record { fits = ap (is_number most) e ∙ no_n
 pub ev_spelled : (p : List ℕ) → is_number 255 p ≡ true → IsSpelled 255 number_of ev_text p
 unfolding ev_text
 ev_spelled p e = elim (cases_eq (number_of p) 0) [
-    | inl h ↦ spelled_none 255 number_of ev_text p (ap ev_text h) (sym h)
-    | inr ne ↦ (let w = written 255 p (omega arith) (number_facts 255 p e) (some_of p ne) in
-        let text : ev_text (number_of p) ≡ decimal (number_of p) = rw (ne_eqb _ _ ne) refl in
-        record { fits = ap (is_number 255) text ∙ w.fits; back = ap number_of text ∙ w.value; short = omega (arith, ap bytes_of text, w.short) })
-  ]
+  | inl h ↦ spelled_none 255 number_of ev_text p (ap ev_text h) (sym h)
+  | inr ne ↦ (let w = written 255 p (omega arith) (number_facts 255 p e) (some_of p ne) in
+      let text : ev_text (number_of p) ≡ decimal (number_of p) = rw (ne_eqb _ _ ne) refl in
+      record { fits = ap (is_number 255) text ∙ w.fits; back = ap number_of text ∙ w.value; short = omega (arith, ap bytes_of text, w.short) })
+]
 
 iv_some : (w : List ℕ) → 0 < length w → iv_of w ≡ number_of w
 iv_some [] lt = absurd (omega (arith, lt))
@@ -110,14 +110,14 @@ pub iv_spelled : (p : List ℕ) → is_number 31 p ≡ true → IsSpelled 31 iv_
 unfolding iv_text
 iv_spelled [] e = spelled_none 31 iv_of iv_text [] refl refl
 iv_spelled (c ∷ p) e = elim (cases_eq (number_of (c ∷ p)) 31) [
-    | inl h ↦ spelled_none 31 iv_of iv_text (c ∷ p) (ap iv_text h) (sym h)
-    | inr ne ↦ (let f = number_facts 31 (c ∷ p) e in
-        let w = written 31 (c ∷ p) (omega arith) f (omega arith) in
-        let n : ℕ = number_of (c ∷ p) in
-        let text : iv_text n ≡ decimal n = rw (ne_eqb _ _ ne) refl in
-        let some : 0 < length (decimal n) = decimal_nonempty n (omega (arith, f.small)) in
-        record { fits = ap (is_number 31) text ∙ w.fits; back = ap iv_of text ∙ iv_some (decimal n) some ∙ w.value; short = omega (arith, ap bytes_of text, w.short) })
-  ]
+  | inl h ↦ spelled_none 31 iv_of iv_text (c ∷ p) (ap iv_text h) (sym h)
+  | inr ne ↦ (let f = number_facts 31 (c ∷ p) e in
+      let w = written 31 (c ∷ p) (omega arith) f (omega arith) in
+      let n : ℕ = number_of (c ∷ p) in
+      let text : iv_text n ≡ decimal n = rw (ne_eqb _ _ ne) refl in
+      let some : 0 < length (decimal n) = decimal_nonempty n (omega (arith, f.small)) in
+      record { fits = ap (is_number 31) text ∙ w.fits; back = ap iv_of text ∙ iv_some (decimal n) some ∙ w.value; short = omega (arith, ap bytes_of text, w.short) })
+]
 
 -- ---- six of them
 
@@ -180,9 +180,9 @@ six_fit zero_alone most (c ∷ w) e six = either_right (zero_alone && is_zero (c
 
 not_zero : (w : List ℕ) → length (parts w) ≡ 6 → is_zero w ≡ false
 not_zero w six = elim (is_zero w) as (λ b. (is_zero w ≡ b → b ≡ false)) [
-    | true ↦ λ h. absurd (omega (arith, six, ap (λ (u : List ℕ). length (parts u)) (zero_is w h)))
-    | false ↦ λ h. refl
-  ] refl
+  | true ↦ λ h. absurd (omega (arith, six, ap (λ (u : List ℕ). length (parts u)) (zero_is w h)))
+  | false ↦ λ h. refl
+] refl
 
 evs_six : (w : List ℕ) → length (parts w) ≡ 6 → w ≢ [] → evs_of w ≡ map number_of (parts w)
 evs_six [] six ne = absurd (ne refl)
@@ -301,11 +301,11 @@ pub evs_canon : (w : List ℕ) → in_form evs w ≡ true → IsCanon evs evs_of
 unfolding in_form
 evs_canon [] e = evs_from [] (six 252) refl (rw evs_none_text (evs_none []))
 evs_canon (c ∷ w) e = elim (spread_cases true 255 c w e) [
-    | inl h ↦ (let is : evs_of (c ∷ w) ≡ six 0 = rw h.1 refl in
-        evs_from (c ∷ w) (six 0) is (rw evs_zero_text (evs_zero (c ∷ w) (omega arith))))
-    | inr h ↦ (let is : evs_of (c ∷ w) ≡ map number_of (parts (c ∷ w)) = evs_six (c ∷ w) h.1 (not_nil (c ∷ w) h.1) in
-        evs_from (c ∷ w) (map number_of (parts (c ∷ w))) is (evs_made (c ∷ w) (map number_of (parts (c ∷ w))) refl (omega arith) h.0 h.1))
-  ]
+  | inl h ↦ (let is : evs_of (c ∷ w) ≡ six 0 = rw h.1 refl in
+      evs_from (c ∷ w) (six 0) is (rw evs_zero_text (evs_zero (c ∷ w) (omega arith))))
+  | inr h ↦ (let is : evs_of (c ∷ w) ≡ map number_of (parts (c ∷ w)) = evs_six (c ∷ w) h.1 (not_nil (c ∷ w) h.1) in
+      evs_from (c ∷ w) (map number_of (parts (c ∷ w))) is (evs_made (c ∷ w) (map number_of (parts (c ∷ w))) refl (omega arith) h.0 h.1))
+]
 
 -- ---- IVs
 
@@ -344,9 +344,9 @@ pub ivs_canon : (w : List ℕ) → in_form ivs w ≡ true → IsCanon ivs ivs_of
 unfolding in_form
 ivs_canon [] e = ivs_from [] (six 31) refl (rw ivs_none_text (ivs_none []))
 ivs_canon (c ∷ w) e = elim (spread_cases false 31 c w e) [
-    | inl h ↦ absurd (let wrong : false ≡ true = h.0 in cc)
-    | inr h ↦ ivs_from (c ∷ w) (map iv_of (parts (c ∷ w))) refl (ivs_made (c ∷ w) (map iv_of (parts (c ∷ w))) refl h.0 h.1)
-  ]
+  | inl h ↦ absurd (let wrong : false ≡ true = h.0 in cc)
+  | inr h ↦ ivs_from (c ∷ w) (map iv_of (parts (c ∷ w))) refl (ivs_made (c ∷ w) (map iv_of (parts (c ∷ w))) refl h.0 h.1)
+]
 
 -- ---- levels
 
@@ -374,17 +374,17 @@ pub level_canon : (w : List ℕ) → in_form level w ≡ true → IsLevelText w
 unfolding level_text in_form
 level_canon [] e = hundred [] refl
 level_canon (c ∷ w) e = elim (cases_eq (number_of (c ∷ w)) 100) [
-    | inl h ↦ hundred (c ∷ w) h
-    | inr ne ↦ (let f = level_facts c w e in
-        let n : ℕ = number_of (c ∷ w) in
-        let x = written 100 (c ∷ w) (omega arith) f.number (omega arith) in
-        let text : level_text n ≡ decimal n = rw (ne_eqb _ _ ne) refl in
-        let some : 0 < length (decimal n) = decimal_nonempty n (omega (arith, f.number.small)) in
-        let num = number_facts 100 (decimal n) x.fits in
-        record {
-          fits = ap is_level text ∙ level_made (decimal n) (record { number = num; some = omega (arith, x.value, f.some) });
-          back = ap level_of text ∙ level_some (decimal n) some ∙ x.value;
-          short = omega (arith, ap bytes_of text, x.short);
-          low = ap (list_all is_low) text ∙ digits_low (decimal n) num.digits;
-        })
-  ]
+  | inl h ↦ hundred (c ∷ w) h
+  | inr ne ↦ (let f = level_facts c w e in
+      let n : ℕ = number_of (c ∷ w) in
+      let x = written 100 (c ∷ w) (omega arith) f.number (omega arith) in
+      let text : level_text n ≡ decimal n = rw (ne_eqb _ _ ne) refl in
+      let some : 0 < length (decimal n) = decimal_nonempty n (omega (arith, f.number.small)) in
+      let num = number_facts 100 (decimal n) x.fits in
+      record {
+        fits = ap is_level text ∙ level_made (decimal n) (record { number = num; some = omega (arith, x.value, f.some) });
+        back = ap level_of text ∙ level_some (decimal n) some ∙ x.value;
+        short = omega (arith, ap bytes_of text, x.short);
+        low = ap (list_all is_low) text ∙ digits_low (decimal n) num.digits;
+      })
+]

@@ -1,5 +1,5 @@
 -- The canonical text of a team is a text of that team.
-use Rattle.std.proofs.Common.{◌≡◌, ℕ, zero, suc, ◌+◌, ◌<◌, ◌≤◌, ◌==◌, ◌&&◌, ◌||◌, Bool, true, false, not, List, [], ◌∷◌, ◌++◌, length, map, chars, encode_utf8_all, Result, Ok, Err, IfOk, refl, sym, ap, subst, ◌∙◌, arith}
+use Rattle.std.proofs.Common.{◌≡◌, ℕ, zero, suc, ◌<◌, ◌≤◌, ◌==◌, ◌&&◌, ◌||◌, Bool, true, false, not, List, [], ◌∷◌, length, map, chars, encode_utf8_all, Result, Ok, Err, IfOk, refl, sym, ap, subst, ◌∙◌, arith}
 use Rattle.std.specs.Char.{encode_utf8}
 use Rattle.std.specs.List.{list_all, AllByRecursion, join_with_byte}
 use Rattle.std.specs.Str.{all_scalars}
@@ -7,12 +7,12 @@ use Rattle.std.proofs.lemmas.Bool.Decides.{nat_tests}
 use Rattle.std.proofs.lemmas.List.{append-nil}
 use Rattle.std.proofs.lemmas.Str.{chars-encodes}
 use Rattle.ps_packed.specs.declared.set.Set.{Set}
-use Rattle.ps_packed.specs.Forms.{moves, level, evs, ivs, gender, shiny, is_letter, ids_of, in_form, form_of}
-use Rattle.ps_packed.specs.Packed.{is_nil, is_nameless, or_other, field, evs_of, gender_of, ivs_of, level_of, set_of, bytes_of, AreFields, IsRow, team_text, IsFreeTeam, IsTeamOf, IsTeam, HasText}
-use Rattle.ps_packed.specs.Canon.{nick_text, species_text, moves_text, evs_text, gender_text, ivs_text, shiny_text, level_text, set_fields, canon}
+use Rattle.ps_packed.specs.Forms.{evs, ivs, gender, shiny, ids_of, in_form, form_of}
+use Rattle.ps_packed.specs.Packed.{is_nil, is_nameless, field, evs_of, gender_of, ivs_of, level_of, set_of, bytes_of, IsRow, team_text, IsTeamOf, IsTeam, HasText}
+use Rattle.ps_packed.specs.Canon.{moves_text, evs_text, gender_text, ivs_text, shiny_text, level_text, set_fields, canon}
 use Rattle.ps_packed.proofs.Truths.{and_true, both}
 use Rattle.ps_packed.proofs.Bytes.{low_encodes, low_scalars}
-use Rattle.ps_packed.proofs.Joins.{total, join_bytes, joined_shorter, join_encodes, scalars_joined, scalars_each}
+use Rattle.ps_packed.proofs.Joins.{total, joined_shorter, join_encodes, scalars_joined, scalars_each}
 use Rattle.ps_packed.proofs.Unique.{fields_long}
 use Rattle.ps_packed.proofs.Reading.{from_field}
 use Rattle.ps_packed.proofs.CanonNumbers.{IsCanon, evs_canon, ivs_canon, IsLevelText, level_canon}
@@ -70,8 +70,18 @@ twelve n s i a m t e g v h l x n' s' i' a' m' t' e' g' v' h' l' x' e1 e2 e3 e4 e
 
 abbrev set_with : List ℕ → List ℕ → List (List ℕ) → List ℕ → List ℕ → ℕ → List ℕ → List ℕ → List ℕ → List ℕ → List ℕ → List ℕ → Set
 set_with n s m e v l i a t g h x = record {
-  nick = encode_utf8_all n; species = encode_utf8_all s; item = encode_utf8_all i; ability = encode_utf8_all a; moves = m; nature = encode_utf8_all t;
-  evs = e; gender = gender_of g; ivs = v; shiny = not (is_nil h); level = l; misc = encode_utf8_all x;
+  nick = encode_utf8_all n;
+  species = encode_utf8_all s;
+  item = encode_utf8_all i;
+  ability = encode_utf8_all a;
+  moves = m;
+  nature = encode_utf8_all t;
+  evs = e;
+  gender = gender_of g;
+  ivs = v;
+  shiny = not (is_nil h);
+  level = l;
+  misc = encode_utf8_all x;
 }
 
 same_set : (n s : List ℕ) (m : List (List ℕ)) (e v : List ℕ) (l : ℕ) (n' s' : List ℕ) (m' : List (List ℕ)) (e' v' : List ℕ) (l' : ℕ) (i a t g h x : List ℕ) → n ≡ n' → s ≡ s' → m ≡ m' → e ≡ e' → v ≡ v' → l ≡ l' → set_with n s m e v l i a t g h x ≡ set_with n' s' m' e' v' l' i a t g h x
@@ -130,13 +140,23 @@ row_canon ws r letters =
     let fits : (k : ℕ) → k < 12 → in_form (form_of k) (field ws k) ≡ true = λ k lt. from_field 0 ws k k r.0 (omega (arith, long, lt)) (omega arith) in
     let sc : (k : ℕ) → all_scalars (field ws k) ≡ true = λ k. scalars_at ws k letters in
     subst IsCanonRow (sym (is_twelve ws long).are) (forms_canon (field ws 0) (field ws 1) (field ws 2) (field ws 3) (field ws 4) (field ws 5) (field ws 6) (field ws 7) (field ws 8) (field ws 9) (field ws 10) (field ws 11) (record {
-      item = fits 2 (omega arith); ability = fits 3 (omega arith); nature = fits 5 (omega arith); gender_fits = fits 7 (omega arith); shiny_fits = fits 9 (omega arith); misc = fits 11 (omega arith);
+      item = fits 2 (omega arith);
+      ability = fits 3 (omega arith);
+      nature = fits 5 (omega arith);
+      gender_fits = fits 7 (omega arith);
+      shiny_fits = fits 9 (omega arith);
+      misc = fits 11 (omega arith);
       names = names_canon (field ws 0) (field ws 1) (fits 0 (omega arith)) (fits 1 (omega arith)) (named_at ws r.1) (sc 0) (sc 1);
       moves_are = moves_canon (field ws 4) (fits 4 (omega arith));
       evs_are = evs_canon (field ws 6) (fits 6 (omega arith));
       ivs_are = ivs_canon (field ws 8) (fits 8 (omega arith));
       level_is = level_canon (field ws 10) (fits 10 (omega arith));
-      item_scalars = sc 2; ability_scalars = sc 3; nature_scalars = sc 5; gender_scalars = sc 7; shiny_scalars = sc 9; misc_scalars = sc 11;
+      item_scalars = sc 2;
+      ability_scalars = sc 3;
+      nature_scalars = sc 5;
+      gender_scalars = sc 7;
+      shiny_scalars = sc 9;
+      misc_scalars = sc 11;
     }))
 
 -- ---- teams
@@ -173,12 +193,14 @@ canon_of_rows rows text team is =
     let whole : List ℕ = team_text c.canons in
     let good : all_scalars whole ≡ true = scalars_joined 93 (map (join_with_byte 124) c.canons) (omega arith) c.scalars in
     let bytes : encode_utf8_all whole ≡ canon (map set_of rows) = join_encodes 93 (map (join_with_byte 124) c.canons) (omega arith) ∙ ap (join_with_byte 93) c.text in
-    let told : chars (canon team) ≡ whole = ap (λ (t : List Set). chars (canon t)) is.sets ∙ ap chars (sym bytes) ∙ chars-encodes whole good in
-    (c.canons, record {
-      free = record { letters = ap all_scalars told ∙ good; parts = told; fit = c.fit; some = omega (arith, c.count, is.free.some); few = omega (arith, c.count, is.free.few) };
-      short = omega (arith, ap bytes_of told, joined_shorter 93 (map (join_with_byte 124) c.canons) (map (join_with_byte 124) rows) (omega arith) c.short, ap bytes_of is.free.parts, is.short);
-      sets = is.sets ∙ sym c.back;
-    })
+    let told : chars (canon team) ≡ whole = ap (λ (t : List Set). chars (canon t)) is.sets ∙ ap chars (sym bytes) ∙ chars-encodes whole good in (
+      c.canons,
+      record {
+        free = record { letters = ap all_scalars told ∙ good; parts = told; fit = c.fit; some = omega (arith, c.count, is.free.some); few = omega (arith, c.count, is.free.few) };
+        short = omega (arith, ap bytes_of told, joined_shorter 93 (map (join_with_byte 124) c.canons) (map (join_with_byte 124) rows) (omega arith) c.short, ap bytes_of is.free.parts, is.short);
+        sets = is.sets ∙ sym c.back;
+      },
+    )
 
 pub canon_is : (team : List Set) → HasText team → IsTeam (chars (canon team)) team
 canon_is team (text, is) = canon_of_rows is.0 text team is.1

@@ -1,5 +1,5 @@
 -- What is kept beside the text of a field: where its last part begins, and how many parts have an id.
-use Rattle.std.proofs.Common.{◌≡◌, ◌≢◌, ℕ, zero, suc, ◌+◌, ◌<◌, ◌≤◌, ◌==◌, ◌&&◌, ◌||◌, Bool, true, false, not, cond, eqb, leb, List, [], ◌∷◌, ◌++◌, length, drop, filter, refl, sym, ap, subst, ◌∙◌, inl, inr, arith}
+use Rattle.std.proofs.Common.{◌≡◌, ℕ, zero, suc, ◌+◌, ◌≤◌, ◌&&◌, ◌||◌, Bool, true, false, not, cond, eqb, leb, List, [], ◌∷◌, ◌++◌, length, drop, filter, refl, sym, ap, ◌∙◌, arith}
 use Rattle.std.specs.List.{list_all, list_any, onto_first}
 use Rattle.std.proofs.lemmas.List.{length-append}
 use Rattle.std.proofs.lemmas.List.Elements.{filter-append}
@@ -7,8 +7,8 @@ use Rattle.std.proofs.lemmas.List.Folds.{list_all-append}
 use Rattle.ps_packed.specs.Forms.{is_field_char, moves, parts, is_id_letter, has_id, are_short, id_count, in_form}
 use Rattle.ps_packed.specs.Packed.{end_of}
 use Rattle.ps_packed.specs.Scan.{prefix_ok, last_part, CountsOf, gives_id}
-use Rattle.ps_packed.proofs.Truths.{and_true, both}
-use Rattle.ps_packed.proofs.MoveLaws.{IsMoves, moves_facts}
+use Rattle.ps_packed.proofs.Truths.{and_true}
+use Rattle.ps_packed.proofs.MoveLaws.{moves_facts}
 use Rattle.ps_packed.proofs.Splits.{grown, some_piece, split_snoc, grown_end}
 use Rattle.ps_packed.proofs.Places.{end_snoc}
 

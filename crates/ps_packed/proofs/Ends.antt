@@ -1,5 +1,5 @@
 -- What is needed to end, and that what begins well can end with it.
-use Rattle.std.proofs.Common.{◌≡◌, ℕ, zero, suc, ◌+◌, ◌-◌, ◌<◌, ◌≤◌, ◌==◌, ◌&&◌, Bool, true, false, not, cond, List, [], ◌∷◌, ◌++◌, length, Option, Some, None, refl, sym, ap, subst, ◌∙◌, inl, inr, arith, add-one}
+use Rattle.std.proofs.Common.{◌≡◌, ℕ, zero, suc, ◌+◌, ◌-◌, ◌<◌, ◌≤◌, ◌&&◌, Bool, true, false, not, cond, List, [], ◌∷◌, ◌++◌, length, Some, refl, sym, ap, subst, ◌∙◌, inl, inr, arith, add-one}
 use Rattle.std.specs.List.{list_all}
 use Rattle.std.proofs.lemmas.List.{length-append, nil_from_length}
 use Rattle.std.proofs.lemmas.List.Folds.{list_all-append}
@@ -8,9 +8,9 @@ use Rattle.ps_packed.specs.Forms.{in_form, form_of, last}
 use Rattle.ps_packed.specs.Packed.{is_nil}
 use Rattle.ps_packed.specs.Scan.{prefix_ok, need, State, start, step, run, accepts, need_of, nameless_at, bar_named}
 use Rattle.ps_packed.proofs.Truths.{both, not_false}
-use Rattle.ps_packed.proofs.Laws.{Laws, is_low}
+use Rattle.ps_packed.proofs.Laws.{is_low}
 use Rattle.ps_packed.proofs.FormLaws.{laws_of, empty_ok, nothing_ok}
-use Rattle.ps_packed.proofs.Runs.{at, step_bar, step_inner, run_step, run_then, word_runs, accepts_last, last_of, some_is, some_step, Stepped, by_bar, by_bracket, by_inner, stepped}
+use Rattle.ps_packed.proofs.Runs.{at, step_bar, step_inner, run_step, run_then, word_runs, accepts_last, last_of, some_is, some_step, by_bar, by_bracket, by_inner, stepped}
 
 -- ---- what is needed to end
 

@@ -1,6 +1,6 @@
 -- The laws of the twelve fields.
-use Rattle.std.proofs.Common.{◌≡◌, ℕ, zero, suc, true, false, List, [], ◌∷◌, refl}
-use Rattle.ps_packed.specs.Forms.{in_form, form_of, are_short, id_count, has_id, are_numbers}
+use Rattle.std.proofs.Common.{◌≡◌, ℕ, zero, suc, true, false, [], ◌∷◌, refl}
+use Rattle.ps_packed.specs.Forms.{in_form, form_of, are_short, id_count, has_id}
 use Rattle.ps_packed.specs.Scan.{prefix_ok}
 use Rattle.ps_packed.proofs.Laws.{Laws}
 use Rattle.ps_packed.proofs.WordLaws.{words_laws, letter_laws}

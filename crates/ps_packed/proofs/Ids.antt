@@ -1,5 +1,5 @@
 -- The id of a text is that of its characters.
-use Rattle.std.proofs.Common.{◌≡◌, ◌≢◌, ℕ, zero, suc, ◌+◌, ◌<◌, ◌≤◌, ◌&&◌, ◌||◌, Bool, true, false, cond, eqb, leb, List, [], ◌∷◌, ◌++◌, length, get_or, map, filter, refl, sym, ap, ◌∙◌, inl, inr, arith}
+use Rattle.std.proofs.Common.{◌≡◌, ℕ, suc, ◌<◌, ◌≤◌, false, leb, List, [], ◌∷◌, ◌++◌, length, get_or, map, filter, refl, sym, ap, ◌∙◌, inl, inr, arith}
 use Rattle.std.specs.Char.{encode_utf8}
 use Rattle.std.specs.Str.{encode_utf8_all}
 use Rattle.std.proofs.lemmas.Bool.{cases_lt, lt-leb}
@@ -25,15 +25,15 @@ none_kept (b ∷ bs) h = rw (past_ascii b (h 0 (omega arith))) (none_kept bs (λ
 
 wide_bytes : (c : ℕ) → 128 ≤ c → (k : ℕ) → k < length (encode_utf8 c) → 128 ≤ get_or (encode_utf8 c) k 0
 wide_bytes c le k lt = elim (cases_lt (get_or (encode_utf8 c) k 0) 128) [
-    | inl low ↦ absurd (let same = inside_one c [] (encode_utf8 c) k (sym (append-nil (encode_utf8 c))) lt low in omega (arith, same, low, le))
-    | inr high ↦ high
-  ]
+  | inl low ↦ absurd (let same = inside_one c [] (encode_utf8 c) k (sym (append-nil (encode_utf8 c))) lt low in omega (arith, same, low, le))
+  | inr high ↦ high
+]
 
 one_id : (c : ℕ) → id_of (encode_utf8 c) ≡ id_of (c ∷ [])
 one_id c = elim (cases_lt c 128) [
-    | inl low ↦ ap id_of (encode_ascii c low)
-    | inr high ↦ none_kept (encode_utf8 c) (wide_bytes c high) ∙ sym (rw (past_ascii c high) refl)
-  ]
+  | inl low ↦ ap id_of (encode_ascii c low)
+  | inr high ↦ none_kept (encode_utf8 c) (wide_bytes c high) ∙ sym (rw (past_ascii c high) refl)
+]
 
 pub id_encodes : (cs : List ℕ) → id_of (encode_utf8_all cs) ≡ id_of cs
 id_encodes [] = refl

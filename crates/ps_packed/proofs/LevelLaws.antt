@@ -1,5 +1,5 @@
 -- The laws of levels.
-use Rattle.std.proofs.Common.{◌≡◌, ◌≢◌, ℕ, ◌+◌, ◌-◌, ◌*◌, ◌<◌, ◌≤◌, ◌==◌, ◌&&◌, ◌||◌, Bool, true, false, not, cond, eqb, ltb, leb, List, [], ◌∷◌, ◌++◌, length, refl, sym, ap, ◌∙◌, inl, inr, ◌⊎◌, arith}
+use Rattle.std.proofs.Common.{◌≡◌, ℕ, ◌+◌, ◌-◌, ◌*◌, ◌<◌, ◌≤◌, ◌&&◌, ◌||◌, Bool, true, false, not, cond, eqb, ltb, leb, List, [], ◌∷◌, ◌++◌, length, refl, sym, ap, ◌∙◌, inl, inr, ◌⊎◌, arith}
 use Rattle.std.specs.List.{list_all}
 use Rattle.std.proofs.lemmas.Bool.{ltb-true, lt-ltb, leb-true, le-leb, cases_lt, ne_eqb}
 use Rattle.std.proofs.lemmas.List.{length-append, append-nil}
@@ -82,9 +82,9 @@ front_facts w e =
 front_made : (w : List ℕ) → is_number 100 w ≡ true → (length w < 3) ⊎ (1 ≤ number_of w) → prefix_ok level w ≡ true
 unfolding prefix_ok
 front_made w e g = both _ _ e (elim g [
-    | inl h ↦ either_left _ _ (lt-ltb _ _ h)
-    | inr h ↦ either_right (ltb (length w) 3) _ (le-leb _ _ h)
-  ])
+  | inl h ↦ either_left _ _ (lt-ltb _ _ h)
+  | inr h ↦ either_right (ltb (length w) 3) _ (le-leb _ _ h)
+])
 
 -- a front as long as the text is the text
 closed_some : (w r : List ℕ) → IsLevel (w ++ r) → prefix_ok level w ≡ true

@@ -2,15 +2,13 @@
 use Rattle.std.proofs.Common.{◌≡◌, ℕ, zero, suc, ◌+◌, ◌-◌, ◌<◌, ◌≤◌, Bool, true, false, List, [], ◌∷◌, ◌++◌, length, map, take, drop, get_or, Option, Some, None, refl, sym, ap, subst, ◌∙◌, inl, inr, arith, append_assoc, add-one}
 use Rattle.std.specs.Prelude.{slice_get}
 use Rattle.std.specs.Str.{all_scalars}
-use Rattle.std.specs.Char.{len_utf8}
-use Rattle.std.proofs.lemmas.List.{length-append, append-nil, length-take, take_more}
+use Rattle.std.proofs.lemmas.List.{append-nil, take_more}
 use Rattle.std.proofs.lemmas.Option.{slice_get-get_or, slice_get_past}
-use Rattle.std.proofs.lemmas.Str.{length-encode}
 use Rattle.std.proofs.Math.Seq.{take-add, take-length, drop-cons}
 use Rattle.ps_base.specs.declared.pack_kind.PackKind.{PackKind}
 use Rattle.ps_base.specs.declared.pack_kind.PackKind.TheVariants.{Long}
 use Rattle.ps_packed.specs.declared.set.Set.{Set}
-use Rattle.ps_packed.specs.Packed.{set_of, bytes_of, IsFreeTeam, IsTeamOf, IsTeam, IsPrefix, IsFreePrefix, IsLongest, IsLong, IsKind, IsFault, kind_of, kind_at, is_nameless, sets_done, row_at_end, field_at_end, word_at_end}
+use Rattle.ps_packed.specs.Packed.{set_of, bytes_of, IsFreeTeam, IsTeam, IsPrefix, IsFreePrefix, IsLongest, IsLong, IsKind, kind_of, kind_at, is_nameless, sets_done, row_at_end, field_at_end, word_at_end}
 use Rattle.ps_packed.specs.Scan.{State, start, step, run, accepts, need, need_of, nameless_at}
 use Rattle.ps_packed.proofs.Bytes.{bytes_append, length_bytes, low_bytes, low_scalars, scalars_append, scalars_take}
 use Rattle.ps_packed.proofs.Runs.{run_then, run_step, some_is, some_step, team_runs, free_team}
@@ -114,11 +112,11 @@ no_team_here text i l lt team = λ is. l.most (length text) lt (omega arith) (be
 pub no_team_end : (text : List ℕ) (s : State) → IsAlive text (length text) s → accepts s ≡ false → (team : List Set) → ¬ (IsTeam text team)
 no_team_end text s a refused team = λ is.
     (let r = team_runs is.0 text is.1.free in
-     let same : Some s ≡ Some r.0 = sym a.run_is ∙ ap (run start) (take-length text) ∙ r.1 in
-     let eq : r.0 ≡ s = some_is s r.0 same in
-     let accepted : accepts s ≡ true = ap accepts (sym eq) ∙ r.2 in
-     let wrong : false ≡ true = sym refused ∙ accepted in
-     cc)
+    let same : Some s ≡ Some r.0 = sym a.run_is ∙ ap (run start) (take-length text) ∙ r.1 in
+    let eq : r.0 ≡ s = some_is s r.0 same in
+    let accepted : accepts s ≡ true = ap accepts (sym eq) ∙ r.2 in
+    let wrong : false ≡ true = sym refused ∙ accepted in
+    cc)
 
 pub found_end : (text : List ℕ) (s : State) → all_scalars text ≡ true → IsAlive text (length text) s → accepts s ≡ true → (team : List Set) × IsTeam text team
 found_end text s letters a accepted =
@@ -169,18 +167,21 @@ told_kind text i s next k a e is =
 
 not_long_here : (text : List ℕ) (i : ℕ) (s : State) → IsAlive text i s → bytes_of (take i text) < 4096 → step s (get_or text i 0) ≡ None → ¬ (IsLong text i)
 not_long_here text i s a small none = λ long. (elim long [
-    | inl e ↦ omega (arith, e, small)
-    | inr (n, more, le, p) ↦ (let f = follows text i s n p.0 p.1 a more le p.2 in let wrong : None ≡ Some f.next = sym none ∙ f.steps in cc)
-  ])
+  | inl e ↦ omega (arith, e, small)
+  | inr (n, more, le, p) ↦ (let f = follows text i s n p.0 p.1 a more le p.2 in let wrong : None ≡ Some f.next = sym none ∙ f.steps in cc)
+])
 
 pub kind_here : (text : List ℕ) (i : ℕ) (s : State) (k : PackKind) → IsAlive text i s → i < length text → bytes_of (take i text) < 4096 → step s (get_or text i 0) ≡ None → k ≡ kind_in s (Some (get_or text i 0)) → IsKind text i k
 kind_here text i s k a lt small none is = inr (not_long_here text i s a small none, told_kind text i s (Some (get_or text i 0)) k a (slice_get-get_or text i 0 lt) is)
 
 pub kind_end : (text : List ℕ) (s : State) (k : PackKind) → IsAlive text (length text) s → accepts s ≡ false → k ≡ kind_in s None → IsKind text (length text) k
-kind_end text s k a refused is = inr (λ long. (elim long [
+kind_end text s k a refused is = inr (
+  λ long. (elim long [
     | inl e ↦ omega (arith, e, a.room, unfinished s a.valid refused)
     | inr (n, more, le, p) ↦ omega (arith, more, le)
-  ]), told_kind text (length text) s None k a (slice_get_past text (length text) (omega arith)) is)
+  ]),
+  told_kind text (length text) s None k a (slice_get_past text (length text) (omega arith)) is,
+)
 
 -- a place of a text has the same character whatever stands past its end
 pub read_at : (text : List ℕ) (i x : ℕ) → i < length text → x ≡ get_or text i x → x ≡ get_or text i 0

@@ -1,11 +1,11 @@
 -- Where a state stands in the pieces of what was gone through.
-use Rattle.std.proofs.Common.{◌≡◌, ℕ, zero, suc, ◌+◌, ◌-◌, ◌==◌, ◌&&◌, Bool, true, false, not, cond, eqb, List, [], ◌∷◌, ◌++◌, length, map, Some, refl, ap, subst, sym, ◌∙◌, arith, add-one}
+use Rattle.std.proofs.Common.{◌≡◌, ℕ, suc, ◌==◌, ◌&&◌, Bool, true, false, cond, eqb, List, [], ◌∷◌, ◌++◌, length, map, Some, refl, ap, subst, sym, ◌∙◌, arith}
 use Rattle.std.specs.List.{slice_split}
 use Rattle.std.proofs.lemmas.List.{length-append, map-append}
 use Rattle.ps_packed.specs.Packed.{is_nil, is_nameless, rows_of, end_of, sets_done, row_at_end, field_at_end, word_at_end}
 use Rattle.ps_packed.specs.Scan.{State, start, step, nameless_at, bar_named}
 use Rattle.ps_packed.proofs.Truths.{not_false}
-use Rattle.ps_packed.proofs.Runs.{Stepped, by_bar, by_bracket, by_inner, stepped}
+use Rattle.ps_packed.proofs.Runs.{by_bar, by_bracket, by_inner, stepped}
 use Rattle.ps_packed.proofs.Splits.{grown, split_snoc, grown_end}
 
 -- what the fields that are done tell of the names
@@ -51,29 +51,35 @@ pub placed_next : (front : List ℕ) (s : State) (b : ℕ) (u : State) → Place
 placed_next front s b u p e =
     elim (stepped s b u e) [
       | by_bar is lt fit name now ↦ rw now (record {
-          done = p.done; row = p.row ++ b ∷ []; fields = p.fields ++ s.word ∷ [];
-          rows_are = row_next front s b p (ap (λ x. eqb x 93) is);
-          row_is = field_next front s b p true (ap (λ x. eqb x 124) is);
-          sets_are = p.sets_are;
-          field_is = omega (arith, p.field_is, length-append p.fields (s.word ∷ []));
-          names_are = names_next p.fields s.bare s.field s.word p.names_are p.field_is name;
-        })
+        done = p.done;
+        row = p.row ++ b ∷ [];
+        fields = p.fields ++ s.word ∷ [];
+        rows_are = row_next front s b p (ap (λ x. eqb x 93) is);
+        row_is = field_next front s b p true (ap (λ x. eqb x 124) is);
+        sets_are = p.sets_are;
+        field_is = omega (arith, p.field_is, length-append p.fields (s.word ∷ []));
+        names_are = names_next p.fields s.bare s.field s.word p.names_are p.field_is name;
+      })
       | by_bracket is e' fit lt now ↦ rw now (record {
-          done = p.done ++ p.row ∷ []; row = []; fields = [];
-          rows_are = split_snoc 93 b front ∙ ap (grown (eqb b 93) b) p.rows_are ∙ grown_end (eqb b 93) b p.done p.row ∙ ap (λ x. cond (eqb x 93) ((p.done ++ p.row ∷ []) ++ [] ∷ []) (p.done ++ (p.row ++ b ∷ []) ∷ [])) is;
-          row_is = refl;
-          sets_are = omega (arith, p.sets_are, length-append p.done (p.row ∷ []));
-          field_is = refl;
-          names_are = tt;
-        })
+        done = p.done ++ p.row ∷ [];
+        row = [];
+        fields = [];
+        rows_are = split_snoc 93 b front ∙ ap (grown (eqb b 93) b) p.rows_are ∙ grown_end (eqb b 93) b p.done p.row ∙ ap (λ x. cond (eqb x 93) ((p.done ++ p.row ∷ []) ++ [] ∷ []) (p.done ++ (p.row ++ b ∷ []) ∷ [])) is;
+        row_is = refl;
+        sets_are = omega (arith, p.sets_are, length-append p.done (p.row ∷ []));
+        field_is = refl;
+        names_are = tt;
+      })
       | by_inner x y ok now ↦ rw now (record {
-          done = p.done; row = p.row ++ b ∷ []; fields = p.fields;
-          rows_are = row_next front s b p y;
-          row_is = field_next front s b p false x;
-          sets_are = p.sets_are;
-          field_is = p.field_is;
-          names_are = p.names_are;
-        })
+        done = p.done;
+        row = p.row ++ b ∷ [];
+        fields = p.fields;
+        rows_are = row_next front s b p y;
+        row_is = field_next front s b p false x;
+        sets_are = p.sets_are;
+        field_is = p.field_is;
+        names_are = p.names_are;
+      })
     ]
 
 pub end_snoc : {A : Type 0} (d : A) (xs : List A) (y : A) → end_of d (xs ++ y ∷ []) ≡ y

@@ -30,12 +30,12 @@ pub record AreSix (most : ℕ) (ps : List (Bor (List ℕ))) : Type 0 where
 spread_six : (zero_alone : Bool) (most : ℕ) (w : List ℕ) (ps : List (Bor (List ℕ))) → is_spread zero_alone most w ≡ true → length w ≢ 0 → (zero_alone && is_zero w) ≡ false → map (λ x. x.now) ps ≡ parts w → AreSix most ps
 spread_six zero_alone most [] ps e some not_zero are = absurd (some refl)
 spread_six zero_alone most (c ∷ w) ps e some not_zero are = elim (spread_cases zero_alone most c w e) [
-    | inl h ↦ absurd (let wrong : false ≡ true = sym not_zero ∙ ap (λ (b : Bool). b && is_zero (c ∷ w)) h.0 ∙ h.1 in cc)
-    | inr h ↦ record {
-        six = pieces_long ps (parts (c ∷ w)) are ∙ h.1;
-        numbers = subst (AllByRecursion (λ p. is_number most p ≡ true)) (sym are) (each_number most (parts (c ∷ w)) (numbers_facts most (c ∷ w) h.0).each);
-      }
-  ]
+  | inl h ↦ absurd (let wrong : false ≡ true = sym not_zero ∙ ap (λ (b : Bool). b && is_zero (c ∷ w)) h.0 ∙ h.1 in cc)
+  | inr h ↦ record {
+    six = pieces_long ps (parts (c ∷ w)) are ∙ h.1;
+    numbers = subst (AllByRecursion (λ p. is_number most p ≡ true)) (sym are) (each_number most (parts (c ∷ w)) (numbers_facts most (c ∷ w) h.0).each);
+  }
+]
 
 pub evs_six : (w : List ℕ) (ps : List (Bor (List ℕ))) → in_form evs w ≡ true → length w ≢ 0 → is_zero w ≡ false → map (λ x. x.now) ps ≡ parts w → AreSix 255 ps
 unfolding in_form
@@ -80,9 +80,9 @@ nil_tells [] = refl
 nil_tells (c ∷ w) = ne_eqb _ _ (λ z. omega (arith, z))
 
 pub set_is : (ws : List (List ℕ)) (n s i a : List ℕ) (m : List (List ℕ)) (t e : List ℕ) (g : Option ℕ) (v : List ℕ) (h : Bool) (l : ℕ) (x : List ℕ) →
-  n ≡ (set_of ws).nick → s ≡ (set_of ws).species → i ≡ (set_of ws).item → a ≡ (set_of ws).ability → m ≡ (set_of ws).moves → t ≡ (set_of ws).nature →
-  e ≡ (set_of ws).evs → g ≡ (set_of ws).gender → v ≡ (set_of ws).ivs → h ≡ (set_of ws).shiny → l ≡ (set_of ws).level → x ≡ (set_of ws).misc →
-  record { nick = n; species = s; item = i; ability = a; moves = m; nature = t; evs = e; gender = g; ivs = v; shiny = h; level = l; misc = x } ≡ set_of ws
+    n ≡ (set_of ws).nick → s ≡ (set_of ws).species → i ≡ (set_of ws).item → a ≡ (set_of ws).ability → m ≡ (set_of ws).moves → t ≡ (set_of ws).nature →
+    e ≡ (set_of ws).evs → g ≡ (set_of ws).gender → v ≡ (set_of ws).ivs → h ≡ (set_of ws).shiny → l ≡ (set_of ws).level → x ≡ (set_of ws).misc →
+    record { nick = n; species = s; item = i; ability = a; moves = m; nature = t; evs = e; gender = g; ivs = v; shiny = h; level = l; misc = x } ≡ set_of ws
 set_is ws n s i a m t e g v h l x e1 e2 e3 e4 e5 e6 e7 e8 e9 e10 e11 e12 = rw (e1, e2, e3, e4, e5, e6, e7, e8, e9, e10, e11, e12) refl
 
 pub same_other : (a b x y : List ℕ) → a ≡ x → b ≡ y → or_other a b ≡ or_other x y

@@ -1,5 +1,5 @@
 -- Going through a text ends where the text ends exactly at the texts of teams.
-use Rattle.std.proofs.Common.{◌≡◌, ℕ, zero, suc, ◌+◌, ◌-◌, ◌<◌, ◌≤◌, ◌≢◌, ◌==◌, ◌&&◌, Bool, true, false, not, cond, eqb, ltb, leb, List, [], ◌∷◌, ◌++◌, length, map, Option, Some, None, refl, sym, ap, subst, ◌∙◌, inl, inr, ◌⊎◌, eq-eqb, arith, append_assoc, add-one}
+use Rattle.std.proofs.Common.{◌≡◌, ℕ, zero, suc, ◌+◌, ◌<◌, ◌≤◌, ◌≢◌, ◌==◌, ◌&&◌, Bool, true, false, not, cond, eqb, ltb, List, [], ◌∷◌, ◌++◌, length, Option, Some, None, refl, sym, ap, subst, ◌∙◌, inl, inr, ◌⊎◌, eq-eqb, arith, append_assoc, add-one}
 use Rattle.std.specs.Prelude.{option_and_then}
 use Rattle.std.specs.List.{list_all, AllByRecursion, join_with_byte}
 use Rattle.std.specs.Str.{all_scalars}
@@ -10,7 +10,7 @@ use Rattle.ps_packed.specs.Forms.{in_form, form_of, last}
 use Rattle.ps_packed.specs.Packed.{is_nil, is_nameless, AreFields, IsRow, team_text, IsFreeTeam}
 use Rattle.ps_packed.specs.Scan.{prefix_ok, State, start, step, run, accepts, nameless_at, bar_named}
 use Rattle.ps_packed.proofs.Truths.{and_true, both, not_false, is_not}
-use Rattle.ps_packed.proofs.Laws.{Laws, is_inner}
+use Rattle.ps_packed.proofs.Laws.{is_inner}
 use Rattle.ps_packed.proofs.FormLaws.{laws_of}
 
 -- ---- one step
@@ -232,7 +232,6 @@ goes_on s (b ∷ bs) t le e ok =
       | by_inner x y ok' now ↦ (let later = goes_on u.0 bs t (rw now le) u.2 ok in
           after_inner s b bs (subst (λ (v : State). GoesOn v.word v.bare v.field v.sets bs) now later))
     ]
-
 
 -- ---- teams without the limit of bytes
 

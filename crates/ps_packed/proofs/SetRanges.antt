@@ -1,10 +1,10 @@
 -- The sets of a team have their numbers in range.
-use Rattle.std.proofs.Common.{◌≡◌, ℕ, ◌+◌, ◌<◌, ◌≤◌, ◌&&◌, Bool, true, false, List, [], ◌∷◌, length, map, All, refl, sym, ap, subst, ◌∙◌, inl, inr, arith}
+use Rattle.std.proofs.Common.{◌≡◌, ℕ, ◌<◌, ◌≤◌, true, false, List, [], ◌∷◌, length, map, All, sym, ap, subst, inl, inr, arith}
 use Rattle.std.specs.List.{list_all, AllByRecursion}
 use Rattle.std.proofs.lemmas.List.{length-map}
 use Rattle.std.proofs.lemmas.List.Elements.{All-from_recursion}
 use Rattle.ps_packed.specs.declared.set.Set.{Set}
-use Rattle.ps_packed.specs.Forms.{is_number, number_of, parts, ivs, level, moves, in_form, form_of}
+use Rattle.ps_packed.specs.Forms.{is_number, parts, ivs, level, in_form, form_of}
 use Rattle.ps_packed.specs.Packed.{field, iv_of, ivs_of, level_of, set_of, IsRow, HasText}
 use Rattle.ps_packed.specs.Ranges.{HasRanges}
 use Rattle.ps_packed.proofs.Truths.{and_true}
@@ -32,9 +32,9 @@ ivs_range : (w : List ℕ) → in_form ivs w ≡ true → AllByRecursion (λ n. 
 unfolding in_form
 ivs_range [] e = (omega arith, (omega arith, (omega arith, (omega arith, (omega arith, (omega arith, tt))))))
 ivs_range (c ∷ w) e = elim (spread_cases false 31 c w e) [
-    | inl h ↦ absurd (let wrong : false ≡ true = h.0 in cc)
-    | inr h ↦ each_small (parts (c ∷ w)) (numbers_facts 31 (c ∷ w) h.0).each
-  ]
+  | inl h ↦ absurd (let wrong : false ≡ true = h.0 in cc)
+  | inr h ↦ each_small (parts (c ∷ w)) (numbers_facts 31 (c ∷ w) h.0).each
+]
 
 row_ranges : (ws : List (List ℕ)) → IsRow ws → HasRanges (set_of ws)
 row_ranges ws r =

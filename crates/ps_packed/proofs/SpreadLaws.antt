@@ -1,5 +1,5 @@
 -- The laws of six numbers between commas.
-use Rattle.std.proofs.Common.{◌≡◌, ℕ, zero, suc, ◌+◌, ◌-◌, ◌≤◌, ◌==◌, ◌&&◌, ◌||◌, Bool, true, false, not, cond, eqb, leb, ltb, eq-eqb, List, [], ◌∷◌, ◌++◌, length, refl, sym, ap, ◌∙◌, inl, inr, ◌⊎◌, arith, append_assoc}
+use Rattle.std.proofs.Common.{◌≡◌, ℕ, zero, suc, ◌+◌, ◌-◌, ◌≤◌, ◌==◌, ◌&&◌, Bool, true, false, not, cond, eqb, leb, ltb, eq-eqb, List, [], ◌∷◌, ◌++◌, length, refl, sym, ap, ◌∙◌, inl, inr, ◌⊎◌, arith, append_assoc}
 use Rattle.std.specs.List.{list_all}
 use Rattle.std.proofs.lemmas.Bool.{leb-true, le-leb, eqb-true, ne_eqb}
 use Rattle.std.proofs.lemmas.List.{length-append, append-nil}
@@ -70,16 +70,16 @@ record IsSix (most : ℕ) (w : List ℕ) : Type 0 where
 
 pub spread_cases : (zero_alone : Bool) (most : ℕ) (c : ℕ) (w : List ℕ) → is_spread zero_alone most (c ∷ w) ≡ true → ((zero_alone ≡ true) × (is_zero (c ∷ w) ≡ true)) ⊎ ((are_numbers most (c ∷ w) ≡ true) × (length (parts (c ∷ w)) ≡ 6))
 spread_cases zero_alone most c w e = elim (or_true (zero_alone && is_zero (c ∷ w)) (are_numbers most (c ∷ w) && length (parts (c ∷ w)) == 6) e) [
-    | inl h ↦ inl (and_true zero_alone (is_zero (c ∷ w)) h)
-    | inr h ↦ (let a = and_true (are_numbers most (c ∷ w)) (eqb (length (parts (c ∷ w))) 6) h in inr (a.0, eqb-true _ _ a.1))
-  ]
+  | inl h ↦ inl (and_true zero_alone (is_zero (c ∷ w)) h)
+  | inr h ↦ (let a = and_true (are_numbers most (c ∷ w)) (eqb (length (parts (c ∷ w))) 6) h in inr (a.0, eqb-true _ _ a.1))
+]
 
 spread_closed : (zero_alone : Bool) (most : ℕ) (w r : List ℕ) → is_spread zero_alone most (w ++ r) ≡ true → prefix_ok (spread zero_alone most) w ≡ true
 spread_closed zero_alone most [] r e = front_made zero_alone most [] (numbers_made most [] (record { chars = refl; each = both _ _ (empty_number most) refl })) (omega arith)
 spread_closed zero_alone most (c ∷ w) r e = elim (spread_cases zero_alone most c (w ++ r) e) [
-    | inl h ↦ zero_front zero_alone most c w r h.1
-    | inr h ↦ front_made zero_alone most (c ∷ w) (numbers_front most (c ∷ w) r h.0) (omega (arith, h.1, below_long (parts (c ∷ w)) (parts ((c ∷ w) ++ r)) (parts_below (c ∷ w) r)))
-  ]
+  | inl h ↦ zero_front zero_alone most c w r h.1
+  | inr h ↦ front_made zero_alone most (c ∷ w) (numbers_front most (c ∷ w) r h.0) (omega (arith, h.1, below_long (parts (c ∷ w)) (parts ((c ∷ w) ++ r)) (parts_below (c ∷ w) r)))
+]
 
 -- where `0` doesn't stand for all, six parts are wanted
 need_is : (b : Bool) (c : ℕ) (w : List ℕ) (n : ℕ) → cond {A = ℕ} b 0 n ≤ n
@@ -93,9 +93,9 @@ six_none false n e = e
 spread_full : (zero_alone : Bool) (most : ℕ) (w : List ℕ) → is_spread zero_alone most w ≡ true → spread_need zero_alone w ≡ 0
 spread_full zero_alone most [] e = refl
 spread_full zero_alone most (c ∷ w) e = elim (spread_cases zero_alone most c w e) [
-    | inl h ↦ rw (both zero_alone (is_zero (c ∷ w)) h.0 h.1) refl
-    | inr h ↦ six_none (zero_alone && is_zero (c ∷ w)) (6 - length (parts (c ∷ w))) (omega (arith, h.1))
-  ]
+  | inl h ↦ rw (both zero_alone (is_zero (c ∷ w)) h.0 h.1) refl
+  | inr h ↦ six_none (zero_alone && is_zero (c ∷ w)) (6 - length (parts (c ∷ w))) (omega (arith, h.1))
+]
 
 longer_zero : (c : ℕ) (w : List ℕ) (d : ℕ) → is_zero (c ∷ (w ++ d ∷ [])) ≡ false
 longer_zero c [] d = refl
@@ -117,11 +117,13 @@ spread_slow zero_alone (c ∷ w) d =
 comma_more : (most : ℕ) (w : List ℕ) → are_numbers most w ≡ true → (are_numbers most (w ++ 44 ∷ []) ≡ true) × (length (parts (w ++ 44 ∷ [])) ≡ suc (length (parts w)))
 comma_more most w e =
     let f = numbers_facts most w e in
-    let more : parts (w ++ 44 ∷ []) ≡ parts w ++ [] ∷ [] = split_snoc 44 44 w in
-    (numbers_made most (w ++ 44 ∷ []) (record {
-      chars = list_all-append is_spread_char w (44 ∷ []) ∙ both _ _ f.chars refl;
-      each = ap (list_all (is_number most)) more ∙ list_all-append (is_number most) (parts w) ([] ∷ []) ∙ both _ _ f.each (both _ _ (empty_number most) refl);
-    }), omega (arith, ap length more, length-append (parts w) ([] ∷ [])))
+    let more : parts (w ++ 44 ∷ []) ≡ parts w ++ [] ∷ [] = split_snoc 44 44 w in (
+      numbers_made most (w ++ 44 ∷ []) (record {
+        chars = list_all-append is_spread_char w (44 ∷ []) ∙ both _ _ f.chars refl;
+        each = ap (list_all (is_number most)) more ∙ list_all-append (is_number most) (parts w) ([] ∷ []) ∙ both _ _ f.each (both _ _ (empty_number most) refl);
+      }),
+      omega (arith, ap length more, length-append (parts w) ([] ∷ [])),
+    )
 
 commas : (most n : ℕ) (w : List ℕ) → are_numbers most w ≡ true → length (parts w) + n ≡ 6 → (r : List ℕ) × (are_numbers most (w ++ r) ≡ true) × (length (parts (w ++ r)) ≡ 6) × (length r ≡ n) × (list_all (λ c. ltb c 128) r ≡ true)
 commas most zero w e six = ([], rw append-nil e, rw append-nil (omega (arith, six)), refl, refl)
@@ -154,9 +156,9 @@ spread_completes zero_alone most (c ∷ w) e =
 
 inner_spread : (c : ℕ) → is_spread_char c ≡ true → c ≤ 57
 inner_spread c e = elim (or_true (leb 48 c && leb c 57) (eqb c 44) e) [
-    | inl h ↦ (let a = and_true (leb 48 c) (leb c 57) h in leb-true _ _ a.1)
-    | inr h ↦ (let k : c ≡ 44 = eqb-true _ _ h in omega (arith, k))
-  ]
+  | inl h ↦ (let a = and_true (leb 48 c) (leb c 57) h in leb-true _ _ a.1)
+  | inr h ↦ (let k : c ≡ 44 = eqb-true _ _ h in omega (arith, k))
+]
 
 spread_inner : (w : List ℕ) → list_all is_spread_char w ≡ true → list_all is_inner w ≡ true
 spread_inner [] e = refl
@@ -173,9 +175,9 @@ zero_plain w e = rw e refl
 spread_plain : (zero_alone : Bool) (most : ℕ) (w : List ℕ) → is_spread zero_alone most w ≡ true → list_all is_inner w ≡ true
 spread_plain zero_alone most [] e = refl
 spread_plain zero_alone most (c ∷ w) e = elim (spread_cases zero_alone most c w e) [
-    | inl h ↦ zero_plain (c ∷ w) (zero_is (c ∷ w) h.1)
-    | inr h ↦ spread_inner (c ∷ w) (numbers_facts most (c ∷ w) h.0).chars
-  ]
+  | inl h ↦ zero_plain (c ∷ w) (zero_is (c ∷ w) h.1)
+  | inr h ↦ spread_inner (c ∷ w) (numbers_facts most (c ∷ w) h.0).chars
+]
 
 pub spread_laws : (zero_alone : Bool) (most : ℕ) → Laws (spread zero_alone most)
 unfolding in_form need

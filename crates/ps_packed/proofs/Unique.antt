@@ -1,15 +1,14 @@
 -- No text has two teams.
-use Rattle.std.proofs.Common.{◌≡◌, ℕ, zero, suc, ◌+◌, ◌<◌, ◌==◌, ◌&&◌, Bool, true, false, not, eqb, eq-eqb, List, [], ◌∷◌, ◌++◌, length, get_or, map, Bor, All, refl, sym, ap, subst, ◌∙◌, arith}
+use Rattle.std.proofs.Common.{◌≡◌, ℕ, zero, suc, ◌+◌, ◌<◌, ◌==◌, ◌&&◌, true, false, not, eqb, eq-eqb, List, [], ◌∷◌, length, get_or, map, Bor, All, refl, sym, ap, subst, ◌∙◌, arith}
 use Rattle.std.specs.List.{list_all, AllByRecursion, slice_split, join_with_byte}
 use Rattle.std.proofs.lemmas.List.Elements.{All-from_recursion}
 use Rattle.std.proofs.lemmas.List.Splits.{slice_split_at, slice_split_none}
 use Rattle.std.proofs.lemmas.List.Folds.{list_all-append}
 use Rattle.ps_packed.specs.declared.set.Set.{Set}
-use Rattle.ps_packed.specs.Forms.{in_form, form_of, last}
-use Rattle.ps_packed.specs.Packed.{AreFields, IsRow, set_of, team_text, IsTeamOf, IsTeam, rows_of}
+use Rattle.ps_packed.specs.Packed.{AreFields, IsRow, set_of, team_text, IsTeam, rows_of}
 use Rattle.ps_packed.specs.Scan.{team_of}
 use Rattle.ps_packed.proofs.Truths.{and_true, both, not_false}
-use Rattle.ps_packed.proofs.Laws.{Laws, is_inner}
+use Rattle.ps_packed.proofs.Laws.{is_inner}
 use Rattle.ps_packed.proofs.FormLaws.{laws_of}
 
 -- the byte doesn't stand in the text

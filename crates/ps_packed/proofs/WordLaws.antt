@@ -1,9 +1,9 @@
 -- The laws of plain texts and of letters.
-use Rattle.std.proofs.Common.{◌≡◌, ℕ, ◌+◌, ◌≤◌, ◌==◌, ◌&&◌, Bool, true, false, not, cond, eqb, leb, List, [], ◌∷◌, ◌++◌, length, refl, sym, ap, ◌∙◌, inl, inr, eqb-true, arith, append_assoc}
+use Rattle.std.proofs.Common.{◌≡◌, ℕ, ◌≤◌, ◌==◌, true, eqb, leb, List, [], ◌∷◌, ◌++◌, length, refl, ap, ◌∙◌, inl, inr, eqb-true, arith}
 use Rattle.std.specs.List.{list_all, list_any}
 use Rattle.std.proofs.lemmas.Bool.{leb-true, le-leb}
 use Rattle.std.proofs.lemmas.List.{length-append, append-nil}
-use Rattle.ps_packed.specs.Forms.{is_field_char, Form, words, letter, is_letter, in_form}
+use Rattle.ps_packed.specs.Forms.{is_field_char, words, letter, is_letter, in_form}
 use Rattle.ps_packed.specs.Scan.{prefix_ok, need}
 use Rattle.ps_packed.proofs.Truths.{and_true, or_true, both, all_front}
 use Rattle.ps_packed.proofs.Laws.{Laws, is_inner, field_inner}

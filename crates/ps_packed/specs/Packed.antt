@@ -1,5 +1,5 @@
 -- Packed teams: sets joined by `]`, of fields joined by `|`. A text here is the list of its characters.
-use Rattle.std.specs.Prelude.{◌≡◌, ℕ, zero, suc, ◌+◌, ◌-◌, ◌<◌, ◌≤◌, ◌==◌, ◌&&◌, ◌||◌, ◌⊎◌, List, [], ◌∷◌, ◌++◌, length, map, take, get_or, slice_get, Option, Some, None, Bool, true, false, not, nat_lt, if◌then◌else◌}
+use Rattle.std.specs.Prelude.{◌≡◌, ℕ, suc, ◌-◌, ◌<◌, ◌≤◌, ◌==◌, ◌&&◌, ◌||◌, ◌⊎◌, List, [], ◌∷◌, ◌++◌, length, map, take, get_or, slice_get, Option, Some, None, Bool, true, false, not, nat_lt, if◌then◌else◌}
 use Rattle.std.specs.List.{AllByRecursion, slice_split, join_with_byte}
 use Rattle.std.specs.Str.{all_scalars, encode_utf8_all}
 use Rattle.ps_base.specs.declared.pack_kind.PackKind.{PackKind}
@@ -171,16 +171,16 @@ is_numeric level = true
 -- where the limit of bytes isn't at fault
 unfoldable pub kind_of : Bool → ℕ → ℕ → List ℕ → Option ℕ → PackKind
 kind_of nameless sets k word next =
-  if nameless then EmptySet
-  else (if is_out k next then Bars
-  else (if is_too_many sets k word next then Count
-  else (if is_numeric (form_of k) then Number else Text)))
+    if nameless then EmptySet
+    else (if is_out k next then Bars
+    else (if is_too_many sets k word next then Count
+    else (if is_numeric (form_of k) then Number else Text)))
 
 -- that of the front and of what stands after it
 abbrev pub kind_at : List ℕ → ℕ → PackKind
 kind_at text count =
-  let front = take count text in
-  kind_of (is_nameless (row_at_end front)) (sets_done front) (field_at_end front) (word_at_end front) (slice_get text count)
+    let front = take count text in
+    kind_of (is_nameless (row_at_end front)) (sets_done front) (field_at_end front) (word_at_end front) (slice_get text count)
 
 abbrev pub IsKind : List ℕ → ℕ → PackKind → Type 0
 IsKind text count kind = (IsLong text count × (kind ≡ Long)) ⊎ (¬ (IsLong text count) × (kind ≡ kind_at text count))

@@ -1,5 +1,5 @@
 -- What is in range in each set of a team.
-use Rattle.std.specs.Prelude.{ℕ, ◌≤◌, length, All}
+use Rattle.std.specs.Prelude.{◌≤◌, length, All}
 use Rattle.ps_packed.specs.declared.set.Set.{Set}
 
 pub record HasRanges (s : Set) : Type 0 where

@@ -1,10 +1,9 @@
 -- Going through a text character by character.
 use Rattle.std.specs.Prelude.{◌≡◌, ℕ, zero, suc, ◌+◌, ◌-◌, ◌==◌, ◌&&◌, ◌||◌, List, [], ◌∷◌, ◌++◌, ◌≤◌, length, map, drop, Bool, true, false, not, Option, Some, None, option_and_then, Result, Ok, Err, ⊤, nat_lt, nat_le, if◌then◌else◌}
-use Rattle.std.specs.List.{list_all, list_any}
 use Rattle.ps_packed.specs.declared.set.Set.{Set}
 use Rattle.ps_packed.specs.declared.fault.PackFault.{PackFault}
 use Rattle.ps_packed.specs.declared.fault.PackFault.TheVariants as faults
-use Rattle.ps_packed.specs.Forms.{is_field_char, Form, words, moves, spread, letter, level, are_digits, number_of, is_number, parts, is_id_letter, has_id, id_count, are_numbers, is_zero, is_letter, in_form, form_of, last}
+use Rattle.ps_packed.specs.Forms.{Form, words, moves, spread, letter, level, number_of, is_number, parts, is_id_letter, has_id, id_count, are_numbers, is_zero, in_form, form_of, last}
 use Rattle.ps_packed.specs.Packed.{is_nil, IsTeam, IsFault, rows_of, end_of, set_of}
 
 -- some text of the form begins so
@@ -74,9 +73,9 @@ bar_named bare (suc (suc k)) w = true
 
 unfoldable pub step : State → ℕ → Option State
 step s c =
-  if c == 124 then (if nat_lt s.field last && in_form (form_of s.field) s.word && bar_named s.bare s.field s.word then Some (record { word = []; bare = nameless_at s.bare s.field s.word; field = s.field + 1; sets = s.sets }) else None)
-  else (if c == 93 then (if s.field == last && in_form (form_of s.field) s.word && nat_lt s.sets 5 then Some (record { word = []; bare = true; field = 0; sets = s.sets + 1 }) else None)
-  else (if prefix_ok (form_of s.field) (s.word ++ c ∷ []) then Some (record { word = s.word ++ c ∷ []; bare = s.bare; field = s.field; sets = s.sets }) else None))
+    if c == 124 then (if nat_lt s.field last && in_form (form_of s.field) s.word && bar_named s.bare s.field s.word then Some (record { word = []; bare = nameless_at s.bare s.field s.word; field = s.field + 1; sets = s.sets }) else None)
+    else (if c == 93 then (if s.field == last && in_form (form_of s.field) s.word && nat_lt s.sets 5 then Some (record { word = []; bare = true; field = 0; sets = s.sets + 1 }) else None)
+    else (if prefix_ok (form_of s.field) (s.word ++ c ∷ []) then Some (record { word = s.word ++ c ∷ []; bare = s.bare; field = s.field; sets = s.sets }) else None))
 
 abbrev pub run : State → List ℕ → Option State
 run s [] = Some s

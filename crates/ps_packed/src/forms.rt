@@ -233,7 +233,12 @@ pub fn is_field(alloc: Global, field: Field, word: &[char]) -> Result<bool, Allo
 }
 
 #[tactic(auto, unfolding(crate::specs::Scan::prefix_ok))]
-fn begins_spread(alloc: Global, zero_alone: bool, most: u32, word: &[char]) -> Result<bool, AllocError>
+fn begins_spread(
+    alloc: Global,
+    zero_alone: bool,
+    most: u32,
+    word: &[char],
+) -> Result<bool, AllocError>
     ensures { IfOk result (λ b. b ≡ prefix_ok (spread zero_alone most) word.now) }
 {
     let numbers = are_numbers(alloc, most, word)?;
@@ -287,13 +292,8 @@ fn level_need(word: &[char]) -> usize
 {
     match word {
         [] => 0,
-        _ => {
-            if number(word) == 0 {
-                1
-            } else {
-                0
-            }
-        }
+        _ if number(word) == 0 => 1,
+        _ => 0,
     }
 }
 

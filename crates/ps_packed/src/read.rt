@@ -149,7 +149,20 @@ fn set_from(alloc: Global, fields: &[&[char]]) -> Result<Set, AllocError>
     ensures { IfOk result (λ s. s ≡ set_of (map (λ x. x.now) fields.now)) }
 {
     match fields {
-        [nick_text, species_text, item_text, ability_text, moves_text, nature_text, evs_text, gender_text, ivs_text, shiny_text, level_text, misc_text] => {
+        [
+            nick_text,
+            species_text,
+            item_text,
+            ability_text,
+            moves_text,
+            nature_text,
+            evs_text,
+            gender_text,
+            ivs_text,
+            shiny_text,
+            level_text,
+            misc_text,
+        ] => {
             let nick = text_of(alloc, or_other(nick_text, species_text))?;
             let species = text_of(alloc, or_other(species_text, nick_text))?;
             let item = text_of(alloc, item_text)?;

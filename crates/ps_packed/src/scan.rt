@@ -84,7 +84,13 @@ fn is_moves_field(field: Field) -> bool
     }
 }
 
-fn is_too_many(alloc: Global, sets: usize, field: Field, word: &[char], next: Option<char>) -> Result<bool, AllocError>
+fn is_too_many(
+    alloc: Global,
+    sets: usize,
+    field: Field,
+    word: &[char],
+    next: Option<char>,
+) -> Result<bool, AllocError>
     ensures { IfOk result (λ b. b ≡ is_too_many sets (place field) word.now next) }
 {
     match next {
@@ -116,7 +122,10 @@ impl Scan {
         ensures { IfOk result (λ went. Steps went (step self.old c) self.old self.new) }
     {
         if c == '|' {
-            if self.field.is_last() || !is_field(alloc, self.field, self.word.as_slice())? || !may_end(self.bare, self.field, self.word.as_slice()) {
+            if self.field.is_last()
+                || !is_field(alloc, self.field, self.word.as_slice())?
+                || !may_end(self.bare, self.field, self.word.as_slice())
+            {
                 return Ok(false);
             }
             self.bare = is_nameless(self.bare, self.field, self.word.as_slice());
@@ -125,7 +134,10 @@ impl Scan {
             return Ok(true);
         }
         if c == ']' {
-            if !self.field.is_last() || !is_field(alloc, self.field, self.word.as_slice())? || self.sets >= 5 {
+            if !self.field.is_last()
+                || !is_field(alloc, self.field, self.word.as_slice())?
+                || self.sets >= 5
+            {
                 return Ok(false);
             }
             self.word.clear();

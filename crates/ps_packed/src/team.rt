@@ -79,11 +79,9 @@ pub fn read_team(alloc: Global, text: &str) -> Result<Team, PackFault>
 /// No text has two teams.
 pub fn one_team()
     ensures { (text : List ℕ) (a b : List Set) → IsTeam text a → IsTeam text b → a ≡ b }
-{
-}
+{}
 
 /// The canonical text of a team that some text has is a text of it.
 pub fn canonical_is()
     ensures { (t : List Set) → HasText t → IsTeam (chars (canon t)) t }
-{
-}
+{}

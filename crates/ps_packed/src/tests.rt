@@ -31,7 +31,11 @@ static FAULTS: [(&str, u32, PackKind); 74] = [
     ("a\u{7f}", 2, PackKind::Bars),
     ("ééé]", 6, PackKind::Bars),
     ("日本|", 7, PackKind::Bars),
-    ("Tauros||||bodyslam,hyperbeam,blizzard,earthquake||||||||", 55, PackKind::Bars),
+    (
+        "Tauros||||bodyslam,hyperbeam,blizzard,earthquake||||||||",
+        55,
+        PackKind::Bars,
+    ),
     ("aaaaaaaaaaaaaaaaaa|", 19, PackKind::Bars),
     ("a||||,,,,", 9, PackKind::Bars),
     ("a||||a,b,c,d,!", 14, PackKind::Bars),
@@ -49,17 +53,41 @@ static FAULTS: [(&str, u32, PackKind); 74] = [
     ("|bbbbbbbbbbbbbbbbbbbbbbbbbbbbbbbbb", 33, PackKind::Text),
     ("a||ccccccccccccccccccccccccccccccccc", 35, PackKind::Text),
     ("a|||ddddddddddddddddddddddddddddddddd", 36, PackKind::Text),
-    ("a|||||nnnnnnnnnnnnnnnnnnnnnnnnnnnnnnnnn", 38, PackKind::Text),
-    ("a|||||||||||xxxxxxxxxxxxxxxxxxxxxxxxxxxxxxxxxxxxxxxxxxxxxxxxxxxxxxxxxxxxxxxxx", 76, PackKind::Text),
+    (
+        "a|||||nnnnnnnnnnnnnnnnnnnnnnnnnnnnnnnnn",
+        38,
+        PackKind::Text,
+    ),
+    (
+        "a|||||||||||xxxxxxxxxxxxxxxxxxxxxxxxxxxxxxxxxxxxxxxxxxxxxxxxxxxxxxxxxxxxxxxxx",
+        76,
+        PackKind::Text,
+    ),
     ("a|||||||||||]bbbbbbbbbbbbbbbbbbb", 31, PackKind::Text),
     ("a||||mmmmmmmmmmmmmmmmmmmmmmmmmmmmmmmmm", 37, PackKind::Text),
     ("a||||m\u{1}", 6, PackKind::Text),
-    ("a||||a,b,c,d,!!!!!!!!!!!!!!!!!!!!!!!!!!!!!!!!!", 45, PackKind::Text),
-    ("a||||a,b,c,d,!!!!!!!!!!!!!!!!!!!!!!!!!!!!!!!!e", 45, PackKind::Count),
+    (
+        "a||||a,b,c,d,!!!!!!!!!!!!!!!!!!!!!!!!!!!!!!!!!",
+        45,
+        PackKind::Text,
+    ),
+    (
+        "a||||a,b,c,d,!!!!!!!!!!!!!!!!!!!!!!!!!!!!!!!!e",
+        45,
+        PackKind::Count,
+    ),
     ("a||||a,b,c,d,e", 13, PackKind::Count),
     ("a||||a,b,c,d,!e", 14, PackKind::Count),
-    ("a|||||||||||]a|||||||||||]a|||||||||||]a|||||||||||]a|||||||||||]a|||||||||||]", 77, PackKind::Count),
-    ("a|||||||||||]a|||||||||||]a|||||||||||]a|||||||||||]a|||||||||||]a|||||||||||]a|||||||||||", 77, PackKind::Count),
+    (
+        "a|||||||||||]a|||||||||||]a|||||||||||]a|||||||||||]a|||||||||||]a|||||||||||]",
+        77,
+        PackKind::Count,
+    ),
+    (
+        "a|||||||||||]a|||||||||||]a|||||||||||]a|||||||||||]a|||||||||||]a|||||||||||]a|||||||||||",
+        77,
+        PackKind::Count,
+    ),
     ("a||||||256", 9, PackKind::Number),
     ("a||||||0000", 10, PackKind::Number),
     ("a||||||1|", 8, PackKind::Number),
@@ -87,15 +115,27 @@ static FAULTS: [(&str, u32, PackKind); 74] = [
 
 /// Packed teams, each with its canonical text.
 static TEAMS: [(&str, &str); 9] = [
-    ("Tauros||||bodyslam,hyperbeam,blizzard,earthquake|||||||", "Tauros||||bodyslam,hyperbeam,blizzard,earthquake|||||||"),
+    (
+        "Tauros||||bodyslam,hyperbeam,blizzard,earthquake|||||||",
+        "Tauros||||bodyslam,hyperbeam,blizzard,earthquake|||||||",
+    ),
     ("|Tauros||||||||||", "Tauros|||||||||||"),
     ("Tauros|Tauros||||||||||", "Tauros|||||||||||"),
     ("Bob|Tauros||||||||||", "Bob|Tauros||||||||||"),
-    ("|aaaaaaaaaaaaaaaaaaa||||||||||", "|aaaaaaaaaaaaaaaaaaa||||||||||"),
-    ("a||Leftovers|Intimidate|Body Slam,,!!,HYPER-beam|Hardy|252,252,252,252,252,252|M|,,,,,|S|100|255,x]b|||||||||||", "a||Leftovers|Intimidate|bodyslam,hyperbeam|Hardy||M||S||255,x]b|||||||||||"),
+    (
+        "|aaaaaaaaaaaaaaaaaaa||||||||||",
+        "|aaaaaaaaaaaaaaaaaaa||||||||||",
+    ),
+    (
+        "a||Leftovers|Intimidate|Body Slam,,!!,HYPER-beam|Hardy|252,252,252,252,252,252|M|,,,,,|S|100|255,x]b|||||||||||",
+        "a||Leftovers|Intimidate|bodyslam,hyperbeam|Hardy||M||S||255,x]b|||||||||||",
+    ),
     ("a||||||,,,,,||31,31,31,31,31,31|||", "a||||||0|||||"),
     ("a||||||0||0,,031,1,2,30||007|", "a||||||0||0,,,1,2,30||7|"),
-    ("a||||||0,4,,008,255,1|N|,,,,,0||099|", "a||||||,4,,8,255,1|N|,,,,,0||99|"),
+    (
+        "a||||||0,4,,008,255,1|N|,,,,,0||099|",
+        "a||||||,4,,8,255,1|N|,,,,,0||99|",
+    ),
 ];
 
 /// Parts of long texts: a front, how many commas follow it, what follows these, and the fault's byte
@@ -113,7 +153,12 @@ static LONG: [(&str, u32, &str, u32, PackKind); 8] = [
 
 fn is_fault(answer: &Result<Team, PackFault>, at: u32, kind: PackKind) -> bool {
     match answer {
-        Err(PackFault::Fault { at: found_at, kind: found }) => *found_at == at && *found == kind,
+        Err(
+            PackFault::Fault {
+                at: found_at,
+                kind: found,
+            },
+        ) => *found_at == at && *found == kind,
         _ => false,
     }
 }
@@ -131,7 +176,10 @@ fn tells_each_fault(rt: HostRuntime) -> Result<(), Fail> {
         }
         text.push_str(end)?;
         let answer = read_team(rt.alloc(), text.as_str());
-        assert!(rt; is_fault(&answer, *at, *kind), "{commas} commas: {answer:?}");
+        assert!(rt;
+            is_fault(&answer, *at, *kind),
+            "{commas} commas: {answer:?}"
+        );
     }
     Ok(())
 }
@@ -139,11 +187,18 @@ fn tells_each_fault(rt: HostRuntime) -> Result<(), Fail> {
 #[test]
 fn reads_and_writes(rt: HostRuntime) -> Result<(), Fail> {
     for (text, canonical) in &TEAMS {
-        let Ok(team) = read_team(rt.alloc(), text) else { return Err(Fail::from("no team")) };
+        let Ok(team) = read_team(rt.alloc(), text) else {
+            return Err(Fail::from("no team"))
+        };
         let written = write_team(rt.alloc(), &team)?;
         assert_eq!(rt; written.as_str(), *canonical);
     }
-    let Ok(team) = read_team(rt.alloc(), "Tauros||||bodyslam,hyperbeam,blizzard,earthquake|||||||") else { return Err(Fail::from("no team")) };
+    let Ok(team) = read_team(
+        rt.alloc(),
+        "Tauros||||bodyslam,hyperbeam,blizzard,earthquake|||||||",
+    ) else {
+        return Err(Fail::from("no team"))
+    };
     assert_eq!(rt; team.sets().len(), 1);
     for set in team.sets() {
         assert_eq!(rt; set.nick.as_str(), "Tauros");

@@ -65,7 +65,14 @@ fn moves_go_on(part: &[char], ids: usize, c: char) -> bool
 
 /// Whether a text of the field begins with this one, whose last character is told. Without that
 /// character one does.
-fn begins_so(alloc: Global, field: Field, word: &[char], part: usize, ids: usize, c: char) -> Result<bool, AllocError>
+fn begins_so(
+    alloc: Global,
+    field: Field,
+    word: &[char],
+    part: usize,
+    ids: usize,
+    c: char,
+) -> Result<bool, AllocError>
     requires counts { CountsOf word.now part ids }
     requires grown { (w : List ℕ) × (word.now ≡ w ++ c ∷ []) × (prefix_ok (form_of (place field)) w ≡ true) }
     ensures { IfOk result (λ b. b ≡ prefix_ok (form_of (place field)) word.now) }

@@ -1,4 +1,4 @@
-use Rattle.std.proofs.Common.{◌≡◌, ◌==◌, length, Bool, false, List, ℕ, Bor, sym, subst, ◌∙◌}
+use Rattle.std.proofs.Common.{◌≡◌, ◌==◌, length, false, List, ℕ, Bor, sym, subst}
 use Rattle.ps_packed.specs.Forms.{is_zero}
 use Rattle.ps_packed.proofs.Reading.{AreSix, not_empty, evs_six}
 use Rattle.ps_packed.proofs.read.evs.Goals as goal

@@ -1,5 +1,4 @@
-use Rattle.std.proofs.Common.{◌≡◌, ◌<◌, ◌+◌, ap, sym, subst, ◌∙◌, refl, ℕ, Some, None, ◌≤◌, arith, length, get_or, take}
-use Rattle.std.proofs.Math.Seq.{take-length}
+use Rattle.std.proofs.Common.{◌≡◌, ◌<◌, ◌+◌, ap, sym, subst, ◌∙◌, refl, ℕ, Some, None, ◌≤◌, arith, length, take}
 use Rattle.ps_packed.specs.Packed.{bytes_of}
 use Rattle.ps_packed.specs.Scan.{State, step, need_of, Refuses}
 use Rattle.ps_packed.proofs.Ends.{step_valid}

@@ -1,8 +1,7 @@
-use Rattle.std.proofs.Common.{◌≡◌, true, List, ℕ, sym, ap, subst, ◌∙◌, chars}
+use Rattle.std.proofs.Common.{◌≡◌, List, ℕ, sym, ap, subst, ◌∙◌, chars}
 use Rattle.std.specs.List.{AllByRecursion}
 use Rattle.std.specs.Str.{all_scalars}
 use Rattle.std.proofs.lemmas.Str.{scalars-chars}
-use Rattle.ps_packed.specs.declared.set.Set.{Set}
 use Rattle.ps_packed.specs.Packed.{IsRow, IsTeam, rows_of}
 use Rattle.ps_packed.specs.Scan.{team_of}
 use Rattle.ps_packed.proofs.Unique.{fits_of, is_found, one_team}

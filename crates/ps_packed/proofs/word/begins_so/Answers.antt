@@ -1,4 +1,4 @@
-use Rattle.std.proofs.Common.{◌≡◌, ◌∷◌, [], ◌++◌, ◌&&◌, true, leb, length, drop, List, ℕ, sym, ap, subst, ◌∙◌}
+use Rattle.std.proofs.Common.{◌≡◌, ◌&&◌, true, leb, length, drop, List, ℕ, sym, ap, subst, ◌∙◌}
 use Rattle.ps_packed.specs.declared.field.Field.{Field}
 use Rattle.ps_packed.specs.Fields.{place}
 use Rattle.ps_packed.specs.Forms.{is_field_char, form_of, moves}

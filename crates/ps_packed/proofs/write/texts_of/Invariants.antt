@@ -1,5 +1,4 @@
-use Rattle.std.proofs.Common.{◌≡◌, map, take}
-
+use Rattle.std.proofs.Common.{◌≡◌, take}
 use Rattle.ps_packed.proofs.write.texts_of.Given as goal
 
 abbrev pub invariant-loop-id : goal.invariant-loop-id

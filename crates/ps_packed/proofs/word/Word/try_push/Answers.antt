@@ -1,5 +1,4 @@
-use Rattle.std.proofs.Common.{◌≡◌, length, drop, List, ℕ, sym, ap, ◌∙◌, arith}
-use Rattle.ps_packed.specs.Scan.{CountsOf}
+use Rattle.std.proofs.Common.{length, drop, sym, ap, ◌∙◌, arith}
 use Rattle.ps_packed.proofs.Counts.{counts_after, ids_few}
 use Rattle.ps_packed.proofs.word.Word.try_push.Goals as goal
 
