@@ -4,6 +4,8 @@ use Rattle.std.specs.List.{AllByRecursion, slice_split, join_with_byte}
 use Rattle.std.specs.Str.{all_scalars, encode_utf8_all}
 use Rattle.ps_base.specs.declared.pack_kind.PackKind.{PackKind}
 use Rattle.ps_base.specs.declared.pack_kind.PackKind.TheVariants.{Bars, Number, Count, EmptySet, Text, Long}
+use Rattle.ps_packed.specs.declared.fault.PackFault.{PackFault}
+use Rattle.ps_packed.specs.declared.fault.PackFault.TheVariants as faults
 use Rattle.ps_packed.specs.declared.set.Set.{Set}
 use Rattle.ps_packed.specs.Forms.{Form, words, moves, spread, letter, level, in_form, form_of, last, parts, number_of, ids_of, id_count, is_zero}
 
@@ -191,3 +193,8 @@ pub record IsFault (text : List ℕ) (at : ℕ) (kind : PackKind) : Type 0 where
   pub longest : IsLongest text count
   pub place : at ≡ bytes_of (take count text)
   pub kind_is : IsKind text count kind
+
+-- there is no team, and this is why
+abbrev pub Refuses : List ℕ → PackFault → Type 0
+Refuses text (faults.Fault at kind) = IsFault text at kind × ((team : List Set) → ¬ (IsTeam text team))
+Refuses text faults.NoMemory = Unit {0}

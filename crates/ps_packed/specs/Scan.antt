@@ -2,9 +2,8 @@
 use Rattle.std.specs.Prelude.{◌≡◌, ℕ, zero, suc, ◌+◌, ◌-◌, ◌==◌, ◌&&◌, ◌||◌, List, [], ◌∷◌, ◌++◌, ◌≤◌, length, map, drop, Bool, true, false, not, Option, Some, None, option_and_then, Result, Ok, Err, ⊤, nat_lt, nat_le, if◌then◌else◌}
 use Rattle.ps_packed.specs.declared.set.Set.{Set}
 use Rattle.ps_packed.specs.declared.fault.PackFault.{PackFault}
-use Rattle.ps_packed.specs.declared.fault.PackFault.TheVariants as faults
 use Rattle.ps_packed.specs.Forms.{Form, words, moves, spread, letter, level, number_of, is_number, parts, is_id_letter, has_id, id_count, are_numbers, is_zero, in_form, form_of, last}
-use Rattle.ps_packed.specs.Packed.{is_nil, IsTeam, IsFault, rows_of, end_of, set_of}
+use Rattle.ps_packed.specs.Packed.{is_nil, IsTeam, rows_of, end_of, set_of, Refuses}
 
 -- some text of the form begins so
 unfoldable pub prefix_ok : Form → List ℕ → Bool
@@ -91,11 +90,6 @@ need_of s = need (form_of s.field) s.word + (last - s.field) + (if nameless_at s
 abbrev pub Steps : Bool → Option State → State → State → Type 0
 Steps true o old new = o ≡ Some new
 Steps false o old new = (o ≡ None) × (new ≡ old)
-
--- there is no team, and this is why
-abbrev pub Refuses : List ℕ → PackFault → Type 0
-Refuses text (faults.Fault at kind) = IsFault text at kind × ((team : List Set) → ¬ (IsTeam text team))
-Refuses text faults.NoMemory = Unit {0}
 
 -- the scan's answer
 abbrev pub Scans : List ℕ → Result ⊤ PackFault → Type 0

@@ -15,8 +15,8 @@ use ps_base::pack_kind::PackKind;
 use std::alloc::{AllocError, Global};
 use std::marker::Model;
 
-/// The most bytes of a text.
-const MOST: usize = 4096;
+/// The most bytes of a packed team.
+const BYTE_LIMIT: usize = 4096;
 
 /// How far a text has come: the text so far of the field that it is in, whether the set's first field
 /// was empty, and how many sets are done.
@@ -48,7 +48,8 @@ fn is_nameless(bare: bool, field: Field, word: &[char]) -> bool
     }
 }
 
-/// Whether a bar may stand, as far as the names go.
+/// Whether the field may end with a bar, as far as the names go: the species may not be empty where
+/// the nickname is.
 fn may_end(bare: bool, field: Field, word: &[char]) -> bool
     ensures { result ≡ bar_named bare (place field) word.now }
 {
@@ -58,6 +59,7 @@ fn may_end(bare: bool, field: Field, word: &[char]) -> bool
     }
 }
 
+/// Whether what comes next stands out of place.
 fn is_out(field: Field, next: Option<char>) -> bool
     ensures { result ≡ is_out (place field) next }
 {
@@ -84,6 +86,7 @@ fn is_moves_field(field: Field) -> bool
     }
 }
 
+/// Whether what comes next is a seventh set or gives a fifth move.
 fn is_too_many(
     alloc: Global,
     sets: usize,
@@ -223,17 +226,16 @@ pub fn scan_text(alloc: Global, text: &[char]) -> Result<(), PackFault>
 {
     let mut scan = Scan::new(alloc);
     let mut at = 0;
-    for i in 0..text.len() {
-        if at >= MOST {
+    for next in text {
+        if at >= BYTE_LIMIT {
             return Err(fault(at, PackKind::Long));
         }
-        let next = text[i];
-        if !scan.step(alloc, next)? {
-            let kind = scan.kind(alloc, Some(next))?;
+        if !scan.step(alloc, *next)? {
+            let kind = scan.kind(alloc, Some(*next))?;
             return Err(fault(at, kind));
         }
-        let after = at + byte_count(next);
-        if after + scan.need() > MOST {
+        let after = at + byte_count(*next);
+        if after + scan.need() > BYTE_LIMIT {
             return Err(fault(at, PackKind::Long));
         }
         at = after;

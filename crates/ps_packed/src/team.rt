@@ -1,10 +1,10 @@
 //! Packed teams.
-ghost use Rattle.std.specs.Prelude.{◌≡◌, IfOk, IfErr, List, ℕ};
+ghost use Rattle.std.specs.Prelude as prelude;
+ghost use Rattle.std.specs.Prelude.{◌≡◌, IfOk, IfErr, ℕ};
 ghost use Rattle.std.specs.Str.{chars};
 ghost use Rattle.ps_packed.specs.declared.set.Set.{Set};
-ghost use Rattle.ps_packed.specs.Packed.{HasText, IsTeam};
+ghost use Rattle.ps_packed.specs.Packed.{HasText, IsTeam, Refuses};
 ghost use Rattle.ps_packed.specs.Canon.{canon};
-ghost use Rattle.ps_packed.specs.Scan.{Refuses};
 
 use crate::fault::PackFault;
 use crate::read::sets_of;
@@ -66,7 +66,7 @@ pub fn read_team(alloc: Global, text: &str) -> Result<Team, PackFault>
     // The team is the text's.
     ensures found { IfOk result (λ t. IsTeam (chars text.now) t) }
     // The text has no other.
-    ensures alone { IfOk result (λ t. (other : List Set) → IsTeam (chars text.now) other → other ≡ t) }
+    ensures alone { IfOk result (λ t. (other : prelude.List Set) → IsTeam (chars text.now) other → other ≡ t) }
     // A fault is the text's, which then has no team.
     ensures fault { IfErr result (Refuses (chars text.now)) }
 {
@@ -78,10 +78,10 @@ pub fn read_team(alloc: Global, text: &str) -> Result<Team, PackFault>
 
 /// No text has two teams.
 pub fn one_team()
-    ensures { (text : List ℕ) (a b : List Set) → IsTeam text a → IsTeam text b → a ≡ b }
+    ensures { (text : prelude.List ℕ) (a b : prelude.List Set) → IsTeam text a → IsTeam text b → a ≡ b }
 {}
 
 /// The canonical text of a team that some text has is a text of it.
 pub fn canonical_is()
-    ensures { (t : List Set) → HasText t → IsTeam (chars (canon t)) t }
+    ensures { (t : prelude.List Set) → HasText t → IsTeam (chars (canon t)) t }
 {}
