@@ -8,4 +8,6 @@ pub mod id;
 pub mod list;
 pub mod name;
 pub mod number;
+pub mod pack_kind;
 pub mod text;
+pub mod why;

@@ -9,7 +9,7 @@ use Rattle.std.proofs.lemmas.List.Concat.{flat_map-append}
 use Rattle.ps_base.specs.declared.badge.Badge.{Badge}
 use Rattle.ps_room.specs.declared.entry.Entry.{Entry}
 use Rattle.ps_room.specs.declared.entry.Member.{Member}
-use Rattle.ps_room.specs.declared.entry.Why.{Why}
+use Rattle.ps_base.specs.declared.why.Why.{Why}
 use Rattle.ps_room.specs.declared.entry.Command.{Command}
 use Rattle.ps_room.specs.declared.entry.Command.TheVariants.{Join, Say, Modnote}
 use Rattle.ps_room.specs.Rooms.{Record, member, verdict, after, message, run_record, sent, view}

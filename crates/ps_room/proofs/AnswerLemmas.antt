@@ -2,8 +2,8 @@
 use Rattle.std.proofs.Common.{◌≡◌, ◌≢◌, ℕ, ◌==◌, true, false, [], ◌∷◌, Some, None, refl, arith, inl, inr}
 use Rattle.std.proofs.lemmas.Bool.Decides.{eqb_tells}
 use Rattle.ps_room.specs.declared.entry.Entry.{Entry}
-use Rattle.ps_room.specs.declared.entry.Why.{Why}
-use Rattle.ps_room.specs.Lines.{error_line}
+use Rattle.ps_base.specs.declared.why.Why.{Why}
+use Rattle.ps_base.specs.Whys.{error_line}
 use Rattle.ps_room.specs.Rooms.{Record, verdict, after, message}
 use Rattle.ps_room.specs.Answers.{IsAnswered}
 

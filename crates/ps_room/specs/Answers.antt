@@ -1,8 +1,8 @@
 -- The answer that an entry gets.
 use Rattle.std.specs.Prelude.{◌≡◌, ◌≢◌, ℕ, List, [], ◌∷◌, Some, None}
 use Rattle.ps_room.specs.declared.entry.Entry.{Entry}
-use Rattle.ps_room.specs.declared.entry.Why.{Why}
-use Rattle.ps_room.specs.Lines.{error_line}
+use Rattle.ps_base.specs.declared.why.Why.{Why}
+use Rattle.ps_base.specs.Whys.{error_line}
 use Rattle.ps_room.specs.Rooms.{Record, verdict, applied, after, message}
 
 pub record IsAnswered (r : Record) (e : Entry) : Type 0 where

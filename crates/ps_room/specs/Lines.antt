@@ -4,8 +4,6 @@ use Rattle.std.specs.List.{flat_map}
 use Rattle.std.specs.Fmt.{decimal}
 use Rattle.ps_base.specs.declared.badge.Badge.{Badge}
 use Rattle.ps_room.specs.declared.entry.Member.{Member}
-use Rattle.ps_room.specs.declared.entry.Why.{Why}
-use Rattle.ps_room.specs.declared.entry.Why.TheVariants.{AlreadyMember, NotMember, NotAllowed}
 
 -- the symbol of a group, by its place in the default groups: ~ # @ % + and the space
 abbrev pub symbol_of : ℕ → ℕ
@@ -14,14 +12,6 @@ symbol_of rank = if rank == 0 then 126 else (if rank == 1 then 35 else (if rank 
 -- the symbol and the name
 abbrev pub sname : Badge → List ℕ
 sname badge = symbol_of badge.rank ∷ badge.name
-
-abbrev pub why_text : Why → List ℕ
-why_text AlreadyMember = codes "AlreadyMember"
-why_text NotMember = codes "NotMember"
-why_text NotAllowed = codes "NotAllowed"
-
-abbrev pub error_line : Why → List ℕ
-error_line why = codes "|error|[" ++ why_text why ++ codes "]"
 
 abbrev pub join_line : Badge → List ℕ
 join_line badge = codes "|j|" ++ sname badge

@@ -11,9 +11,10 @@ use Rattle.ps_room.specs.declared.entry.Audience.{Audience}
 use Rattle.ps_room.specs.declared.entry.Audience.TheVariants.{All, Rank, One}
 use Rattle.ps_room.specs.declared.entry.Role.{Role}
 use Rattle.ps_room.specs.declared.entry.Role.TheVariants.{Outside, Spectator}
-use Rattle.ps_room.specs.declared.entry.Why.{Why}
-use Rattle.ps_room.specs.declared.entry.Why.TheVariants.{AlreadyMember, NotMember, NotAllowed}
-use Rattle.ps_room.specs.Lines.{error_line, join_line, say_line, modnote_line, users_line}
+use Rattle.ps_base.specs.declared.why.Why.{Why}
+use Rattle.ps_base.specs.declared.why.Why.TheVariants.{AlreadyMember, NotMember, NotAllowed}
+use Rattle.ps_base.specs.Whys.{error_line}
+use Rattle.ps_room.specs.Lines.{join_line, say_line, modnote_line, users_line}
 
 -- ---- the record
 

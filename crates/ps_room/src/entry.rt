@@ -24,17 +24,6 @@ pub struct Entry {
     pub cmd: Command,
 }
 
-/// Why a command is refused.
-#[derive(Clone, Copy, Debug, PartialEq, Eq)]
-pub enum Why {
-    /// A Join of who is a member.
-    AlreadyMember,
-    /// Anything else of who isn't.
-    NotMember,
-    /// A note of who isn't staff.
-    NotAllowed,
-}
-
 /// Who is in the room, with the badge of the Join.
 #[derive(Debug, Drop)]
 pub struct Member {

@@ -1,9 +1,9 @@
 //! The texts of a room's lines, after PROTOCOL.md where it has them.
 ghost use Rattle.std.specs.Prelude.{◌≡◌, ◌++◌, ◌∷◌, [], IfOk, OnOk, string_bytes};
 ghost use Rattle.std.specs.List.{flat_map};
-ghost use Rattle.ps_room.specs.Lines.{symbol_of, sname, why_text, error_line, join_line, say_line, modnote_line, users_line, users_part};
+ghost use Rattle.ps_room.specs.Lines.{symbol_of, sname, join_line, say_line, modnote_line, users_line, users_part};
 
-use crate::entry::{Entry, Member, Why};
+use crate::entry::{Entry, Member};
 use ps_base::badge::Badge;
 use ps_base::number::Moment;
 use ps_base::text::Text;
@@ -30,24 +30,6 @@ pub fn sname(alloc: Global, badge: &Badge) -> Result<Text, AllocError>
     let symbol = symbol_of(badge.rank);
     let name = &badge.name;
     Ok(Text::from_string(format!(in alloc; "{symbol}{name}")?))
-}
-
-fn why_text(why: Why) -> &'static str
-    ensures { result.now ≡ why_text why }
-{
-    match why {
-        Why::AlreadyMember => "AlreadyMember",
-        Why::NotMember => "NotMember",
-        Why::NotAllowed => "NotAllowed",
-    }
-}
-
-/// What the sender of a refused entry is told.
-pub fn error_line(alloc: Global, why: Why) -> Result<Text, AllocError>
-    ensures { IfOk result (λ t. t ≡ error_line why) }
-{
-    let why = why_text(why);
-    Ok(Text::from_string(format!(in alloc; "|error|[{why}]")?))
 }
 
 /// What members are told of a Join.

@@ -3,13 +3,14 @@ ghost use Rattle.std.specs.Prelude.{◌≡◌, ◌++◌, IfOk, OnOk, OnErr, map}
 ghost use Rattle.std.specs.Option.{option_copied};
 ghost use Rattle.ps_room.specs.Rooms.{sees, message_of};
 
-use crate::entry::{Audience, ChatLine, Command, Entry, Member, Role, Told, Why};
+use crate::entry::{Audience, ChatLine, Command, Entry, Member, Role, Told};
 use crate::line;
 use crate::members::Members;
 use ps_base::badge::Badge;
 use ps_base::list::List;
 use ps_base::number::ConnNo;
 use ps_base::text::Text;
+use ps_base::why::{Why, error_line};
 use std::alloc::{AllocError, Global};
 use std::marker::Model;
 use std::slice;
@@ -127,7 +128,7 @@ impl Room {
             return Ok(ChatLine {
                 audience: Audience::One(entry.conn),
                 logged: false,
-                text: line::error_line(alloc, why)?,
+                text: error_line(alloc, why)?,
             });
         }
         let badge = match self.member(entry.conn) {

@@ -1,5 +1,5 @@
 -- A line says one thing at most.
-use Rattle.std.proofs.Common.{◌≡◌, ℕ, ◌+◌, ◌^◌, ◌<◌, ◌==◌, cond, List, [], ◌∷◌, ◌++◌, length, get_or, codes, true, false, Option, Some, None, refl, sym, ap, ◌∙◌, subst, arith, append_assoc, inl, inr}
+use Rattle.std.proofs.Common.{◌≡◌, ℕ, ◌==◌, cond, List, [], ◌∷◌, ◌++◌, get_or, codes, true, false, Some, None, refl, sym, ap, ◌∙◌, subst, arith, append_assoc, inl, inr}
 use Rattle.std.proofs.lemmas.List.{append_cancel_left}
 use Rattle.std.proofs.lemmas.Fmt.{decimal_injective}
 use Rattle.std.proofs.lemmas.Str.{encode_same}
@@ -7,7 +7,7 @@ use Rattle.std.proofs.Math.Utf8.{encode}
 use Rattle.ps_base.specs.Numbers.{IsNumeral}
 use Rattle.ps_script.specs.declared.item.Item.{Item}
 use Rattle.ps_script.specs.declared.item.Item.TheVariants.{Nothing, Moment, Group, Open, Send, Close}
-use Rattle.ps_script.specs.Items.{IsItem, IsIdle, IsNumber, IsSend, IsGroup}
+use Rattle.ps_script.specs.Items.{IsItem, IsNumber, IsSend}
 use Rattle.ps_script.specs.declared.script.ScriptKind.{ScriptKind}
 use Rattle.ps_script.specs.declared.script.ScriptKind.TheVariants as kinds
 use Rattle.ps_script.specs.Scripts.{Seen, IsLine, AreItems, next, start, IsScript, fault_of, seen_after, Misplaced, IsFault, IsFirstFault}

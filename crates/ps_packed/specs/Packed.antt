@@ -1,0 +1,200 @@
+-- Packed teams: sets joined by `]`, of fields joined by `|`. A text here is the list of its characters.
+use Rattle.std.specs.Prelude.{◌≡◌, ℕ, suc, ◌-◌, ◌<◌, ◌≤◌, ◌==◌, ◌&&◌, ◌||◌, ◌⊎◌, List, [], ◌∷◌, ◌++◌, length, map, take, get_or, slice_get, Option, Some, None, Bool, true, false, not, nat_lt, if◌then◌else◌}
+use Rattle.std.specs.List.{AllByRecursion, slice_split, join_with_byte}
+use Rattle.std.specs.Str.{all_scalars, encode_utf8_all}
+use Rattle.ps_base.specs.declared.pack_kind.PackKind.{PackKind}
+use Rattle.ps_base.specs.declared.pack_kind.PackKind.TheVariants.{Bars, Number, Count, EmptySet, Text, Long}
+use Rattle.ps_packed.specs.declared.fault.PackFault.{PackFault}
+use Rattle.ps_packed.specs.declared.fault.PackFault.TheVariants as faults
+use Rattle.ps_packed.specs.declared.set.Set.{Set}
+use Rattle.ps_packed.specs.Forms.{Form, words, moves, spread, letter, level, in_form, form_of, last, parts, number_of, ids_of, id_count, is_zero}
+
+-- ---- what the fields stand for
+
+abbrev pub is_nil : List ℕ → Bool
+is_nil [] = true
+is_nil (c ∷ w) = false
+
+-- an empty nickname is the species, and an empty species the nickname
+abbrev pub or_other : List ℕ → List ℕ → List ℕ
+or_other [] other = other
+or_other (c ∷ w) other = c ∷ w
+
+abbrev pub six : ℕ → List ℕ
+six n = n ∷ n ∷ n ∷ n ∷ n ∷ n ∷ []
+
+-- an empty part is 0, and so is `0` alone
+abbrev pub evs_of : List ℕ → List ℕ
+evs_of [] = six 252
+evs_of (c ∷ w) = if is_zero (c ∷ w) then six 0 else map number_of (parts (c ∷ w))
+
+abbrev pub iv_of : List ℕ → ℕ
+iv_of [] = 31
+iv_of (c ∷ p) = number_of (c ∷ p)
+
+abbrev pub ivs_of : List ℕ → List ℕ
+ivs_of [] = six 31
+ivs_of (c ∷ w) = map iv_of (parts (c ∷ w))
+
+abbrev pub gender_of : List ℕ → Option ℕ
+gender_of [] = None
+gender_of (c ∷ w) = Some c
+
+abbrev pub level_of : List ℕ → ℕ
+level_of [] = 100
+level_of (c ∷ w) = number_of (c ∷ w)
+
+-- the text of a field
+abbrev pub field : List (List ℕ) → ℕ → List ℕ
+field ws k = get_or ws k []
+
+-- what the texts of a set's fields stand for
+abbrev pub set_of : List (List ℕ) → Set
+set_of ws = record {
+  nick = encode_utf8_all (or_other (field ws 0) (field ws 1));
+  species = encode_utf8_all (or_other (field ws 1) (field ws 0));
+  item = encode_utf8_all (field ws 2);
+  ability = encode_utf8_all (field ws 3);
+  moves = ids_of (field ws 4);
+  nature = encode_utf8_all (field ws 5);
+  evs = evs_of (field ws 6);
+  gender = gender_of (field ws 7);
+  ivs = ivs_of (field ws 8);
+  shiny = not (is_nil (field ws 9));
+  level = level_of (field ws 10);
+  misc = encode_utf8_all (field ws 11);
+}
+
+-- ---- teams
+
+-- the texts are those of the fields from the k-th on
+abbrev pub AreFields : ℕ → List (List ℕ) → Type 0
+AreFields k [] = ⊥
+AreFields k (w ∷ []) = (in_form (form_of k) w ≡ true) × (k ≡ last)
+AreFields k (w ∷ x ∷ ws) = (in_form (form_of k) w ≡ true) × (k < last) × AreFields (suc k) (x ∷ ws)
+
+-- the first two of a set's fields, as far as they are there, are empty
+abbrev pub is_nameless : List (List ℕ) → Bool
+is_nameless [] = true
+is_nameless (n ∷ []) = is_nil n
+is_nameless (n ∷ s ∷ ws) = is_nil n && is_nil s
+
+-- the texts are the twelve fields of a set
+abbrev pub IsRow : List (List ℕ) → Type 0
+IsRow ws = AreFields 0 ws × (is_nameless ws ≡ false)
+
+abbrev pub team_text : List (List (List ℕ)) → List ℕ
+team_text rows = join_with_byte 93 (map (join_with_byte 124) rows)
+
+-- how many bytes the characters have
+abbrev pub bytes_of : List ℕ → ℕ
+bytes_of text = length (encode_utf8_all text)
+
+-- the rows are the fields of 1 to 6 sets, and the text is theirs
+pub record IsFreeTeam (rows : List (List (List ℕ))) (text : List ℕ) : Type 0 where
+  pub letters : all_scalars text ≡ true
+  pub parts : text ≡ team_text rows
+  pub fit : AllByRecursion IsRow rows
+  pub some : 0 < length rows
+  pub few : length rows ≤ 6
+
+-- that, in at most 4,096 bytes, and the team is what the rows stand for
+pub record IsTeamOf (rows : List (List (List ℕ))) (text : List ℕ) (team : List Set) : Type 0 where
+  pub free : IsFreeTeam rows text
+  pub short : bytes_of text ≤ 4096
+  pub sets : team ≡ map set_of rows
+
+abbrev pub IsTeam : List ℕ → List Set → Type 0
+IsTeam text team = (rows : List (List (List ℕ))) × IsTeamOf rows text team
+
+-- some packed text has the team
+abbrev pub HasText : List Set → Type 0
+HasText team = (text : List ℕ) × IsTeam text team
+
+-- ---- faults
+
+-- some packed text begins so
+abbrev pub IsPrefix : List ℕ → Type 0
+IsPrefix front = (rest : List ℕ) × (team : List Set) × IsTeam (front ++ rest) team
+
+-- some packed text would begin so if the bytes weren't limited
+abbrev pub IsFreePrefix : List ℕ → Type 0
+IsFreePrefix front = (rest : List ℕ) × (rows : List (List (List ℕ))) × IsFreeTeam rows (front ++ rest)
+
+-- the longest part of the text that some packed text begins with has so many characters
+pub record IsLongest (text : List ℕ) (count : ℕ) : Type 0 where
+  pub within : count ≤ length text
+  pub begins : IsPrefix (take count text)
+  pub most : (n : ℕ) → count < n → n ≤ length text → ¬ (IsPrefix (take n text))
+
+-- the limit of bytes is at fault
+abbrev pub IsLong : List ℕ → ℕ → Type 0
+IsLong text count = (bytes_of (take count text) ≡ 4096) ⊎ ((n : ℕ) × (count < n) × (n ≤ length text) × IsFreePrefix (take n text))
+
+-- the fields of each set of a front, the last as far as it goes
+abbrev pub rows_of : List ℕ → List (List (List ℕ))
+rows_of text = map (slice_split (λ c. c == 124)) (slice_split (λ c. c == 93) text)
+
+abbrev pub end_of : {A : Type 0} → A → List A → A
+end_of d [] = d
+end_of d (x ∷ xs) = end_of x xs
+
+-- the sets before the one that a front ends in, that one's fields so far, the number of the last of these and its text so far
+abbrev pub sets_done : List ℕ → ℕ
+sets_done front = length (rows_of front) - 1
+
+abbrev pub row_at_end : List ℕ → List (List ℕ)
+row_at_end front = end_of [] (rows_of front)
+
+abbrev pub field_at_end : List ℕ → ℕ
+field_at_end front = length (row_at_end front) - 1
+
+abbrev pub word_at_end : List ℕ → List ℕ
+word_at_end front = end_of [] (row_at_end front)
+
+-- the character or the end stands out of place
+abbrev pub is_out : ℕ → Option ℕ → Bool
+is_out k None = true
+is_out k (Some c) = (c == 93 && not (k == last)) || (c == 124 && k == last)
+
+-- a seventh set, or a fifth move
+abbrev pub is_too_many : ℕ → ℕ → List ℕ → Option ℕ → Bool
+is_too_many sets k word None = false
+is_too_many sets k word (Some c) = (c == 93 && sets == 5) || (k == 4 && nat_lt 4 (id_count (word ++ c ∷ [])))
+
+-- EVs, gender, IVs, the shiny mark or the level
+abbrev pub is_numeric : Form → Bool
+is_numeric (words most) = false
+is_numeric moves = false
+is_numeric (spread zero_alone most) = true
+is_numeric (letter letters) = true
+is_numeric level = true
+
+-- where the limit of bytes isn't at fault
+unfoldable pub kind_of : Bool → ℕ → ℕ → List ℕ → Option ℕ → PackKind
+kind_of nameless sets k word next =
+    if nameless then EmptySet
+    else (if is_out k next then Bars
+    else (if is_too_many sets k word next then Count
+    else (if is_numeric (form_of k) then Number else Text)))
+
+-- that of the front and of what stands after it
+abbrev pub kind_at : List ℕ → ℕ → PackKind
+kind_at text count =
+    let front = take count text in
+    kind_of (is_nameless (row_at_end front)) (sets_done front) (field_at_end front) (word_at_end front) (slice_get text count)
+
+abbrev pub IsKind : List ℕ → ℕ → PackKind → Type 0
+IsKind text count kind = (IsLong text count × (kind ≡ Long)) ⊎ (¬ (IsLong text count) × (kind ≡ kind_at text count))
+
+-- the fault of a text: its byte, where the longest part ends that some packed text begins with, and its kind
+pub record IsFault (text : List ℕ) (at : ℕ) (kind : PackKind) : Type 0 where
+  pub count : ℕ
+  pub longest : IsLongest text count
+  pub place : at ≡ bytes_of (take count text)
+  pub kind_is : IsKind text count kind
+
+-- there is no team, and this is why
+abbrev pub Refuses : List ℕ → PackFault → Type 0
+Refuses text (faults.Fault at kind) = IsFault text at kind × ((team : List Set) → ¬ (IsTeam text team))
+Refuses text faults.NoMemory = Unit {0}
