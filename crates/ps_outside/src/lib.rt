@@ -5,6 +5,8 @@
 //! adapters to the real outside tell nothing that std doesn't.
 #![tactic(auto)]
 
+pub mod files;
+pub mod host_files;
 pub mod sink;
 pub mod source;
 

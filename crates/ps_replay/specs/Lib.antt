@@ -8,4 +8,5 @@ pub mod Requests
 pub mod Statuses
 pub mod Tables
 pub mod Transcript
+pub mod Words
 pub mod Worlds

@@ -1,40 +1,92 @@
 -- What a status says.
-use Rattle.std.specs.Prelude.{◌≡◌, ◌⊎◌, ℕ, List, [], ◌∷◌, codes, Option, Some, None, IfSome, if◌then◌else◌}
+use Rattle.std.specs.Prelude.{◌≡◌, ◌⊎◌, ℕ, ◌<◌, ◌≤◌, List, [], ◌∷◌, length, Option, Some, None, IfSome, Result, Ok, Err}
 use Rattle.std.specs.Option.{IsSomeAnd}
-use Rattle.std.specs.Str.{bytes_eq}
 use Rattle.std.specs.Io.KnownBytes.{Appends, Keeps}
+use Rattle.ps_outside.specs.Causes.{Rose}
+use Rattle.ps_outside.specs.Files.{FileCounts}
+use Rattle.ps_outside.specs.declared.files.FileEnd.{FileEnd}
+use Rattle.ps_outside.specs.declared.files.FileEnd.TheVariants as file_ends
 use Rattle.ps_outside.specs.Sinks.{AppendsFront}
+use Rattle.ps_data.specs.Paths.{path_text}
+use Rattle.ps_data.specs.declared.fault.Fault.{Fault}
+use Rattle.ps_data.specs.declared.fault.DataKind.{DataKind}
+use Rattle.ps_dex.specs.declared.row.Tables.{Tables}
+use Rattle.ps_dex.specs.Tables.{tables_of}
 use Rattle.ps_script.specs.declared.item.Item.{Item}
 use Rattle.ps_script.specs.declared.script.ScriptKind.{ScriptKind}
 use Rattle.ps_script.specs.declared.script.ScriptKind.TheVariants.{Form}
 use Rattle.ps_script.specs.Scripts.{IsScript}
 use Rattle.ps_script.specs.Limits.{long_of}
 use Rattle.ps_replay.specs.declared.status.Status.{Status}
-use Rattle.ps_replay.specs.declared.status.Status.TheVariants.{Done, Usage, BadScript, ScriptLong, ReadFault, WriteFault, NoMemory, NotBuilt}
+use Rattle.ps_replay.specs.declared.status.Status.TheVariants.{Done, Usage, FileMissing, FileFault, FileLong, BadDex, BadScript, ScriptLong, ReadFault, WriteFault, NoMemory, NotBuilt}
 use Rattle.ps_replay.specs.Worlds.{Place, world_view}
 use Rattle.ps_replay.specs.Plain.{unplain_line}
 use Rattle.ps_replay.specs.Entries.{ranks_of, entries}
 use Rattle.ps_replay.specs.Transcript.{messages, output, block}
 use Rattle.ps_replay.specs.OneEntry.{HasOneEntryEach}
+use Rattle.ps_replay.specs.Words.{words_in}
 
 -- ---- the words
 
--- the place of the first word that can't stand, or how many there are if one is missing: `replay` stands alone
-abbrev pub usage_of : List (List ℕ) → Option ℕ
-usage_of [] = Some 0
-usage_of (word ∷ []) = if bytes_eq word (codes "replay") then None else Some 0
-usage_of (word ∷ other ∷ words) = if bytes_eq word (codes "replay") then Some 1 else Some 0
+abbrev pub usage_in : Result (Option (List ℕ)) ℕ → Option ℕ
+usage_in (Ok named) = None
+usage_in (Err word) = Some word
 
--- the place that a status tells of a faulty word
+-- the place that is told of a faulty word
+abbrev pub usage_of : List (List ℕ) → Option ℕ
+usage_of words = usage_in (words_in words)
+
 abbrev pub usage_told : Status → Option ℕ
-usage_told Done = None
 usage_told (Usage word) = Some word
+usage_told Done = None
+usage_told (FileMissing name) = None
+usage_told (FileFault name) = None
+usage_told (FileLong name) = None
+usage_told (BadDex path kind) = None
 usage_told (BadScript line kind) = None
 usage_told (ScriptLong count) = None
 usage_told ReadFault = None
 usage_told WriteFault = None
 usage_told NoMemory = None
 usage_told (NotBuilt line) = None
+
+-- ---- the dex file
+
+abbrev pub most_dex : ℕ
+most_dex = 16777216
+
+-- the bytes are a dex file, within its limit
+pub record IsDexFile (bytes : List ℕ) : Type 0 where
+  pub within : length bytes ≤ most_dex
+  pub tables : Tables
+  pub dex : tables_of bytes ≡ Ok tables
+
+-- the bytes are none: the path of the first fault, and its kind
+pub record IsBadDex (path : List ℕ) (kind : DataKind) (bytes : List ℕ) : Type 0 where
+  pub within : length bytes ≤ most_dex
+  pub fault : Fault
+  pub none : tables_of bytes ≡ Err fault
+  pub path_is : path ≡ path_text fault.path
+  pub kind_is : kind ≡ fault.kind
+
+-- where the files are told, the one that the words name is a dex file
+abbrev pub HasDex : Option (List ℕ) → Option (List ℕ → Option (List ℕ)) → Type 0
+HasDex named held = IfSome named (λ name. IfSome held (λ look. IsSomeAnd (look name) IsDexFile))
+
+-- why there is no dex, and at every later status that there is one
+abbrev pub FilesCause : Option (List ℕ) → Option (List ℕ → Option (List ℕ)) → FileCounts → FileCounts → Status → Type 0
+FilesCause named held old new (FileMissing name) = (named ≡ Some name) × IfSome held (λ look. look name ≡ None) × Rose old.missing new.missing
+FilesCause named held old new (FileFault name) = (named ≡ Some name) × Rose old.faults new.faults
+FilesCause named held old new (FileLong name) = (named ≡ Some name) × IfSome held (λ look. IsSomeAnd (look name) (λ bytes. most_dex < length bytes)) × Rose old.long new.long
+FilesCause named held old new (BadDex path kind) = IsSomeAnd named (λ name. IfSome held (λ look. IsSomeAnd (look name) (IsBadDex path kind)))
+FilesCause named held old new (Usage word) = Unit {0}
+FilesCause named held old new NoMemory = Unit {0}
+FilesCause named held old new Done = HasDex named held
+FilesCause named held old new (BadScript line kind) = HasDex named held
+FilesCause named held old new (ScriptLong count) = HasDex named held
+FilesCause named held old new ReadFault = HasDex named held
+FilesCause named held old new WriteFault = HasDex named held
+FilesCause named held old new (NotBuilt line) = HasDex named held
 
 -- ---- the input
 
@@ -49,6 +101,21 @@ pub record IsReadable (bytes : List ℕ) : Type 0 where
   pub within : long_of bytes ≡ None
   pub items : List Item
   pub script : IsScript bytes items
+
+-- a status that the words and the files have no part in
+abbrev pub IsOfInput : Status → Type 0
+IsOfInput Done = Unit {0}
+IsOfInput (Usage word) = ⊥
+IsOfInput (FileMissing name) = ⊥
+IsOfInput (FileFault name) = ⊥
+IsOfInput (FileLong name) = ⊥
+IsOfInput (BadDex path kind) = ⊥
+IsOfInput (BadScript line kind) = Unit {0}
+IsOfInput (ScriptLong count) = Unit {0}
+IsOfInput ReadFault = Unit {0}
+IsOfInput WriteFault = Unit {0}
+IsOfInput NoMemory = Unit {0}
+IsOfInput (NotBuilt line) = Unit {0}
 
 -- ---- what was written
 
@@ -74,6 +141,10 @@ pub record WritesFront (old new : Option (List ℕ)) (bytes : List ℕ) : Type 0
 abbrev pub WritesPrefix : Option (List ℕ) → Option (List ℕ) → Option (List ℕ) → Status → Type 0
 WritesPrefix left old new Done = Unit {0}
 WritesPrefix left old new (Usage word) = Keeps old new
+WritesPrefix left old new (FileMissing name) = Keeps old new
+WritesPrefix left old new (FileFault name) = Keeps old new
+WritesPrefix left old new (FileLong name) = Keeps old new
+WritesPrefix left old new (BadDex path kind) = Keeps old new
 WritesPrefix left old new (BadScript line kind) = Keeps old new
 WritesPrefix left old new (ScriptLong count) = Keeps old new
 WritesPrefix left old new ReadFault = Keeps old new
@@ -101,6 +172,10 @@ pub record IsUnplain (line : ℕ) (bytes : List ℕ) : Type 0 where
 abbrev pub InputCause : Option (List ℕ) → Status → Type 0
 InputCause left Done = Unit {0}
 InputCause left (Usage word) = Unit {0}
+InputCause left (FileMissing name) = Unit {0}
+InputCause left (FileFault name) = Unit {0}
+InputCause left (FileLong name) = Unit {0}
+InputCause left (BadDex path kind) = Unit {0}
 InputCause left (BadScript line kind) = IfSome left (IsBadScript line kind)
 InputCause left (ScriptLong count) = IfSome left (λ bytes. long_of bytes ≡ Some count)
 InputCause left ReadFault = Unit {0}
@@ -114,6 +189,10 @@ InputCause left (NotBuilt line) = IfSome left (IsUnplain line)
 abbrev pub IsSettled : Status → Type 0
 IsSettled Done = Unit {0}
 IsSettled (Usage word) = ⊥
+IsSettled (FileMissing name) = ⊥
+IsSettled (FileFault name) = ⊥
+IsSettled (FileLong name) = ⊥
+IsSettled (BadDex path kind) = ⊥
 IsSettled (BadScript line kind) = ⊥
 IsSettled (ScriptLong count) = ⊥
 IsSettled ReadFault = ⊥
@@ -121,6 +200,44 @@ IsSettled WriteFault = ⊥
 IsSettled NoMemory = Unit {0}
 IsSettled (NotBuilt line) = Unit {0}
 
--- faultless words and a script that is told, with no fault of the source or the sink, settle a run
-abbrev pub IsComplete : List (List ℕ) → Option (List ℕ) → Type 0 → Type 0 → Status → Type 0
-IsComplete words left read_fault write_fault status = usage_of words ≡ None → IsSomeAnd left IsReadable → (read_fault → ⊥) → (write_fault → ⊥) → IsSettled status
+-- the files are told, and the one that the words name is a dex file
+abbrev pub KnowsDex : Option (List ℕ) → Option (List ℕ → Option (List ℕ)) → Type 0
+KnowsDex None held = Unit {0}
+KnowsDex (Some name) held = IsSomeAnd held (λ look. IsSomeAnd (look name) IsDexFile)
+
+-- a script that is told, with no fault of the source or the sink, settles a run
+abbrev pub Settles : Option (List ℕ) → Type 0 → Type 0 → Status → Type 0
+Settles left read_fault write_fault status = IsSomeAnd left IsReadable → (read_fault → ⊥) → (write_fault → ⊥) → IsSettled status
+
+-- and so it does with faultless words, and the dex file they name told and good, with no fault of the files
+abbrev pub IsComplete : List (List ℕ) → Option (List ℕ → Option (List ℕ)) → Option (List ℕ) → Type 0 → Type 0 → Type 0 → Status → Type 0
+IsComplete words held left file_fault read_fault write_fault status = (named : Option (List ℕ)) → words_in words ≡ Ok named → KnowsDex named held → (file_fault → ⊥) → Settles left read_fault write_fault status
+
+-- ---- reading the dex file
+
+-- a status that only the files and memory have a part in
+abbrev pub IsOfFiles : Status → Type 0
+IsOfFiles Done = ⊥
+IsOfFiles (Usage word) = ⊥
+IsOfFiles (FileMissing name) = Unit {0}
+IsOfFiles (FileFault name) = Unit {0}
+IsOfFiles (FileLong name) = Unit {0}
+IsOfFiles (BadDex path kind) = Unit {0}
+IsOfFiles (BadScript line kind) = ⊥
+IsOfFiles (ScriptLong count) = ⊥
+IsOfFiles ReadFault = ⊥
+IsOfFiles WriteFault = ⊥
+IsOfFiles NoMemory = Unit {0}
+IsOfFiles (NotBuilt line) = ⊥
+
+-- why there is no dex of this name
+abbrev pub NoDex : List ℕ → Option (List ℕ → Option (List ℕ)) → FileCounts → FileCounts → Status → Type 0
+NoDex name held old new status = IsOfFiles status × FilesCause (Some name) held old new status
+
+-- the status of a file that was not read, or want of memory
+abbrev pub IsFileStatus : List ℕ → FileEnd → Status → Type 0
+IsFileStatus name end NoMemory = Unit {0}
+IsFileStatus name file_ends.Missing status = status ≡ FileMissing name
+IsFileStatus name file_ends.TooLong status = status ≡ FileLong name
+IsFileStatus name file_ends.Failed status = status ≡ FileFault name
+IsFileStatus name file_ends.NoMemory status = ⊥

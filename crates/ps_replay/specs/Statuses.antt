@@ -1,11 +1,15 @@
 -- The numbers of the statuses.
 use Rattle.std.specs.Prelude.{ℕ}
 use Rattle.ps_replay.specs.declared.status.Status.{Status}
-use Rattle.ps_replay.specs.declared.status.Status.TheVariants.{Done, Usage, BadScript, ScriptLong, ReadFault, WriteFault, NoMemory, NotBuilt}
+use Rattle.ps_replay.specs.declared.status.Status.TheVariants.{Done, Usage, FileMissing, FileFault, FileLong, BadDex, BadScript, ScriptLong, ReadFault, WriteFault, NoMemory, NotBuilt}
 
 abbrev pub number_of : Status → ℕ
 number_of Done = 0
 number_of (Usage word) = 2
+number_of (FileMissing name) = 3
+number_of (FileFault name) = 4
+number_of (FileLong name) = 5
+number_of (BadDex path kind) = 6
 number_of (BadScript line kind) = 8
 number_of (ScriptLong count) = 9
 number_of ReadFault = 10

@@ -1,6 +1,7 @@
 //! Replays a recorded script of connections.
 #![tactic(auto)]
 
+pub mod dex;
 pub mod hall;
 pub mod place;
 pub mod plain;
@@ -11,3 +12,4 @@ pub mod request;
 pub mod run;
 pub mod status;
 pub mod table;
+pub mod words;

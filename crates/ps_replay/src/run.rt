@@ -1,15 +1,19 @@
 //! All that the program does.
-ghost use Rattle.std.specs.Prelude.{◌≡◌, ◌≤◌, ◌<◌, ◌^◌, ℕ, List, Some, None, IfSome, map, length, string_bytes};
+ghost use Rattle.std.specs.Prelude.{◌≡◌, ◌≤◌, ◌<◌, ◌^◌, ℕ, List, Some, None, IfSome, IfOk, map, length, string_bytes};
 ghost use Rattle.std.specs.Io.KnownBytes.{IsAtEnd};
 ghost use Rattle.ps_outside.specs.Causes.{Rose};
 ghost use Rattle.ps_script.specs.Scripts.{IsScript};
 ghost use Rattle.ps_script.specs.Limits.{long_of, ReadsFew};
 ghost use Rattle.ps_script.specs.declared.item.Item.{Item};
-ghost use Rattle.ps_replay.specs.Outcomes.{usage_of, usage_told, IsTranscript, HasOneEntryEachText, WritesPrefix, InputCause, IsComplete};
+ghost use Rattle.ps_replay.specs.Outcomes.{usage_of, usage_told, IsOfInput, FilesCause, IsTranscript, HasOneEntryEachText, WritesPrefix, InputCause, Settles, IsComplete};
+ghost use Rattle.ps_replay.specs.Words.{words_in};
 
+use crate::dex::read_dex;
 use crate::plain::unplain_line;
 use crate::replay::{ReplayEnd, replay};
 use crate::status::Status;
+use crate::words::read_words;
+use ps_outside::files::Files;
 use ps_outside::sink::Sink;
 use ps_outside::source::Source;
 use ps_script::input::{InputEnd, read_input};
@@ -17,34 +21,13 @@ use ps_script::item::Item;
 use ps_script::script::{ScriptEnd, ScriptKind, read_script};
 use std::alloc::Global;
 
-fn usage_of(words: &[String]) -> Option<u32>
-    ensures { result ≡ usage_of (map string_bytes words.now) }
-{
-    match words {
-        [] => Some(0),
-        [word] => {
-            if word.as_str() == "replay" {
-                None
-            } else {
-                Some(0)
-            }
-        }
-        [word, _, ..] => {
-            if word.as_str() == "replay" {
-                Some(1)
-            } else {
-                Some(0)
-            }
-        }
-    }
-}
-
 fn run_items<K: Sink>(alloc: Global, bytes: &[u8], items: &[Item], out: &mut K) -> Status
     requires few { length items.now < 2 ^ 31 }
     requires within { long_of bytes.now ≡ None }
     requires script { IsScript bytes.now items.now }
     requires one { (others : List Item) → IsScript bytes.now others → others ≡ items.now }
     ensures usage { usage_told result ≡ None }
+    ensures files { IsOfInput result }
     ensures transcript { result ≡ Status.Done → IsTranscript (K.written out.old) (K.written out.new) bytes.now }
     ensures one_entry { result ≡ Status.Done → HasOneEntryEachText bytes.now }
     ensures prefix { WritesPrefix (Some bytes.now) (K.written out.old) (K.written out.new) result }
@@ -67,6 +50,7 @@ fn run_bytes<K: Sink>(alloc: Global, bytes: &[u8], out: &mut K) -> Status
     requires within { long_of bytes.now ≡ None }
     requires small { length bytes.now ≤ 16777216 }
     ensures usage { usage_told result ≡ None }
+    ensures files { IsOfInput result }
     ensures transcript { result ≡ Status.Done → IsTranscript (K.written out.old) (K.written out.new) bytes.now }
     ensures one_entry { result ≡ Status.Done → HasOneEntryEachText bytes.now }
     ensures prefix { WritesPrefix (Some bytes.now) (K.written out.old) (K.written out.new) result }
@@ -84,16 +68,42 @@ fn run_bytes<K: Sink>(alloc: Global, bytes: &[u8], out: &mut K) -> Status
     }
 }
 
-/// Does what the words ask for. The one command so far is `replay`: it reads a script from the input
-/// whole, and then writes the transcript of its entries.
-pub fn run<S: Source, K: Sink>(
+// Replays the script that the input has.
+fn run_input<S: Source, K: Sink>(alloc: Global, input: &mut S, out: &mut K) -> Status
+    ensures usage { usage_told result ≡ None }
+    ensures files { IsOfInput result }
+    ensures whole { result ≡ Status.Done → IsAtEnd (S.left input.new) }
+    ensures transcript { result ≡ Status.Done → IfSome (S.left input.old) (IsTranscript (K.written out.old) (K.written out.new)) }
+    ensures one_entry { result ≡ Status.Done → IfSome (S.left input.old) HasOneEntryEachText }
+    ensures prefix { WritesPrefix (S.left input.old) (K.written out.old) (K.written out.new) result }
+    ensures bounded { ReadsFew (S.left input.old) (S.left input.new) }
+    ensures cause { InputCause (S.left input.old) result }
+    ensures read_fault { result ≡ Status.ReadFault → Rose (S.faults input.old) (S.faults input.new) }
+    ensures write_fault { result ≡ Status.WriteFault → Rose (K.faults out.old) (K.faults out.new) }
+    ensures settles { Settles (S.left input.old) (Rose (S.faults input.old) (S.faults input.new)) (Rose (K.faults out.old) (K.faults out.new)) result }
+{
+    match read_input(alloc, input) {
+        Err(InputEnd::ReadFault) => Status::ReadFault,
+        Err(InputEnd::Long(count)) => Status::ScriptLong { count },
+        Err(InputEnd::NoMemory) => Status::NoMemory,
+        Ok(bytes) => run_bytes(alloc, &bytes, out),
+    }
+}
+
+/// Does what the words ask for. The one command so far is `replay`: it reads the dex file, if the words
+/// name one, and a script from the input whole, and then writes the transcript of the script's entries.
+pub fn run<F: Files, S: Source, K: Sink>(
     alloc: Global,
     words: &[String],
+    files: &mut F,
     input: &mut S,
     out: &mut K,
 ) -> Status
     // The words are at fault exactly where this is told.
     ensures usage { usage_told result ≡ usage_of (map string_bytes words.now) }
+
+    // The dex file is read and found good before the input is read.
+    ensures files { IfOk (words_in (map string_bytes words.now)) (λ named. FilesCause named (F.held files.old) (F.counts files.old) (F.counts files.new) result) }
 
     // At Done the input was read to its end, and the whole transcript of its one script was written.
     ensures whole { result ≡ Status.Done → IsAtEnd (S.left input.new) }
@@ -108,15 +118,14 @@ pub fn run<S: Source, K: Sink>(
     ensures cause { InputCause (S.left input.old) result }
     ensures read_fault { result ≡ Status.ReadFault → Rose (S.faults input.old) (S.faults input.new) }
     ensures write_fault { result ≡ Status.WriteFault → Rose (K.faults out.old) (K.faults out.new) }
-    ensures complete { IsComplete (map string_bytes words.now) (S.left input.old) (Rose (S.faults input.old) (S.faults input.new)) (Rose (K.faults out.old) (K.faults out.new)) result }
+    ensures complete { IsComplete (map string_bytes words.now) (F.held files.old) (S.left input.old) (Rose (F.counts files.old).faults (F.counts files.new).faults) (Rose (S.faults input.old) (S.faults input.new)) (Rose (K.faults out.old) (K.faults out.new)) result }
 {
-    if let Some(word) = usage_of(words) {
-        return Status::Usage { word };
-    }
-    match read_input(alloc, input) {
-        Err(InputEnd::ReadFault) => Status::ReadFault,
-        Err(InputEnd::Long(count)) => Status::ScriptLong { count },
-        Err(InputEnd::NoMemory) => Status::NoMemory,
-        Ok(bytes) => run_bytes(alloc, &bytes, out),
+    match read_words(words) {
+        Err(word) => Status::Usage { word },
+        Ok(None) => run_input(alloc, input, out),
+        Ok(Some(name)) => match read_dex(alloc, files, name) {
+            Err(status) => status,
+            Ok(_) => run_input(alloc, input, out),
+        },
     }
 }

@@ -2,18 +2,28 @@
 ghost use Rattle.std.specs.Prelude.{◌≡◌};
 ghost use Rattle.ps_replay.specs.Statuses.{number_of};
 
+use ps_base::text::Text;
+use ps_data::fault::DataKind;
 use ps_script::script::ScriptKind;
 use std::fmt;
 
 /// How a run ended. Its `Display` is the name of the variant, and for each field in order a space,
 /// the field's name, `=` and its value.
-#[derive(Clone, Copy, Debug, PartialEq, Eq)]
+#[derive(Debug, Drop)]
 pub enum Status {
     /// The command did its work, and its input was read to the end.
     Done,
     /// The words aren't a command: the place of the first that can't stand, counted from 0, or how many
     /// there are where one is missing.
     Usage { word: u32 },
+    /// There is no file of that name.
+    FileMissing { name: Text },
+    /// The file could not be read.
+    FileFault { name: Text },
+    /// The file is over its limit: 16,777,216 bytes for a dex.
+    FileLong { name: Text },
+    /// The dex file has no value: the path of its first fault, and the kind.
+    BadDex { path: Text, kind: DataKind },
     /// The input is no script. So far the line is always 0, and the kind `Form`.
     BadScript { line: u32, kind: ScriptKind },
     /// The input has more than 200,000 lines or 16,777,216 bytes: the count that passed first.
@@ -31,12 +41,16 @@ pub enum Status {
 
 impl Status {
     /// The number that the program ends with.
-    pub fn number(self) -> u8
-        ensures { result ≡ number_of self }
+    pub fn number(&self) -> u8
+        ensures { result ≡ number_of self.now }
     {
         match self {
             Status::Done => 0,
             Status::Usage { .. } => 2,
+            Status::FileMissing { .. } => 3,
+            Status::FileFault { .. } => 4,
+            Status::FileLong { .. } => 5,
+            Status::BadDex { .. } => 6,
             Status::BadScript { .. } => 8,
             Status::ScriptLong { .. } => 9,
             Status::ReadFault => 10,
@@ -52,6 +66,10 @@ impl fmt::Display for Status {
         match self {
             Status::Done => write!(f, "Done"),
             Status::Usage { word } => write!(f, "Usage word={word}"),
+            Status::FileMissing { name } => write!(f, "FileMissing name={name}"),
+            Status::FileFault { name } => write!(f, "FileFault name={name}"),
+            Status::FileLong { name } => write!(f, "FileLong name={name}"),
+            Status::BadDex { path, kind } => write!(f, "BadDex path={path} kind={kind:?}"),
             Status::BadScript { line, kind } => write!(f, "BadScript line={line} kind={kind:?}"),
             Status::ScriptLong { count } => write!(f, "ScriptLong count={count}"),
             Status::ReadFault => write!(f, "ReadFault"),

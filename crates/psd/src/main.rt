@@ -1,6 +1,7 @@
 //! The program.
 #![tactic(auto)]
 
+use ps_outside::host_files::HostFiles;
 use ps_outside::sink::StdSink;
 use ps_outside::source::StdSource;
 use ps_replay::run::run;
@@ -9,20 +10,28 @@ use std::process::ExitCode;
 use std::{env, io};
 
 #[cfg(test)]
+mod dex_tests;
+#[cfg(test)]
 mod tests;
 
 const HELP: &str = "\
 psd, a battle server of the kind that Pokemon Showdown players connect to.
 
 Usage:
-  psd replay     reads a recorded script of connections from standard input, and
-                 writes what each connection is sent to standard output
-  psd --help     prints this help
-  psd --version  prints the program's version, and the toolchain that proved it
+  psd replay [--dex NAME]
+      reads a recorded script of connections from standard input, and writes what
+      each connection is sent to standard output
+  psd --help
+      prints this help
+  psd --version
+      prints the program's version, and the toolchain that proved it
 
-README.md has the form of scripts and transcripts, and docs/PROTOCOL.md every
-line. A run that does not end well prints one line on standard error, and ends
-with the number of that line's status.
+  --dex NAME  the dex file: the types, moves and species of battles; without one
+              there are none
+
+README.md has the form of scripts and transcripts, docs/PROTOCOL.md every line,
+and docs/DATA.md every key of the files. A run that does not end well prints one
+line on standard error, and ends with the number of that line's status.
 ";
 
 const VERSION: &str = "\
@@ -53,9 +62,10 @@ fn told(words: &[String]) -> Option<&'static str> {
 }
 
 fn status_of(rt: &HostRuntime, words: &[String]) -> Status {
+    let mut files = HostFiles::new(rt);
     let mut input = StdSource::new(rt.reader());
     let mut out = StdSink::new(io::writer(rt));
-    run(rt.alloc(), words, &mut input, &mut out)
+    run(rt.alloc(), words, &mut files, &mut input, &mut out)
 }
 
 fn main(rt: HostRuntime) -> ExitCode {
@@ -72,8 +82,11 @@ fn main(rt: HostRuntime) -> ExitCode {
             None => status_of(&rt, &words),
         },
     };
-    if status != Status::Done {
-        let _ = eprintln!(rt; "psd: {status}");
+    match &status {
+        Status::Done => {}
+        _ => {
+            let _ = eprintln!(rt; "psd: {status}");
+        }
     }
     ExitCode::from(status.number())
 }

@@ -1,11 +1,13 @@
 //! Rows that show what the program does, worked out by hand.
 use ps_base::decimal::read_u32;
 use ps_base::id::{read_id, to_id};
+use ps_base::list::List;
+use ps_base::text::Text;
+use ps_outside::files::{MemFiles, NamedFile, SureFiles};
 use ps_outside::sink::{MemSink, SureSink};
 use ps_outside::source::{MemSource, SureSource};
 use ps_replay::run::run;
 use ps_replay::status::Status;
-use ps_script::script::ScriptKind;
 use std::alloc::{AllocError, Global};
 use std::test::Fail;
 
@@ -18,11 +20,6 @@ const QUIET_LOBBY: &str =
 const LOBBY_OF_BOB: &str =
     "2< |challstr|0-2\n2. |updateuser| Guest 2|0|0|{}\n2. |formats|\n2< |updateuser| Bob|1|0|{}\n2< >lobby\n2. |init|chat\n2. |title|Lobby\n2. |users|2,%Ann, Bob\n2< >lobby\n2. |c:|0| Bob|hi\n";
 
-const BAD_SCRIPT: Status = Status::BadScript {
-    line: 0,
-    kind: ScriptKind::Form,
-};
-
 fn words_of(alloc: Global, words: &[&str]) -> Result<Vec<String>, AllocError> {
     let mut list = Vec::new(alloc);
     for word in words {
@@ -31,17 +28,42 @@ fn words_of(alloc: Global, words: &[&str]) -> Result<Vec<String>, AllocError> {
     Ok(list)
 }
 
+fn told(alloc: Global, status: &Status) -> Result<String, AllocError> {
+    format!(in alloc; "{status}")
+}
+
 fn replay(
     alloc: Global,
     input: &[u8],
     read: &[u64],
     write: &[u64],
-) -> Result<(Status, Vec<u8>), AllocError> {
+) -> Result<(String, Vec<u8>), AllocError> {
     let words = words_of(alloc, &["replay"])?;
+    let mut files = SureFiles::new(Vec::new(alloc));
     let mut source = MemSource::new(input.to_vec(alloc)?, read.to_vec(alloc)?);
     let mut sink = MemSink::new(alloc, write.to_vec(alloc)?);
-    let status = run(alloc, &words, &mut source, &mut sink);
-    Ok((status, sink.bytes().to_vec(alloc)?))
+    let status = run(alloc, &words, &mut files, &mut source, &mut sink);
+    Ok((told(alloc, &status)?, sink.bytes().to_vec(alloc)?))
+}
+
+/// Replays the lobby's script with the words `--dex dex`, where the dex file has these bytes, and the
+/// calls of these numbers fail.
+fn replay_with(
+    alloc: Global,
+    bytes: &[u8],
+    failing: &[u64],
+) -> Result<(String, Vec<u8>), AllocError> {
+    let words = words_of(alloc, &["replay", "--dex", "dex"])?;
+    let mut held = Vec::new(alloc);
+    held.push(NamedFile {
+        name: Text::copy_of(alloc, "dex")?,
+        bytes: List::from_vec(bytes.to_vec(alloc)?),
+    })?;
+    let mut files = MemFiles::new(held, failing.to_vec(alloc)?);
+    let mut source = SureSource::new(LOBBY.as_bytes().to_vec(alloc)?);
+    let mut sink = MemSink::new(alloc, Vec::new(alloc));
+    let status = run(alloc, &words, &mut files, &mut source, &mut sink);
+    Ok((told(alloc, &status)?, sink.bytes().to_vec(alloc)?))
 }
 
 /// The lines of connection 2.
@@ -60,18 +82,24 @@ fn lines_of_two(alloc: Global, bytes: &[u8]) -> Result<String, AllocError> {
 #[test]
 fn words_that_are_no_command(rt: HostRuntime) -> Result<(), Fail> {
     let alloc = rt.alloc();
-    let rows: &[(&[&str], u32)] = &[
-        (&[], 0),
-        (&["drill"], 0),
-        (&["replay", "x"], 1),
-        (&["Replay"], 0),
+    let rows: &[(&[&str], &str)] = &[
+        (&[], "Usage word=0"),
+        (&["drill"], "Usage word=0"),
+        (&["Replay"], "Usage word=0"),
+        (&["replay", "x"], "Usage word=1"),
+        (&["replay", "--dex"], "Usage word=2"),
+        (&["replay", "--dex", ""], "Usage word=2"),
+        (&["replay", "--dex", "-"], "Usage word=2"),
+        (&["replay", "--dex", "a", "b"], "Usage word=3"),
+        (&["replay", "--dex", "a"], "FileMissing name=a"),
     ];
-    for (words, word) in rows {
+    for (words, status) in rows {
         let words = words_of(alloc, words)?;
+        let mut files = SureFiles::new(Vec::new(alloc));
         let mut source = SureSource::new(Vec::new(alloc));
         let mut sink = SureSink::new(alloc);
-        let status = run(alloc, &words, &mut source, &mut sink);
-        assert_eq!(rt; status, Status::Usage { word: *word });
+        let ended = run(alloc, &words, &mut files, &mut source, &mut sink);
+        assert_eq!(rt; told(alloc, &ended)?.as_str(), *status);
     }
     Ok(())
 }
@@ -79,28 +107,28 @@ fn words_that_are_no_command(rt: HostRuntime) -> Result<(), Fail> {
 #[test]
 fn scripts_by_their_status(rt: HostRuntime) -> Result<(), Fail> {
     let alloc = rt.alloc();
-    let rows: &[(&str, Status)] = &[
-        ("", Status::Done),
-        ("; a comment\r\n\r\n", Status::Done),
-        (LOBBY, Status::Done),
-        ("+1\n>1 |/pm a, b\n", Status::NotBuilt { line: 2 }),
-        ("+1\n-1\n", Status::NotBuilt { line: 2 }),
-        ("+1\n>1 lobby|hi", Status::NotBuilt { line: 2 }),
-        ("T 5\nT 4\n", BAD_SCRIPT),
-        ("+2\n", BAD_SCRIPT),
-        ("; a \u{7f}\n", BAD_SCRIPT),
-        ("G \u{e9} ann\n", BAD_SCRIPT),
+    let rows: &[(&str, &str)] = &[
+        ("", "Done"),
+        ("; a comment\r\n\r\n", "Done"),
+        (LOBBY, "Done"),
+        ("+1\n>1 |/pm a, b\n", "NotBuilt line=2"),
+        ("+1\n-1\n", "NotBuilt line=2"),
+        ("+1\n>1 lobby|hi", "NotBuilt line=2"),
+        ("T 5\nT 4\n", "BadScript line=0 kind=Form"),
+        ("+2\n", "BadScript line=0 kind=Form"),
+        ("; a \u{7f}\n", "BadScript line=0 kind=Form"),
+        ("G \u{e9} ann\n", "BadScript line=0 kind=Form"),
     ];
     for (input, status) in rows {
-        let (told, _) = replay(alloc, input.as_bytes(), &[], &[])?;
-        assert_eq!(rt; told, *status, "{input:?}");
+        let (ended, _) = replay(alloc, input.as_bytes(), &[], &[])?;
+        assert_eq!(rt; ended.as_str(), *status, "{input:?}");
     }
     let lines = vec![in alloc; b'\n'; 200_000]?;
-    let (told, _) = replay(alloc, &lines, &[], &[])?;
-    assert_eq!(rt; told, Status::Done);
+    let (ended, _) = replay(alloc, &lines, &[], &[])?;
+    assert_eq!(rt; ended.as_str(), "Done");
     let lines = vec![in alloc; b'\n'; 200_001]?;
-    let (told, written) = replay(alloc, &lines, &[], &[])?;
-    assert_eq!(rt; told, Status::ScriptLong { count: 200_001 });
+    let (ended, written) = replay(alloc, &lines, &[], &[])?;
+    assert_eq!(rt; ended.as_str(), "ScriptLong count=200001");
     assert_eq!(rt; written.len(), 0);
     Ok(())
 }
@@ -120,14 +148,49 @@ fn staff_note_is_unseen(rt: HostRuntime) -> Result<(), Fail> {
 #[test]
 fn faults_of_the_outside(rt: HostRuntime) -> Result<(), Fail> {
     let alloc = rt.alloc();
-    let (told, written) = replay(alloc, LOBBY.as_bytes(), &[1], &[])?;
-    assert_eq!(rt; told, Status::ReadFault);
+    let rows: &[(&[u64], &[u64], &str)] = &[
+        (&[1], &[], "ReadFault"),
+        (&[2], &[], "ReadFault"),
+        (&[], &[1], "WriteFault"),
+    ];
+    for (read, write, status) in rows {
+        let (ended, written) = replay(alloc, LOBBY.as_bytes(), read, write)?;
+        assert_eq!(rt; ended.as_str(), *status);
+        assert_eq!(rt; written.len(), 0);
+    }
+    Ok(())
+}
+
+#[test]
+fn dex_files_by_their_status(rt: HostRuntime) -> Result<(), Fail> {
+    let alloc = rt.alloc();
+    let (_, lobby) = replay(alloc, LOBBY.as_bytes(), &[], &[])?;
+    let (ended, written) = replay_with(
+        alloc,
+        b"{\"types\": [{\"name\": \"Normal\", \"special\": false}]}",
+        &[],
+    )?;
+    assert_eq!(rt; ended.as_str(), "Done");
+    assert_eq!(rt; written, lobby);
+    let rows: &[(&str, &[u64], &str)] = &[
+        ("", &[], "BadDex path= kind=Json"),
+        ("[]", &[], "BadDex path= kind=Shape"),
+        ("{}", &[1], "FileFault name=dex"),
+        ("{}", &[2], "Done"),
+    ];
+    for (bytes, failing, status) in rows {
+        let (ended, _) = replay_with(alloc, bytes.as_bytes(), failing)?;
+        assert_eq!(rt; ended.as_str(), *status, "{bytes:?}");
+    }
+    let mut bytes = vec![in alloc; b' '; 16_777_216]?;
+    bytes[0] = b'{';
+    bytes[1] = b'}';
+    let (ended, _) = replay_with(alloc, &bytes, &[])?;
+    assert_eq!(rt; ended.as_str(), "Done");
+    bytes.push(b' ')?;
+    let (ended, written) = replay_with(alloc, &bytes, &[])?;
+    assert_eq!(rt; ended.as_str(), "FileLong name=dex");
     assert_eq!(rt; written.len(), 0);
-    let (told, written) = replay(alloc, LOBBY.as_bytes(), &[2], &[])?;
-    assert_eq!(rt; told, Status::ReadFault);
-    assert_eq!(rt; written.len(), 0);
-    let (told, _) = replay(alloc, LOBBY.as_bytes(), &[], &[1])?;
-    assert_eq!(rt; told, Status::WriteFault);
     Ok(())
 }
 

@@ -1,0 +1,12 @@
+pub mod Kinds
+pub mod Effects
+pub mod Names
+pub mod Types
+pub mod Factors
+pub mod Moves
+pub mod Species
+pub mod Aliases
+pub mod Tables
+pub mod Lookups
+pub mod Fit
+pub mod Faults

@@ -1,0 +1,28 @@
+-- The names of types, moves and species.
+use Rattle.std.specs.Prelude.{ℕ, ◌==◌, ◌&&◌, Bool, not, List, length, Result, Ok, nat_le, nat_lt}
+use Rattle.std.specs.List.{list_all}
+use Rattle.serde_json.specs.Data.{Data}
+use Rattle.ps_base.specs.Ids.{id_of}
+use Rattle.ps_data.specs.declared.fault.DataKind.TheVariants.{Range}
+use Rattle.ps_data.specs.declared.fault.Fault.{Fault}
+use Rattle.ps_data.specs.Reading.{◌>>=◌, ensure}
+use Rattle.ps_data.specs.Forms.{text_in}
+use Rattle.ps_dex.specs.declared.name.Named.{Named}
+
+-- a character from U+0020 to U+007E, but not `|`, `,` or `]`; each of these is one byte
+abbrev pub is_name_byte : ℕ → Bool
+is_name_byte b = nat_le 32 b && nat_le b 126 && not (b == 124) && not (b == 44) && not (b == 93)
+
+unfoldable pub are_name_bytes : List ℕ → Bool
+are_name_bytes text = list_all is_name_byte text
+
+-- such characters, at most 32, with an id that isn't empty, so at least one
+unfoldable pub is_name : List ℕ → List ℕ → Bool
+is_name text id = are_name_bytes text && nat_le (length text) 32 && not (length id == 0)
+
+-- a name, and its id
+unfoldable pub name_in : Data → Result Named Fault
+name_in d = do
+  text ← text_in d
+  _ ← ensure Range (is_name text (id_of text))
+  Ok (record { name = text; id = id_of text })

@@ -1,0 +1,272 @@
+//! The dex and its look-ups.
+ghost use Rattle.std.specs.Prelude.{◌≡◌, ◌<◌, ℕ, length, map, slice_get, slice_index, IfOk, IfSome};
+ghost use Rattle.ps_mon.specs.Facts.{AreFair, factor_at};
+ghost use Rattle.ps_dex.specs.Tables.{tables_of};
+ghost use Rattle.ps_dex.specs.Lookups.{no_tables, species_of, move_of, is_taken, factor_of, learned_by, learns, name_of_move, built_in};
+ghost use Rattle.ps_dex.specs.Fit.{AreFit};
+
+use crate::aliases::{alias_place, move_number, species_number};
+use crate::fault::{DexFault, told};
+use crate::moves::has_move;
+use crate::row::{AliasRow, FactorRow, MoveRow, SpeciesRow, Tables, TypeRow};
+use crate::species::{has_number, has_species};
+use crate::tables::read_tables;
+use crate::types::{is_contact, is_special};
+use ps_base::id::Id;
+use ps_base::list::List;
+use ps_mon::facts::{Factors, Facts, MoveData, struggle};
+use std::alloc::{AllocError, Global};
+use std::marker::Model;
+
+/// What a dex file says, with what battles need of it ready to use. Contracts see what the file says.
+#[derive(Debug, Drop)]
+pub struct Dex {
+    tables: Tables,
+    numbers: Vec<MoveData>,
+    factors: Factors,
+    struggle: MoveData,
+}
+
+impl Model for Dex {
+    ghost use Rattle.std.specs.Prelude.{◌≡◌, ◌<◌, ℕ, map};
+    ghost use Rattle.ps_mon.specs.Facts.{factor_at};
+    ghost use Rattle.ps_dex.specs.declared.row.Tables.{Tables as Said};
+    ghost use Rattle.ps_dex.specs.Lookups.{factor_of, built_in};
+    ghost use Rattle.ps_dex.specs.Fit.{AreFit};
+
+    ghost Value = { Said };
+
+    ghost view = { λ d. d.tables };
+
+    ghost invariant = { λ d. AreFit d.tables × (d.numbers.items ≡ map (λ m. m.numbers) d.tables.moves) × ((attack defend : ℕ) → attack < 32 → defend < 32 → factor_at d.factors attack defend ≡ factor_of d.tables.factors attack defend) × (d.struggle ≡ built_in d.tables.types) };
+}
+
+fn numbers_of(alloc: Global, moves: &[MoveRow]) -> Result<Vec<MoveData>, AllocError>
+    ensures { IfOk result (λ v. v.items ≡ map (λ m. m.numbers) moves.now) }
+{
+    let mut numbers = Vec::new(alloc);
+    for row in moves {
+        numbers.push(row.numbers)?;
+    }
+    Ok(numbers)
+}
+
+fn factor_of(rows: &[FactorRow], attack: u8, defend: u8) -> u8
+    ensures { result ≡ factor_of rows.now attack defend }
+{
+    for row in rows {
+        if row.attack == attack && row.defend == defend {
+            return row.tenths;
+        }
+    }
+    10
+}
+
+/// The factors of one attacking type.
+fn factor_row(rows: &[FactorRow], attack: u8) -> [u8; 32]
+    ensures { (defend : ℕ) → defend < 32 → slice_index result defend ≡ factor_of rows.now attack defend }
+{
+    let mut factors = [10; 32];
+    for defend in 0..32 {
+        factors[defend] = factor_of(rows, attack, defend as u8);
+    }
+    factors
+}
+
+fn factor_table(rows: &[FactorRow]) -> Factors
+    ensures { (attack defend : ℕ) → attack < 32 → defend < 32 → factor_at result attack defend ≡ factor_of rows.now attack defend }
+{
+    let mut factors = [[10; 32]; 32];
+    for attack in 0..32 {
+        factors[attack] = factor_row(rows, attack as u8);
+    }
+    factors
+}
+
+fn built_in(types: &[TypeRow]) -> MoveData
+    ensures { result ≡ built_in types.now }
+{
+    struggle(is_special(types, 0), is_contact(types, 0))
+}
+
+fn from_tables(alloc: Global, tables: Tables) -> Result<Dex, AllocError>
+    requires { AreFit tables }
+    ensures { IfOk result (λ d. d ≡ tables) }
+{
+    let numbers = numbers_of(alloc, tables.moves.as_slice())?;
+    let factors = factor_table(tables.factors.as_slice());
+    let struggle = built_in(tables.types.as_slice());
+    Ok(Dex {
+        tables,
+        numbers,
+        factors,
+        struggle,
+    })
+}
+
+fn is_taken(tables: &Tables, id: &str) -> bool
+    ensures { result ≡ is_taken id.now tables.now }
+{
+    has_species(tables.species.as_slice(), id) || has_move(tables.moves.as_slice(), id)
+}
+
+fn species_of(tables: &Tables, id: &str) -> Option<u16>
+    requires { AreFit tables.now }
+    ensures place { result ≡ species_of id.now tables.now }
+    ensures within { IfSome result (λ s. s < length tables.now.species) }
+{
+    if is_taken(tables, id) {
+        return species_number(tables.species.as_slice(), id);
+    }
+    let aliases = tables.aliases.as_slice();
+    match alias_place(aliases, id) {
+        None => None,
+        Some(place) => aliases[place].species,
+    }
+}
+
+fn move_of(tables: &Tables, id: &str) -> Option<u16>
+    requires { AreFit tables.now }
+    ensures place { result ≡ move_of id.now tables.now }
+    ensures within { IfSome result (λ mv. mv < length tables.now.moves) }
+{
+    if is_taken(tables, id) {
+        return move_number(tables.moves.as_slice(), id);
+    }
+    let aliases = tables.aliases.as_slice();
+    match alias_place(aliases, id) {
+        None => None,
+        Some(place) => aliases[place].mv,
+    }
+}
+
+/// The numbers of the moves that a species learns.
+fn learned_by(species: &[SpeciesRow], number: u16) -> &[u16]
+    ensures { result.now ≡ learned_by (slice_get species.now number) }
+{
+    match species.get(usize::from(number)) {
+        None => &[],
+        Some(row) => row.learns.as_slice(),
+    }
+}
+
+fn name_of_move(moves: &[MoveRow], mv: u16) -> &str
+    ensures { result.now ≡ name_of_move mv moves.now }
+{
+    match moves.get(usize::from(mv)) {
+        None => "Struggle",
+        Some(row) => row.name.as_str(),
+    }
+}
+
+impl Dex {
+    ghost use Rattle.ps_dex.specs.Faults.{GivesDex};
+
+    /// The dex of which nothing is said: no type, move or species. Takes no memory.
+    pub fn empty(alloc: Global) -> Dex
+        ensures { result ≡ no_tables }
+    {
+        Dex {
+            tables: Tables {
+                types: List::from_vec(Vec::new(alloc)),
+                factors: List::from_vec(Vec::new(alloc)),
+                moves: List::from_vec(Vec::new(alloc)),
+                species: List::from_vec(Vec::new(alloc)),
+                aliases: List::from_vec(Vec::new(alloc)),
+            },
+            numbers: Vec::new(alloc),
+            factors: factor_table(&[]),
+            struggle: built_in(&[]),
+        }
+    }
+
+    /// The dex that the bytes of a dex file stand for: a JSON object with the keys `types`,
+    /// `factors`, `moves`, `species` and `aliases`, each of which may be missing.
+    pub fn read(alloc: Global, bytes: &[u8]) -> Result<Dex, DexFault>
+        ensures { GivesDex result (tables_of bytes.now) }
+    {
+        match read_tables(alloc, bytes) {
+            Err(refusal) => Err(told(alloc, refusal)),
+            Ok(tables) => match from_tables(alloc, tables) {
+                Err(_) => Err(DexFault::NoMemory),
+                Ok(dex) => Ok(dex),
+            },
+        }
+    }
+
+    /// The types, by their numbers.
+    pub fn types(&self) -> &[TypeRow]
+        ensures { result.now ≡ self.now.types }
+    {
+        self.tables.types.as_slice()
+    }
+
+    /// The moves, by their numbers.
+    pub fn moves(&self) -> &[MoveRow]
+        ensures { result.now ≡ self.now.moves }
+    {
+        self.tables.moves.as_slice()
+    }
+
+    /// All species, by their numbers.
+    pub fn all_species(&self) -> &[SpeciesRow]
+        ensures { result.now ≡ self.now.species }
+    {
+        self.tables.species.as_slice()
+    }
+
+    /// The number of the species with an id, or of the one that an alias with it stands for. An alias
+    /// with the id of a species or a move is never used.
+    pub fn species(&self, id: &Id) -> Option<u16>
+        ensures place { result ≡ species_of id.now self.now }
+        ensures within { IfSome result (λ s. s < length self.now.species) }
+    {
+        species_of(&self.tables, id.as_str())
+    }
+
+    /// The number of the move with an id, or of the one that an alias with it stands for. An alias with
+    /// the id of a species or a move is never used.
+    pub fn move_of(&self, id: &Id) -> Option<u16>
+        ensures place { result ≡ move_of id.now self.now }
+        ensures within { IfSome result (λ mv. mv < length self.now.moves) }
+    {
+        move_of(&self.tables, id.as_str())
+    }
+
+    /// The factor of a type on a type, in tenths: 0, 5, 10 or 20. Both numbers are below 32.
+    pub fn factor(&self, attack: u8, defend: u8) -> u8
+        requires attack { attack < 32 }
+        requires defend { defend < 32 }
+        ensures { result ≡ factor_of self.now.factors attack defend }
+    {
+        self.factors[usize::from(attack)][usize::from(defend)]
+    }
+
+    /// Whether a species learns a move. Nothing learns what isn't a number of the dex.
+    pub fn learns(&self, species: u16, mv: u16) -> bool
+        ensures { result ≡ learns species mv self.now }
+    {
+        has_number(learned_by(self.tables.species.as_slice(), species), mv)
+    }
+
+    /// The name of a move, and `Struggle` for each number past the moves.
+    pub fn move_name(&self, mv: u16) -> &str
+        ensures { result.now ≡ name_of_move mv self.now.moves }
+    {
+        name_of_move(self.tables.moves.as_slice(), mv)
+    }
+
+    /// The numbers of the moves, the factors and Struggle.
+    pub fn facts(&self) -> Facts<'_>
+        ensures moves { result.moves.now ≡ map (λ m. m.numbers) self.now.moves }
+        ensures factors { (attack defend : ℕ) → attack < 32 → defend < 32 → factor_at result.factors.now attack defend ≡ factor_of self.now.factors attack defend }
+        ensures struggle { result.struggle.now ≡ built_in self.now.types }
+        ensures fair { AreFair result }
+    {
+        Facts {
+            moves: self.numbers.as_slice(),
+            factors: &self.factors,
+            struggle: &self.struggle,
+        }
+    }
+}

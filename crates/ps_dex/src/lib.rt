@@ -1,0 +1,17 @@
+//! The dex: types, factors, moves, species and aliases, as a dex file says them.
+#![tactic(auto)]
+
+mod aliases;
+pub mod dex;
+mod effect;
+mod factors;
+pub mod fault;
+mod kind;
+mod moves;
+mod name;
+pub mod row;
+mod species;
+mod tables;
+mod types;
+
+pub use ps_data::fault::DataKind;

@@ -1,0 +1,141 @@
+//! Reads moves.
+ghost use Rattle.std.specs.Prelude.{◌≡◌, ◌≤◌, ◌<◌, codes, length, IfOk, IfSome};
+ghost use Rattle.serde_json.specs.View.{view};
+ghost use Rattle.ps_data.specs.Reading.{Gives};
+ghost use Rattle.ps_data.specs.Lists.{list_at};
+ghost use Rattle.ps_dex.specs.Moves.{move_place, has_move, is_move_taken, move_name_in, numbers_in, move_row_in};
+
+use crate::effect::effect_or_plain;
+use crate::name::{Named, read_name};
+use crate::row::{MoveRow, TypeRow};
+use crate::types::{is_contact, is_special, named_type};
+use ps_base::list::List;
+use ps_data::fault::{DataKind, Refusal};
+use ps_data::forms::{ensure, object};
+use ps_data::ids;
+use ps_data::keys::{at_key, boolean_or, integer_at, number_at, required};
+use ps_data::lists::{ItemForm, list_at};
+use ps_mon::facts::MoveData;
+use serde_json::Value;
+use std::alloc::Global;
+
+#[tactic(auto, unfolding(crate::specs::Moves::move_place))]
+pub(crate) fn move_place(moves: &[MoveRow], id: &str) -> Option<usize>
+    ensures place { result ≡ move_place id.now moves.now }
+    ensures within { IfSome result (λ i. i < length moves.now) }
+{
+    ids::place_of(moves, id)
+}
+
+#[tactic(auto, unfolding(crate::specs::Moves::has_move))]
+pub(crate) fn has_move(moves: &[MoveRow], id: &str) -> bool
+    ensures { result ≡ has_move id.now moves.now }
+{
+    ids::has_id(moves, id)
+}
+
+/// Whether no move may have the id any more.
+#[tactic(auto, unfolding(crate::specs::Moves::is_move_taken))]
+fn is_move_taken(moves: &[MoveRow], id: &str) -> bool
+    ensures { result ≡ is_move_taken id.now moves.now }
+{
+    has_move(moves, id) || id == "struggle" || id == "recharge"
+}
+
+#[tactic(auto, unfolding(crate::specs::Moves::move_name_in))]
+fn move_name(alloc: Global, before: &[MoveRow], value: &Value) -> Result<Named, Refusal>
+    ensures { Gives result (move_name_in before.now (view value.now)) }
+{
+    let named = read_name(alloc, value)?;
+    ensure(
+        alloc,
+        !is_move_taken(before, named.id.as_str()),
+        DataKind::Repeat,
+    )?;
+    Ok(named)
+}
+
+#[tactic(auto, unfolding(crate::specs::Moves::numbers_in))]
+fn numbers(alloc: Global, types: &[TypeRow], value: &Value) -> Result<MoveData, Refusal>
+    requires { length types.now ≤ 32 }
+    ensures { Gives result (numbers_in types.now (view value.now)) }
+{
+    let kind = at_key(
+        alloc,
+        "type",
+        named_type(alloc, types, required(alloc, value, "type")?),
+    )?;
+    let power = number_at(alloc, value, "power", 0, 255)?;
+    let accuracy = number_at(alloc, value, "accuracy", 0, 100)?;
+    let pp = number_at(alloc, value, "pp", 1, 64)?;
+    let priority = integer_at(alloc, value, "priority", -1, 1)?;
+    let high = boolean_or(alloc, value, "high", false)?;
+    let effect = effect_or_plain(alloc, value)?;
+    Ok(MoveData {
+        kind,
+        special: is_special(types, kind),
+        contact: is_contact(types, kind),
+        power: power as u8,
+        accuracy: accuracy as u8,
+        pp: pp as u8,
+        priority: priority as i8,
+        high,
+        effect,
+    })
+}
+
+#[tactic(auto, unfolding(crate::specs::Moves::move_row_in))]
+fn move_row(
+    alloc: Global,
+    types: &[TypeRow],
+    before: &[MoveRow],
+    value: &Value,
+) -> Result<MoveRow, Refusal>
+    requires { length types.now ≤ 32 }
+    ensures { Gives result (move_row_in types.now before.now (view value.now)) }
+{
+    object(alloc, value)?;
+    let named = at_key(
+        alloc,
+        "name",
+        move_name(alloc, before, required(alloc, value, "name")?),
+    )?;
+    let numbers = numbers(alloc, types, value)?;
+    let Named { name, id } = named;
+    Ok(MoveRow { name, id, numbers })
+}
+
+/// The form of a move, over the types.
+#[derive(Drop)]
+struct MoveForm<'a> {
+    types: &'a List<TypeRow>,
+    ghost few: { length types.now ≤ 32 },
+}
+
+impl ItemForm<MoveRow> for MoveForm<'_> {
+    ghost reading = { λ form before after. move_row_in form.types.now before };
+
+    fn read(
+        &self,
+        alloc: Global,
+        before: &[MoveRow],
+        _after: &[Value],
+        value: &Value,
+    ) -> Result<MoveRow, Refusal> {
+        move_row(alloc, self.types.as_slice(), before, value)
+    }
+}
+
+/// The moves of a dex: at most 1,024.
+pub(crate) fn moves_at(
+    alloc: Global,
+    types: &List<TypeRow>,
+    value: &Value,
+) -> Result<List<MoveRow>, Refusal>
+    requires { length types.now ≤ 32 }
+    ensures gives { Gives result (list_at (codes "moves") 0 1024 (λ before after. move_row_in types.now before) (view value.now)) }
+    ensures few { IfOk result (λ moves. length moves ≤ 1024) }
+{
+    let moves = list_at(alloc, &MoveForm { types }, 0, 1024, value, "moves")?;
+    Ok(List::from_vec(moves))
+}

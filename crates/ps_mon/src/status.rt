@@ -1,0 +1,20 @@
+//! What lasts with a team member.
+
+/// The condition of a team member, which stays with it when it is switched out.
+#[derive(Clone, Copy, Debug, PartialEq, Eq)]
+pub enum Status {
+    /// None.
+    Healthy,
+    /// Asleep.
+    Slp,
+    /// Paralysed.
+    Par,
+    /// Burnt.
+    Brn,
+    /// Poisoned.
+    Psn,
+    /// Badly poisoned.
+    Tox,
+    /// Frozen.
+    Frz,
+}

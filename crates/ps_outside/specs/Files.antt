@@ -1,0 +1,62 @@
+-- Files by their names, and when a call on them may answer what.
+use Rattle.std.specs.Prelude.{◌≡◌, ℕ, ◌<◌, ◌≤◌, List, [], ◌∷◌, length, Option, Some, None, Result, Ok, Err, IfSome, if◌then◌else◌}
+use Rattle.std.specs.Option.{IsSomeAnd}
+use Rattle.std.specs.Str.{bytes_eq}
+use Rattle.ps_outside.specs.Causes.{Rose}
+use Rattle.ps_outside.specs.declared.files.FileEnd.{FileEnd}
+use Rattle.ps_outside.specs.declared.files.FileEnd.TheVariants.{Missing, TooLong, Failed, NoMemory}
+use Rattle.ps_outside.specs.declared.files.NamedFile.{NamedFile}
+
+-- how often a file was missing, was too long, and a call failed
+pub record FileCounts : Type 0 where
+  pub missing : ℕ
+  pub long : ℕ
+  pub faults : ℕ
+
+abbrev pub no_counts : FileCounts
+no_counts = record { missing = 0; long = 0; faults = 0 }
+
+-- the bytes of the first file of this name
+abbrev pub look_up : List NamedFile → List ℕ → Option (List ℕ)
+look_up [] name = None
+look_up (f ∷ fs) name = if bytes_eq f.name name then Some f.bytes else look_up fs name
+
+-- the file of this name has these bytes, within the limit
+pub record IsFile (name : List ℕ) (limit : ℕ) (bytes : List ℕ) (look : List ℕ → Option (List ℕ)) : Type 0 where
+  pub there : look name ≡ Some bytes
+  pub within : length bytes ≤ limit
+
+-- where what is held is told: Missing only where there is no such file, TooLong only where it has too many bytes
+abbrev pub IsFileEnd : {T : Type 0} → Option (List ℕ → Option (List ℕ)) → List ℕ → ℕ → Result T FileEnd → Type 0
+IsFileEnd held name limit (Ok bytes) = Unit {0}
+IsFileEnd held name limit (Err Missing) = IfSome held (λ look. look name ≡ None)
+IsFileEnd held name limit (Err TooLong) = IfSome held (λ look. IsSomeAnd (look name) (λ bytes. limit < length bytes))
+IsFileEnd held name limit (Err Failed) = Unit {0}
+IsFileEnd held name limit (Err NoMemory) = Unit {0}
+
+-- a count rose, and the other two stayed
+pub record OnlyRose (old new other_old other_new third_old third_new : ℕ) : Type 0 where
+  pub later : old ≤ new
+  pub rose : Rose old new
+  pub other : other_new ≡ other_old
+  pub third : third_new ≡ third_old
+
+-- each of the three answers comes only where its own count rose, and nothing else raises that count
+abbrev pub HasFileCause : {T : Type 0} → FileCounts → FileCounts → Result T FileEnd → Type 0
+HasFileCause old new (Ok bytes) = new ≡ old
+HasFileCause old new (Err Missing) = OnlyRose old.missing new.missing old.long new.long old.faults new.faults
+HasFileCause old new (Err TooLong) = OnlyRose old.long new.long old.missing new.missing old.faults new.faults
+HasFileCause old new (Err Failed) = OnlyRose old.faults new.faults old.missing new.missing old.long new.long
+HasFileCause old new (Err NoMemory) = new ≡ old
+
+-- what files in memory hold, how often they were called, and the calls that fail
+pub record Shelf : Type 0 where
+  pub files : List NamedFile
+  pub calls : ℕ
+  pub counts : FileCounts
+  pub failing : List ℕ
+
+-- what files in memory that never fail hold
+pub record SureShelf : Type 0 where
+  pub files : List NamedFile
+  pub counts : FileCounts

@@ -1,0 +1,178 @@
+//! Files that are read whole.
+ghost use Rattle.std.specs.Prelude.{◌≡◌, ℕ, ◌+◌, ◌<◌, ◌≤◌, ◌^◌, List, [], Option, Some, None, length, IfOk, IfSome};
+ghost use Rattle.std.specs.Option.{option_copied};
+ghost use Rattle.ps_outside.specs.Files.{FileCounts, no_counts, look_up, IsFile, IsFileEnd, HasFileCause};
+
+use ps_base::list::List;
+use ps_base::text::Text;
+use std::alloc::Global;
+use std::marker::Model;
+
+/// Why a file was not read.
+#[derive(Clone, Copy, Debug, PartialEq, Eq)]
+pub enum FileEnd {
+    /// There is no file of that name.
+    Missing,
+    /// The file has more bytes than the limit.
+    TooLong,
+    /// The outside refused the call.
+    Failed,
+    /// Memory was refused.
+    NoMemory,
+}
+
+/// A file in memory.
+#[derive(Debug, Drop)]
+pub struct NamedFile {
+    pub name: Text,
+    pub bytes: List<u8>,
+}
+
+/// Files by their names.
+pub trait Files {
+    /// What is under each name, where it is told.
+    ghost held: { Self → Option (List ℕ → Option (List ℕ)) };
+
+    /// How often each of the answers Missing, TooLong and Failed came. None of the counts falls, and
+    /// each stands still at the last value of a `u64`.
+    ghost counts: { Self → FileCounts };
+
+    /// The whole file of that name, of at most `limit` bytes.
+    fn read(&mut self, alloc: Global, name: &str, limit: u32) -> Result<Vec<u8>, FileEnd>
+        ensures same { held self.new ≡ held self.old }
+        ensures found { IfOk result (λ v. IfSome (held self.old) (IsFile name.now limit v.items)) }
+        ensures few { IfOk result (λ v. length v.items ≤ limit) }
+        ensures end { IsFileEnd (held self.old) name.now limit result }
+        ensures cause { HasFileCause (counts self.old) (counts self.new) result };
+}
+
+// The bytes of the first file of this name.
+fn look_up<'a>(files: &'a [NamedFile], name: &str) -> Option<&'a List<u8>>
+    ensures { option_copied result ≡ look_up files.now name.now }
+{
+    for file in files {
+        if file.name.as_str() == name {
+            return Some(&file.bytes);
+        }
+    }
+    None
+}
+
+/// Files in memory, whose calls fail at the numbers of a list, counted from 1.
+#[derive(Drop)]
+pub struct MemFiles {
+    files: Vec<NamedFile>,
+    calls: u64,
+    missing: u64,
+    long: u64,
+    faults: u64,
+    failing: Vec<u64>,
+}
+
+impl Model for MemFiles {
+    ghost use Rattle.ps_outside.specs.Files.{Shelf};
+
+    ghost Value = { Shelf };
+
+    ghost view = { λ f. record { files = f.files.items; calls = f.calls; counts = record { missing = f.missing; long = f.long; faults = f.faults }; failing = f.failing.items } };
+}
+
+impl MemFiles {
+    /// These files; of two with one name the first counts. Takes no memory.
+    pub fn new(files: Vec<NamedFile>, failing: Vec<u64>) -> MemFiles
+        ensures { result ≡ record { files = files.items; calls = 0; counts = no_counts; failing = failing.items } }
+    {
+        MemFiles {
+            files,
+            calls: 0,
+            missing: 0,
+            long: 0,
+            faults: 0,
+            failing,
+        }
+    }
+}
+
+impl Files for MemFiles {
+    ghost held = { λ f. Some (look_up f.files) };
+
+    ghost counts = { λ f. f.counts };
+
+    fn read(&mut self, alloc: Global, name: &str, limit: u32) -> Result<Vec<u8>, FileEnd> {
+        self.calls = self.calls.saturating_add(1);
+        if self.failing.contains(&self.calls) {
+            self.faults = self.faults.saturating_add(1);
+            return Err(FileEnd::Failed);
+        }
+        match look_up(&self.files, name) {
+            None => {
+                self.missing = self.missing.saturating_add(1);
+                Err(FileEnd::Missing)
+            }
+            Some(bytes) => {
+                if bytes.as_slice().len() > limit as usize {
+                    self.long = self.long.saturating_add(1);
+                    return Err(FileEnd::TooLong);
+                }
+                match bytes.as_slice().to_vec(alloc) {
+                    Ok(bytes) => Ok(bytes),
+                    Err(_) => Err(FileEnd::NoMemory),
+                }
+            }
+        }
+    }
+}
+
+/// Files in memory that never fail.
+#[derive(Drop)]
+pub struct SureFiles {
+    files: Vec<NamedFile>,
+    missing: u64,
+    long: u64,
+}
+
+impl Model for SureFiles {
+    ghost use Rattle.ps_outside.specs.Files.{SureShelf};
+
+    ghost Value = { SureShelf };
+
+    ghost view = { λ f. record { files = f.files.items; counts = record { missing = f.missing; long = f.long; faults = 0 } } };
+}
+
+impl SureFiles {
+    /// These files; of two with one name the first counts. Takes no memory.
+    pub fn new(files: Vec<NamedFile>) -> SureFiles
+        ensures { result ≡ record { files = files.items; counts = no_counts } }
+    {
+        SureFiles {
+            files,
+            missing: 0,
+            long: 0,
+        }
+    }
+}
+
+impl Files for SureFiles {
+    ghost held = { λ f. Some (look_up f.files) };
+
+    ghost counts = { λ f. f.counts };
+
+    fn read(&mut self, alloc: Global, name: &str, limit: u32) -> Result<Vec<u8>, FileEnd> {
+        match look_up(&self.files, name) {
+            None => {
+                self.missing = self.missing.saturating_add(1);
+                Err(FileEnd::Missing)
+            }
+            Some(bytes) => {
+                if bytes.as_slice().len() > limit as usize {
+                    self.long = self.long.saturating_add(1);
+                    return Err(FileEnd::TooLong);
+                }
+                match bytes.as_slice().to_vec(alloc) {
+                    Ok(bytes) => Ok(bytes),
+                    Err(_) => Err(FileEnd::NoMemory),
+                }
+            }
+        }
+    }
+}
