@@ -1,4 +1,4 @@
--- The ranges of what a dex file says.
+-- Ranges of what a dex file says, as far as look-ups and battles rest on them.
 use Rattle.std.specs.Prelude.{◌≡◌, ℕ, ◌<◌, ◌≤◌, All, List, length, IfSome}
 use Rattle.ps_mon.specs.declared.facts.MoveData.{MoveData}
 use Rattle.ps_mon.specs.Facts.{IsFairMove, IsFactor}
@@ -14,7 +14,7 @@ pub record IsFitSpecies (type_count move_count : ℕ) (s : SpeciesRow) : Type 0 
   pub stats : All (λ n. (1 ≤ n) × (n ≤ 255)) s.stats
   pub learns : All (λ mv. mv < move_count) s.learns
 
--- it stands for a species and a move of the dex
+-- what it stands for is a species of the dex, a move of it, or both
 pub record IsFitAlias (species_count move_count : ℕ) (a : AliasRow) : Type 0 where
   pub species : IfSome a.species (λ s. s < species_count)
   pub mv : IfSome a.mv (λ mv. mv < move_count)

@@ -27,7 +27,7 @@ harm_kind name =
     if bytes_eq name (codes "dreameater") then Some DreamEater else
     None)))))
 
--- strikes that cost something, and several hits
+-- strikes that cost something, that take several hits or turns
 unfoldable pub strike_kind : List ℕ → Option Kind
 strike_kind name =
     if bytes_eq name (codes "recoil") then Some Recoil else (
@@ -49,7 +49,7 @@ lasting_kind name =
     if bytes_eq name (codes "counter") then Some Counter else
     None)))))
 
--- what covers a member, or takes such covers away
+-- what lasts with a member, or takes that away
 unfoldable pub cover_kind : List ℕ → Option Kind
 cover_kind name =
     if bytes_eq name (codes "substitute") then Some Substitute else (

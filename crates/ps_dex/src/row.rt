@@ -53,7 +53,8 @@ pub struct SpeciesRow {
     pub learns: List<u16>,
 }
 
-/// Another id for a species, a move or both.
+/// Another id for a species, a move or both. One with the id of a species or a move is kept, and never
+/// used.
 #[derive(Debug, Drop)]
 pub struct AliasRow {
     /// The id, which no other alias has.

@@ -41,7 +41,7 @@ pub enum ScreenKind {
 pub enum CopyKind {
     /// A move of the foe takes the used move's place.
     Mimic,
-    /// The user takes the foe's types, stats, stages and moves.
+    /// The user takes the foe's types, stats but health, stages and moves.
     Transform,
     /// Some move of the dex is used.
     Metronome,
@@ -115,7 +115,7 @@ pub enum Effect {
     },
     /// A strike after which the user must recharge.
     Recharge,
-    /// A strike that is repeated for some turns, in which the foe is trapped.
+    /// A strike whose damage is dealt again for some turns, in which the foe is trapped.
     Trap,
     /// A strike in each of some acts, and then confusion.
     Thrash,
@@ -137,7 +137,8 @@ pub enum Effect {
     Mist,
     /// Changes the user's chance of a critical hit.
     Focus,
-    /// Ends what both members have but health, and a status of the foe.
+    /// Takes from both members their stages, confusion, seed, screens, mist, focus and disabled move, ends
+    /// the foe's status, and makes the user's bad poison a plain one.
     Haze,
     /// Gives the user half of its greatest health.
     Heal,

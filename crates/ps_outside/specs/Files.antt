@@ -41,7 +41,7 @@ pub record OnlyRose (old new other_old other_new third_old third_new : ℕ) : Ty
   pub other : other_new ≡ other_old
   pub third : third_new ≡ third_old
 
--- each of the three answers comes only where its own count rose, and nothing else raises that count
+-- each of the three answers raises its own count alone, and no other answer raises any
 abbrev pub HasFileCause : {T : Type 0} → FileCounts → FileCounts → Result T FileEnd → Type 0
 HasFileCause old new (Ok bytes) = new ≡ old
 HasFileCause old new (Err Missing) = OnlyRose old.missing new.missing old.long new.long old.faults new.faults

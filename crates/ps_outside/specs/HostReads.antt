@@ -1,4 +1,4 @@
--- How the reading of an open file may end.
+-- How the reading of an open file may end: for the code alone, and no statement rests on it.
 use Rattle.ps_outside.specs.declared.files.FileEnd.{FileEnd}
 use Rattle.ps_outside.specs.declared.files.FileEnd.TheVariants.{Missing, TooLong, Failed, NoMemory}
 

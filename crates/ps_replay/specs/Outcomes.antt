@@ -88,6 +88,21 @@ FilesCause named held old new ReadFault = HasDex named held
 FilesCause named held old new WriteFault = HasDex named held
 FilesCause named held old new (NotBuilt line) = HasDex named held
 
+-- what is left of the input stays where the words or the dex file ended the run
+abbrev pub KeepsInput : Option (List ℕ) → Option (List ℕ) → Status → Type 0
+KeepsInput old new (Usage word) = new ≡ old
+KeepsInput old new (FileMissing name) = new ≡ old
+KeepsInput old new (FileFault name) = new ≡ old
+KeepsInput old new (FileLong name) = new ≡ old
+KeepsInput old new (BadDex path kind) = new ≡ old
+KeepsInput old new Done = Unit {0}
+KeepsInput old new (BadScript line kind) = Unit {0}
+KeepsInput old new (ScriptLong count) = Unit {0}
+KeepsInput old new ReadFault = Unit {0}
+KeepsInput old new WriteFault = Unit {0}
+KeepsInput old new NoMemory = Unit {0}
+KeepsInput old new (NotBuilt line) = Unit {0}
+
 -- ---- the input
 
 -- the input spells these lines, within its limits, and they are a plain script
@@ -200,7 +215,7 @@ IsSettled WriteFault = ⊥
 IsSettled NoMemory = Unit {0}
 IsSettled (NotBuilt line) = Unit {0}
 
--- the files are told, and the one that the words name is a dex file
+-- no file is named, or the files are told, and the named one is a dex file
 abbrev pub KnowsDex : Option (List ℕ) → Option (List ℕ → Option (List ℕ)) → Type 0
 KnowsDex None held = Unit {0}
 KnowsDex (Some name) held = IsSomeAnd held (λ look. IsSomeAnd (look name) IsDexFile)
@@ -213,7 +228,7 @@ Settles left read_fault write_fault status = IsSomeAnd left IsReadable → (read
 abbrev pub IsComplete : List (List ℕ) → Option (List ℕ → Option (List ℕ)) → Option (List ℕ) → Type 0 → Type 0 → Type 0 → Status → Type 0
 IsComplete words held left file_fault read_fault write_fault status = (named : Option (List ℕ)) → words_in words ≡ Ok named → KnowsDex named held → (file_fault → ⊥) → Settles left read_fault write_fault status
 
--- ---- reading the dex file
+-- ---- for the code alone
 
 -- a status that only the files and memory have a part in
 abbrev pub IsOfFiles : Status → Type 0

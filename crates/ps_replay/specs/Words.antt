@@ -3,15 +3,15 @@ use Rattle.std.specs.Prelude.{ℕ, Bool, false, not, List, [], ◌∷◌, codes,
 use Rattle.std.specs.Str.{bytes_eq}
 
 -- a name of a file: a word that isn't empty and doesn't begin with `-`
-abbrev pub is_name : List ℕ → Bool
-is_name [] = false
-is_name (b ∷ bytes) = not (b == 45)
+abbrev pub is_file_name : List ℕ → Bool
+is_file_name [] = false
+is_file_name (b ∷ bytes) = not (b == 45)
 
 -- behind `--dex`: one name, and nothing more
 abbrev pub dex_in : List (List ℕ) → Result (Option (List ℕ)) ℕ
 dex_in [] = Err 2
-dex_in (name ∷ []) = if is_name name then Ok (Some name) else Err 2
-dex_in (name ∷ more ∷ words) = if is_name name then Err 3 else Err 2
+dex_in (name ∷ []) = if is_file_name name then Ok (Some name) else Err 2
+dex_in (name ∷ more ∷ words) = if is_file_name name then Err 3 else Err 2
 
 -- behind `replay`: nothing, or the name of a dex file
 abbrev pub options_in : List (List ℕ) → Result (Option (List ℕ)) ℕ

@@ -1,11 +1,11 @@
 //! All that the program does.
-ghost use Rattle.std.specs.Prelude.{◌≡◌, ◌≤◌, ◌<◌, ◌^◌, ℕ, List, Some, None, IfSome, IfOk, map, length, string_bytes};
+ghost use Rattle.std.specs.Prelude.{◌≡◌, ◌≤◌, ◌<◌, ◌^◌, ℕ, List, Some, None, Ok, IfSome, IfOk, map, length, string_bytes};
 ghost use Rattle.std.specs.Io.KnownBytes.{IsAtEnd};
 ghost use Rattle.ps_outside.specs.Causes.{Rose};
 ghost use Rattle.ps_script.specs.Scripts.{IsScript};
 ghost use Rattle.ps_script.specs.Limits.{long_of, ReadsFew};
 ghost use Rattle.ps_script.specs.declared.item.Item.{Item};
-ghost use Rattle.ps_replay.specs.Outcomes.{usage_of, usage_told, IsOfInput, FilesCause, IsTranscript, HasOneEntryEachText, WritesPrefix, InputCause, Settles, IsComplete};
+ghost use Rattle.ps_replay.specs.Outcomes.{usage_of, usage_told, IsOfInput, FilesCause, KeepsInput, IsTranscript, HasOneEntryEachText, WritesPrefix, InputCause, Settles, IsComplete};
 ghost use Rattle.ps_replay.specs.Words.{words_in};
 
 use crate::dex::read_dex;
@@ -102,8 +102,10 @@ pub fn run<F: Files, S: Source, K: Sink>(
     // The words are at fault exactly where this is told.
     ensures usage { usage_told result ≡ usage_of (map string_bytes words.now) }
 
-    // The dex file is read and found good before the input is read.
+    // The dex file is read and found good before the input is read, and no other file is.
     ensures files { IfOk (words_in (map string_bytes words.now)) (λ named. FilesCause named (F.held files.old) (F.counts files.old) (F.counts files.new) result) }
+    ensures no_file { words_in (map string_bytes words.now) ≡ Ok None → F.counts files.new ≡ F.counts files.old }
+    ensures input { KeepsInput (S.left input.old) (S.left input.new) result }
 
     // At Done the input was read to its end, and the whole transcript of its one script was written.
     ensures whole { result ≡ Status.Done → IsAtEnd (S.left input.new) }

@@ -1,10 +1,10 @@
 //! The words of a command.
 ghost use Rattle.std.specs.Prelude.{◌≡◌, Ok, Err, map, string_bytes, MatchResult};
 ghost use Rattle.std.specs.Option.{option_copied};
-ghost use Rattle.ps_replay.specs.Words.{is_name, dex_in, options_in, words_in};
+ghost use Rattle.ps_replay.specs.Words.{is_file_name, dex_in, options_in, words_in};
 
-fn is_name(word: &str) -> bool
-    ensures { result ≡ is_name word.now }
+fn is_file_name(word: &str) -> bool
+    ensures { result ≡ is_file_name word.now }
 {
     match word.as_bytes() {
         [] => false,
@@ -18,14 +18,14 @@ fn dex_in(words: &[String]) -> Result<Option<&str>, u32>
     match words {
         [] => Err(2),
         [name] => {
-            if is_name(name.as_str()) {
+            if is_file_name(name.as_str()) {
                 Ok(Some(name.as_str()))
             } else {
                 Err(2)
             }
         }
         [name, _, ..] => {
-            if is_name(name.as_str()) {
+            if is_file_name(name.as_str()) {
                 Err(3)
             } else {
                 Err(2)
