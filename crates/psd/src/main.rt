@@ -10,6 +10,8 @@ use std::process::ExitCode;
 use std::{env, io};
 
 #[cfg(test)]
+mod calc_tests;
+#[cfg(test)]
 mod dex_tests;
 #[cfg(test)]
 mod tests;
