@@ -1,0 +1,4 @@
+pub mod ByIdLemmas
+pub mod PlaceLemmas
+pub mod IndexLemmas
+pub mod StepLemmas

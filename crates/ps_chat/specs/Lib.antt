@@ -1,0 +1,13 @@
+pub mod ById
+pub mod Places
+pub mod Records
+pub mod Looks
+pub mod Rooms
+pub mod Refusals
+pub mod Verdicts
+pub mod Texts
+pub mod Lines
+pub mod Told
+pub mod Changes
+pub mod Steps
+pub mod RoomChanges

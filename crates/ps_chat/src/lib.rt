@@ -1,0 +1,15 @@
+//! A chat room: who may do what in it, what each command changes and what it tells.
+#![tactic(auto)]
+
+mod change;
+pub mod chat;
+pub mod id_map;
+pub mod line;
+mod look;
+pub mod members;
+pub mod present;
+mod refusal;
+pub mod room;
+mod text;
+mod told;
+mod verdict;

@@ -1,0 +1,14 @@
+//! Members.
+use ps_base::badge::Badge;
+use ps_base::number::ConnNo;
+
+/// A member of a room.
+#[derive(Debug, Drop)]
+pub struct Present {
+    /// The connection.
+    pub conn: ConnNo,
+    /// The badge of its Join. A rank past the list of groups counts as the last group's.
+    pub badge: Badge,
+    /// The higher of the badge's rank and the room rank of its id.
+    pub rank: u8,
+}

@@ -1,0 +1,6 @@
+pub mod Clauses
+pub mod Rules
+pub mod Walk
+pub mod Reading
+pub mod Resolve
+pub mod Faults

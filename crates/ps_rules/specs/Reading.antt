@@ -1,0 +1,172 @@
+-- What rulesets and formats a configuration says.
+use Rattle.std.specs.Prelude.{ℕ, ◌==◌, ◌&&◌, ◌||◌, Bool, true, not, List, [], ◌∷◌, length, codes, position, is_some, bytes_eq, Result, Ok, Err, nat_le}
+use Rattle.std.specs.List.{list_any, list_all}
+use Rattle.std.specs.Str.{chars}
+use Rattle.serde_json.specs.Data.{Data}
+use Rattle.ps_base.specs.Ids.{id_of}
+use Rattle.ps_data.specs.declared.fault.DataKind.{DataKind}
+use Rattle.ps_data.specs.declared.fault.DataKind.TheVariants.{Range, Unknown, Repeat}
+use Rattle.ps_data.specs.declared.fault.Fault.{Fault}
+use Rattle.ps_data.specs.Paths.{Index}
+use Rattle.ps_data.specs.Reading.{◌>>=◌, refuse, under, ensure, required, optional}
+use Rattle.ps_data.specs.Forms.{object_in, text_in, boolean_in, number_in, array_in}
+use Rattle.ps_data.specs.Lists.{each, entries_at}
+use Rattle.ps_dex.specs.declared.row.Tables.{Tables}
+use Rattle.ps_dex.specs.Lookups.{species_of, move_of}
+use Rattle.ps_rules.specs.declared.row.Rule.{Rule}
+use Rattle.ps_rules.specs.declared.row.Ruleset.{Ruleset}
+use Rattle.ps_rules.specs.declared.row.Format.{Format}
+use Rattle.ps_rules.specs.declared.row.RuleTable.{RuleTable}
+use Rattle.ps_rules.specs.declared.row.Said.{Said}
+use Rattle.ps_rules.specs.declared.name.Named.{Named}
+use Rattle.ps_rules.specs.declared.fault.RuleFault.{RuleFault}
+use Rattle.ps_rules.specs.declared.fault.RuleFault.TheVariants as rule_faults
+use Rattle.ps_rules.specs.Rules.{rule_of}
+use Rattle.ps_rules.specs.Walk.{clauses_of}
+
+-- ---- rulesets
+
+abbrev pub rule_in : Data → Result Rule Fault
+rule_in d = text_in d >>= λ text. Ok (rule_of text)
+
+-- a list of rule texts; what they name is looked up where the list is walked
+unfoldable pub rules_in : Data → Result (List Rule) Fault
+rules_in d = do
+  items ← array_in d
+  each (λ before after. rule_in) [] items
+
+unfoldable pub has_set : List ℕ → List Ruleset → Bool
+has_set id sets = is_some (position (λ s. bytes_eq s.id id) sets)
+
+-- the id of a key: not empty, and not that of a key before it
+unfoldable pub set_id_in : List Ruleset → List ℕ → Result (List ℕ) Fault
+set_id_in before key = do
+  _ ← ensure Range (not (length (id_of key) == 0))
+  _ ← ensure Repeat (not (has_set (id_of key) before))
+  Ok (id_of key)
+
+-- the key is tested before the value
+unfoldable pub ruleset_in : List Ruleset → List ℕ → Data → Result Ruleset Fault
+ruleset_in before key d = do
+  id ← set_id_in before key
+  rules ← rules_in d
+  Ok (record { id = id; rules = rules })
+
+-- ---- the name of a format
+
+-- no control character below the space, and no bar
+abbrev pub is_name_char : ℕ → Bool
+is_name_char c = nat_le 32 c && not (c == 124)
+
+unfoldable pub are_name_chars : List ℕ → Bool
+are_name_chars cs = list_all is_name_char cs
+
+-- such characters, at most 32, with an id that isn't empty, so at least one
+unfoldable pub is_name : List ℕ → List ℕ → Bool
+is_name cs id = are_name_chars cs && nat_le (length cs) 32 && not (length id == 0)
+
+unfoldable pub has_format : List ℕ → List Format → Bool
+has_format id formats = is_some (position (λ f. bytes_eq f.id id) formats)
+
+-- a name and its id, which no format before has
+unfoldable pub name_in : List Format → Data → Result Named Fault
+name_in before d = do
+  text ← text_in d
+  _ ← ensure Range (is_name (chars text) (id_of text))
+  _ ← ensure Repeat (not (has_format (id_of text) before))
+  Ok (record { name = text; id = id_of text })
+
+-- ---- the rules of a format
+
+-- the kind under which a configuration tells the first fault of a walk, which is never want of memory
+abbrev pub kind_of : RuleFault → DataKind
+kind_of (rule_faults.UnknownRule id) = Unknown
+kind_of (rule_faults.Cycle id) = Repeat
+kind_of (rule_faults.Contradiction id) = Range
+kind_of rule_faults.NoMemory = Unknown
+
+abbrev pub or_kind : Result ℕ RuleFault → Result ℕ Fault
+or_kind (Ok clauses) = Ok clauses
+or_kind (Err fault) = refuse (kind_of fault)
+
+-- the clauses that a format's rule list leaves on, or a fault of the list as a whole
+unfoldable pub clauses_in : List Ruleset → Data → Result ℕ Fault
+clauses_in sets d = do
+  rules ← rules_in d
+  or_kind (clauses_of sets rules)
+
+-- ---- bans: ids of species or moves or aliases of them, none of them twice
+
+unfoldable pub has_ban : List ℕ → List (List ℕ) → Bool
+has_ban id bans = list_any (λ b. bytes_eq b id) bans
+
+-- a species or a move
+abbrev pub is_known : List ℕ → Tables → Bool
+is_known id dex = is_some (species_of id dex) || is_some (move_of id dex)
+
+unfoldable pub ban_in : Tables → List (List ℕ) → Data → Result (List ℕ) Fault
+ban_in dex before d = do
+  text ← text_in d
+  _ ← ensure Unknown (is_known (id_of text) dex)
+  _ ← ensure Repeat (not (has_ban (id_of text) before))
+  Ok (id_of text)
+
+unfoldable pub bans_in : Tables → Data → Result (List (List ℕ)) Fault
+bans_in dex d = do
+  items ← array_in d
+  each (λ before after. ban_in dex before) [] items
+
+-- ---- levels: the least and the greatest, each 1 to 100
+
+abbrev pub level_in : ℕ → Data → Result ℕ Fault
+level_in place d = under (Index place) (number_in 1 100 d)
+
+unfoldable pub two_levels_in : Data → Data → Result (List ℕ) Fault
+two_levels_in a b = do
+  low ← level_in 0 a
+  high ← level_in 1 b
+  Ok (low ∷ high ∷ [])
+
+abbrev pub levels_of : List Data → Result (List ℕ) Fault
+levels_of [] = refuse Range
+levels_of (a ∷ []) = refuse Range
+levels_of (a ∷ b ∷ []) = two_levels_in a b
+levels_of (a ∷ b ∷ c ∷ more) = refuse Range
+
+unfoldable pub levels_in : Data → Result (List ℕ) Fault
+levels_in d = do
+  items ← array_in d
+  levels_of items
+
+-- ---- a format, and all of them
+
+-- The keys behind the name, in their order. Without `rules` HP Percentage Mod alone is on, as with an empty list.
+unfoldable pub table_in : List Ruleset → Tables → Data → Result RuleTable Fault
+table_in sets dex d = do
+  clauses ← optional (codes "rules") 64 (clauses_in sets) d
+  bans ← optional (codes "bans") [] (bans_in dex) d
+  least ← optional (codes "min") 1 (number_in 1 6) d
+  most ← optional (codes "max") 6 (number_in 1 6) d
+  levels ← optional (codes "levels") (1 ∷ 100 ∷ []) levels_in d
+  rated ← optional (codes "rated") true boolean_in d
+  Ok (record { clauses = clauses; bans = bans; min = least; max = most; levels = levels; rated = rated })
+
+unfoldable pub format_in : List Ruleset → Tables → List Format → Data → Result Format Fault
+format_in sets dex before d = do
+  _ ← object_in d
+  named ← required (codes "name") (name_in before) d
+  table ← table_in sets dex d
+  Ok (record { name = named.name; id = named.id; table = table })
+
+unfoldable pub formats_in : List Ruleset → Tables → Data → Result (List Format) Fault
+formats_in sets dex d = do
+  items ← array_in d
+  each (λ before after. format_in sets dex before) [] items
+
+-- the two keys of a configuration, each of which may be missing
+unfoldable pub said_in : Tables → Data → Result Said Fault
+said_in dex d = do
+  _ ← object_in d
+  rulesets ← entries_at (codes "rulesets") ruleset_in d
+  formats ← optional (codes "formats") [] (formats_in rulesets dex) d
+  Ok (record { rulesets = rulesets; formats = formats })

@@ -1,0 +1,18 @@
+-- Rule texts and rulesets.
+use Rattle.std.specs.Prelude.{ℕ, ◌==◌, Bool, false, List, [], ◌∷◌, position, Option, bytes_eq}
+use Rattle.ps_base.specs.Ids.{id_of}
+use Rattle.ps_rules.specs.declared.row.Rule.{Rule}
+use Rattle.ps_rules.specs.declared.row.Ruleset.{Ruleset}
+
+-- `!` stands at the front
+abbrev pub begins_so : List ℕ → Bool
+begins_so [] = false
+begins_so (b ∷ text) = b == 33
+
+-- a text names the id of what follows an optional `!`; an id has no `!` in it anyway
+abbrev pub rule_of : List ℕ → Rule
+rule_of text = record { id = id_of text; repeals = begins_so text }
+
+-- the place of the ruleset with an id
+unfoldable pub place_of : List ℕ → List Ruleset → Option ℕ
+place_of id sets = position (λ s. bytes_eq s.id id) sets

@@ -1,0 +1,13 @@
+//! Formats, and the clauses that their rule lists leave on.
+#![tactic(auto)]
+
+pub mod clause;
+pub mod fault;
+pub mod formats;
+mod list;
+mod name;
+mod read;
+pub mod row;
+mod walk;
+
+pub use ps_data::fault::DataKind;

@@ -1,0 +1,78 @@
+//! What a configuration says of rules.
+ghost use Rattle.std.specs.Prelude.{◌≡◌};
+
+use ps_base::id::Id;
+use ps_base::list::List;
+use ps_base::text::Text;
+use ps_data::ids::HasId;
+
+/// A rule text, as `!sleepclausemod`.
+#[derive(Debug, Drop)]
+pub struct Rule {
+    /// The id of the text.
+    pub id: Id,
+    /// Whether `!` stands before it, so that it repeals the clause.
+    pub repeals: bool,
+}
+
+/// A rule list with an id, by which other lists name it.
+#[derive(Debug, Drop)]
+pub struct Ruleset {
+    /// The id.
+    pub id: Id,
+    /// Its rule texts, in order.
+    pub rules: List<Rule>,
+}
+
+impl HasId for Ruleset {
+    ghost id_of = { λ s. s.id };
+
+    fn id(&self) -> &str {
+        self.id.as_str()
+    }
+}
+
+/// What is played under a format.
+#[derive(Debug, Drop)]
+pub struct RuleTable {
+    /// The clauses that are on, each by its bit (`Clause::bit`).
+    pub clauses: u8,
+    /// The ids of the banned species and moves; an id that is both bans both.
+    pub bans: List<Id>,
+    /// The least number of members, 1 to 6.
+    pub min: u8,
+    /// The greatest number of members, 1 to 6.
+    pub max: u8,
+    /// The least and the greatest level, each 1 to 100.
+    pub levels: [u8; 2],
+    /// Whether its battles count for ratings.
+    pub rated: bool,
+}
+
+/// A format.
+#[derive(Debug, Drop)]
+pub struct Format {
+    /// The name for people: 1 to 32 characters without `|` and control characters.
+    pub name: Text,
+    /// The id of the name.
+    pub id: Id,
+    /// What is played under it.
+    pub table: RuleTable,
+}
+
+impl HasId for Format {
+    ghost id_of = { λ f. f.id };
+
+    fn id(&self) -> &str {
+        self.id.as_str()
+    }
+}
+
+/// The rulesets and the formats of a configuration.
+#[derive(Debug, Drop)]
+pub struct Said {
+    /// The rulesets, in byte order of their keys.
+    pub rulesets: List<Ruleset>,
+    /// The formats, in order.
+    pub formats: List<Format>,
+}
