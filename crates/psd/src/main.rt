@@ -16,6 +16,8 @@ mod chat_tests;
 #[cfg(test)]
 mod dex_tests;
 #[cfg(test)]
+mod rules_tests;
+#[cfg(test)]
 mod tests;
 
 const HELP: &str = "\
