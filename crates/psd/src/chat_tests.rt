@@ -26,7 +26,10 @@ const WHO: [(&str, u8); 6] = [
 
 /// A connection, a moment, a text, and what it gives: the line of its refusal, or its line with who sees
 /// it and whether it is logged. `quit` stands for the end of the connection.
-const LIFE: &[(u32, u64, &str, &str)] = &[
+type Rows = &'static [(u32, u64, &'static str, &'static str)];
+
+/// Joins, texts and mutes.
+const TALK: Rows = &[
     (2, 0, "hi", "|error|[NotMember]"),
     (1, 0, "/join lobby", "All false |j|%Ann"),
     (1, 0, "/join lobby", "|error|[AlreadyMember]"),
@@ -46,6 +49,10 @@ const LIFE: &[(u32, u64, &str, &str)] = &[
     (2, 425, "hi", "|error|[Muted]"),
     (2, 0, "hi", "|error|[Muted]"),
     (1, 425, "/mute bob", "|error|[AlreadyMuted]"),
+];
+
+/// Warnings, announcements and the level of the chat.
+const STAFF: Rows = &[
     (2, 426, "hi", "All true |c:|426| Bob|hi"),
     (1, 426, "/unmute bob", "|error|[NotMuted]"),
     (1, 430, "/mute Bob,", "All true Muted: Bob by %Ann: "),
@@ -60,6 +67,10 @@ const LIFE: &[(u32, u64, &str, &str)] = &[
     (3, 431, "/modchat +", "|error|[SameRank]"),
     (2, 431, "hi", "|error|[Modchat]"),
     (3, 432, "/modchat off", "All true Modchat: off by @Cy"),
+];
+
+/// Bans and room ranks.
+const BANS: Rows = &[
     (3, 432, "/modchat off", "|error|[SameRank]"),
     (2, 432, "/modchat ?", "|error|[NoSuchGroup]"),
     (
@@ -79,6 +90,10 @@ const LIFE: &[(u32, u64, &str, &str)] = &[
     (6, 436, "/join lobby", "All false |j|#Fay"),
     (6, 436, "/roompromote bob, ?", "|error|[NoSuchGroup]"),
     (6, 436, "/roompromote bob, #", "|error|[NotAllowed]"),
+];
+
+/// Ranks in force, and leaving.
+const LEAVING: Rows = &[
     (
         6,
         437,
@@ -157,12 +172,7 @@ fn given(alloc: Global, chat: &mut Chat, conn: u32, moment: u64, text: &str) -> 
     told(alloc, chat)
 }
 
-fn play(
-    rt: &impl Abort,
-    alloc: Global,
-    chat: &mut Chat,
-    rows: &[(u32, u64, &str, &str)],
-) -> Result<(), Fail> {
+fn play(rt: &impl Abort, alloc: Global, chat: &mut Chat, rows: Rows) -> Result<(), Fail> {
     for (conn, moment, text, shown) in rows {
         assert!(rt; 0 < *conn);
         let told = given(alloc, chat, *conn, *moment, text)?;
@@ -189,7 +199,10 @@ fn life_of_a_room(rt: HostRuntime) -> Result<(), Fail> {
     let groups = Groups::standard(alloc)?;
     assert_eq!(rt; groups.count(), 6);
     let mut chat = Chat::new(alloc, "Lobby", false, &groups, 3)?;
-    play(&rt, alloc, &mut chat, LIFE)?;
+    play(&rt, alloc, &mut chat, TALK)?;
+    play(&rt, alloc, &mut chat, STAFF)?;
+    play(&rt, alloc, &mut chat, BANS)?;
+    play(&rt, alloc, &mut chat, LEAVING)?;
     let members = members(alloc, &chat)?;
     assert_eq!(rt; members.as_str(), "1 3 3,3 2 2,6 1 1,4 0 0,2 5 2,");
     assert!(rt; chat.member(ConnNo(5)).is_none() && chat.user("eve").is_none());

@@ -4,7 +4,7 @@ use ps_data::fault::DataKind;
 use ps_dex::dex::Dex;
 use ps_dex::fault::DexFault;
 use ps_mon::effect::{Aim, CopyKind, Effect, ScreenKind, Stat};
-use ps_mon::facts::STRUGGLE;
+use ps_mon::facts::{MoveData, STRUGGLE};
 use ps_mon::status::Status;
 use std::alloc::Global;
 use std::process::Abort;
@@ -509,6 +509,79 @@ const SMALL: &str = r#"{
   "aliases": {"haunter": "tackle", "Night-Shade": "tackle", "struggle": "haunter", "T": "tackle"}
 }"#;
 
+/// Ids, with the numbers of the species and of the move that they name.
+const NUMBERS: [(&str, Option<u16>, Option<u16>); 7] = [
+    ("haunter", Some(0), None),
+    ("tackle", Some(1), Some(0)),
+    ("nightshade", None, Some(1)),
+    ("struggle", Some(0), None),
+    ("t", Some(1), Some(0)),
+    ("u", None, None),
+    ("", None, None),
+];
+
+fn look_up(rt: &impl Abort, alloc: Global, dex: &Dex) -> Result<(), Fail> {
+    for (text, species, mv) in &NUMBERS {
+        let id = to_id(alloc, text)?;
+        assert_eq!(rt; dex.species(&id), *species);
+        assert_eq!(rt; dex.move_of(&id), *mv);
+    }
+    Ok(())
+}
+
+/// Pairs of a species and a move, and whether it learns the move.
+const LEARNS: [(u16, u16, bool); 4] = [(0, 1, true), (0, 0, false), (1, 1, false), (2, 1, false)];
+
+fn look_at_rows(rt: &impl Abort, dex: &Dex) {
+    for (species, mv, does) in &LEARNS {
+        assert_eq!(rt; dex.learns(*species, *mv), *does);
+    }
+    assert_eq!(rt; dex.move_name(1), "Night Shade");
+    assert_eq!(rt; dex.move_name(STRUGGLE), "Struggle");
+    assert_eq!(rt; dex.types().len(), 2);
+    match dex.all_species() {
+        [haunter, tackle] => {
+            assert!(rt; haunter.types == [1, 1] && tackle.types == [1, 0]);
+            assert!(rt; tackle.stats == [1, 2, 3, 4, 255]);
+        }
+        _ => assert!(rt; false),
+    }
+}
+
+/// The moves of the small dex in numbers.
+const MOVES_IN_NUMBERS: [MoveData; 2] = [
+    MoveData {
+        kind: 0,
+        special: false,
+        contact: true,
+        power: 35,
+        accuracy: 95,
+        pp: 56,
+        priority: 0,
+        high: false,
+        effect: Effect::Plain,
+    },
+    MoveData {
+        kind: 1,
+        special: true,
+        contact: false,
+        power: 0,
+        accuracy: 100,
+        pp: 24,
+        priority: -1,
+        high: true,
+        effect: Effect::Level,
+    },
+];
+
+fn look_at_facts(rt: &impl Abort, dex: &Dex) {
+    assert!(rt; dex.factor(1, 0) == 0 && dex.factor(0, 1) == 10);
+    let facts = dex.facts();
+    assert!(rt; facts.factors[1][1] == 20 && facts.factors[31][31] == 10);
+    assert!(rt; facts.moves == MOVES_IN_NUMBERS.as_slice());
+    assert!(rt; facts.struggle.contact && !facts.struggle.special);
+}
+
 #[test]
 fn a_small_dex(rt: HostRuntime) -> Result<(), Fail> {
     let alloc = rt.alloc();
@@ -516,37 +589,10 @@ fn a_small_dex(rt: HostRuntime) -> Result<(), Fail> {
     read_effects(&rt, alloc, OTHERS)?;
     read_effects(&rt, alloc, COPIES)?;
     let dex = Dex::read(alloc, SMALL.as_bytes()).expect(&rt, "a dex");
-    let numbers = [
-        ("haunter", Some(0), None),
-        ("tackle", Some(1), Some(0)),
-        ("nightshade", None, Some(1)),
-        ("struggle", Some(0), None),
-        ("t", Some(1), Some(0)),
-        ("u", None, None),
-        ("", None, None),
-    ];
-    for (text, species, mv) in &numbers {
-        let id = to_id(alloc, text)?;
-        assert_eq!(rt; dex.species(&id), *species);
-        assert_eq!(rt; dex.move_of(&id), *mv);
-    }
-    assert!(rt; dex.learns(0, 1) && !dex.learns(0, 0) && !dex.learns(1, 1) && !dex.learns(2, 1));
-    assert!(rt; dex.factor(1, 0) == 0 && dex.factor(0, 1) == 10 && dex.factor(1, 1) == 20);
-    let facts = dex.facts();
-    assert!(rt; facts.factors[1][1] == 20 && facts.factors[31][31] == 10 && facts.struggle.contact);
-    assert_eq!(rt; facts.moves.len(), 2);
-    let first = facts.moves[0];
-    assert!(rt; first.contact && !first.special && !first.high && first.effect == Effect::Plain);
-    let second = facts.moves[1];
-    assert!(rt; !second.contact && second.special && second.high && second.priority == -1);
-    assert_eq!(rt; dex.move_name(1), "Night Shade");
-    assert_eq!(rt; dex.move_name(STRUGGLE), "Struggle");
-    assert_eq!(rt; dex.types().len(), 2);
-    let all = dex.all_species();
-    assert!(rt; all.len() == 2 && all[0].types == [1, 1] && all[1].types == [1, 0]);
-    assert_eq!(rt; all[1].stats[4], 255);
+    look_up(&rt, alloc, &dex)?;
+    look_at_rows(&rt, &dex);
+    look_at_facts(&rt, &dex);
     let none = Dex::empty(alloc);
     assert!(rt; none.facts().moves.is_empty() && none.factor(0, 0) == 10);
-    assert!(rt; !none.facts().struggle.contact && none.types().is_empty());
     Ok(())
 }
