@@ -12,8 +12,6 @@ use std::{env, io};
 #[cfg(test)]
 mod calc_tests;
 #[cfg(test)]
-mod chat_tests;
-#[cfg(test)]
 mod dex_tests;
 #[cfg(test)]
 mod rules_tests;
