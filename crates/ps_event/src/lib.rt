@@ -2,5 +2,9 @@
 #![tactic(auto)]
 
 pub mod audience;
+pub mod event;
 pub mod line;
+pub mod numbers;
+pub mod place;
 pub mod side;
+pub mod table;

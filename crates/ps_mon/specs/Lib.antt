@@ -1,1 +1,12 @@
 pub mod Facts
+pub mod Reading
+pub mod Slots
+pub mod Moves
+pub mod Valid
+pub mod Known
+pub mod Teams
+pub mod Choices
+pub mod Keeping
+pub mod Duels
+pub mod Spending
+pub mod Switching

@@ -10,6 +10,8 @@ use std::process::ExitCode;
 use std::{env, io};
 
 #[cfg(test)]
+mod battle_tests;
+#[cfg(test)]
 mod calc_tests;
 #[cfg(test)]
 mod dex_tests;
@@ -43,6 +45,14 @@ psd 0.1.0
 rattle-kit-13f logic dac8208d650f15bf
 ";
 
+/// Why there are no words: memory was refused, or one of them isn't UTF-8.
+fn no_words(why: &io::Error) -> Status {
+    match why.kind() {
+        io::ErrorKind::OutOfMemory => Status::NoMemory,
+        _ => Status::Usage { word: 0 },
+    }
+}
+
 fn words(rt: &HostRuntime) -> io::Result<Vec<String>> {
     let mut words = Vec::new(rt.alloc());
     for word in env::args(rt)?.skip(1) {
@@ -74,8 +84,7 @@ fn status_of(rt: &HostRuntime, words: &[String]) -> Status {
 
 fn main(rt: HostRuntime) -> ExitCode {
     let status = match words(&rt) {
-        // Words that aren't UTF-8.
-        Err(_) => Status::Usage { word: 0 },
+        Err(why) => no_words(&why),
         Ok(words) => match told(&words) {
             Some(text) => {
                 return match print!(rt; "{text}") {

@@ -1,0 +1,5 @@
+pub mod KeepLemmas
+pub mod ChoiceLemmas
+pub mod CloseLemmas
+pub mod OrderLemmas
+pub mod FirstTurnLemmas

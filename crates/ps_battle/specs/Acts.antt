@@ -1,0 +1,80 @@
+-- An act: whether the member acts, its move, and what it suffers after it. The first and the last are nothing where the member is unhindered; they come with the
+-- statuses, the first at the head of `act`, the last after `used` where both active members stand.
+use Rattle.std.specs.Prelude.{ℕ, Bool, true, false, Some, None, ◌-◌, ◌||◌, ◌==◌, if◌then◌else◌}
+use Rattle.ps_event.specs.declared.event.Event.TheVariants as events
+use Rattle.ps_event.specs.declared.event.Who.{Who}
+use Rattle.ps_mon.specs.declared.record.Battle.{Battle}
+use Rattle.ps_mon.specs.declared.choice.Choice.{Choice}
+use Rattle.ps_mon.specs.declared.choice.Choice.TheVariants as choices
+use Rattle.ps_mon.specs.declared.duel.Duel.{Duel}
+use Rattle.ps_mon.specs.declared.effect.Effect.{Effect}
+use Rattle.ps_mon.specs.declared.effect.Effect.TheVariants as effects
+use Rattle.ps_mon.specs.declared.effect.Aim.{Aim}
+use Rattle.ps_mon.specs.declared.effect.Aim.TheVariants.{User, Foe}
+use Rattle.ps_mon.specs.declared.effect.CopyKind.{CopyKind}
+use Rattle.ps_mon.specs.declared.effect.CopyKind.TheVariants as copies
+use Rattle.ps_mon.specs.declared.facts.Facts.{Facts}
+use Rattle.ps_mon.specs.Reading.{side_of, active_of}
+use Rattle.ps_mon.specs.Moves.{move_of, struggle_number}
+use Rattle.ps_mon.specs.Spending.{after_use}
+use Rattle.ps_hits.specs.Scenes.{Play, ◌>>=◌, ◌>>◌, look, tell, change}
+use Rattle.ps_hits.specs.Courses.{Course, played}
+use Rattle.ps_hits.specs.Told.{who_of}
+use Rattle.ps_battle.specs.Effects.{effect}
+use Rattle.ps_battle.specs.Chosen.{chosen_slot}
+
+abbrev pub is_user : Aim → Bool
+is_user User = true
+is_user Foe = false
+
+abbrev pub is_conversion : CopyKind → Bool
+is_conversion copies.Conversion = true
+is_conversion other = false
+
+-- whether a kind is aimed at its user
+abbrev pub is_for_user : Effect → Bool
+is_for_user (effects.Boost who stat by chance) = is_user who
+is_for_user (effects.Copy sub) = is_conversion sub
+is_for_user effects.Haze = true
+is_for_user effects.Heal = true
+is_for_user effects.Rest = true
+is_for_user (effects.Screen which) = true
+is_for_user effects.Mist = true
+is_for_user effects.Focus = true
+is_for_user effects.Substitute = true
+is_for_user effects.Nothing = true
+is_for_user other = false
+
+abbrev pub target_of : Effect → Duel → Who
+target_of kind d = if is_for_user kind then who_of d.user else who_of d.foe
+
+-- Move is told, and the move is the last one of its user
+unfoldable pub named_row : Facts → ℕ → Play (Unit {0})
+named_row facts mv = do
+  change (λ d. record d { user = record d.user { vol = record d.user.vol { last = Some mv } } })
+  d ← look
+  tell (events.Move (who_of d.user) mv (target_of (move_of facts mv).effect d) false None)
+
+-- a move and its effect
+unfoldable pub used : Facts → ℕ → ℕ → Course → Course
+used facts user mv c = effect (move_of facts mv).effect facts mv user (played (named_row facts mv) user c)
+
+-- an act of a side: a move takes PP from its slot, Struggle from none; a switch is no act
+unfoldable pub act : Facts → ℕ → Choice → Course → Course
+act facts user (choices.Move n) c =
+    used facts user (chosen_slot (side_of c.battle user) n) (record c { battle = after_use c.battle user (n - 1) })
+act facts user choices.Struggle c = used facts user struggle_number c
+act facts user choice c = c
+
+-- whether an active member has fainted
+unfoldable pub is_down : Battle → ℕ → Bool
+is_down b s = (active_of (side_of b s)).hp == 0
+
+unfoldable pub has_faint : Battle → Bool
+has_faint b = is_down b 0 || is_down b 1
+
+-- two acts, the second only where nobody fainted in the first
+unfoldable pub two_acts : Facts → ℕ → Choice → ℕ → Choice → Course → Course
+two_acts facts s first t second c =
+    let one = act facts s first c in
+    if has_faint one.battle then one else act facts t second one

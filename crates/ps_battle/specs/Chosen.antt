@@ -1,0 +1,74 @@
+-- Which move a choice uses, and what a commit wants of it until all kinds of effects are built.
+use Rattle.std.specs.Prelude.{◌≡◌, ℕ, ℤ, pos, Bool, true, false, Option, Some, None, ◌-◌}
+use Rattle.ps_mon.specs.declared.choice.Choice.{Choice}
+use Rattle.ps_mon.specs.declared.choice.Choice.TheVariants as choices
+use Rattle.ps_mon.specs.declared.facts.Facts.{Facts}
+use Rattle.ps_mon.specs.declared.record.Lock.{Lock}
+use Rattle.ps_mon.specs.declared.record.SideState.{SideState}
+use Rattle.ps_mon.specs.declared.record.Volatiles.{Volatiles}
+use Rattle.ps_mon.specs.declared.team.Member.{Member}
+use Rattle.ps_mon.specs.declared.status.Status.TheVariants.{Healthy}
+use Rattle.ps_mon.specs.Reading.{active_of}
+use Rattle.ps_mon.specs.Slots.{slot_now}
+use Rattle.ps_mon.specs.Moves.{move_of, struggle_number}
+use Rattle.ps_mon.specs.Choices.{IsThere}
+use Rattle.ps_battle.specs.Effects.{IsBuiltKind}
+
+-- the choices that are acts; switches are done before
+abbrev pub is_act : Choice → Bool
+is_act (choices.Move n) = true
+is_act choices.Struggle = true
+is_act choices.Continue = true
+is_act choice = false
+
+-- the move in a slot, which counts from 1
+unfoldable pub chosen_slot : SideState → ℕ → ℕ
+chosen_slot side n = (slot_now side (n - 1)).mv
+
+abbrev pub locked_move : Option Lock → Option ℕ
+locked_move None = None
+locked_move (Some lock) = Some lock.mv
+
+-- the move that a choice uses: a Continue goes on with its lock's, and without one it recharges
+unfoldable pub chosen_move : SideState → Choice → Option ℕ
+chosen_move side (choices.Move n) = Some (chosen_slot side n)
+chosen_move side choices.Struggle = Some struggle_number
+chosen_move side choices.Continue = locked_move side.vol.lock
+chosen_move side choice = None
+
+-- that of the move, 0 where there is none
+abbrev pub priority_by : Facts → Option ℕ → ℤ
+priority_by facts None = pos 0
+priority_by facts (Some mv) = (move_of facts mv).priority
+
+unfoldable pub priority_of : Facts → SideState → Choice → ℤ
+priority_of facts side choice = priority_by facts (chosen_move side choice)
+
+-- No line of whether a member acts would keep it from acting, and nothing would hurt it after its act: it has no status, isn't confused or seeded, and
+-- no slot of it is disabled. (Who is held, or is trapped by one who is, has or meets a Continue; flinching ends as the turn begins.)
+pub record IsUnhindered (m : Member) (v : Volatiles) : Type 0 where
+  pub healthy : m.status ≡ Healthy
+  pub clear : v.confusion ≡ 0
+  pub unseeded : v.seeded ≡ false
+  pub enabled : v.disabled ≡ None
+
+-- the kind of the chosen move is built; no Continue is
+abbrev pub HasBuiltMove : Facts → SideState → Choice → Type 0
+HasBuiltMove facts side (choices.Move n) = IsBuiltKind (move_of facts (chosen_slot side n)).effect
+HasBuiltMove facts side choices.Continue = ⊥
+HasBuiltMove facts side choice = Unit {0}
+
+-- who acts is unhindered
+abbrev pub IsFree : Bool → SideState → Type 0
+IsFree true side = IsUnhindered (active_of side) side.vol
+IsFree false side = Unit {0}
+
+-- until all kinds are built: what a commit wants of a choice
+pub record IsBuilt (facts : Facts) (side : SideState) (choice : Choice) : Type 0 where
+  pub move : HasBuiltMove facts side choice
+  pub free : IsFree (is_act choice) side
+
+-- the slot or the position is there, and the move's kind is built
+pub record CanAct (facts : Facts) (side : SideState) (choice : Choice) : Type 0 where
+  pub there : IsThere side choice
+  pub move : HasBuiltMove facts side choice

@@ -1,0 +1,54 @@
+-- The opening of a battle, and its end by a forfeit.
+use Rattle.std.specs.Prelude.{ℕ, List, [], ◌∷◌, ◌++◌, ◌-◌, ◌==◌, bit_and, slice_index_or, if◌then◌else◌}
+use Rattle.ps_event.specs.declared.event.Event.{Event}
+use Rattle.ps_event.specs.declared.event.Event.TheVariants as events
+use Rattle.ps_event.specs.declared.side.Side.TheVariants.{P1, P2}
+use Rattle.ps_mon.specs.declared.record.Battle.{Battle}
+use Rattle.ps_mon.specs.declared.record.Phase.TheVariants as phases
+use Rattle.ps_mon.specs.declared.team.BattleTeam.{BattleTeam}
+use Rattle.ps_mon.specs.Reading.{side_of}
+use Rattle.ps_mon.specs.Teams.{opened}
+use Rattle.ps_hits.specs.Courses.{Course}
+use Rattle.ps_hits.specs.Told.{side_name}
+use Rattle.ps_battle.specs.Switches.{switch_event}
+use Rattle.ps_battle.specs.Closings.{asks, enter}
+
+abbrev pub no_team : BattleTeam
+no_team = record { members = []; count = 0 }
+
+abbrev pub team_of : List BattleTeam → ℕ → BattleTeam
+team_of teams s = slice_index_or teams s no_team
+
+-- a clause is told where its bit is on
+unfoldable pub rule : ℕ → ℕ → ℕ → List Event → List Event
+rule clauses bit clause told = if bit_and clauses bit == 0 then told else told ++ events.Rule clause ∷ []
+
+-- each clause that is on, in the order of the clauses
+unfoldable pub rules : ℕ → List Event → List Event
+rules clauses told =
+    rule clauses 64 6 (rule clauses 32 5 (rule clauses 16 4 (rule clauses 8 3 (rule clauses 4 2 (rule clauses 2 1 (rule clauses 1 0 told))))))
+
+-- the players, their teams and the game
+unfoldable pub heads : ℕ → ℕ → List Event → List Event
+heads one two told =
+    told ++ events.Player P1 ∷ events.Player P2 ∷ events.TeamSize P1 one ∷ events.TeamSize P2 two ∷ events.GameType ∷ events.Gen ∷ events.Tier ∷ []
+
+-- the battle before anything is told: the first members are active in turn 1
+unfoldable pub fresh_battle : List BattleTeam → ℕ → ℕ → Battle
+fresh_battle teams clauses seed =
+    record { sides = opened (team_of teams 0) ∷ opened (team_of teams 1) ∷ []; turn = 1; phase = phases.Turn; clauses = clauses; rng = seed }
+
+-- the opening rows, Start, both switches, the first turn, and a request for each side
+unfoldable pub opening : Battle → List Event → List Event
+opening b told =
+    rules b.clauses (heads (side_of b 0).count (side_of b 1).count told)
+    ++ events.Start ∷ switch_event 0 (side_of b 0) ∷ switch_event 1 (side_of b 1) ∷ events.Turn 1 ∷ asks
+
+abbrev pub open_course : List BattleTeam → ℕ → ℕ → Course
+open_course teams clauses seed =
+    let b = fresh_battle teams clauses seed in
+    record { battle = b; told = opening b [] }
+
+-- a side gives up, and the other one wins
+unfoldable pub give_up : ℕ → Course → Course
+give_up s c = enter (phases.Won (1 - s)) (events.Forfeit (side_name s) ∷ events.Win (side_name (1 - s)) ∷ []) c

@@ -1,0 +1,55 @@
+//! What each kind of effect does.
+ghost use Rattle.std.specs.Prelude.{◌≡◌, ◌≤◌, ◌<◌, ◌+◌, ℕ};
+ghost use Rattle.arrayvec.specs.ArrayVec.{array_vec_len};
+ghost use Rattle.ps_mon.specs.Facts.{AreFair};
+ghost use Rattle.ps_mon.specs.Keeping.{Keeps};
+ghost use Rattle.ps_mon.specs.Known.{AreKnown};
+ghost use Rattle.ps_mon.specs.Moves.{IsNamed, move_of};
+ghost use Rattle.ps_mon.specs.Valid.{IsSound};
+ghost use Rattle.ps_hits.specs.Courses.{course};
+ghost use Rattle.ps_battle.specs.Effects.{IsBuiltKind, effect};
+
+use ps_event::event::Events;
+use ps_hits::amounts::{fixed, half, level, ohko, psywave};
+use ps_hits::hits::{explode, plain};
+use ps_hits::shares::{crash, drain, dreameater, recoil};
+use ps_mon::effect::Effect;
+use ps_mon::facts::Facts;
+use ps_mon::moves::move_data;
+use ps_mon::record::Battle;
+
+/// The effect of a move that a side uses.
+#[tactic(auto, unfolding(crate::specs::Effects::effect))]
+pub(crate) fn take_effect(
+    battle: &mut Battle,
+    facts: Facts<'_>,
+    user: u8,
+    mv: u16,
+    out: &mut Events,
+)
+    requires sound { IsSound battle.old }
+    requires fair { AreFair facts }
+    requires user { user < 2 }
+    requires built { IsBuiltKind (move_of facts mv).effect }
+    requires room { array_vec_len out.old + 20 ≤ 160 }
+    ensures effect { course battle.new out.new ≡ effect (move_of facts.entry mv).effect facts.entry mv user (course battle.old out.old) }
+    ensures sound { IsSound battle.new }
+    ensures known { (moves : ℕ) → IsNamed moves mv → AreKnown moves battle.old → AreKnown moves battle.new }
+    ensures kept { Keeps user battle.old battle.new }
+    ensures room { array_vec_len out.new ≤ array_vec_len out.old + 20 }
+{
+    match move_data(facts, mv).effect {
+        Effect::Plain => plain(battle, facts, user, mv, out),
+        Effect::Fixed { .. } => fixed(battle, facts, user, mv, out),
+        Effect::Level => level(battle, facts, user, mv, out),
+        Effect::Half => half(battle, facts, user, mv, out),
+        Effect::Psywave => psywave(battle, facts, user, mv, out),
+        Effect::Ohko => ohko(battle, facts, user, mv, out),
+        Effect::Drain => drain(battle, facts, user, mv, out),
+        Effect::DreamEater => dreameater(battle, facts, user, mv, out),
+        Effect::Recoil { .. } => recoil(battle, facts, user, mv, out),
+        Effect::Crash => crash(battle, facts, user, mv, out),
+        Effect::Explode => explode(battle, facts, user, mv, out),
+        _ => unreachable!(),
+    }
+}

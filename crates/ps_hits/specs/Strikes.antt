@@ -1,0 +1,159 @@
+-- A strike, step by step.
+use Rattle.std.specs.Prelude.{ℕ, pos, ◌+ℤ◌, int_lt, Option, Some, None, Bool, true, false, ◌+◌, ◌-◌, ◌*◌, ◌/◌, ◌&&◌, ◌||◌, min, max, nat_lt, ◌==◌, List, slice_index, if◌then◌else◌}
+use Rattle.ps_event.specs.declared.event.Event.TheVariants as events
+use Rattle.ps_event.specs.Numbers as numbers
+use Rattle.ps_calc.specs.Damage.{damage_of}
+use Rattle.ps_calc.specs.declared.formula.Hit.{Hit as Numbers}
+use Rattle.ps_calc.specs.Chances.{accuracy_byte_of, crit_byte_of}
+use Rattle.ps_mon.specs.declared.facts.Facts.{Facts}
+use Rattle.ps_mon.specs.declared.record.Lock.{Lock}
+use Rattle.ps_mon.specs.declared.record.LockKind.{LockKind}
+use Rattle.ps_mon.specs.declared.record.LockKind.TheVariants.{Bide}
+use Rattle.ps_mon.specs.declared.record.Taken.{Taken}
+use Rattle.ps_mon.specs.declared.duel.Fighter.{Fighter}
+use Rattle.ps_mon.specs.declared.duel.Duel.{Duel}
+use Rattle.ps_mon.specs.Moves.{move_of, move_factors}
+use Rattle.ps_hits.specs.declared.strike.Blow.{Blow}
+use Rattle.ps_hits.specs.declared.strike.Dealt.{Dealt}
+use Rattle.ps_hits.specs.declared.strike.Struck.{Struck}
+use Rattle.ps_hits.specs.declared.strike.Struck.TheVariants.{NoEffect, Missed, Hit}
+use Rattle.ps_hits.specs.Scenes.{Play, ◌>>=◌, ◌>>◌, give, look, tell, change, choose, draw}
+use Rattle.ps_hits.specs.Told.{who_of, health_of}
+use Rattle.ps_hits.specs.Fighters.{types_now, is_of_type, is_away, rages, attack_of, defence_of, own_attack, own_defence}
+
+-- Deal to a substitute: it loses up to n in the foe's place, and ends at 0
+unfoldable pub deal_to_substitute : ℕ → Play Dealt
+deal_to_substitute n = do
+  d ← look
+  let left = d.foe.vol.substitute - n
+  change (λ d. record d { foe = record d.foe { vol = record d.foe.vol { substitute = left } } })
+  choose (left == 0) (tell (events.VolEnd (who_of d.foe) numbers.effect_substitute)) (tell (events.Activate (who_of d.foe) numbers.effect_substitute None))
+  give (record { damage = n; amount = min n d.foe.vol.substitute; own = false; ended = left == 0 })
+
+-- the damage taken in this turn, where health was lost
+unfoldable pub taken_after : ℕ → ℕ → Option Taken → Option Taken
+taken_after mv lost before = if lost == 0 then before else Some (record { damage = lost; mv = mv })
+
+-- Bide stores the health that its user loses, at most 713
+abbrev pub stored_by : LockKind → ℕ → Lock → Lock
+stored_by Bide lost lock = record lock { stored = min 713 (lock.stored + lost) }
+stored_by kind lost lock = lock
+
+abbrev pub stored_after : ℕ → Option Lock → Option Lock
+stored_after lost None = None
+stored_after lost (Some lock) = Some (stored_by lock.kind lost lock)
+
+-- a fighter that a move has taken health from
+unfoldable pub hurt_by : ℕ → ℕ → Fighter → Fighter
+hurt_by mv lost f = record f { hp = f.hp - lost; vol = record f.vol { taken = taken_after mv lost f.vol.taken; lock = stored_after lost f.vol.lock } }
+
+-- a raging foe's Attack rises by one stage, up to 6
+unfoldable pub enrage : Play (Unit {0})
+enrage = do
+  d ← look
+  choose (int_lt d.foe.vol.stages.atk (pos 6)) (do
+    change (λ d. record d { foe = record d.foe { vol = record d.foe.vol { stages = record d.foe.vol.stages { atk = d.foe.vol.stages.atk +ℤ pos 1 } } } })
+    tell (events.Boost (who_of d.foe) numbers.stat_atk 1))
+      (give tt)
+
+-- a foe that lost health, and rages
+unfoldable pub rage_on : ℕ → Play (Unit {0})
+rage_on lost = do
+  d ← look
+  choose (nat_lt 0 lost && rages d.foe.vol.lock) enrage (give tt)
+
+-- Deal to the foe itself: it loses up to n, faints at 0, and rages on
+unfoldable pub deal_to_foe : ℕ → ℕ → Play Dealt
+deal_to_foe mv n = do
+  d ← look
+  let lost = min n d.foe.hp
+  let foe = hurt_by mv lost d.foe
+  change (λ d. record d { foe = foe })
+  tell (events.Damage (who_of foe) (health_of foe) numbers.from_nothing)
+  choose (foe.hp == 0) (tell (events.Faint (who_of foe))) (give tt)
+  rage_on lost
+  give (record { damage = n; amount = lost; own = nat_lt 0 lost; ended = false })
+
+-- Deal: a substitute loses health in the foe's place
+unfoldable pub deal : ℕ → ℕ → Play Dealt
+deal mv n = do
+  d ← look
+  choose (nat_lt 0 d.foe.vol.substitute) (deal_to_substitute n) (deal_to_foe mv n)
+
+-- the accuracy test: 0 always hits, with no draw; who is away is missed, with no draw; else a draw below the byte hits
+unfoldable pub accuracy_test : ℕ → Play Bool
+accuracy_test percent = do
+  d ← look
+  choose (percent == 0) (give true)
+      (choose (is_away d.foe.vol.lock)
+      (do
+        tell (events.Miss (who_of d.user))
+        give false)
+      (do
+        n ← draw 256
+        choose (nat_lt n (accuracy_byte_of percent d.user.vol.stages.acc d.foe.vol.stages.eva)) (give true)
+            (do
+              tell (events.Miss (who_of d.user))
+              give false)))
+
+-- the defence of a strike, halved where the user explodes, at least 1
+abbrev pub halved : Bool → ℕ → ℕ
+halved half stat = if half then max 1 (stat / 2) else stat
+
+-- the numbers of a hit
+unfoldable pub numbers_of : Duel → Blow → Bool → ℕ → Numbers
+numbers_of d blow crit roll = record {
+  level = d.user.level;
+  power = blow.move_data.power;
+  attack = if crit then own_attack d.user blow.move_data.special else attack_of d.user blow.move_data.special;
+  defence = halved blow.half (if crit then own_defence d.foe blow.move_data.special else defence_of d.foe blow.move_data.special);
+  crit = crit;
+  stab = is_of_type d.user blow.move_data.kind;
+  factors = blow.factors;
+  roll = roll;
+}
+
+-- Super or Resisted, where the product of the factors is over or under one
+unfoldable pub tell_factors : List ℕ → Play (Unit {0})
+tell_factors factors = do
+  d ← look
+  let product = slice_index factors 0 * slice_index factors 1
+  choose (nat_lt 100 product) (tell (events.Super (who_of d.foe)))
+      (choose (nat_lt product 100) (tell (events.Resisted (who_of d.foe))) (give tt))
+
+-- a strike that lands: whether it is critical, the roll, what is told of them, and Deal
+unfoldable pub hit : Blow → Play Dealt
+hit blow = do
+  before ← look
+  c ← draw 256
+  let crit = nat_lt c (crit_byte_of before.user.base_speed blow.move_data.high before.user.vol.focus)
+  r ← draw 39
+  choose crit (tell (events.Crit (who_of before.foe))) (give tt)
+  tell_factors blow.factors
+  deal blow.mv (damage_of (numbers_of before blow crit (217 + r)))
+
+-- a strike: no effect by a factor 0, the accuracy test, and the hit
+unfoldable pub strike : Blow → Play Struck
+strike blow = do
+  d ← look
+  choose (slice_index blow.factors 0 == 0 || slice_index blow.factors 1 == 0)
+      (do
+        tell (events.Immune (who_of d.foe))
+        give NoEffect)
+      (do
+        lands ← accuracy_test blow.move_data.accuracy
+        choose lands
+            (do
+              dealt ← hit blow
+              give (Hit dealt))
+            (give Missed))
+
+-- a move as a strike on a fighter
+unfoldable pub blow_of : Facts → ℕ → Bool → Fighter → Blow
+blow_of facts mv half foe = record { mv = mv; move_data = move_of facts mv; factors = move_factors facts mv (types_now foe); half = half }
+
+-- a move as a strike on the foe
+unfoldable pub strike_with : Facts → ℕ → Bool → Play Struck
+strike_with facts mv half = do
+  d ← look
+  strike (blow_of facts mv half d.foe)

@@ -1,0 +1,158 @@
+//! Turns of a battle on worked rows.
+ghost use Rattle.std.specs.Prelude.{◌≡◌, ◌<◌, ℕ, []};
+ghost use Rattle.ps_mon.specs.Facts.{AreFair};
+ghost use Rattle.ps_mon.specs.Reading.{slot_of, active_of};
+ghost use Rattle.ps_mon.specs.Teams.{IsFresh, IsFreshMember, IsTeamKnown, opened};
+
+use ps_battle::{commit, open};
+use ps_dex::dex::Dex;
+use ps_event::event::{Event, Events, Health, Who};
+use ps_event::side::Side;
+use ps_mon::choice::Choice;
+use ps_mon::effect::Effect;
+use ps_mon::facts::Facts;
+use ps_mon::moves::move_data;
+use ps_mon::record::{Battle, Phase};
+use ps_mon::status::Status;
+use ps_mon::team::{BattleTeam, Member, MoveSlot};
+use std::test::Fail;
+
+/// A dex of one move.
+const DEX: &str = r#"{"types":[{"name":"Normal","special":false}],"moves":[
+{"name":"Body Slam","type":"Normal","power":85,"accuracy":100,"pp":24,"priority":0}]}"#;
+
+const BODY_SLAM: MoveSlot = MoveSlot {
+    mv: 0,
+    pp: 24,
+    max_pp: 24,
+};
+
+const TAUROS: Member = Member {
+    species: 0,
+    level: 100,
+    types: [0, 0],
+    stats: [298, 288, 238, 318],
+    base_speed: 110,
+    hp: 353,
+    max: 353,
+    status: Status::Healthy,
+    counter: 0,
+    rested: false,
+    slots: [BODY_SLAM; 4],
+    slot_count: 1,
+};
+
+const SNORLAX: Member = Member {
+    species: 1,
+    level: 100,
+    types: [0, 0],
+    stats: [318, 228, 228, 158],
+    base_speed: 30,
+    hp: 523,
+    max: 523,
+    status: Status::Healthy,
+    counter: 0,
+    rested: false,
+    slots: [BODY_SLAM; 4],
+    slot_count: 1,
+};
+
+/// A team of one member, whose one move is the first of the dex.
+fn alone(member: Member) -> BattleTeam
+    requires fresh { IsFreshMember member }
+    requires one { member.slot_count ≡ 1 }
+    requires first { (slot_of member 0).mv ≡ 0 }
+    ensures fresh { IsFresh result }
+    ensures known { (moves : ℕ) → 0 < moves → IsTeamKnown moves result }
+    ensures first { (slot_of (active_of (opened result)) 0).mv ≡ 0 }
+{
+    BattleTeam {
+        members: [member; 6],
+        count: 1,
+    }
+}
+
+/// Tauros and the foe use their first moves in turn 1 of the battle with the seed 0; None where the first move of the dex isn't
+/// a plain one.
+fn first_turn(facts: Facts<'_>, foe: BattleTeam, out: &mut Events) -> Option<Battle>
+    requires fair { AreFair facts }
+    requires fresh { IsFresh foe }
+    requires known { (moves : ℕ) → 0 < moves → IsTeamKnown moves foe }
+    requires first { (slot_of (active_of (opened foe)) 0).mv ≡ 0 }
+    requires empty { out.old.items ≡ [] }
+{
+    if facts.moves.is_empty() {
+        return None;
+    }
+    let Effect::Plain = move_data(facts, 0).effect else {
+        return None;
+    };
+    let teams = [alone(TAUROS), foe];
+    let mut battle = open(&teams, 64, 0, &mut Events::new());
+    commit(&mut battle, facts, Choice::Move(1), Choice::Move(1), out);
+    Some(battle)
+}
+
+const ANN: Who = Who {
+    side: Side::P1,
+    member: 0,
+};
+
+const BOB: Who = Who {
+    side: Side::P2,
+    member: 0,
+};
+
+/// The draws of Tauros's act are 0, 113 and 1: a hit, not critical, of 120.
+#[test]
+fn a_plain_move_deals_120(rt: HostRuntime) -> Result<(), Fail> {
+    let dex = Dex::read(rt.alloc(), DEX.as_bytes()).expect(&rt, "a dex");
+    let mut out = Events::new();
+    let battle = first_turn(dex.facts(), alone(SNORLAX), &mut out).expect(&rt, "a plain move");
+    let expected = [
+        Event::Move {
+            who: ANN,
+            mv: 0,
+            target: BOB,
+            still: false,
+            from: None,
+        },
+        Event::Damage {
+            who: BOB,
+            health: Health {
+                hp: 403,
+                max: 523,
+                status: 0,
+            },
+            from: 0,
+        },
+    ];
+    assert!(rt; out.as_slice().starts_with(&expected));
+    assert_eq!(rt;
+        (
+            battle.turn,
+            battle.phase,
+            battle.sides[0].members[0].slots[0].pp
+        ),
+        (2, Phase::Turn, 23)
+    );
+    Ok(())
+}
+
+const DIGLETT: Member = Member {
+    hp: 120,
+    max: 120,
+    ..SNORLAX
+};
+
+/// Who faints doesn't act any more, and a side without a standing member loses.
+#[test]
+fn the_last_member_faints(rt: HostRuntime) -> Result<(), Fail> {
+    let dex = Dex::read(rt.alloc(), DEX.as_bytes()).expect(&rt, "a dex");
+    let mut out = Events::new();
+    let battle = first_turn(dex.facts(), alone(DIGLETT), &mut out).expect(&rt, "a plain move");
+    let expected = [Event::Faint { who: BOB }, Event::Win { side: Side::P1 }];
+    assert!(rt; out.as_slice().ends_with(&expected));
+    assert_eq!(rt; (out.len(), battle.phase), (4, Phase::Won(0)));
+    Ok(())
+}
