@@ -64,13 +64,13 @@ is_text text (Some other) = bytes_eq other text
 unfoldable pub shows : List ℕ → Data → Bool
 shows text d = is_text text (option_and_then as_str (get (codes "symbol") d))
 
--- a group that stands later in the list
+-- a group that stands later in the list, by the text of its symbol as it stands. A text that isn't one character names at
+-- most a group that is a fault itself, further on.
 unfoldable pub lower_in : List Data → Data → Result (Option ℕ) Fault
 lower_in after d = do
   text ← text_in d
-  symbol ← some_or Range (one_character (chars text))
   _ ← ensure Unknown (list_any (shows text) after)
-  Ok (Some symbol)
+  Ok (one_character (chars text))
 
 -- only the last group may inherit none
 unfoldable pub inherit_in : List Data → Data → Result (Option ℕ) Fault

@@ -136,9 +136,8 @@ fn lower(alloc: Global, after: &[Value], value: &Value) -> Result<Option<char>, 
     ensures { Gives result (lower_in (map view after.now) (view value.now)) }
 {
     let text = text(alloc, value)?;
-    let symbol = found(alloc, one_character(alloc, text)?, DataKind::Range)?;
     ensure(alloc, any_shows(text, after), DataKind::Unknown)?;
-    Ok(Some(symbol))
+    Ok(one_character(alloc, text)?)
 }
 
 /// Only the last group may inherit none.

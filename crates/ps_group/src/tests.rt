@@ -92,6 +92,12 @@ const ROWS: [(&str, &str, u32, DataKind); 24] = [
         r#"[{"symbol":"+","id":"v","name":"","inherit":""},{"symbol":" ","id":"u","name":""}]"#,
         "[0].inherit",
         0,
+        DataKind::Unknown,
+    ),
+    (
+        r#"[{"symbol":"+","id":"v","name":"","inherit":"xy"},{"symbol":"xy"}]"#,
+        "[1].symbol",
+        1,
         DataKind::Range,
     ),
     (
