@@ -6,6 +6,10 @@ use Rattle.ps_rules.specs.declared.row.Said.{Said}
 use Rattle.ps_rules.specs.declared.fault.RuleFault.{RuleFault}
 use Rattle.ps_rules.specs.Walk.{◌>>>◌, clauses_of}
 
+-- what a configuration without rulesets and formats says
+abbrev pub no_formats : Said
+no_formats = record { rulesets = []; formats = [] }
+
 -- the place of the format with an id
 unfoldable pub format_place : List ℕ → List Format → Option ℕ
 format_place id formats = position (λ f. bytes_eq f.id id) formats

@@ -3,7 +3,7 @@ ghost use Rattle.std.specs.Prelude.{◌≡◌, ◌<◌, length, option_map, IfOk
 ghost use Rattle.serde_json.specs.View.{view};
 ghost use Rattle.ps_data.specs.Reading.{Gives};
 ghost use Rattle.ps_rules.specs.Reading.{said_in};
-ghost use Rattle.ps_rules.specs.Resolve.{format_place, format_of, plain, alone, resolved};
+ghost use Rattle.ps_rules.specs.Resolve.{no_formats, format_place, format_of, plain, alone, resolved};
 ghost use Rattle.ps_rules.specs.Faults.{GivesFormats, Finds};
 
 use crate::fault::{FormatFault, RuleFault, told};
@@ -97,6 +97,18 @@ fn alone(alloc: Global, said: &Said, id: &Id) -> Result<RuleTable, RuleFault>
 }
 
 impl Formats {
+    /// No ruleset and no format, as where a configuration names none. Takes no memory.
+    pub fn none(alloc: Global) -> Formats
+        ensures { result ≡ no_formats }
+    {
+        Formats {
+            said: Said {
+                rulesets: List::from_vec(Vec::new(alloc)),
+                formats: List::from_vec(Vec::new(alloc)),
+            },
+        }
+    }
+
     /// The formats that a configuration's value says: an object with the keys `rulesets` and
     /// `formats`, each of which may be missing. A fault has its path from the object on.
     pub fn read(alloc: Global, value: &Value, dex: &Dex) -> Result<Formats, Refusal>

@@ -14,6 +14,10 @@ mod battle_tests;
 #[cfg(test)]
 mod calc_tests;
 #[cfg(test)]
+mod check_tests;
+#[cfg(test)]
+mod config_tests;
+#[cfg(test)]
 mod dex_tests;
 #[cfg(test)]
 mod rules_tests;

@@ -1,0 +1,227 @@
+//! Configurations: the first faults of faulty ones, what good ones say, and the seeds of battles.
+use ps_base::id::to_id;
+use ps_dex::dex::Dex;
+use ps_group::group::Perm;
+use ps_rules::formats::resolve;
+use ps_valid::config::Config;
+use ps_valid::fault::ConfigFault;
+use ps_valid::seed::seed_of;
+use std::alloc::{AllocError, Global};
+use std::process::Abort;
+use std::test::Fail;
+
+/// Configurations, and what is told of each.
+type Rows = &'static [(&'static str, &'static str)];
+
+/// Whole files, `staff` and the order of the keys.
+const FILES: Rows = &[
+    ("", " Json"),
+    ("{} x", " Json"),
+    ("[]", " Shape"),
+    (r#"{"groups":{}}"#, "groups Shape"),
+    (r#"{"groups":[]}"#, "groups Range"),
+    (r#"{"staff":5,"groups":[5]}"#, "groups[0] Shape"),
+    (
+        r#"{"groups":[{"symbol":" ","id":"user","name":"","permissions":{"warn":"x"}}]}"#,
+        "groups[0].permissions.warn Range",
+    ),
+    (
+        r#"{"groups":[{"symbol":" ","id":"user","name":""}]}"#,
+        "staff Unknown",
+    ),
+    (r#"{"staff":null}"#, "staff Shape"),
+    (r#"{"staff":""}"#, "staff Unknown"),
+    (r#"{"staff":"%%"}"#, "staff Unknown"),
+    (r#"{"staff":"*","rooms":5}"#, "staff Unknown"),
+    (r#"{"rooms":5,"users":5}"#, "rooms Shape"),
+    (r#"{"users":5,"rulesets":5}"#, "users Shape"),
+    (r#"{"rulesets":5,"formats":5}"#, "rulesets Shape"),
+];
+
+/// Faulty rooms.
+const ROOMS: Rows = &[
+    (r#"{"rooms":[]}"#, "rooms Range"),
+    (
+        r#"{"rooms":[0,0,0,0,0,0,0,0,0,0,0,0,0,0,0,0,0]}"#,
+        "rooms Range",
+    ),
+    (r#"{"rooms":["lobby"]}"#, "rooms[0] Shape"),
+    (r#"{"rooms":[{"title":5}]}"#, "rooms[0].id Shape"),
+    (r#"{"rooms":[{"id":""}]}"#, "rooms[0].id Range"),
+    (r#"{"rooms":[{"id":"Lobby"}]}"#, "rooms[0].id Range"),
+    (r#"{"rooms":[{"id":"lobby"}]}"#, "rooms[0].title Shape"),
+    (
+        r#"{"rooms":[{"id":"lobby","title":"a\u001fb"}]}"#,
+        "rooms[0].title Range",
+    ),
+    (
+        r#"{"rooms":[{"id":"a","title":""},{"id":"a"}]}"#,
+        "rooms[1].id Repeat",
+    ),
+];
+
+/// Faulty registered names.
+const USERS: Rows = &[
+    (r#"{"users":[[]]}"#, "users[0] Shape"),
+    (r#"{"users":[{"secret":5}]}"#, "users[0].id Shape"),
+    (r#"{"users":[{"id":"Ann"}]}"#, "users[0].id Range"),
+    (r#"{"users":[{"id":"ann"}]}"#, "users[0].secret Shape"),
+    (
+        r#"{"users":[{"id":"ann","secret":""}]}"#,
+        "users[0].group Shape",
+    ),
+    (
+        r#"{"users":[{"id":"ann","secret":"","group":"mod"}]}"#,
+        "users[0].group Unknown",
+    ),
+    (
+        r#"{"users":[{"id":"ann","secret":"","group":"\u0007"}]}"#,
+        "users[0].group Unknown",
+    ),
+    (
+        r#"{"users":[{"id":"ann","secret":"","group":"*"}]}"#,
+        "users[0].group Unknown",
+    ),
+    (
+        r#"{"users":[{"id":"ann","secret":"","group":"@"},{"id":"ann","secret":5}]}"#,
+        "users[1].id Repeat",
+    ),
+];
+
+/// Faulty formats, nonces and seeds.
+const LATER_KEYS: Rows = &[
+    (r#"{"formats":5,"nonce":5}"#, "formats Shape"),
+    (
+        r#"{"formats":[{"name":"x","rules":["a"]}],"rulesets":{"a":["a"]}}"#,
+        "formats[0].rules Repeat",
+    ),
+    (
+        r#"{"formats":[{"name":"x","bans":["mew"]}]}"#,
+        "formats[0].bans[0] Unknown",
+    ),
+    (r#"{"nonce":0,"seed":"0"}"#, "nonce Shape"),
+    (r#"{"nonce":""}"#, "nonce Range"),
+    (r#"{"nonce":"a-b"}"#, "nonce Range"),
+    (r#"{"nonce":"é"}"#, "nonce Range"),
+    (
+        r#"{"nonce":"0123456789abcdefghijklmnopqrstuvw"}"#,
+        "nonce Range",
+    ),
+    (r#"{"seed":"0","seeds":5}"#, "seed Shape"),
+    (r#"{"seed":-1}"#, "seed Range"),
+    (r#"{"seed":18446744073709551616}"#, "seed Shape"),
+    (r#"{"seed":1.0}"#, "seed Shape"),
+    (r#"{"seeds":5}"#, "seeds Shape"),
+    (r#"{"seeds":[0,null]}"#, "seeds[1] Shape"),
+    (r#"{"seeds":[-1]}"#, "seeds[0] Range"),
+];
+
+/// Good configurations: the number of groups, who is staff, the numbers of rooms and of registered
+/// names, of formats, the nonce, the seed and the number of seeds.
+const GOOD: Rows = &[
+    ("{}", "6 3 1 0 0 0 0 0"),
+    (r#" {"seeds":[], "other":null} "#, "6 3 1 0 0 0 0 0"),
+    (
+        r#"{"formats":[{"name":"[Gen 1] OU","rules":["speciesclause"]}],"seeds":[0]}"#,
+        "6 3 1 0 1 0 0 1",
+    ),
+    (
+        r#"{"groups":[{"symbol":" ","id":"user","name":""}],"staff":" "}"#,
+        "1 0 1 0 0 0 0 0",
+    ),
+    (
+        r#"{"staff":"@","nonce":"0123456789ABCDEFGHIJKLMNOPQRSTUv","seed":18446744073709551615}"#,
+        "6 2 1 0 0 0123456789ABCDEFGHIJKLMNOPQRSTUv 18446744073709551615 0",
+    ),
+    (
+        r#"{"rooms":[{"id":"a","title":""},{"id":"1","title":"é|,"}],"users":[{"id":"x","secret":"\n","group":" "}]}"#,
+        "6 3 2 1 0 0 0 0",
+    ),
+];
+
+/// A seed, the number of a battle, and the front of SHA-256 over the two.
+const SEEDS: &[(&str, u32, u64)] = &[
+    (r#"{}"#, 1, 17_227_200_041_832_915_037),
+    (r#"{"seeds":[5]}"#, 1, 5),
+    (r#"{"seeds":[5]}"#, 2, 10_603_912_086_726_310_123),
+    (r#"{"seeds":[5]}"#, 0, 12_426_054_289_685_354_689),
+    (r#"{"seed":20260101}"#, 1, 10_339_140_822_466_190_825),
+    (r#"{"seed":7}"#, 65_536, 13_594_875_323_762_922_845),
+    (
+        r#"{"seed":18446744073709551615}"#,
+        4_294_967_295,
+        6_875_038_603_382_005_094,
+    ),
+];
+
+fn summary(alloc: Global, config: &Config) -> Result<String, AllocError> {
+    let groups = config.groups().count();
+    let rooms = config.rooms().len();
+    let users = config.users().len();
+    let formats = config.formats().list().len();
+    let seeds = config.seeds().len();
+    format!(in alloc;
+        "{groups} {} {rooms} {users} {formats} {} {} {seeds}",
+        config.staff(),
+        config.nonce(),
+        config.seed()
+    )
+}
+
+fn told(alloc: Global, dex: &Dex, text: &str) -> Result<String, AllocError> {
+    match Config::read(alloc, text.as_bytes(), dex) {
+        Ok(config) => summary(alloc, &config),
+        Err(ConfigFault::Fault { path, kind }) => format!(in alloc; "{path} {kind:?}"),
+        Err(ConfigFault::NoMemory) => Err(AllocError),
+    }
+}
+
+fn told_rows(rt: &impl Abort, alloc: Global, dex: &Dex, rows: Rows) -> Result<(), Fail> {
+    for (text, wanted) in rows {
+        let told = told(alloc, dex, text)?;
+        assert_eq!(rt; told.as_str(), *wanted);
+    }
+    Ok(())
+}
+
+#[test]
+fn configurations(rt: HostRuntime) -> Result<(), Fail> {
+    let alloc = rt.alloc();
+    let dex = Dex::empty(alloc);
+    told_rows(&rt, alloc, &dex, FILES)?;
+    told_rows(&rt, alloc, &dex, ROOMS)?;
+    told_rows(&rt, alloc, &dex, USERS)?;
+    told_rows(&rt, alloc, &dex, LATER_KEYS)?;
+    told_rows(&rt, alloc, &dex, GOOD)
+}
+
+#[test]
+fn seeds_of_battles(rt: HostRuntime) -> Result<(), Fail> {
+    let alloc = rt.alloc();
+    let dex = Dex::empty(alloc);
+    for (text, number, seed) in SEEDS {
+        let config = Config::read(alloc, text.as_bytes(), &dex).expect(&rt, "a configuration");
+        assert_eq!(rt; seed_of(&config, *number), *seed);
+    }
+    Ok(())
+}
+
+#[test]
+fn without_a_file(rt: HostRuntime) -> Result<(), Fail> {
+    let alloc = rt.alloc();
+    let config = Config::standard(alloc)?;
+    let summary = summary(alloc, &config)?;
+    assert_eq!(rt; summary.as_str(), "6 3 1 0 0 0 0 0");
+    assert!(rt;
+        config
+            .groups()
+            .can(config.staff(), None, false, Perm::Modnote)
+    );
+    for room in config.rooms() {
+        assert_eq!(rt; room.id.as_str(), "lobby");
+        assert_eq!(rt; room.title.as_str(), "Lobby");
+    }
+    let id = to_id(alloc, "Species Clause")?;
+    assert!(rt; resolve(alloc, config.formats(), &id).is_ok());
+    Ok(())
+}
