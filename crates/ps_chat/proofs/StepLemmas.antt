@@ -21,7 +21,7 @@ use Rattle.ps_chat.specs.Verdicts.{verdict, room_verdict}
 use Rattle.ps_chat.specs.Told.{joiner, lines, room_lines}
 use Rattle.ps_chat.specs.Lines.{Line}
 use Rattle.ps_chat.specs.Changes.{record_after}
-use Rattle.ps_chat.specs.Steps.{Seen, after}
+use Rattle.ps_chat.specs.Steps.{Seen}
 use Rattle.ps_chat.specs.RoomChanges.{room_after, room_with_rank, JoinsNew, Settled}
 use Rattle.ps_chat.specs.declared.present.Present.{Present}
 use Rattle.ps_chat.specs.declared.room.Room.{Room}
@@ -190,12 +190,12 @@ same_opening r new moment (Choose choice rqid) = refl
 same_opening r new moment Undo = refl
 same_opening r new moment Forfeit = refl
 
--- a room after an entry, and the lines that were made, are what the record says
-pub stepped : (r : Room) (old new : List Line) (conn : ℕ) (badge : Badge) (moment : ℕ) (cmd : Command) → Settled r → new ≡ room_lines r conn badge moment cmd
-    → ◌≡◌ {A = Seen} (record { opening = opening_of (room_after r (joiner r conn badge) moment cmd); state = record_of (room_after r (joiner r conn badge) moment cmd); lines = new })
-    (after (record { opening = opening_of r; state = record_of r; lines = old }) conn badge moment cmd)
-stepped r old new conn badge moment cmd s e = λ i. record {
+-- a room after an entry is what the record says; the lines are those of before
+pub moved_on : (r : Room) (kept : List Line) (conn : ℕ) (badge : Badge) (moment : ℕ) (cmd : Command)
+    → ◌≡◌ {A = Seen} (record { opening = opening_of (room_after r (joiner r conn badge) moment cmd); state = record_of (room_after r (joiner r conn badge) moment cmd); lines = kept })
+    (record { opening = opening_of r; state = record_after r.groups (record_of r) conn badge moment cmd; lines = kept })
+moved_on r kept conn badge moment cmd = λ i. record {
   opening = same_opening r (joiner r conn badge) moment cmd i;
   state = record_is r conn badge moment cmd i;
-  lines = (e ∙ room_tells r conn badge moment cmd s) i;
+  lines = kept;
 }

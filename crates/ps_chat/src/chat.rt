@@ -2,9 +2,11 @@
 ghost use Rattle.std.specs.Prelude.{◌≡◌, ◌<◌, List, length, IfOk, OnOk, OnErr, None};
 ghost use Rattle.std.specs.Option.{option_copied};
 ghost use Rattle.ps_chat.specs.Looks.{member, user};
-ghost use Rattle.ps_chat.specs.Rooms.{presents};
+ghost use Rattle.ps_chat.specs.Rooms.{presents, room_of};
 ghost use Rattle.ps_chat.specs.Verdicts.{verdict};
 ghost use Rattle.ps_chat.specs.Steps.{opened, after};
+ghost use Rattle.ps_chat.specs.Told.{lines, joiner};
+ghost use Rattle.ps_chat.specs.Changes.{record_after};
 
 use crate::change::change;
 use crate::id_map::IdMap;
@@ -12,7 +14,7 @@ use crate::line::ChatLine;
 use crate::members::Members;
 use crate::present::Present;
 use crate::room::Room;
-use crate::told::room_lines;
+use crate::told::{joiner, room_lines};
 use crate::verdict::room_verdict;
 use ps_base::badge::Badge;
 use ps_base::number::{ConnNo, Moment};
@@ -86,6 +88,45 @@ impl Chat {
         room_verdict(&self.room, conn, badge, moment, cmd)
     }
 
+    /// The lines of an entry that is allowed. A battle's commands have none here.
+    pub fn told(
+        &self,
+        alloc: Global,
+        conn: ConnNo,
+        badge: &Badge,
+        moment: Moment,
+        cmd: &Command,
+    ) -> Result<Vec<ChatLine>, AllocError>
+        ensures { IfOk result (λ v. v.items ≡ lines self.now.opening self.now.state conn badge.now moment cmd.now) }
+    {
+        room_lines(alloc, &self.room, conn, badge, moment, cmd)
+    }
+
+    /// The member that a connection becomes by a Join with this badge.
+    pub fn joiner(&self, alloc: Global, conn: ConnNo, badge: &Badge) -> Result<Present, AllocError>
+        ensures { IfOk result (λ p. p ≡ joiner (room_of self.now.opening self.now.state) conn badge.now) }
+    {
+        joiner(alloc, &self.room, conn, badge)
+    }
+
+    /// Changes the record as an entry that is allowed does, and makes no lines. Where memory fails nothing
+    /// changes. A battle's commands change nothing here.
+    pub fn change(
+        &mut self,
+        alloc: Global,
+        conn: ConnNo,
+        badge: &Badge,
+        moment: Moment,
+        cmd: &Command,
+    ) -> Result<(), AllocError>
+        requires { verdict self.old.opening self.old.state conn badge.now moment cmd.now ≡ None }
+        ensures ok { OnOk result (self.new ≡ record self.old { state = record_after self.old.opening.groups self.old.state conn badge.now moment cmd.now }) }
+        ensures err { OnErr result (self.new ≡ self.old) }
+    {
+        change(alloc, &mut self.room, conn, badge, moment, cmd)?;
+        Ok(())
+    }
+
     /// Applies an entry that is allowed: changes the record and makes the entry's lines. Where memory
     /// fails nothing changes. A battle's commands change nothing here and have no line.
     pub fn apply(
@@ -100,8 +141,8 @@ impl Chat {
         ensures ok { OnOk result (self.new ≡ after self.old conn badge.now moment cmd.now) }
         ensures err { OnErr result (self.new ≡ self.old) }
     {
-        let lines = room_lines(alloc, &self.room, conn, badge, moment, cmd)?;
-        change(alloc, &mut self.room, conn, badge, moment, cmd)?;
+        let lines = self.told(alloc, conn, badge, moment, cmd)?;
+        self.change(alloc, conn, badge, moment, cmd)?;
         self.lines = lines;
         Ok(())
     }

@@ -10,6 +10,6 @@ pub mod members;
 pub mod present;
 mod refusal;
 pub mod room;
-mod text;
+pub mod text;
 mod told;
 mod verdict;

@@ -9,12 +9,7 @@ use ps_group::groups::Groups;
 use std::alloc::{AllocError, Global};
 
 /// The symbol of a rank, and the name.
-pub(crate) fn sname(
-    alloc: Global,
-    groups: &Groups,
-    rank: u8,
-    name: &Name,
-) -> Result<Text, AllocError>
+pub fn sname(alloc: Global, groups: &Groups, rank: u8, name: &Name) -> Result<Text, AllocError>
     ensures { IfOk result (λ t. t ≡ sname groups.now rank name.now) }
 {
     let symbol = groups.symbol(rank);

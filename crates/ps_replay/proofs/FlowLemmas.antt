@@ -1,18 +1,12 @@
 -- How far a replay has come: what was written, what waits, and what is still to be printed.
-use Rattle.std.proofs.Common.{◌≡◌, ℕ, ◌+◌, ◌-◌, ◌≤◌, List, [], ◌∷◌, ◌++◌, length, Option, Some, None, refl, sym, ap, ◌∙◌, subst, arith, append_assoc}
+use Rattle.std.proofs.Common.{◌≡◌, ℕ, List, [], ◌∷◌, ◌++◌, Option, refl, sym, ap, ◌∙◌, subst, append_assoc}
 use Rattle.std.specs.Io.KnownBytes.{Appends}
 use Rattle.std.proofs.KnownBytes.{Appends-trans, Appends-nil}
-use Rattle.std.proofs.lemmas.List.{append-nil, length-append, length-set}
+use Rattle.std.proofs.lemmas.List.{append-nil}
 use Rattle.ps_outside.specs.Sinks.{AppendsFront}
 use Rattle.ps_script.specs.declared.item.Item.{Item}
-use Rattle.ps_replay.specs.declared.place.HallCmd.{HallCmd}
-use Rattle.ps_replay.specs.declared.place.HallCmd.TheVariants as hall_commands
-use Rattle.ps_replay.specs.declared.place.Placed.{Placed}
-use Rattle.ps_replay.specs.declared.place.Placed.TheVariants.{Hall, Room}
-use Rattle.ps_replay.specs.Halls.{HallRecord, hall_by, badge_for}
-use Rattle.ps_replay.specs.Worlds.{World, world_after}
 use Rattle.ps_replay.specs.Flow.{MovesFront}
-use Rattle.ps_replay.specs.Tables.{State, item_entry, world_by, item_text, item_after, text_from}
+use Rattle.ps_replay.specs.Tables.{State, item_text, item_after, text_from}
 
 pub record Came (old new : Option (List ℕ)) (all pending : List ℕ) (s : State) (rest : List Item) : Type 0 where
   pub front : List ℕ
@@ -59,20 +53,3 @@ Came-all old mid new all pending now s c m empty =
     let waited : pending ≡ m.front = m.parts ∙ ap (λ (x : List ℕ). m.front ++ x) empty ∙ append-nil m.front in
     let whole : all ≡ c.front ++ m.front = c.parts ∙ ap (λ (x : List ℕ). c.front ++ x) (append-nil pending ∙ waited) in
     subst (λ (x : List ℕ). Appends old new x) (sym whole) (Appends-trans old mid new c.front m.front c.wrote m.grew)
-
--- ---- a line opens one connection at most
-
-seats_by : (h : HallRecord) (conn : ℕ) (cmd : HallCmd) → length (hall_by h conn cmd).seats ≤ length h.seats + 1
-seats_by h conn hall_commands.Open = omega (arith, length-append h.seats (None ∷ []))
-seats_by h conn (hall_commands.Name name) = omega (arith, length-set h.seats (conn - 1) (Some (badge_for h name)))
-
-seats_after : (w : World) (p : Placed) → length (world_after w p).hall.seats ≤ length w.hall.seats + 1
-seats_after w (Hall e) = seats_by w.hall e.conn e.cmd
-seats_after w (Room room e) = omega arith
-
-seats_option : (w : World) (o : Option Placed) → length (world_by w o).hall.seats ≤ length w.hall.seats + 1
-seats_option w None = omega arith
-seats_option w (Some p) = seats_after w p
-
-pub opens_one : (s : State) (i : Item) → length (item_after s i).world.hall.seats ≤ length s.world.hall.seats + 1
-opens_one s i = seats_option s.world (item_entry s i)

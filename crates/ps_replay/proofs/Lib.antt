@@ -1,8 +1,11 @@
 pub mod BlockLemmas
-pub mod EachLemmas
 pub mod EntryLemmas
 pub mod FlowLemmas
 pub mod HistoryLemmas
 pub mod OutcomeLemmas
+pub mod OverLemmas
 pub mod PlayLemmas
-pub mod RankLemmas
+pub mod PrintLemmas
+pub mod RouteLemmas
+pub mod TextLemmas
+pub mod TwoWorldLemmas

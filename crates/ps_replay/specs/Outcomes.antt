@@ -1,5 +1,5 @@
 -- What a status says.
-use Rattle.std.specs.Prelude.{◌≡◌, ◌⊎◌, ℕ, ◌<◌, ◌≤◌, List, [], ◌∷◌, length, Option, Some, None, IfSome, Result, Ok, Err}
+use Rattle.std.specs.Prelude.{◌≡◌, ◌⊎◌, ℕ, ◌<◌, ◌≤◌, List, length, Option, Some, None, IfSome, Result, Ok, Err}
 use Rattle.std.specs.Option.{IsSomeAnd}
 use Rattle.std.specs.Io.KnownBytes.{Appends, Keeps}
 use Rattle.ps_outside.specs.Causes.{Rose}
@@ -14,14 +14,12 @@ use Rattle.ps_dex.specs.declared.row.Tables.{Tables}
 use Rattle.ps_dex.specs.Tables.{tables_of}
 use Rattle.ps_script.specs.declared.item.Item.{Item}
 use Rattle.ps_script.specs.declared.script.ScriptKind.{ScriptKind}
-use Rattle.ps_script.specs.declared.script.ScriptKind.TheVariants.{Form}
-use Rattle.ps_script.specs.Scripts.{IsScript}
+use Rattle.ps_script.specs.Scripts.{IsScript, IsFirstFault}
 use Rattle.ps_script.specs.Limits.{long_of}
 use Rattle.ps_replay.specs.declared.status.Status.{Status}
 use Rattle.ps_replay.specs.declared.status.Status.TheVariants.{Done, Usage, FileMissing, FileFault, FileLong, BadDex, BadScript, ScriptLong, ReadFault, WriteFault, NoMemory, NotBuilt}
 use Rattle.ps_replay.specs.Worlds.{Place, world_view}
-use Rattle.ps_replay.specs.Plain.{unplain_line}
-use Rattle.ps_replay.specs.Entries.{ranks_of, entries}
+use Rattle.ps_replay.specs.Entries.{ranks_of, entries, unbuilt_line}
 use Rattle.ps_replay.specs.Transcript.{messages, output, block}
 use Rattle.ps_replay.specs.OneEntry.{HasOneEntryEach}
 use Rattle.ps_replay.specs.Words.{words_in}
@@ -105,11 +103,11 @@ KeepsInput old new (NotBuilt line) = Unit {0}
 
 -- ---- the input
 
--- the input spells these lines, within its limits, and they are a plain script
-pub record IsPlainScript (bytes : List ℕ) (items : List Item) : Type 0 where
+-- the input spells these lines, within its limits, and none of them makes an entry that isn't built
+pub record IsBuiltScript (bytes : List ℕ) (items : List Item) : Type 0 where
   pub within : long_of bytes ≡ None
   pub script : IsScript bytes items
-  pub plain : unplain_line items ≡ None
+  pub built : unbuilt_line items ≡ None
 
 -- the input is within its limits, and some script
 pub record IsReadable (bytes : List ℕ) : Type 0 where
@@ -137,7 +135,7 @@ IsOfInput (NotBuilt line) = Unit {0}
 -- all of the transcript of the one script, and nothing else; each connection's block from a place is its view there
 pub record IsTranscript (old new : Option (List ℕ)) (bytes : List ℕ) : Type 0 where
   pub items : List Item
-  pub plain : IsPlainScript bytes items
+  pub script : IsBuiltScript bytes items
   pub wrote : Appends old new (output items)
   pub blocks : (conn : ℕ) (place : Place) → block conn place (messages items) ≡ world_view conn place (ranks_of items) (entries items)
 
@@ -148,7 +146,7 @@ HasOneEntryEachText bytes = (items : List Item) → IsScript bytes items → Has
 -- a front of the transcript
 pub record WritesFront (old new : Option (List ℕ)) (bytes : List ℕ) : Type 0 where
   pub items : List Item
-  pub plain : IsPlainScript bytes items
+  pub script : IsBuiltScript bytes items
   pub front : AppendsFront old new (output items)
 
 -- what was written at a status other than Done, where the input is told: nothing before the whole script was read,
@@ -169,19 +167,18 @@ WritesPrefix left old new (NotBuilt line) = Keeps old new
 
 -- ---- the cause of a status
 
--- no script; so far the line is always 0, and the kind Form
+-- no script: the first line that can't stand in one, counted from 1, and what is wrong with it
 pub record IsBadScript (line : ℕ) (kind : ScriptKind) (bytes : List ℕ) : Type 0 where
   pub within : long_of bytes ≡ None
   pub none : (items : List Item) → IsScript bytes items → ⊥
-  pub line_is : line ≡ 0
-  pub kind_is : kind ≡ Form
+  pub fault : IsFirstFault bytes line kind
 
--- a script, of which this line is the first that breaks a condition of plain ones
-pub record IsUnplain (line : ℕ) (bytes : List ℕ) : Type 0 where
+-- a script, of which this line is the first that makes an entry of the hall that isn't built
+pub record IsUnbuilt (line : ℕ) (bytes : List ℕ) : Type 0 where
   pub within : long_of bytes ≡ None
   pub items : List Item
   pub script : IsScript bytes items
-  pub first : unplain_line items ≡ Some line
+  pub first : unbuilt_line items ≡ Some line
 
 -- why an input was not replayed, where it is told
 abbrev pub InputCause : Option (List ℕ) → Status → Type 0
@@ -196,7 +193,7 @@ InputCause left (ScriptLong count) = IfSome left (λ bytes. long_of bytes ≡ So
 InputCause left ReadFault = Unit {0}
 InputCause left WriteFault = Unit {0}
 InputCause left NoMemory = Unit {0}
-InputCause left (NotBuilt line) = IfSome left (IsUnplain line)
+InputCause left (NotBuilt line) = IfSome left (IsUnbuilt line)
 
 -- ---- completeness
 

@@ -1,13 +1,16 @@
 -- The messages of a script's entries, and how they are printed.
-use Rattle.std.specs.Prelude.{ℕ, zero, suc, Bool, true, false, ◌&&◌, List, [], ◌∷◌, ◌++◌, codes, ◌==◌, if◌then◌else◌}
-use Rattle.std.specs.List.{flat_map}
+use Rattle.std.specs.Prelude.{ℕ, zero, suc, Bool, true, false, ◌&&◌, List, [], ◌∷◌, ◌++◌, map, codes, Option, Some, None, ◌==◌, if◌then◌else◌}
+use Rattle.std.specs.List.{flat_map, filter_map}
 use Rattle.std.specs.Fmt.{decimal}
+use Rattle.ps_chat.specs.ById.{ById}
 use Rattle.ps_script.specs.declared.item.Item.{Item}
-use Rattle.ps_replay.specs.declared.place.Ranked.{Ranked}
 use Rattle.ps_replay.specs.declared.place.Placed.{Placed}
+use Rattle.ps_replay.specs.declared.place.Happening.{Happening}
+use Rattle.ps_replay.specs.declared.place.Happening.TheVariants.{Entry, Ended}
+use Rattle.ps_replay.specs.Setup.{room_id}
 use Rattle.ps_replay.specs.Halls.{opened}
-use Rattle.ps_replay.specs.Worlds.{Place, in_hall, in_room, place_of, room_id, World, world_after, world_message, world_of}
-use Rattle.ps_replay.specs.Entries.{ranks_of, entries}
+use Rattle.ps_replay.specs.Worlds.{Place, in_hall, in_room, place_of, World, world_after, world_message, world_of}
+use Rattle.ps_replay.specs.Entries.{ranks_of, happenings}
 
 -- ---- messages
 
@@ -30,14 +33,29 @@ messages_to (suc n) w p = messages_to n w p ++ message_if (suc n) (place_of p) (
 abbrev pub messages_at : World → Placed → List Message
 messages_at w p = messages_to (opened (world_after w p).hall) w p
 
--- the messages of these entries after a history
-abbrev pub messages_from : List Ranked → List Placed → List Placed → List Message
-messages_from ranks h [] = []
-messages_from ranks h (p ∷ ps) = messages_at (world_of ranks h) p ++ messages_from ranks (h ++ p ∷ []) ps
+-- what is printed: a message, or that a connection's session ended
+pub data Sign : Type 0 where
+  told : Message → Sign
+  over : ℕ → Sign
 
--- all messages of a script, for each entry in order and each connection in ascending number
+-- what is printed of these happenings after a history
+abbrev pub signs_from : ById ℕ → List Placed → List Happening → List Sign
+signs_from ranks h [] = []
+signs_from ranks h (Entry p ∷ xs) = map told (messages_at (world_of ranks h) p) ++ signs_from ranks (h ++ p ∷ []) xs
+signs_from ranks h (Ended conn ∷ xs) = over conn ∷ signs_from ranks h xs
+
+-- all that is printed of a script: for each entry in order its messages, to each connection in ascending number; and
+-- that a session ended, after the messages of its last entries
+abbrev pub signs : List Item → List Sign
+signs items = signs_from (ranks_of items) [] (happenings items)
+
+abbrev pub message_in : Sign → Option Message
+message_in (told m) = Some m
+message_in (over conn) = None
+
+-- all messages of a script
 abbrev pub messages : List Item → List Message
-messages items = messages_from (ranks_of items) [] (entries items)
+messages items = filter_map message_in (signs items)
 
 -- ---- printing
 
@@ -61,9 +79,17 @@ with_place (in_room room) (line ∷ lines) = (codes ">" ++ room_id room) ∷ lin
 abbrev pub print : Message → List ℕ
 print m = printed m.conn (with_place m.place m.lines)
 
+-- the line of a session that ended
+abbrev pub over_line : ℕ → List ℕ
+over_line conn = decimal conn ++ codes "! OwnLimit" ++ 10 ∷ []
+
+abbrev pub print_sign : Sign → List ℕ
+print_sign (told m) = print m
+print_sign (over conn) = over_line conn
+
 -- all that is written for a script
 abbrev pub output : List Item → List ℕ
-output items = flat_map print (messages items)
+output items = flat_map print_sign (signs items)
 
 -- ---- blocks
 

@@ -4,12 +4,14 @@
 pub mod dex;
 pub mod hall;
 pub mod place;
-pub mod plain;
 pub mod play;
 pub mod print;
+pub mod ranks;
 pub mod replay;
-pub mod request;
+pub mod route;
 pub mod run;
 pub mod status;
 pub mod table;
+pub mod tally;
+pub mod unbuilt;
 pub mod words;

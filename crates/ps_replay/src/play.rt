@@ -1,15 +1,17 @@
 //! What an entry prints, to each connection in ascending number.
-ghost use Rattle.std.specs.Prelude.{◌≡◌, ◌++◌, ◌==◌, [], OnOk, string_bytes, slice_get, if◌then◌else◌};
+ghost use Rattle.std.specs.Prelude.{◌≡◌, ◌++◌, ◌==◌, [], OnOk, map, string_bytes, slice_get, if◌then◌else◌};
 ghost use Rattle.ps_room.specs.Rooms.{role, message_of, message, after};
+ghost use Rattle.ps_room.specs.Logs.{seen_after};
 ghost use Rattle.ps_replay.specs.Worlds.{in_hall, in_room, rooms_after, room_message};
 ghost use Rattle.ps_replay.specs.Transcript.{printed, with_place};
-ghost use Rattle.ps_replay.specs.Tables.{each_to};
+ghost use Rattle.ps_replay.specs.Tables.{each_to, state_of};
 
 use crate::print;
 use ps_base::number::{ConnNo, RoomNo};
 use ps_base::text::Text;
-use ps_room::entry::{Entry, Told};
-use ps_room::room::{Room, message};
+use ps_room::entry::Entry;
+use ps_room::room::{Room, joined_for};
+use ps_room::told::Told;
 use std::alloc::{AllocError, Global};
 
 /// Prints lines of the hall, which go to one of the connections from 1 to `count`.
@@ -26,6 +28,26 @@ pub fn push_hall(out: &mut String, count: u32, to: ConnNo, lines: &[Text]) -> Re
     Ok(())
 }
 
+// Prints what an entry of a room gives to one connection.
+fn push_told(
+    out: &mut String,
+    conn: ConnNo,
+    no: RoomNo,
+    room: &Room,
+    sender: ConnNo,
+    told: &Told,
+) -> Result<(), AllocError>
+    ensures { OnOk result (string_bytes out.new ≡ string_bytes out.old
+        ++ printed conn (with_place (in_room no) (message_of conn (role conn room.now.state) sender told.now room.now.state.logged))) }
+{
+    match joined_for(conn, sender, told) {
+        None => print::push_seen(out, conn, no, room.role(conn), told.lines.as_slice()),
+        Some(joined) => {
+            print::push_init(out, conn, no, joined.head.as_slice(), room.backlog(joined))
+        }
+    }
+}
+
 // Prints what an entry of a room gives, to the connections from 1 to `count`.
 fn push_room(
     out: &mut String,
@@ -36,12 +58,10 @@ fn push_room(
     told: &Told,
 ) -> Result<(), AllocError>
     ensures { OnOk result (string_bytes out.new ≡ string_bytes out.old
-        ++ each_to (λ conn. printed conn (with_place (in_room no) (message_of conn (role conn room.now) sender told.now))) count) }
+        ++ each_to (λ conn. printed conn (with_place (in_room no) (message_of conn (role conn room.now.state) sender told.now room.now.state.logged))) count) }
 {
     for i in 0..count {
-        let conn = ConnNo(i + 1);
-        let lines = message(conn, room.role(conn), sender, told);
-        print::push_room_message(out, conn, no, lines)?;
+        push_told(out, ConnNo(i + 1), no, room, sender, told)?;
     }
     Ok(())
 }
@@ -53,15 +73,15 @@ fn play_room(
     count: u32,
     no: RoomNo,
     room: &mut Room,
-    entry: Entry,
+    entry: &Entry,
 ) -> Result<(), AllocError>
-    ensures state { OnOk result (room.new ≡ after room.old entry) }
+    ensures state { OnOk result (room.new ≡ seen_after room.old entry.now) }
     ensures text { OnOk result (string_bytes out.new ≡ string_bytes out.old
-        ++ each_to (λ conn. printed conn (with_place (in_room no) (message conn room.old entry))) count) }
+        ++ each_to (λ conn. printed conn (with_place (in_room no) (message conn room.old.state entry.now))) count) }
 {
-    let told = room.told(alloc, &entry)?;
+    let told = room.told(alloc, entry)?;
     push_room(out, count, no, room, entry.conn, &told)?;
-    room.apply(entry, told.line)
+    room.keep(alloc, entry, told)
 }
 
 /// Prints an entry of one of the rooms to the connections from 1 to `count`, and applies it. Where no
@@ -72,11 +92,11 @@ pub fn play_rooms(
     count: u32,
     rooms: &mut [Room],
     no: RoomNo,
-    entry: Entry,
+    entry: &Entry,
 ) -> Result<(), AllocError>
-    ensures state { OnOk result (rooms.new ≡ rooms_after rooms.old no entry) }
+    ensures state { OnOk result (map state_of rooms.new ≡ rooms_after (map state_of rooms.old) no entry.now) }
     ensures text { OnOk result (string_bytes out.new ≡ string_bytes out.old
-        ++ each_to (λ conn. printed conn (with_place (in_room no) (room_message conn entry (slice_get rooms.old no)))) count) }
+        ++ each_to (λ conn. printed conn (with_place (in_room no) (room_message conn entry.now (slice_get (map state_of rooms.old) no)))) count) }
 {
     let place = no.0 as usize;
     if place >= rooms.len() {

@@ -1,11 +1,15 @@
 //! Messages as they are printed.
-ghost use Rattle.std.specs.Prelude.{◌≡◌, ◌++◌, ◌∷◌, [], OnOk, codes, string_bytes};
+ghost use Rattle.std.specs.Prelude.{◌≡◌, ◌++◌, OnOk, codes, string_bytes};
 ghost use Rattle.std.specs.List.{flat_map};
-ghost use Rattle.ps_replay.specs.Worlds.{Place, in_room, room_id};
-ghost use Rattle.ps_replay.specs.Transcript.{first_line, further_line, printed, with_place};
+ghost use Rattle.ps_room.specs.Rooms.{seen_texts};
+ghost use Rattle.ps_replay.specs.Setup.{room_id};
+ghost use Rattle.ps_replay.specs.Worlds.{in_room};
+ghost use Rattle.ps_replay.specs.Transcript.{first_line, further_line, printed, with_place, over_line};
 
 use ps_base::number::{ConnNo, RoomNo};
 use ps_base::text::Text;
+use ps_chat::line::ChatLine;
+use ps_room::role::{Role, sees};
 use std::alloc::AllocError;
 use std::fmt::Write;
 
@@ -47,8 +51,7 @@ pub fn push_message(out: &mut String, conn: ConnNo, lines: &[Text]) -> Result<()
 fn room_id(room: RoomNo) -> &'static str
     ensures { result.now ≡ room_id room }
 {
-    let _one_room = room;
-    "lobby"
+    if room.0 == 0 { "lobby" } else { "" }
 }
 
 fn push_place(out: &mut String, conn: ConnNo, room: RoomNo) -> Result<(), AllocError>
@@ -58,8 +61,8 @@ fn push_place(out: &mut String, conn: ConnNo, room: RoomNo) -> Result<(), AllocE
     writeln!(out, "{conn}< >{id}")
 }
 
-/// Prints a message of a room to a connection, if it has lines.
-pub fn push_room_message(
+// Prints a message of a room to a connection, if it has lines.
+fn push_room_message(
     out: &mut String,
     conn: ConnNo,
     room: RoomNo,
@@ -74,4 +77,88 @@ pub fn push_room_message(
             push_rest(out, conn, lines)
         }
     }
+}
+
+fn push_parts(
+    out: &mut String,
+    conn: ConnNo,
+    first: &[Text],
+    second: &[Text],
+) -> Result<(), AllocError>
+    ensures { OnOk result (string_bytes out.new ≡ string_bytes out.old ++ flat_map (further_line conn) (first.now ++ second.now)) }
+{
+    push_rest(out, conn, first)?;
+    push_rest(out, conn, second)?;
+    Ok(())
+}
+
+/// Prints what who joins a room is sent: the head, and then the backlog.
+pub fn push_init(
+    out: &mut String,
+    conn: ConnNo,
+    room: RoomNo,
+    head: &[Text],
+    backlog: &[Text],
+) -> Result<(), AllocError>
+    ensures { OnOk result (string_bytes out.new ≡ string_bytes out.old ++ printed conn (with_place (in_room room) (head.now ++ backlog.now))) }
+{
+    let count = head.len();
+    if count == 0 {
+        return push_room_message(out, conn, room, backlog);
+    }
+    push_place(out, conn, room)?;
+    push_parts(out, conn, head, backlog)?;
+    Ok(())
+}
+
+// Prints the lines that a connection in this role sees.
+fn push_seen_rest(
+    out: &mut String,
+    conn: ConnNo,
+    role: Role,
+    lines: &[ChatLine],
+) -> Result<(), AllocError>
+    ensures { OnOk result (string_bytes out.new ≡ string_bytes out.old ++ flat_map (further_line conn) (seen_texts conn role lines.now)) }
+{
+    match lines {
+        [] => Ok(()),
+        [line, rest @ ..] => {
+            if sees(conn, role, line.audience) {
+                push_further(out, conn, line.text.as_str())?;
+                push_seen_rest(out, conn, role, rest)
+            } else {
+                push_seen_rest(out, conn, role, rest)
+            }
+        }
+    }
+}
+
+/// Prints to a connection in this role the lines of a room that it sees, if there are any.
+pub fn push_seen(
+    out: &mut String,
+    conn: ConnNo,
+    room: RoomNo,
+    role: Role,
+    lines: &[ChatLine],
+) -> Result<(), AllocError>
+    ensures { OnOk result (string_bytes out.new ≡ string_bytes out.old ++ printed conn (with_place (in_room room) (seen_texts conn role lines.now))) }
+{
+    match lines {
+        [] => Ok(()),
+        [line, rest @ ..] => {
+            if sees(conn, role, line.audience) {
+                push_place(out, conn, room)?;
+                push_seen_rest(out, conn, role, lines)
+            } else {
+                push_seen(out, conn, room, role, rest)
+            }
+        }
+    }
+}
+
+/// Prints that a connection's session ended, since it gave too many texts to one place.
+pub fn push_over(out: &mut String, conn: ConnNo) -> Result<(), AllocError>
+    ensures { OnOk result (string_bytes out.new ≡ string_bytes out.old ++ over_line conn) }
+{
+    writeln!(out, "{conn}! OwnLimit")
 }

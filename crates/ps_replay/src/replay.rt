@@ -1,19 +1,16 @@
 //! Replays the lines of a script.
-ghost use Rattle.std.specs.Prelude.{◌≡◌, ◌+◌, ◌++◌, ◌^◌, ◌<◌, ◌≤◌, [], length, IfOk, OnOk, OnErr, Ok, Err, string_bytes};
-ghost use Rattle.std.specs.Option.{option_to_list};
+ghost use Rattle.std.specs.Prelude.{◌≡◌, ◌++◌, ◌≤◌, [], OnOk, OnErr, Err, string_bytes};
 ghost use Rattle.std.specs.Io.KnownBytes.{Appends};
 ghost use Rattle.ps_outside.specs.Causes.{Rose, HasCause};
 ghost use Rattle.ps_outside.specs.Sinks.{AppendsFront};
-ghost use Rattle.ps_replay.specs.Entries.{ranking, ranks_of};
 ghost use Rattle.ps_replay.specs.Transcript.{output};
-ghost use Rattle.ps_replay.specs.Tables.{fresh, item_text, item_after, text_from};
+ghost use Rattle.ps_replay.specs.Tables.{item_text, item_after, text_from};
 ghost use Rattle.ps_replay.specs.Flow.{MovesFront};
 
-use crate::place::Ranked;
+use crate::ranks::ranks_of;
 use crate::table::Table;
 use ps_outside::Failed;
 use ps_outside::sink::{self, Sink};
-use ps_script::group::{self, LOWEST};
 use ps_script::item::Item;
 use std::alloc::{AllocError, Global};
 
@@ -27,45 +24,6 @@ pub enum ReplayEnd {
     WriteFault,
     /// Memory was refused.
     NoMemory,
-}
-
-fn ranking(alloc: Global, item: &Item) -> Result<Option<Ranked>, AllocError>
-    ensures { IfOk result (λ o. o ≡ ranking item.now) }
-{
-    match item {
-        Item::Nothing => Ok(None),
-        Item::Moment(_) => Ok(None),
-        Item::Group(symbol, id) => Ok(Some(Ranked {
-            id: id.copy(alloc)?,
-            rank: group::rank_of(*symbol).unwrap_or(LOWEST),
-        })),
-        Item::Open(_) => Ok(None),
-        Item::Send(_, _) => Ok(None),
-        Item::Close(_) => Ok(None),
-    }
-}
-
-fn push_ranking(alloc: Global, ranks: &mut Vec<Ranked>, item: &Item) -> Result<(), AllocError>
-    ensures { OnOk result (ranks.new.items ≡ ranks.old.items ++ option_to_list (ranking item.now)) }
-{
-    match ranking(alloc, item)? {
-        None => Ok(()),
-        Some(ranked) => {
-            ranks.push(ranked)?;
-            Ok(())
-        }
-    }
-}
-
-// The ranks that the lines of a script give.
-fn ranks_of(alloc: Global, items: &[Item]) -> Result<Vec<Ranked>, AllocError>
-    ensures { IfOk result (λ v. v.items ≡ ranks_of items.now) }
-{
-    let mut ranks = Vec::new(alloc);
-    for item in items {
-        push_ranking(alloc, &mut ranks, item)?;
-    }
-    Ok(ranks)
 }
 
 // Writes what waits. Where the sink fails a front of it was written.
@@ -104,7 +62,6 @@ fn replay_item<K: Sink>(
     pending: &mut String,
     out: &mut K,
 ) -> Result<(), ReplayEnd>
-    requires { length table.old.world.hall.seats < 2 ^ 31 }
     ensures state { OnOk result (table.new ≡ item_after table.old item.now) }
     ensures wrote { OnOk result (MovesFront (K.written out.old) (K.written out.new) (string_bytes pending.old ++ item_text table.old item.now) (string_bytes pending.new)) }
     ensures err { OnErr result (AppendsFront (K.written out.old) (K.written out.new) (string_bytes pending.old ++ item_text table.old item.now)) }
@@ -127,8 +84,6 @@ fn replay_from<K: Sink>(
     items: &[Item],
     out: &mut K,
 ) -> Result<(), ReplayEnd>
-    requires few { length items.now < 2 ^ 31 }
-    requires nobody { length table.world.hall.seats ≡ 0 }
     ensures wrote { OnOk result (Appends (K.written out.old) (K.written out.new) (text_from table items.now)) }
     ensures err { OnErr result (AppendsFront (K.written out.old) (K.written out.new) (text_from table items.now)) }
     ensures later { K.faults out.old ≤ K.faults out.new }
@@ -151,7 +106,6 @@ fn replay_from<K: Sink>(
 /// Writes the transcript of the lines of a script. Where memory or the sink fails a front of it was
 /// written.
 pub fn replay<K: Sink>(alloc: Global, items: &[Item], out: &mut K) -> Result<(), ReplayEnd>
-    requires { length items.now < 2 ^ 31 }
     ensures wrote { OnOk result (Appends (K.written out.old) (K.written out.new) (output items.now)) }
     ensures err { OnErr result (AppendsFront (K.written out.old) (K.written out.new) (output items.now)) }
     ensures later { K.faults out.old ≤ K.faults out.new }

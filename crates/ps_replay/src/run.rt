@@ -6,19 +6,20 @@ ghost use Rattle.ps_script.specs.Scripts.{IsScript};
 ghost use Rattle.ps_script.specs.Limits.{long_of, ReadsFew};
 ghost use Rattle.ps_script.specs.declared.item.Item.{Item};
 ghost use Rattle.ps_replay.specs.Outcomes.{usage_of, usage_told, IsOfInput, FilesCause, KeepsInput, IsTranscript, HasOneEntryEachText, WritesPrefix, InputCause, Settles, IsComplete};
+ghost use Rattle.ps_replay.specs.TwoWorlds.{HasEqualWorlds};
 ghost use Rattle.ps_replay.specs.Words.{words_in};
 
 use crate::dex::read_dex;
-use crate::plain::unplain_line;
 use crate::replay::{ReplayEnd, replay};
 use crate::status::Status;
+use crate::unbuilt::unbuilt_line;
 use crate::words::read_words;
 use ps_outside::files::Files;
 use ps_outside::sink::Sink;
 use ps_outside::source::Source;
 use ps_script::input::{InputEnd, read_input};
 use ps_script::item::Item;
-use ps_script::script::{ScriptEnd, ScriptKind, read_script};
+use ps_script::script::{ScriptEnd, read_script};
 use std::alloc::Global;
 
 fn run_items<K: Sink>(alloc: Global, bytes: &[u8], items: &[Item], out: &mut K) -> Status
@@ -30,12 +31,13 @@ fn run_items<K: Sink>(alloc: Global, bytes: &[u8], items: &[Item], out: &mut K) 
     ensures files { IsOfInput result }
     ensures transcript { result ≡ Status.Done → IsTranscript (K.written out.old) (K.written out.new) bytes.now }
     ensures one_entry { result ≡ Status.Done → HasOneEntryEachText bytes.now }
+    ensures two_worlds { result ≡ Status.Done → HasEqualWorlds bytes.now }
     ensures prefix { WritesPrefix (Some bytes.now) (K.written out.old) (K.written out.new) result }
     ensures cause { InputCause (Some bytes.now) result }
     ensures read_fault { result ≡ Status.ReadFault → ⊥ }
     ensures write_fault { result ≡ Status.WriteFault → Rose (K.faults out.old) (K.faults out.new) }
 {
-    match unplain_line(alloc, items) {
+    match unbuilt_line(alloc, items) {
         Err(_) => Status::NoMemory,
         Ok(Some(line)) => Status::NotBuilt { line },
         Ok(None) => match replay(alloc, items, out) {
@@ -53,16 +55,14 @@ fn run_bytes<K: Sink>(alloc: Global, bytes: &[u8], out: &mut K) -> Status
     ensures files { IsOfInput result }
     ensures transcript { result ≡ Status.Done → IsTranscript (K.written out.old) (K.written out.new) bytes.now }
     ensures one_entry { result ≡ Status.Done → HasOneEntryEachText bytes.now }
+    ensures two_worlds { result ≡ Status.Done → HasEqualWorlds bytes.now }
     ensures prefix { WritesPrefix (Some bytes.now) (K.written out.old) (K.written out.new) result }
     ensures cause { InputCause (Some bytes.now) result }
     ensures read_fault { result ≡ Status.ReadFault → ⊥ }
     ensures write_fault { result ≡ Status.WriteFault → Rose (K.faults out.old) (K.faults out.new) }
 {
     match read_script(alloc, bytes) {
-        Err(ScriptEnd::Bad(_, _)) => Status::BadScript {
-            line: 0,
-            kind: ScriptKind::Form,
-        },
+        Err(ScriptEnd::Bad(line, kind)) => Status::BadScript { line, kind },
         Err(ScriptEnd::NoMemory) => Status::NoMemory,
         Ok(items) => run_items(alloc, bytes, &items, out),
     }
@@ -75,6 +75,7 @@ fn run_input<S: Source, K: Sink>(alloc: Global, input: &mut S, out: &mut K) -> S
     ensures whole { result ≡ Status.Done → IsAtEnd (S.left input.new) }
     ensures transcript { result ≡ Status.Done → IfSome (S.left input.old) (IsTranscript (K.written out.old) (K.written out.new)) }
     ensures one_entry { result ≡ Status.Done → IfSome (S.left input.old) HasOneEntryEachText }
+    ensures two_worlds { result ≡ Status.Done → IfSome (S.left input.old) HasEqualWorlds }
     ensures prefix { WritesPrefix (S.left input.old) (K.written out.old) (K.written out.new) result }
     ensures bounded { ReadsFew (S.left input.old) (S.left input.new) }
     ensures cause { InputCause (S.left input.old) result }
@@ -111,6 +112,9 @@ pub fn run<F: Files, S: Source, K: Sink>(
     ensures whole { result ≡ Status.Done → IsAtEnd (S.left input.new) }
     ensures transcript { result ≡ Status.Done → IfSome (S.left input.old) (IsTranscript (K.written out.old) (K.written out.new)) }
     ensures one_entry { result ≡ Status.Done → IfSome (S.left input.old) HasOneEntryEachText }
+
+    // A connection's block from a chat room is the same for every script whose world there is the same to it.
+    ensures two_worlds { result ≡ Status.Done → IfSome (S.left input.old) HasEqualWorlds }
 
     // At every other status nothing was written, but for a front of the transcript at WriteFault and NoMemory.
     ensures prefix { WritesPrefix (S.left input.old) (K.written out.old) (K.written out.new) result }

@@ -24,7 +24,8 @@ pub enum Status {
     FileLong { name: Text },
     /// The dex file has no value: the path of its first fault, and the kind.
     BadDex { path: Text, kind: DataKind },
-    /// The input is no script. So far the line is always 0, and the kind `Form`.
+    /// The input is no script: the first line that can't stand in one, counted from 1, and what is wrong
+    /// with it.
     BadScript { line: u32, kind: ScriptKind },
     /// The input has more than 200,000 lines or 16,777,216 bytes: the count that passed first.
     ScriptLong { count: u32 },
@@ -34,8 +35,8 @@ pub enum Status {
     WriteFault,
     /// Memory was refused; a front of the transcript was written.
     NoMemory,
-    /// The input is a script that isn't replayed so far: the first line, counted from 1, that breaks a
-    /// condition of plain scripts.
+    /// The input is a script that isn't replayed so far: the first line, counted from 1, that makes an entry
+    /// of the hall other than a name or a text that is no command.
     NotBuilt { line: u32 },
 }
 

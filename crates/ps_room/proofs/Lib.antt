@@ -1,3 +1,6 @@
 pub mod AnswerLemmas
-pub mod LineLemmas
-pub mod PlaceLemmas
+pub mod ChangeLemmas
+pub mod PullLemmas
+pub mod RoleLemmas
+pub mod SilenceLemmas
+pub mod UnseenLemmas

@@ -1,9 +1,10 @@
 -- The answer that an entry gets.
-use Rattle.std.specs.Prelude.{◌≡◌, ◌≢◌, ℕ, List, [], ◌∷◌, Some, None}
+use Rattle.std.specs.Prelude.{◌≡◌, ◌≢◌, ℕ, [], ◌∷◌, Some, None}
 use Rattle.ps_room.specs.declared.entry.Entry.{Entry}
 use Rattle.ps_base.specs.declared.why.Why.{Why}
 use Rattle.ps_base.specs.Whys.{error_line}
-use Rattle.ps_room.specs.Rooms.{Record, verdict, applied, after, message}
+use Rattle.ps_room.specs.Records.{Record}
+use Rattle.ps_room.specs.Rooms.{verdict, applied, after, message}
 
 pub record IsAnswered (r : Record) (e : Entry) : Type 0 where
   -- an allowed entry is applied

@@ -1,4 +1,7 @@
 pub mod Answers
 pub mod Lines
-pub mod Places
+pub mod Logs
+pub mod Records
+pub mod Roles
 pub mod Rooms
+pub mod Unseen

@@ -1,8 +1,13 @@
-//! A chat room: what each entry does to it, and what each connection is sent at it.
+//! A room: what each entry does to it, what each connection is sent at it, and what it keeps for those who
+//! look later.
 #![tactic(auto)]
 
+pub mod cursor;
 pub mod entry;
 pub mod law;
 pub mod line;
-pub mod members;
+pub mod opening;
+pub mod outcome;
+pub mod role;
 pub mod room;
+pub mod told;

@@ -1,90 +1,71 @@
-//! The texts of a room's lines, after PROTOCOL.md where it has them.
+//! The lines that a room itself is told by, after PROTOCOL.md.
 ghost use Rattle.std.specs.Prelude.{◌≡◌, ◌++◌, ◌∷◌, [], IfOk, OnOk, string_bytes};
 ghost use Rattle.std.specs.List.{flat_map};
-ghost use Rattle.ps_room.specs.Lines.{symbol_of, sname, join_line, say_line, modnote_line, users_line, users_part};
+ghost use Rattle.ps_room.specs.Lines.{kind_line, title_line, users_line, users_part};
 
-use crate::entry::{Entry, Member};
-use ps_base::badge::Badge;
-use ps_base::number::Moment;
 use ps_base::text::Text;
+use ps_chat::present::Present;
+use ps_chat::text::sname;
+use ps_group::groups::Groups;
 use std::alloc::{AllocError, Global};
 
-/// The symbol of a group by its place in the default groups; past the list, the last one's.
-pub fn symbol_of(rank: u8) -> char
-    ensures { result ≡ symbol_of rank }
+/// `|init|chat`, or `|init|battle` in a battle's room.
+pub fn kind_line(alloc: Global, battle: bool) -> Result<Text, AllocError>
+    ensures { IfOk result (λ t. t ≡ kind_line battle) }
 {
-    match rank {
-        0 => '~',
-        1 => '#',
-        2 => '@',
-        3 => '%',
-        4 => '+',
-        _ => ' ',
+    if battle {
+        Text::copy_of(alloc, "|init|battle")
+    } else {
+        Text::copy_of(alloc, "|init|chat")
     }
 }
 
-/// The symbol of the rank, and the name.
-pub fn sname(alloc: Global, badge: &Badge) -> Result<Text, AllocError>
-    ensures { IfOk result (λ t. t ≡ sname badge.now) }
+/// `|title|TITLE`
+pub fn title_line(alloc: Global, title: &str) -> Result<Text, AllocError>
+    ensures { IfOk result (λ t. t ≡ title_line title.now) }
 {
-    let symbol = symbol_of(badge.rank);
-    let name = &badge.name;
-    Ok(Text::from_string(format!(in alloc; "{symbol}{name}")?))
+    Ok(Text::from_string(format!(in alloc; "|title|{title}")?))
 }
 
-/// What members are told of a Join.
-pub fn join_line(alloc: Global, badge: &Badge) -> Result<Text, AllocError>
-    ensures { IfOk result (λ t. t ≡ join_line badge.now) }
-{
-    let sname = sname(alloc, badge)?;
-    Ok(Text::from_string(format!(in alloc; "|j|{sname}")?))
-}
-
-/// What members are told of a text that is said.
-pub fn say_line(
+fn push_user(
     alloc: Global,
-    moment: Moment,
-    badge: &Badge,
-    text: &Text,
-) -> Result<Text, AllocError>
-    ensures { IfOk result (λ t. t ≡ say_line moment badge.now text.now) }
+    line: &mut String,
+    groups: &Groups,
+    member: &Present,
+) -> Result<(), AllocError>
+    ensures { OnOk result (string_bytes line.new ≡ string_bytes line.old ++ users_part groups.now member.now) }
 {
-    let sname = sname(alloc, badge)?;
-    Ok(Text::from_string(format!(in alloc; "|c:|{moment}|{sname}|{text}")?))
-}
-
-/// What staff are told of a note.
-pub fn modnote_line(alloc: Global, badge: &Badge, text: &Text) -> Result<Text, AllocError>
-    ensures { IfOk result (λ t. t ≡ modnote_line badge.now text.now) }
-{
-    let sname = sname(alloc, badge)?;
-    Ok(Text::from_string(format!(in alloc; "Modnote by {sname}: {text}")?))
-}
-
-fn push_user(alloc: Global, line: &mut String, badge: &Badge) -> Result<(), AllocError>
-    ensures { OnOk result (string_bytes line.new ≡ string_bytes line.old ++ users_part badge.now) }
-{
-    let sname = sname(alloc, badge)?;
+    let sname = sname(alloc, groups, member.rank, &member.badge.name)?;
     line.push_str(",")?;
     line.push_str(sname.as_str())
 }
 
-fn push_members(alloc: Global, line: &mut String, members: &[Member]) -> Result<(), AllocError>
-    ensures { OnOk result (string_bytes line.new ≡ string_bytes line.old ++ flat_map (λ m. users_part m.badge) members.now) }
+fn push_users(
+    alloc: Global,
+    line: &mut String,
+    groups: &Groups,
+    members: &[Present],
+) -> Result<(), AllocError>
+    ensures { OnOk result (string_bytes line.new ≡ string_bytes line.old ++ flat_map (users_part groups.now) members.now) }
 {
     for member in members {
-        push_user(alloc, line, &member.badge)?;
+        push_user(alloc, line, groups, member)?;
     }
     Ok(())
 }
 
-/// The members in join order, and then who joins.
-pub fn users_line(alloc: Global, members: &[Member], joiner: &Entry) -> Result<Text, AllocError>
-    ensures { IfOk result (λ t. t ≡ users_line (members.now ++ record { conn = joiner.now.conn; badge = joiner.now.badge } ∷ [])) }
+/// `|users|N,SNAME,..`: the members in join order, and then who joins.
+pub fn users_line(
+    alloc: Global,
+    groups: &Groups,
+    members: &[Present],
+    joiner: &Present,
+) -> Result<Text, AllocError>
+    ensures { IfOk result (λ t. t ≡ users_line groups.now (members.now ++ joiner.now ∷ [])) }
 {
     let count = members.len() + 1;
     let mut line = format!(in alloc; "|users|{count}")?;
-    push_members(alloc, &mut line, members)?;
-    push_user(alloc, &mut line, &joiner.badge)?;
+    push_users(alloc, &mut line, groups, members)?;
+    push_user(alloc, &mut line, groups, joiner)?;
     Ok(Text::from_string(line))
 }

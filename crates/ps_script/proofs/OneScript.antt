@@ -90,7 +90,7 @@ clash s line kind i l good bad =
     let both : None ≡ Some kind = sym good ∙ ap (fault_of s) (sym same) ∙ bad.2 in
     absurd cc
 
-no_fault : (s : Seen) (line : List ℕ) (kind : ScriptKind) (i : Item) → IsLine line i → fault_of s i ≡ None → IsFault s line kind → ⊥
+pub no_fault : (s : Seen) (line : List ℕ) (kind : ScriptKind) (i : Item) → IsLine line i → fault_of s i ≡ None → IsFault s line kind → ⊥
 no_fault s line kinds.Utf8 i l good bad = bad l.utf8
 no_fault s line kinds.Control i l good bad = let both : true ≡ false = sym bad.1 ∙ l.no_control in cc
 no_fault s line kinds.Form i l good bad = bad.2 i l.item

@@ -14,13 +14,19 @@ mod battle_tests;
 #[cfg(test)]
 mod calc_tests;
 #[cfg(test)]
+mod chat_tests;
+#[cfg(test)]
 mod check_tests;
 #[cfg(test)]
 mod config_tests;
 #[cfg(test)]
 mod dex_tests;
 #[cfg(test)]
+mod laws_tests;
+#[cfg(test)]
 mod rules_tests;
+#[cfg(test)]
+mod script_tests;
 #[cfg(test)]
 mod tests;
 

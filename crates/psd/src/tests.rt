@@ -112,12 +112,14 @@ fn scripts_by_their_status(rt: HostRuntime) -> Result<(), Fail> {
         ("; a comment\r\n\r\n", "Done"),
         (LOBBY, "Done"),
         ("+1\n>1 |/pm a, b\n", "NotBuilt line=2"),
-        ("+1\n-1\n", "NotBuilt line=2"),
-        ("+1\n>1 lobby|hi", "NotBuilt line=2"),
-        ("T 5\nT 4\n", "BadScript line=0 kind=Form"),
-        ("+2\n", "BadScript line=0 kind=Form"),
-        ("; a \u{7f}\n", "BadScript line=0 kind=Form"),
-        ("G \u{e9} ann\n", "BadScript line=0 kind=Form"),
+        ("+1\n>1 hi\n>1 |/utm null\n-1\n", "NotBuilt line=3"),
+        ("+1\n>1 lobby|hi\n-1", "Done"),
+        ("T 5\nT 4\n", "BadScript line=2 kind=Order"),
+        ("\n\n\n\n\n\n\u{0}\n", "BadScript line=7 kind=Control"),
+        ("; a \u{7f}\n", "BadScript line=1 kind=Control"),
+        ("; a\n+01\n", "BadScript line=2 kind=Form"),
+        ("+2\n", "BadScript line=1 kind=Order"),
+        ("G \u{e9} ann\n", "BadScript line=1 kind=Group"),
     ];
     for (input, status) in rows {
         let (ended, _) = replay(alloc, input.as_bytes(), &[], &[])?;

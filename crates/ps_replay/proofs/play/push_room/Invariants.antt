@@ -6,4 +6,4 @@ use Rattle.ps_replay.specs.Tables.{each_to}
 use Rattle.ps_replay.proofs.play.push_room.Given as goal
 
 abbrev pub invariant-loop-i : goal.invariant-loop-i
-invariant-loop-i l = string_bytes l.out ≡ string_bytes l.fn.out ++ each_to (λ conn. printed conn (with_place (in_room l.no) (message_of conn (role conn l.room) l.sender l.told))) l.i
+invariant-loop-i l = string_bytes l.out ≡ string_bytes l.fn.out ++ each_to (λ conn. printed conn (with_place (in_room l.«no») (message_of conn (role conn l.room.state) l.sender l.told l.room.state.logged))) l.i

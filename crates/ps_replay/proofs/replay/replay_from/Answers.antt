@@ -2,7 +2,7 @@ use Rattle.std.proofs.Common.{◌≡◌, ◌+◌, ◌∷◌, [], drop, string_by
 use Rattle.std.proofs.lemmas.List.{drop_more, drop_all}
 use Rattle.ps_script.specs.declared.item.Item.{Item}
 use Rattle.ps_replay.specs.Tables.{text_from}
-use Rattle.ps_replay.proofs.FlowLemmas.{Came-more, Came-stopped, Came-last, opens_one}
+use Rattle.ps_replay.proofs.FlowLemmas.{Came-more, Came-stopped, Came-last}
 use Rattle.ps_replay.proofs.replay.replay_from.Goals as goal
 
 pub returns-in-Err-clause-err : goal.returns-in-Err-clause-err
@@ -17,7 +17,6 @@ loop-item-preserved g c =
     record {
       came = rw c.in-Ok.ensures.state (Came-more (g.K.Sink.written c.args.out.now) (g.K.Sink.written c.loop-item.out) (g.K.Sink.written c.replay_item.new.out) (text_from c.args.table c.args.items.now) (string_bytes c.loop-item.pending) (string_bytes c.replay_item.new.pending) c.loop-item.table c.item-item.result (drop (c.loop-item.item-index + 1) c.args.items.now)
           (rw rest-is at c.loop-item.invariant.came) c.in-Ok.ensures.wrote);
-      opened = rw c.in-Ok.ensures.state (omega (arith, opens_one c.loop-item.table c.item-item.result, c.loop-item.invariant.opened));
       later = omega (arith, c.loop-item.invariant.later, c.in-Ok.ensures.later);
     }
 

@@ -1,4 +1,4 @@
-use Rattle.std.proofs.Common.{◌≤◌, drop, length, string_bytes}
+use Rattle.std.proofs.Common.{◌≤◌, drop, string_bytes}
 use Rattle.ps_replay.specs.Tables.{text_from}
 use Rattle.ps_replay.proofs.FlowLemmas.{Came}
 use Rattle.ps_replay.proofs.replay.replay_from.Given as goal
@@ -6,6 +6,5 @@ use Rattle.ps_replay.proofs.replay.replay_from.Given as goal
 abbrev pub invariant-loop-item : goal.invariant-loop-item
 invariant-loop-item g l = record {
   came : Came (g.K.Sink.written l.fn.out) (g.K.Sink.written l.out) (text_from l.fn.table l.items) (string_bytes l.pending) l.table (drop l.item-index l.items);
-  opened : length l.table.world.hall.seats ≤ l.item-index;
   later : g.K.Sink.faults l.fn.out ≤ g.K.Sink.faults l.out;
 }

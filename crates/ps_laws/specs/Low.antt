@@ -1,0 +1,100 @@
+-- Low histories: what a connection may know of a room's history. Each entry is turned into items, over the record before it.
+use Rattle.std.specs.Prelude.{ℕ, Bool, ◌||◌, ◌==◌, if◌then◌else◌, List, [], ◌∷◌, ◌++◌, Option, Some, None}
+use Rattle.std.specs.List.{list_any}
+use Rattle.std.specs.Str.{bytes_eq}
+use Rattle.ps_base.specs.Ids.{id_of}
+use Rattle.ps_base.specs.declared.badge.Badge.{Badge}
+use Rattle.ps_base.specs.declared.why.Why.{Why}
+use Rattle.ps_lines.specs.declared.command.Command.{Command}
+use Rattle.ps_lines.specs.declared.command.Command.TheVariants.{Modnote, Choose, Undo}
+use Rattle.ps_chat.specs.Looks.{member}
+use Rattle.ps_chat.specs.declared.present.Present.{Present}
+use Rattle.ps_room.specs.declared.entry.Entry.{Entry}
+use Rattle.ps_room.specs.Records.{Record, presents_of}
+use Rattle.ps_room.specs.Rooms.{verdict, after}
+use Rattle.ps_room.specs.Unseen.{sees_notes}
+use Rattle.ps_laws.specs.Stories.{Story, begun}
+
+-- ---- the users of a connection
+
+-- by the badge of its Join while it is a member, and by the badge that it brings otherwise
+abbrev pub badge_of : Option Present → Badge → Badge
+badge_of None brought = brought
+badge_of (Some me) brought = me.badge
+
+-- the id of who makes an entry
+abbrev pub user_of : Record → Entry → List ℕ
+user_of r e = id_of (badge_of (member e.conn (presents_of r)) e.badge).name
+
+-- the ids of a connection's entries in a history, from a record on
+abbrev pub users_from : ℕ → Record → List Entry → List (List ℕ)
+users_from conn r [] = []
+users_from conn r (e ∷ es) = (if e.conn == conn then user_of r e ∷ [] else []) ++ users_from conn (after r e) es
+
+-- the users of a connection in a story
+abbrev pub users : ℕ → Story → List (List ℕ)
+users conn s = users_from conn (begun s) s.history
+
+-- ---- items
+
+-- What is kept of an entry. The completed rounds of battles will be items too.
+pub data Item : Type 0 where
+  whole : Entry → Item
+
+-- whether an entry is of the connection, or of one with the same user
+abbrev pub is_own : ℕ → List (List ℕ) → Record → Entry → Bool
+is_own conn ids r e = e.conn == conn || list_any (bytes_eq (user_of r e)) ids
+
+-- ---- the table, row by row
+
+-- an entry of the connection, or of a connection whose user is one of its users: the entry whole
+abbrev pub items_of_own : Entry → List Item
+items_of_own e = whole e ∷ []
+
+-- of others, refused: none
+abbrev pub items_of_refused : List Item
+items_of_refused = []
+
+-- of others, a choice that completes no round: none. No choice completes one in a chat room; in a battle the one that does
+-- will have the round's two choices as its item, also behind an own entry.
+abbrev pub items_of_choice : List Item
+items_of_choice = []
+
+-- of others, an Undo: none
+abbrev pub items_of_undo : List Item
+items_of_undo = []
+
+-- of others, an allowed Modnote: none where the connection's role doesn't see it
+abbrev pub items_of_modnote : ℕ → Record → Entry → List Item
+items_of_modnote conn r e = if sees_notes conn r then whole e ∷ [] else []
+
+-- of others, an allowed entry that no row above names: the entry whole
+abbrev pub items_of_rest : Entry → List Item
+items_of_rest e = whole e ∷ []
+
+-- ---- which row an entry has
+
+abbrev pub items_of_allowed : ℕ → Record → Entry → Command → List Item
+items_of_allowed conn r e (Choose choice rqid) = items_of_choice
+items_of_allowed conn r e Undo = items_of_undo
+items_of_allowed conn r e (Modnote text) = items_of_modnote conn r e
+items_of_allowed conn r e other = items_of_rest e
+
+abbrev pub items_of_others : ℕ → Record → Entry → Option Why → List Item
+items_of_others conn r e (Some why) = items_of_refused
+items_of_others conn r e None = items_of_allowed conn r e e.cmd
+
+-- the items of an entry, to a connection with these users
+abbrev pub items_of : ℕ → List (List ℕ) → Record → Entry → List Item
+items_of conn ids r e = if is_own conn ids r e then items_of_own e else items_of_others conn r e (verdict r e)
+
+-- ---- the low history
+
+-- the items of a history, from a record on
+abbrev pub low_from : ℕ → List (List ℕ) → Record → List Entry → List Item
+low_from conn ids r [] = []
+low_from conn ids r (e ∷ es) = items_of conn ids r e ++ low_from conn ids (after r e) es
+
+-- the low history of a story. Its users are those of the whole history, also of later entries.
+abbrev pub low : ℕ → Story → List Item
+low conn s = low_from conn (users conn s) (begun s) s.history

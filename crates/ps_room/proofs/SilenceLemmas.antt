@@ -1,0 +1,168 @@
+-- Who is sent nothing, and whose connections the members have.
+use Rattle.std.proofs.Common.{◌≡◌, ℕ, ◌≤◌, ◌==◌, Bool, true, false, not, List, [], ◌∷◌, ◌++◌, map, codes, Option, Some, None, refl, sym, ap, ◌∙◌, subst, arith}
+use Rattle.std.specs.List.{filter}
+use Rattle.std.specs.Str.{bytes_eq}
+use Rattle.ps_base.specs.Ids.{id_of}
+use Rattle.ps_base.specs.declared.badge.Badge.{Badge}
+use Rattle.ps_base.specs.declared.why.Why.{Why}
+use Rattle.ps_group.specs.Ranks.{rank_of}
+use Rattle.ps_group.specs.declared.group.Group.{Group}
+use Rattle.ps_lines.specs.declared.command.Command.{Command}
+use Rattle.ps_lines.specs.declared.command.Command.TheVariants.{Join, Leave, Quit, Say, Announce, Modnote, Warn, Mute, Unmute, Ban, Unban, Promote, Modchat, Choose, Undo, Forfeit}
+use Rattle.ps_chat.specs.Records.{Member, Record as ChatRecord}
+use Rattle.ps_chat.specs.Looks.{member, user, kept}
+use Rattle.ps_chat.specs.Lines.{line_of_leave, line_of_say, line_of_announce, line_of_modnote, line_to_member, line_to_id, line_of_promote, line_of_modchat}
+use Rattle.ps_chat.specs.Rooms.{present, room_of}
+use Rattle.ps_chat.specs.Told.{lines, joiner, told as chat_told}
+use Rattle.ps_chat.specs.Changes.{record_after, with_rank}
+use Rattle.ps_chat.specs.declared.present.Present.{Present}
+use Rattle.ps_chat.specs.declared.room.Room.{Room}
+use Rattle.ps_room.specs.declared.entry.Entry.{Entry}
+use Rattle.ps_room.specs.declared.opening.Opening.{Opening}
+use Rattle.ps_room.specs.declared.role.Role.TheVariants.{Outside}
+use Rattle.ps_room.specs.Answers.{IsAnswered}
+use Rattle.ps_room.specs.Records.{Record, opened, presents_of}
+use Rattle.ps_room.specs.Rooms.{verdict, told, after, role_in, message, seen_texts}
+use Rattle.ps_room.proofs.AnswerLemmas as answers
+use Rattle.ps_room.proofs.AnswerLemmas.{after_allowed, after_refused, silent_line}
+
+-- every entry gets the answer of its verdict
+pub answered : (r : Record) (e : Entry) → IsAnswered r e
+answered = answers.answered
+
+-- ---- who is no member sees no line of a row
+
+module _ (conn : ℕ) (r : Room) where
+  of_leave : (me : Option Present) → seen_texts conn Outside (line_of_leave r me) ≡ []
+  of_leave None = refl
+  of_leave (Some me) = refl
+
+  of_say : (moment : ℕ) (me : Option Present) (text : List ℕ) → seen_texts conn Outside (line_of_say r moment me text) ≡ []
+  of_say moment None text = refl
+  of_say moment (Some me) text = refl
+
+  of_announce : (me : Option Present) (text : List ℕ) → seen_texts conn Outside (line_of_announce r me text) ≡ []
+  of_announce None text = refl
+  of_announce (Some me) text = refl
+
+  of_modnote : (me : Option Present) (text : List ℕ) → seen_texts conn Outside (line_of_modnote r me text) ≡ []
+  of_modnote None text = refl
+  of_modnote (Some me) text = refl
+
+  to_member : (word : List ℕ) (me target : Option Present) (reason : Option (List ℕ)) → seen_texts conn Outside (line_to_member r word me target reason) ≡ []
+  to_member word None target reason = refl
+  to_member word (Some me) None reason = refl
+  to_member word (Some me) (Some target) reason = refl
+
+  to_id : (word : List ℕ) (me : Option Present) (id : List ℕ) (reason : Option (List ℕ)) → seen_texts conn Outside (line_to_id r word me id reason) ≡ []
+  to_id word None id reason = refl
+  to_id word (Some me) id reason = refl
+
+  of_promote : (me target : Option Present) (symbol : ℕ) → seen_texts conn Outside (line_of_promote r me target symbol) ≡ []
+  of_promote None target symbol = refl
+  of_promote (Some me) None symbol = refl
+  of_promote (Some me) (Some target) symbol = refl
+
+  of_modchat : (me : Option Present) (symbol : Option ℕ) → seen_texts conn Outside (line_of_modchat r me symbol) ≡ []
+  of_modchat None symbol = refl
+  of_modchat (Some me) symbol = refl
+
+  no_row : (me : Option Present) (new : Present) (moment : ℕ) (cmd : Command) → seen_texts conn Outside (chat_told r me new moment cmd) ≡ []
+  no_row me new moment (Join room) = refl
+  no_row me new moment Leave = of_leave me
+  no_row me new moment Quit = of_leave me
+  no_row me new moment (Say text) = of_say moment me text
+  no_row me new moment (Announce text) = of_announce me text
+  no_row me new moment (Modnote text) = of_modnote me text
+  no_row me new moment (Warn id reason) = to_member (codes "Warned") me (user id r.members) reason
+  no_row me new moment (Mute id reason) = to_member (codes "Muted") me (user id r.members) reason
+  no_row me new moment (Unmute id) = to_member (codes "Unmuted") me (user id r.members) None
+  no_row me new moment (Ban id reason) = to_id (codes "Banned") me id reason
+  no_row me new moment (Unban id) = to_id (codes "Unbanned") me id None
+  no_row me new moment (Promote id symbol) = of_promote me (user id r.members) symbol
+  no_row me new moment (Modchat symbol) = of_modchat me symbol
+  no_row me new moment (Choose choice rqid) = refl
+  no_row me new moment Undo = refl
+  no_row me new moment Forfeit = refl
+
+outside_by : (conn : ℕ) (r : Record) (e : Entry) (v : Option Why) → verdict r e ≡ v → (conn == e.conn) ≡ false → member conn (presents_of r) ≡ None → message conn r e ≡ []
+unfolding told lines role_in
+outside_by conn r e (Some why) v other out = silent_line r e why conn v other
+outside_by conn r e None v other out = rw (v, other, out) (no_row conn (room_of r.opening r.chat) (member e.conn (presents_of r)) (joiner (room_of r.opening r.chat) e.conn e.badge) e.moment e.cmd)
+
+-- who is no member and isn't the sender is sent nothing
+pub outside_silent : (conn : ℕ) (r : Record) (e : Entry) → (conn == e.conn) ≡ false → member conn (presents_of r) ≡ None → message conn r e ≡ []
+outside_silent conn r e other out = outside_by conn r e (verdict r e) refl other out
+
+-- ---- the members' connections
+
+-- a number from 1 to n
+abbrev pub IsUpTo : ℕ → ℕ → Type 0
+IsUpTo n conn = (1 ≤ conn) × (conn ≤ n)
+
+abbrev pub AreUpTo : ℕ → List Member → Type 0
+AreUpTo n [] = Unit {0}
+AreUpTo n (m ∷ ms) = IsUpTo n m.conn × AreUpTo n ms
+
+-- each member's connection is one of the first n
+abbrev pub Housed : ℕ → Record → Type 0
+Housed n r = AreUpTo n r.chat.members
+
+up_to_more : (n k : ℕ) (ms : List Member) → n ≤ k → AreUpTo n ms → AreUpTo k ms
+up_to_more n k [] le h = tt
+up_to_more n k (m ∷ ms) le h = ((h.0.0, omega (arith, h.0.1)), up_to_more n k ms le h.1)
+
+pub housed_more : (n k : ℕ) (r : Record) → n ≤ k → Housed n r → Housed k r
+housed_more n k r le h = up_to_more n k r.chat.members le h
+
+pub housed_opened : (n : ℕ) (o : Opening) → Housed n (opened o)
+housed_opened n o = tt
+
+up_to_push : (n : ℕ) (ms : List Member) (m : Member) → AreUpTo n ms → IsUpTo n m.conn → AreUpTo n (ms ++ m ∷ [])
+up_to_push n [] m h by = (by, tt)
+up_to_push n (x ∷ ms) m h by = (h.0, up_to_push n ms m h.1 by)
+
+up_to_filter : (n : ℕ) (test : Member → Bool) (ms : List Member) → AreUpTo n ms → AreUpTo n (filter test ms)
+up_to_filter n test [] h = tt
+up_to_filter n test (m ∷ ms) h = by (test m) refl (up_to_filter n test ms h.1)
+  where
+    by : (b : Bool) → test m ≡ b → AreUpTo n (filter test ms) → AreUpTo n (filter test (m ∷ ms))
+    by true t more = rw t (h.0, more)
+    by false t more = rw t more
+
+ranked_up_to : (n : ℕ) (chat : ChatRecord) (id : List ℕ) (rank : Option ℕ) → AreUpTo n chat.members → AreUpTo n (with_rank chat id rank).members
+ranked_up_to n chat id None h = h
+ranked_up_to n chat id (Some rank) h = h
+
+up_to_after : (n : ℕ) (groups : List Group) (chat : ChatRecord) (conn : ℕ) (badge : Badge) (moment : ℕ) (cmd : Command) → AreUpTo n chat.members → IsUpTo n conn → AreUpTo n (record_after groups chat conn badge moment cmd).members
+up_to_after n groups chat conn badge moment (Join room) h by = up_to_push n chat.members (record { conn = conn; badge = kept groups badge }) h by
+up_to_after n groups chat conn badge moment Leave h by = up_to_filter n (λ m. not (m.conn == conn)) chat.members h
+up_to_after n groups chat conn badge moment Quit h by = up_to_filter n (λ m. not (m.conn == conn)) chat.members h
+up_to_after n groups chat conn badge moment (Say text) h by = h
+up_to_after n groups chat conn badge moment (Announce text) h by = h
+up_to_after n groups chat conn badge moment (Modnote text) h by = h
+up_to_after n groups chat conn badge moment (Warn id reason) h by = h
+up_to_after n groups chat conn badge moment (Mute id reason) h by = h
+up_to_after n groups chat conn badge moment (Unmute id) h by = h
+up_to_after n groups chat conn badge moment (Ban id reason) h by = up_to_filter n (λ m. not (bytes_eq (id_of m.badge.name) id)) chat.members h
+up_to_after n groups chat conn badge moment (Unban id) h by = h
+up_to_after n groups chat conn badge moment (Promote id symbol) h by = ranked_up_to n chat id (rank_of symbol groups) h
+up_to_after n groups chat conn badge moment (Modchat symbol) h by = h
+up_to_after n groups chat conn badge moment (Choose choice rqid) h by = h
+up_to_after n groups chat conn badge moment Undo h by = h
+up_to_after n groups chat conn badge moment Forfeit h by = h
+
+housed_by : (n : ℕ) (r : Record) (e : Entry) (v : Option Why) → verdict r e ≡ v → Housed n r → IsUpTo n e.conn → Housed n (after r e)
+housed_by n r e (Some why) v h by = subst (Housed n) (sym (after_refused r e why v)) h
+housed_by n r e None v h by = subst (Housed n) (sym (after_allowed r e v)) (up_to_after n r.opening.groups r.chat e.conn e.badge e.moment e.cmd h by)
+
+pub housed_after : (n : ℕ) (r : Record) (e : Entry) → Housed n r → IsUpTo n e.conn → Housed n (after r e)
+housed_after n r e h by = housed_by n r e (verdict r e) refl h by
+
+none_up_to : (n conn : ℕ) (f : Member → Present) (same : (m : Member) → (f m).conn ≡ m.conn) (ms : List Member) → AreUpTo n ms → ((k : ℕ) → IsUpTo n k → (k == conn) ≡ false) → member conn (map f ms) ≡ None
+none_up_to n conn f same [] h out = refl
+none_up_to n conn f same (m ∷ ms) h out = rw (ap (λ k. k == conn) (same m) ∙ out m.conn h.0) (none_up_to n conn f same ms h.1 out)
+
+-- a connection that is none of the first n is no member
+pub not_housed : (n conn : ℕ) (r : Record) → Housed n r → ((k : ℕ) → IsUpTo n k → (k == conn) ≡ false) → member conn (presents_of r) ≡ None
+not_housed n conn r h out = none_up_to n conn (present r.opening.groups r.chat.ranks) (λ m. refl) r.chat.members h out
