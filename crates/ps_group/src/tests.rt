@@ -11,7 +11,7 @@ use std::alloc::Global;
 use std::test::Fail;
 
 /// Lists of groups as JSON, and the first fault of each: its path, the group's place and the kind.
-const ROWS: [(&str, &str, u32, DataKind); 24] = [
+const ROWS: [(&str, &str, u32, DataKind); 25] = [
     ("5", "", 0, DataKind::Shape),
     ("[]", "", 0, DataKind::Range),
     ("[5]", "[0]", 0, DataKind::Shape),
