@@ -11,7 +11,7 @@ use Rattle.ps_mon.specs.Choices.{IsChoiceOf}
 use Rattle.ps_mon.specs.Teams.{IsFresh, opened}
 use Rattle.ps_mon.proofs.FreshLemmas.{first-move-legal}
 use Rattle.ps_battle.specs.Effects.{IsBuiltKind}
-use Rattle.ps_battle.specs.Chosen.{chosen_slot, IsBuilt}
+use Rattle.ps_battle.specs.Chosen.{chosen_slot, HasBuiltMove}
 use Rattle.ps_battle.specs.Openings.{team_of, fresh_battle}
 
 pub opens-going : (teams : List BattleTeam) (clauses seed : ℕ) → is_over (fresh_battle teams clauses seed).phase ≡ false
@@ -26,17 +26,14 @@ pub second-choice : (teams : List BattleTeam) (clauses seed : ℕ) → IsFresh (
 unfolding fresh_battle
 second-choice teams clauses seed fresh = first-move-legal (team_of teams 1) 1 fresh
 
-built-first : (facts : Facts) (t : BattleTeam) → IsFresh t → IsBuiltKind (move_of facts (slot_of (active_of (opened t)) 0).mv).effect → IsBuilt facts (opened t) (choices.Move 1)
+built-first : (facts : Facts) (t : BattleTeam) → IsFresh t → IsBuiltKind (move_of facts (slot_of (active_of (opened t)) 0).mv).effect → HasBuiltMove facts (opened t) (choices.Move 1)
 unfolding chosen_slot slot_now
-built-first facts t fresh built = record {
-  move = built;
-  free = record { healthy = (fresh.members 0 fresh.count).healthy; clear = refl; unseeded = refl; enabled = refl };
-}
+built-first facts t fresh built = built
 
-pub first-built : (facts : Facts) (teams : List BattleTeam) (clauses seed : ℕ) → IsFresh (team_of teams 0) → IsBuiltKind (move_of facts (slot_of (active_of (opened (team_of teams 0))) 0).mv).effect → IsBuilt facts (side_of (fresh_battle teams clauses seed) 0) (choices.Move 1)
+pub first-built : (facts : Facts) (teams : List BattleTeam) (clauses seed : ℕ) → IsFresh (team_of teams 0) → IsBuiltKind (move_of facts (slot_of (active_of (opened (team_of teams 0))) 0).mv).effect → HasBuiltMove facts (side_of (fresh_battle teams clauses seed) 0) (choices.Move 1)
 unfolding fresh_battle
 first-built facts teams clauses seed fresh built = built-first facts (team_of teams 0) fresh built
 
-pub second-built : (facts : Facts) (teams : List BattleTeam) (clauses seed : ℕ) → IsFresh (team_of teams 1) → IsBuiltKind (move_of facts (slot_of (active_of (opened (team_of teams 1))) 0).mv).effect → IsBuilt facts (side_of (fresh_battle teams clauses seed) 1) (choices.Move 1)
+pub second-built : (facts : Facts) (teams : List BattleTeam) (clauses seed : ℕ) → IsFresh (team_of teams 1) → IsBuiltKind (move_of facts (slot_of (active_of (opened (team_of teams 1))) 0).mv).effect → HasBuiltMove facts (side_of (fresh_battle teams clauses seed) 1) (choices.Move 1)
 unfolding fresh_battle
 second-built facts teams clauses seed fresh built = built-first facts (team_of teams 1) fresh built

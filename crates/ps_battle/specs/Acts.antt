@@ -1,6 +1,5 @@
--- An act: whether the member acts, its move, and what it suffers after it. The first and the last are nothing where the member is unhindered; they come with the
--- statuses, the first at the head of `act`, the last after `used` where both active members stand.
-use Rattle.std.specs.Prelude.{ℕ, Bool, true, false, Some, None, ◌-◌, ◌||◌, ◌==◌, if◌then◌else◌}
+-- An act: whether the member acts, its move, and what it suffers after it.
+use Rattle.std.specs.Prelude.{ℕ, Bool, true, false, Option, Some, None, ◌-◌, ◌||◌, ◌==◌, if◌then◌else◌}
 use Rattle.ps_event.specs.declared.event.Event.TheVariants as events
 use Rattle.ps_event.specs.declared.event.Who.{Who}
 use Rattle.ps_mon.specs.declared.record.Battle.{Battle}
@@ -16,11 +15,14 @@ use Rattle.ps_mon.specs.declared.effect.CopyKind.TheVariants as copies
 use Rattle.ps_mon.specs.declared.facts.Facts.{Facts}
 use Rattle.ps_mon.specs.Reading.{side_of, active_of}
 use Rattle.ps_mon.specs.Moves.{move_of, struggle_number}
+use Rattle.ps_mon.specs.Duels.{duel_of}
 use Rattle.ps_mon.specs.Spending.{after_use}
 use Rattle.ps_hits.specs.Scenes.{Play, ◌>>=◌, ◌>>◌, look, tell, change}
 use Rattle.ps_hits.specs.Courses.{Course, played}
 use Rattle.ps_hits.specs.Told.{who_of}
 use Rattle.ps_battle.specs.Effects.{effect}
+use Rattle.ps_battle.specs.Acting.{may_act}
+use Rattle.ps_battle.specs.Suffering.{residual}
 use Rattle.ps_battle.specs.Chosen.{chosen_slot}
 
 abbrev pub is_user : Aim → Bool
@@ -59,11 +61,28 @@ named_row facts mv = do
 unfoldable pub used : Facts → ℕ → ℕ → Course → Course
 used facts user mv c = effect (move_of facts mv).effect facts mv user (played (named_row facts mv) user c)
 
--- an act of a side: a move takes PP from its slot, Struggle from none; a switch is no act
+-- a use takes PP from the slot; Struggle has none
+unfoldable pub with_use_of : ℕ → Option ℕ → Battle → Battle
+with_use_of user None b = b
+with_use_of user (Some slot) b = after_use b user slot
+
+-- a move takes PP from its slot and is used; then its user suffers, where both active members stand
+unfoldable pub moved : Facts → ℕ → Option ℕ → ℕ → Course → Course
+moved facts user slot mv c = played residual user (used facts user mv (record c { battle = with_use_of user slot c.battle }))
+
+-- whether the member acts: else the line that ends its act stands in the place of the move and of what is suffered after it
+unfoldable pub goes_on : Option ℕ → ℕ → Course → Bool
+goes_on slot user c = (may_act slot (record { duel = duel_of c.battle user; told = c.told })).0
+
+unfoldable pub tried : Facts → ℕ → Option ℕ → ℕ → Course → Course
+tried facts user slot mv c =
+    let tested = played (may_act slot) user c in
+    if goes_on slot user c then moved facts user slot mv tested else tested
+
+-- an act of a side; a switch is none, and a Continue comes with the long moves
 unfoldable pub act : Facts → ℕ → Choice → Course → Course
-act facts user (choices.Move n) c =
-    used facts user (chosen_slot (side_of c.battle user) n) (record c { battle = after_use c.battle user (n - 1) })
-act facts user choices.Struggle c = used facts user struggle_number c
+act facts user (choices.Move n) c = tried facts user (Some (n - 1)) (chosen_slot (side_of c.battle user) n) c
+act facts user choices.Struggle c = tried facts user None struggle_number c
 act facts user choice c = c
 
 -- whether an active member has fainted

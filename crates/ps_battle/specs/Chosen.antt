@@ -1,14 +1,10 @@
--- Which move a choice uses, and what a commit wants of it until all kinds of effects are built.
-use Rattle.std.specs.Prelude.{◌≡◌, ℕ, ℤ, pos, Bool, true, false, Option, Some, None, ◌-◌}
+-- Which move a choice uses, and what a commit wants of it until the long and the copying moves are built.
+use Rattle.std.specs.Prelude.{ℕ, ℤ, pos, Bool, true, false, Option, Some, None, ◌-◌}
 use Rattle.ps_mon.specs.declared.choice.Choice.{Choice}
 use Rattle.ps_mon.specs.declared.choice.Choice.TheVariants as choices
 use Rattle.ps_mon.specs.declared.facts.Facts.{Facts}
 use Rattle.ps_mon.specs.declared.record.Lock.{Lock}
 use Rattle.ps_mon.specs.declared.record.SideState.{SideState}
-use Rattle.ps_mon.specs.declared.record.Volatiles.{Volatiles}
-use Rattle.ps_mon.specs.declared.team.Member.{Member}
-use Rattle.ps_mon.specs.declared.status.Status.TheVariants.{Healthy}
-use Rattle.ps_mon.specs.Reading.{active_of}
 use Rattle.ps_mon.specs.Slots.{slot_now}
 use Rattle.ps_mon.specs.Moves.{move_of, struggle_number}
 use Rattle.ps_mon.specs.Choices.{IsThere}
@@ -44,29 +40,12 @@ priority_by facts (Some mv) = (move_of facts mv).priority
 unfoldable pub priority_of : Facts → SideState → Choice → ℤ
 priority_of facts side choice = priority_by facts (chosen_move side choice)
 
--- No line of whether a member acts would keep it from acting, and nothing would hurt it after its act: it has no status, isn't confused or seeded, and
--- no slot of it is disabled. (Who is held, or is trapped by one who is, has or meets a Continue; flinching ends as the turn begins.)
-pub record IsUnhindered (m : Member) (v : Volatiles) : Type 0 where
-  pub healthy : m.status ≡ Healthy
-  pub clear : v.confusion ≡ 0
-  pub unseeded : v.seeded ≡ false
-  pub enabled : v.disabled ≡ None
-
--- the kind of the chosen move is built; no Continue is
+-- Until the long and the copying moves are built, what a commit wants of a choice: the kind of its move is built, and it is no Continue, which goes on with a
+-- long move or recharges after one
 abbrev pub HasBuiltMove : Facts → SideState → Choice → Type 0
 HasBuiltMove facts side (choices.Move n) = IsBuiltKind (move_of facts (chosen_slot side n)).effect
 HasBuiltMove facts side choices.Continue = ⊥
 HasBuiltMove facts side choice = Unit {0}
-
--- who acts is unhindered
-abbrev pub IsFree : Bool → SideState → Type 0
-IsFree true side = IsUnhindered (active_of side) side.vol
-IsFree false side = Unit {0}
-
--- until all kinds are built: what a commit wants of a choice
-pub record IsBuilt (facts : Facts) (side : SideState) (choice : Choice) : Type 0 where
-  pub move : HasBuiltMove facts side choice
-  pub free : IsFree (is_act choice) side
 
 -- the slot or the position is there, and the move's kind is built
 pub record CanAct (facts : Facts) (side : SideState) (choice : Choice) : Type 0 where

@@ -1,3 +1,6 @@
+pub mod Numbers
+pub mod Acting
+pub mod Suffering
 pub mod Effects
 pub mod Chosen
 pub mod Acts

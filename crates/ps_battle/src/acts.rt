@@ -1,5 +1,5 @@
 //! Acts.
-ghost use Rattle.std.specs.Prelude.{◌≡◌, ◌≤◌, ◌<◌, ◌+◌, ◌-◌, ℕ};
+ghost use Rattle.std.specs.Prelude.{◌≡◌, ◌≤◌, ◌<◌, ◌+◌, ◌-◌, ℕ, IfSome};
 ghost use Rattle.arrayvec.specs.ArrayVec.{array_vec_len};
 ghost use Rattle.ps_mon.specs.Facts.{AreFair};
 ghost use Rattle.ps_mon.specs.Keeping.{Keeps};
@@ -10,12 +10,16 @@ ghost use Rattle.ps_mon.specs.Valid.{IsSound};
 ghost use Rattle.ps_mon.specs.Duels.{IsFit, IsDuelKnown};
 ghost use Rattle.ps_hits.specs.Scenes.{scene};
 ghost use Rattle.ps_hits.specs.Courses.{course, played};
+ghost use Rattle.ps_battle.specs.Acting.{may_act};
 ghost use Rattle.ps_battle.specs.Effects.{IsBuiltKind};
+ghost use Rattle.ps_battle.specs.Suffering.{residual};
 ghost use Rattle.ps_battle.specs.Chosen.{CanAct};
-ghost use Rattle.ps_battle.specs.Acts.{is_user, is_conversion, is_for_user, target_of, named_row, used, act, is_down, has_faint, two_acts};
+ghost use Rattle.ps_battle.specs.Acts.{is_user, is_conversion, is_for_user, target_of, named_row, used, with_use_of, moved, goes_on, tried, act, is_down, has_faint, two_acts};
 
+use crate::acting::can_act;
 use crate::chosen::slot_move;
 use crate::effects::take_effect;
+use crate::suffering::suffer;
 use ps_event::event::{Event, Events, Who};
 use ps_hits::scene::who;
 use ps_mon::choice::Choice;
@@ -125,6 +129,107 @@ fn use_move(battle: &mut Battle, facts: Facts<'_>, user: u8, mv: u16, out: &mut 
     take_effect(battle, facts, user, mv, out);
 }
 
+#[tactic(auto, unfolding(crate::specs::Acts::with_use_of))]
+fn spend(battle: &mut Battle, user: u8, slot: Option<u8>)
+    requires sound { IsSound battle.old }
+    requires user { user < 2 }
+    requires slot { IfSome slot (λ j. j < 4) }
+    ensures value { battle.new ≡ with_use_of user slot battle.old }
+    ensures sound { IsSound battle.new }
+    ensures known { (moves : ℕ) → AreKnown moves battle.old → AreKnown moves battle.new }
+    ensures kept { Keeps user battle.old battle.new }
+{
+    if let Some(slot) = slot {
+        battle.spend(user, slot);
+    }
+}
+
+#[tactic(auto, unfolding(crate::specs::Acts::goes_on))]
+fn is_able(battle: &mut Battle, user: u8, slot: Option<u8>, out: &mut Events) -> bool
+    requires sound { IsSound battle.old }
+    requires user { user < 2 }
+    requires room { array_vec_len out.old + 11 ≤ 160 }
+    ensures value { result ≡ goes_on slot user (course battle.old out.old) }
+    ensures after { course battle.new out.new ≡ played (may_act slot) user (course battle.old out.old) }
+    ensures sound { IsSound battle.new }
+    ensures known { (moves : ℕ) → AreKnown moves battle.old → AreKnown moves battle.new }
+    ensures kept { Keeps user battle.old battle.new }
+    ensures room { array_vec_len out.new ≤ array_vec_len out.old + 11 }
+{
+    let mut duel = battle.duel(user);
+    let able = can_act(&mut duel, slot, out);
+    battle.put(user, &duel);
+    able
+}
+
+fn bear(battle: &mut Battle, user: u8, out: &mut Events)
+    requires sound { IsSound battle.old }
+    requires user { user < 2 }
+    requires room { array_vec_len out.old + 5 ≤ 160 }
+    ensures after { course battle.new out.new ≡ played residual user (course battle.old out.old) }
+    ensures sound { IsSound battle.new }
+    ensures known { (moves : ℕ) → AreKnown moves battle.old → AreKnown moves battle.new }
+    ensures kept { Keeps user battle.old battle.new }
+    ensures room { array_vec_len out.new ≤ array_vec_len out.old + 5 }
+{
+    let mut duel = battle.duel(user);
+    suffer(&mut duel, out);
+    battle.put(user, &duel);
+}
+
+#[tactic(auto, using(crate::proofs::KeepLemmas::keeps_trans), unfolding(crate::specs::Acts::moved))]
+fn do_move(
+    battle: &mut Battle,
+    facts: Facts<'_>,
+    user: u8,
+    slot: Option<u8>,
+    mv: u16,
+    out: &mut Events,
+)
+    requires sound { IsSound battle.old }
+    requires fair { AreFair facts }
+    requires user { user < 2 }
+    requires slot { IfSome slot (λ j. j < 4) }
+    requires built { IsBuiltKind (move_of facts mv).effect }
+    requires room { array_vec_len out.old + 26 ≤ 160 }
+    ensures after { course battle.new out.new ≡ moved facts.entry user slot mv (course battle.old out.old) }
+    ensures sound { IsSound battle.new }
+    ensures known { (moves : ℕ) → IsNamed moves mv → AreKnown moves battle.old → AreKnown moves battle.new }
+    ensures kept { Keeps user battle.old battle.new }
+    ensures room { array_vec_len out.new ≤ array_vec_len out.old + 26 }
+{
+    spend(battle, user, slot);
+    use_move(battle, facts, user, mv, out);
+    bear(battle, user, out);
+}
+
+#[tactic(auto, using(crate::proofs::KeepLemmas::keeps_trans), unfolding(crate::specs::Acts::tried))]
+fn try_move(
+    battle: &mut Battle,
+    facts: Facts<'_>,
+    user: u8,
+    slot: Option<u8>,
+    mv: u16,
+    out: &mut Events,
+)
+    requires sound { IsSound battle.old }
+    requires fair { AreFair facts }
+    requires user { user < 2 }
+    requires slot { IfSome slot (λ j. j < 4) }
+    requires built { IsBuiltKind (move_of facts mv).effect }
+    requires room { array_vec_len out.old + 37 ≤ 160 }
+    ensures after { course battle.new out.new ≡ tried facts.entry user slot mv (course battle.old out.old) }
+    ensures sound { IsSound battle.new }
+    ensures known { (moves : ℕ) → IsNamed moves mv → AreKnown moves battle.old → AreKnown moves battle.new }
+    ensures kept { Keeps user battle.old battle.new }
+    ensures room { array_vec_len out.new ≤ array_vec_len out.old + 37 }
+{
+    if !is_able(battle, user, slot, out) {
+        return;
+    }
+    do_move(battle, facts, user, slot, mv, out);
+}
+
 #[tactic(auto, unfolding(crate::specs::Acts::act))]
 fn do_act(battle: &mut Battle, facts: Facts<'_>, user: u8, choice: Choice, out: &mut Events)
     requires sound { IsSound battle.old }
@@ -132,20 +237,19 @@ fn do_act(battle: &mut Battle, facts: Facts<'_>, user: u8, choice: Choice, out: 
     requires known { AreKnown (move_count facts) battle.old }
     requires user { user < 2 }
     requires can { CanAct facts (side_of battle.old user) choice }
-    requires room { array_vec_len out.old + 21 ≤ 160 }
+    requires room { array_vec_len out.old + 37 ≤ 160 }
     ensures after { course battle.new out.new ≡ act facts.entry user choice (course battle.old out.old) }
     ensures sound { IsSound battle.new }
     ensures known { AreKnown (move_count facts.entry) battle.new }
     ensures kept { Keeps user battle.old battle.new }
-    ensures room { array_vec_len out.new ≤ array_vec_len out.old + 21 }
+    ensures room { array_vec_len out.new ≤ array_vec_len out.old + 37 }
 {
     match choice {
         Choice::Move(n) => {
             let mv = slot_move(&battle.sides[user as usize], n);
-            battle.spend(user, n - 1);
-            use_move(battle, facts, user, mv, out);
+            try_move(battle, facts, user, Some(n - 1), mv, out);
         }
-        Choice::Struggle => use_move(battle, facts, user, STRUGGLE, out),
+        Choice::Struggle => try_move(battle, facts, user, None, STRUGGLE, out),
         _ => (),
     }
 }
@@ -185,12 +289,12 @@ pub(crate) fn do_two_acts(
     requires user { user < 2 }
     requires first { CanAct facts (side_of battle.old user) first }
     requires second { CanAct facts (side_of battle.old (1 - user)) second }
-    requires room { array_vec_len out.old + 42 ≤ 160 }
+    requires room { array_vec_len out.old + 74 ≤ 160 }
     ensures after { course battle.new out.new ≡ two_acts facts.entry user first (1 - user) second (course battle.old out.old) }
     ensures sound { IsSound battle.new }
     ensures known { AreKnown (move_count facts.entry) battle.new }
     ensures turn { battle.new.turn ≡ battle.old.turn }
-    ensures room { array_vec_len out.new ≤ array_vec_len out.old + 42 }
+    ensures room { array_vec_len out.new ≤ array_vec_len out.old + 74 }
 {
     do_act(battle, facts, user, first, out);
     if has_fainted(battle) {

@@ -17,6 +17,13 @@ use ps_mon::effect::Effect;
 use ps_mon::facts::Facts;
 use ps_mon::moves::move_data;
 use ps_mon::record::Battle;
+use ps_status::afflicting::status;
+use ps_status::boosting::boost;
+use ps_status::clearing::haze;
+use ps_status::confusing::{confuse, flinch};
+use ps_status::healing::{heal, rest};
+use ps_volat::answering::{counter, leechseed, nothing};
+use ps_volat::covering::{focus, mist, screen, substitute};
 
 /// The effect of a move that a side uses.
 #[tactic(auto, unfolding(crate::specs::Effects::effect))]
@@ -45,11 +52,25 @@ pub(crate) fn take_effect(
         Effect::Half => half(battle, facts, user, mv, out),
         Effect::Psywave => psywave(battle, facts, user, mv, out),
         Effect::Ohko => ohko(battle, facts, user, mv, out),
+        Effect::Status { .. } => status(battle, facts, user, mv, out),
+        Effect::Confuse { .. } => confuse(battle, facts, user, mv, out),
+        Effect::Flinch { .. } => flinch(battle, facts, user, mv, out),
+        Effect::Boost { .. } => boost(battle, facts, user, mv, out),
         Effect::Drain => drain(battle, facts, user, mv, out),
         Effect::DreamEater => dreameater(battle, facts, user, mv, out),
         Effect::Recoil { .. } => recoil(battle, facts, user, mv, out),
         Effect::Crash => crash(battle, facts, user, mv, out),
         Effect::Explode => explode(battle, facts, user, mv, out),
+        Effect::Counter => counter(battle, facts, user, mv, out),
+        Effect::Substitute => substitute(battle, facts, user, mv, out),
+        Effect::LeechSeed => leechseed(battle, facts, user, mv, out),
+        Effect::Screen { .. } => screen(battle, facts, user, mv, out),
+        Effect::Mist => mist(battle, facts, user, mv, out),
+        Effect::Focus => focus(battle, facts, user, mv, out),
+        Effect::Haze => haze(battle, facts, user, mv, out),
+        Effect::Heal => heal(battle, facts, user, mv, out),
+        Effect::Rest => rest(battle, facts, user, mv, out),
+        Effect::Nothing => nothing(battle, facts, user, mv, out),
         _ => unreachable!(),
     }
 }

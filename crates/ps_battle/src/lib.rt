@@ -1,11 +1,13 @@
 //! Battles: the opening, commits of choices, and forfeits. No call takes memory, and none refuses.
 #![tactic(auto)]
 
+mod acting;
 mod acts;
 mod chosen;
 mod closings;
 mod effects;
 mod openings;
+mod suffering;
 mod switches;
 mod turns;
 

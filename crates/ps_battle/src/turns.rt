@@ -10,7 +10,7 @@ ghost use Rattle.ps_mon.specs.Valid.{IsSound, IsValid, has_standing, is_over};
 ghost use Rattle.ps_mon.specs.Choices.{IsThere, IsChoiceOf, incoming};
 ghost use Rattle.ps_mon.specs.Duels.{IsFit};
 ghost use Rattle.ps_hits.specs.Courses.{course};
-ghost use Rattle.ps_battle.specs.Chosen.{CanAct, IsBuilt};
+ghost use Rattle.ps_battle.specs.Chosen.{CanAct, HasBuiltMove};
 ghost use Rattle.ps_battle.specs.Turns.{faster, first_of, acted, both_switched, turn};
 ghost use Rattle.ps_battle.specs.Switches.{begun};
 ghost use Rattle.ps_battle.specs.Closings.{closed, next_turn};
@@ -81,12 +81,12 @@ fn act_both(battle: &mut Battle, facts: Facts<'_>, c1: Choice, c2: Choice, out: 
     requires known { AreKnown (move_count facts) battle.old }
     requires first { CanAct facts (side_of battle.old 0) c1 }
     requires second { CanAct facts (side_of battle.old 1) c2 }
-    requires room { array_vec_len out.old + 42 ≤ 160 }
+    requires room { array_vec_len out.old + 74 ≤ 160 }
     ensures after { course battle.new out.new ≡ acted facts.entry c1 c2 (course battle.old out.old) }
     ensures sound { IsSound battle.new }
     ensures known { AreKnown (move_count facts.entry) battle.new }
     ensures turn { battle.new.turn ≡ battle.old.turn }
-    ensures room { array_vec_len out.new ≤ array_vec_len out.old + 42 }
+    ensures room { array_vec_len out.new ≤ array_vec_len out.old + 74 }
 {
     if is_p1_first(battle, facts, c1, c2) {
         do_two_acts(battle, facts, 0, c1, c2, out);
@@ -127,7 +127,7 @@ fn take_turn(battle: &mut Battle, facts: Facts<'_>, c1: Choice, c2: Choice, out:
     ensures after { course battle.new out.new ≡ closed (acted facts.entry c1 c2 (both_switched c1 c2 (course (begun battle.old) out.old))) }
     ensures valid { IsValid battle.new }
     ensures known { AreKnown (move_count facts.entry) battle.new }
-    ensures room { array_vec_len out.new ≤ 48 }
+    ensures room { array_vec_len out.new ≤ 80 }
 {
     begin(battle);
     switch_both(battle, c1, c2, out);
@@ -153,11 +153,11 @@ fn replace(battle: &mut Battle, c1: Choice, c2: Choice, out: &mut Events)
     go_on(battle, out);
 }
 
-/// Commits the choices of both sides, P1's and P2's: a turn, or replacements. It adds at most 48 events.
+/// Commits the choices of both sides, P1's and P2's: a turn, or replacements. It adds at most 80 events.
 ///
 /// The battle is valid and isn't over, the facts are fair for it, the choice of a side that is asked is legal, and the other
-/// side's is Pass. Until all kinds of effects are built, the kind of each chosen move is one of those that are, and who acts has no
-/// status, isn't confused or seeded, and has no disabled slot.
+/// side's is Pass. Until the long and the copying moves are built, no chosen move is one, and no choice is Continue, which comes after a
+/// long move alone.
 #[tactic(auto, unfolding(crate::specs::Turns::turn_in))]
 pub fn commit(battle: &mut Battle, facts: Facts<'_>, c1: Choice, c2: Choice, out: &mut Events)
     requires valid { IsValid battle.old }
@@ -165,13 +165,13 @@ pub fn commit(battle: &mut Battle, facts: Facts<'_>, c1: Choice, c2: Choice, out
     requires fair { AreFairFor facts battle.old }
     requires first { IsChoiceOf battle.old 0 c1 }
     requires second { IsChoiceOf battle.old 1 c2 }
-    requires built_first { IsBuilt facts (side_of battle.old 0) c1 }
-    requires built_second { IsBuilt facts (side_of battle.old 1) c2 }
+    requires built_first { HasBuiltMove facts (side_of battle.old 0) c1 }
+    requires built_second { HasBuiltMove facts (side_of battle.old 1) c2 }
     requires empty { out.old.items ≡ [] }
     ensures turn { course battle.new out.new ≡ turn facts.entry c1 c2 (course battle.old out.old) }
     ensures valid { IsValid battle.new }
     ensures fair { AreFairFor facts.entry battle.new }
-    ensures room { array_vec_len out.new ≤ 48 }
+    ensures room { array_vec_len out.new ≤ 80 }
 {
     match battle.phase {
         Phase::Turn => take_turn(battle, facts, c1, c2, out),

@@ -22,6 +22,8 @@ mod config_tests;
 #[cfg(test)]
 mod dex_tests;
 #[cfg(test)]
+mod effects_tests;
+#[cfg(test)]
 mod laws_tests;
 #[cfg(test)]
 mod rules_tests;
@@ -37,13 +39,18 @@ Usage:
   psd replay [--dex NAME]
       reads a recorded script of connections from standard input, and writes what
       each connection is sent to standard output
+  psd check FORMAT TEAMFILE [--dex NAME] [--config NAME]
+      checks the packed team of a file against the rules of a format, and prints
+      `legal`, or ends with the first rule that the team breaks
   psd --help
       prints this help
   psd --version
       prints the program's version, and the toolchain that proved it
 
-  --dex NAME  the dex file: the types, moves and species of battles; without one
-              there are none
+  --dex NAME     the dex file: the types, moves and species of battles; without
+                 one there are none
+  --config NAME  the configuration: groups, rooms, users and formats; without one
+                 there is no format
 
 README.md has the form of scripts and transcripts, docs/PROTOCOL.md every line,
 and docs/DATA.md every key of the files. A run that does not end well prints one

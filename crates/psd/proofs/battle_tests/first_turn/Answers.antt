@@ -10,7 +10,7 @@ use Rattle.ps_mon.specs.Valid.{is_over}
 use Rattle.ps_mon.specs.Choices.{IsChoiceOf}
 use Rattle.ps_hits.specs.Courses.{Course}
 use Rattle.ps_battle.specs.Effects.{IsBuiltKind}
-use Rattle.ps_battle.specs.Chosen.{IsBuilt}
+use Rattle.ps_battle.specs.Chosen.{HasBuiltMove}
 use Rattle.ps_battle.specs.Openings.{fresh_battle}
 use Rattle.ps_battle.proofs.FirstTurnLemmas.{opens-going, first-choice, second-choice, first-built, second-built}
 use Rattle.psd.proofs.battle_tests.first_turn.Goals as goal
@@ -40,7 +40,7 @@ pub commit-requires-clause-built_first : goal.commit-requires-clause-built_first
 commit-requires-clause-built_first c =
     let teams : List BattleTeam = c.alone.result ∷ c.args.foe ∷ [] in
     let is : c.open-battle.result ≡ fresh_battle teams 64 0 = ap (λ (x : Course). x.battle) c.open-battle.ensures.opening in
-    let P : Battle → Type 0 = λ b. IsBuilt c.args.facts (side_of b 0) (choices.Move 1) in
+    let P : Battle → Type 0 = λ b. HasBuiltMove c.args.facts (side_of b 0) (choices.Move 1) in
     let K : Effect → Type 0 = IsBuiltKind in
     let M : MoveData → Type 0 = λ m. IsBuiltKind m.effect in
     let N : ℕ → Type 0 = λ mv. IsBuiltKind (move_of c.args.facts mv).effect in
@@ -51,7 +51,7 @@ pub commit-requires-clause-built_second : goal.commit-requires-clause-built_seco
 commit-requires-clause-built_second c =
     let teams : List BattleTeam = c.alone.result ∷ c.args.foe ∷ [] in
     let is : c.open-battle.result ≡ fresh_battle teams 64 0 = ap (λ (x : Course). x.battle) c.open-battle.ensures.opening in
-    let P : Battle → Type 0 = λ b. IsBuilt c.args.facts (side_of b 1) (choices.Move 1) in
+    let P : Battle → Type 0 = λ b. HasBuiltMove c.args.facts (side_of b 1) (choices.Move 1) in
     let K : Effect → Type 0 = IsBuiltKind in
     let M : MoveData → Type 0 = λ m. IsBuiltKind m.effect in
     let N : ℕ → Type 0 = λ mv. IsBuiltKind (move_of c.args.facts mv).effect in

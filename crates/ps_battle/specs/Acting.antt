@@ -1,0 +1,186 @@
+-- Whether a member acts: one line after another, each says whether the act goes on.
+use Rattle.std.specs.Prelude.{ℕ, Bool, true, false, Option, Some, None, ◌-◌, nat_lt, ◌==◌, [], ◌∷◌, slice_index, if◌then◌else◌}
+use Rattle.ps_event.specs.declared.event.Event.TheVariants as events
+use Rattle.ps_calc.specs.Damage.{damage_of}
+use Rattle.ps_calc.specs.Stages.{staged_of}
+use Rattle.ps_calc.specs.declared.formula.Hit.{Hit}
+use Rattle.ps_mon.specs.declared.duel.Fighter.{Fighter}
+use Rattle.ps_mon.specs.declared.record.Disabled.{Disabled}
+use Rattle.ps_mon.specs.declared.record.Lock.{Lock}
+use Rattle.ps_mon.specs.declared.record.LockKind.{LockKind}
+use Rattle.ps_mon.specs.declared.record.LockKind.TheVariants.{Trap}
+use Rattle.ps_mon.specs.declared.status.Status.TheVariants.{Slp}
+use Rattle.ps_mon.specs.Duels.{is_slp, is_frz}
+use Rattle.ps_mon.specs.Slots.{is_disabled}
+use Rattle.ps_hits.specs.Scenes.{Play, ◌>>=◌, ◌>>◌, give, look, tell, change, choose, draw}
+use Rattle.ps_hits.specs.Told.{who_of, health_of, status_number}
+use Rattle.ps_hits.specs.Fighters.{stats_now, is_paralysed}
+use Rattle.ps_status.specs.Numbers.{confusion}
+use Rattle.ps_status.specs.Clearing.{cured}
+use Rattle.ps_battle.specs.Numbers as numbers
+
+-- the act ends, and why
+unfoldable pub cannot : ℕ → Play Bool
+cannot reason = do
+  d ← look
+  tell (events.Cant (who_of d.user) reason)
+  give false
+
+-- sleep: the counter falls by 1; at 0 it is cured; the act ends either way
+unfoldable pub sleep_on : Play Bool
+sleep_on = do
+  d ← look
+  let left = d.user.counter - 1
+  change (λ d. record d { user = record d.user { counter = left } })
+  choose (left == 0)
+      (do
+        change (λ d. record d { user = cured d.user })
+        tell (events.CureStatus (who_of d.user) (status_number Slp))
+        give false)
+      (cannot numbers.asleep)
+
+unfoldable pub stays_awake : Play Bool
+stays_awake = do
+  d ← look
+  choose (is_slp d.user.status) sleep_on (give true)
+
+-- frozen
+unfoldable pub stays_thawed : Play Bool
+stays_thawed = do
+  d ← look
+  choose (is_frz d.user.status) (cannot numbers.frozen) (give true)
+
+abbrev pub is_trap : LockKind → Bool
+is_trap Trap = true
+is_trap other = false
+
+-- a member is trapped while its foe has the lock of a trap
+abbrev pub traps : Option Lock → Bool
+traps None = false
+traps (Some lock) = is_trap lock.kind
+
+-- trapped by the foe's lock
+unfoldable pub stays_free : Play Bool
+stays_free = do
+  d ← look
+  choose (traps d.foe.vol.lock) (cannot numbers.trapped) (give true)
+
+-- flinching
+unfoldable pub stays_steady : Play Bool
+stays_steady = do
+  d ← look
+  choose d.user.vol.flinch (cannot numbers.flinching) (give true)
+
+-- recharging, which is over then
+unfoldable pub stays_fresh : Play Bool
+stays_fresh = do
+  d ← look
+  choose d.user.vol.recharge
+      (do
+        change (λ d. record d { user = record d.user { vol = record d.user.vol { recharge = false } } })
+        cannot numbers.recharging)
+      (give true)
+
+-- a disabled slot after one more act of its member
+abbrev pub one_act_later : Disabled → Option Disabled
+one_act_later disabled = if disabled.turns - 1 == 0 then None else Some (record disabled { turns = disabled.turns - 1 })
+
+-- a disabled slot's turns fall by 1; at 0 it ends
+abbrev pub wear_off : Option Disabled → Play (Unit {0})
+wear_off None = give tt
+wear_off (Some disabled) = do
+  d ← look
+  change (λ d. record d { user = record d.user { vol = record d.user.vol { disabled = one_act_later disabled } } })
+  choose (disabled.turns - 1 == 0) (tell (events.VolEnd (who_of d.user) numbers.disable)) (give tt)
+
+unfoldable pub disabled_wears_off : Play (Unit {0})
+disabled_wears_off = do
+  d ← look
+  wear_off d.user.vol.disabled
+
+-- whether the chosen slot is disabled; Struggle and long moves have no slot
+abbrev pub is_slot_disabled : Option Disabled → Option ℕ → Bool
+is_slot_disabled disabled None = false
+is_slot_disabled disabled (Some slot) = is_disabled disabled slot
+
+-- the chosen slot is still disabled
+unfoldable pub stays_enabled : Option ℕ → Play Bool
+stays_enabled slot = do
+  disabled_wears_off
+  d ← look
+  choose (is_slot_disabled d.user.vol.disabled slot) (cannot numbers.disabled) (give true)
+
+abbrev pub without_lock : Fighter → Fighter
+without_lock f = record f { vol = record f.vol { lock = None } }
+
+-- a confused member's hit on itself: of power 40, from its staged Attack and Defense, without Brn or screens, with factors 10 and no bonus
+-- of its types, never critical, with the greatest roll
+unfoldable pub own_hit : Fighter → Hit
+own_hit f = record {
+  level = f.level;
+  power = 40;
+  attack = staged_of (slice_index (stats_now f) 0) f.vol.stages.atk;
+  defence = staged_of (slice_index (stats_now f) 1) f.vol.stages.def;
+  crit = false;
+  stab = false;
+  factors = 10 ∷ 10 ∷ [];
+  roll = 255;
+}
+
+-- the member loses up to so much by its own hit, and its lock ends
+unfoldable pub hurt_itself : ℕ → Play Bool
+hurt_itself n = do
+  d ← look
+  let user = record (without_lock d.user) { hp = d.user.hp - n }
+  change (λ d. record d { user = user })
+  tell (events.Damage (who_of user) (health_of user) numbers.from_confusion)
+  choose (user.hp == 0) (tell (events.Faint (who_of user))) (give tt)
+  give false
+
+-- a member that stays confused: in 128 of 256 cases it hits itself
+unfoldable pub act_confused : Play Bool
+act_confused = do
+  d ← look
+  tell (events.Activate (who_of d.user) confusion None)
+  n ← draw 256
+  choose (nat_lt n 128) (hurt_itself (damage_of (own_hit d.user))) (give true)
+
+-- confused: the turns fall by 1; at 0 it ends
+unfoldable pub stays_clear : Play Bool
+stays_clear = do
+  d ← look
+  choose (d.user.vol.confusion == 0) (give true)
+      (do
+        let left = d.user.vol.confusion - 1
+        change (λ d. record d { user = record d.user { vol = record d.user.vol { confusion = left } } })
+        choose (left == 0)
+            (do
+              tell (events.VolEnd (who_of d.user) confusion)
+              give true)
+            act_confused)
+
+-- paralysed: in 63 of 256 cases it can't move, and its lock ends
+unfoldable pub stays_mobile : Play Bool
+stays_mobile = do
+  d ← look
+  choose (is_paralysed d.user.status)
+      (do
+        n ← draw 256
+        choose (nat_lt n 63)
+            (do
+              change (λ d. record d { user = without_lock d.user })
+              cannot numbers.paralysed)
+            (give true))
+      (give true)
+
+-- one line after another, until one ends the act
+infixr 10 ◌and◌
+abbrev pub ◌and◌ : Play Bool → Play Bool → Play Bool
+p and q = do
+  goes_on ← p
+  choose goes_on q (give false)
+
+-- whether a member acts, with the slot of its move
+unfoldable pub may_act : Option ℕ → Play Bool
+may_act slot =
+    stays_awake and stays_thawed and stays_free and stays_steady and stays_fresh and stays_enabled slot and stays_clear and stays_mobile

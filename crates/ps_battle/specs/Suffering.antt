@@ -1,0 +1,66 @@
+-- What a member suffers after its act.
+use Rattle.std.specs.Prelude.{ℕ, ◌+◌, ◌*◌, ◌/◌, ◌&&◌, min, max, nat_lt}
+use Rattle.ps_event.specs.declared.event.Event.TheVariants as events
+use Rattle.ps_mon.specs.declared.duel.Fighter.{Fighter}
+use Rattle.ps_mon.specs.declared.status.Status.{Status}
+use Rattle.ps_mon.specs.declared.status.Status.TheVariants.{Brn, Psn, Tox}
+use Rattle.ps_hits.specs.Scenes.{Play, ◌>>=◌, ◌>>◌, give, look, tell, change, choose}
+use Rattle.ps_hits.specs.Told.{who_of, health_of}
+use Rattle.ps_hits.specs.Shares.{lose}
+use Rattle.ps_battle.specs.Numbers as numbers
+
+-- a sixteenth of the greatest health, rounded down, at least 1
+unfoldable pub base_loss : Fighter → ℕ
+base_loss f = max 1 (f.max / 16)
+
+-- bad poison: its count rises by 1 first, up to 15, and the loss is so many times the base
+unfoldable pub suffer_bad_poison : Play (Unit {0})
+suffer_bad_poison = do
+  d ← look
+  let count = min 15 (d.user.vol.toxic + 1)
+  change (λ d. record d { user = record d.user { vol = record d.user.vol { toxic = count } } })
+  lose numbers.from_poison (base_loss d.user * count)
+
+-- Brn and Psn take the base, Tox more and more
+abbrev pub suffer : Status → Play (Unit {0})
+suffer Brn = do
+  d ← look
+  lose numbers.from_burn (base_loss d.user)
+suffer Psn = do
+  d ← look
+  lose numbers.from_poison (base_loss d.user)
+suffer Tox = suffer_bad_poison
+suffer other = give tt
+
+unfoldable pub suffer_status : Play (Unit {0})
+suffer_status = do
+  d ← look
+  suffer d.user.status
+
+-- the foe gains up to so much; Heal is told at full health too
+unfoldable pub foe_gains : ℕ → Play (Unit {0})
+foe_gains n = do
+  d ← look
+  let foe = record d.foe { hp = min d.foe.max (d.foe.hp + n) }
+  change (λ d. record d { foe = foe })
+  tell (events.Heal (who_of foe) (health_of foe))
+
+-- a seeded member that stands loses the base, and the foe gains it, whatever the member had
+unfoldable pub feed_foe : Play (Unit {0})
+feed_foe = do
+  d ← look
+  choose (d.user.vol.seeded && nat_lt 0 d.user.hp)
+      (do
+        lose numbers.from_seed (base_loss d.user)
+        foe_gains (base_loss d.user))
+      (give tt)
+
+-- the residual of who acted, where both active members stand
+unfoldable pub residual : Play (Unit {0})
+residual = do
+  d ← look
+  choose (nat_lt 0 d.user.hp && nat_lt 0 d.foe.hp)
+      (do
+        suffer_status
+        feed_foe)
+      (give tt)

@@ -1,0 +1,112 @@
+//! What a member suffers after its act.
+ghost use Rattle.std.specs.Prelude.{◌≡◌, ◌≤◌, ◌<◌, ◌+◌, ℕ};
+ghost use Rattle.arrayvec.specs.ArrayVec.{array_vec_len};
+ghost use Rattle.ps_mon.specs.Duels.{IsFit, IsFighter, IsDuelKnown};
+ghost use Rattle.ps_hits.specs.Scenes.{scene};
+ghost use Rattle.ps_battle.specs.Suffering.{base_loss, suffer_bad_poison, suffer_status, foe_gains, feed_foe, residual};
+
+use ps_event::event::{Event, Events};
+use ps_hits::scene::{health, who};
+use ps_hits::shares::lose_health;
+use ps_mon::duel::{Duel, Fighter};
+use ps_mon::status::Status;
+
+#[tactic(auto, unfolding(crate::specs::Suffering::base_loss))]
+fn base(f: &Fighter) -> u16
+    requires { IsFighter f.now }
+    ensures value { result ≡ base_loss f.now }
+    ensures high { result ≤ 44 }
+{
+    (f.max / 16).max(1)
+}
+
+#[tactic(auto, unfolding(crate::specs::Suffering::suffer_bad_poison))]
+fn bear_bad_poison(duel: &mut Duel, out: &mut Events)
+    requires fit { IsFit duel.old }
+    requires room { array_vec_len out.old + 2 ≤ 160 }
+    ensures after { scene duel.new out.new ≡ (suffer_bad_poison (scene duel.old out.old)).1 }
+    ensures fit { IsFit duel.new }
+    ensures known { (moves : ℕ) → IsDuelKnown moves duel.old → IsDuelKnown moves duel.new }
+    ensures room { array_vec_len out.new ≤ array_vec_len out.old + 2 }
+{
+    let base = base(&duel.user);
+    let count = (duel.user.vol.toxic + 1).min(15);
+    duel.user.vol.toxic = count;
+    lose_health(duel, 1, base * u16::from(count), out);
+}
+
+#[tactic(auto, unfolding(crate::specs::Suffering::suffer_status))]
+fn bear_status(duel: &mut Duel, out: &mut Events)
+    requires fit { IsFit duel.old }
+    requires room { array_vec_len out.old + 2 ≤ 160 }
+    ensures after { scene duel.new out.new ≡ (suffer_status (scene duel.old out.old)).1 }
+    ensures fit { IsFit duel.new }
+    ensures known { (moves : ℕ) → IsDuelKnown moves duel.old → IsDuelKnown moves duel.new }
+    ensures room { array_vec_len out.new ≤ array_vec_len out.old + 2 }
+{
+    let base = base(&duel.user);
+    match duel.user.status {
+        Status::Brn => lose_health(duel, 2, base, out),
+        Status::Psn => lose_health(duel, 1, base, out),
+        Status::Tox => bear_bad_poison(duel, out),
+        _ => (),
+    }
+}
+
+#[tactic(auto, unfolding(crate::specs::Suffering::foe_gains))]
+fn feed(duel: &mut Duel, n: u16, out: &mut Events)
+    requires fit { IsFit duel.old }
+    requires n { n ≤ 44 }
+    requires room { array_vec_len out.old + 1 ≤ 160 }
+    ensures after { scene duel.new out.new ≡ (foe_gains n (scene duel.old out.old)).1 }
+    ensures fit { IsFit duel.new }
+    ensures known { (moves : ℕ) → IsDuelKnown moves duel.old → IsDuelKnown moves duel.new }
+    ensures room { array_vec_len out.new ≤ array_vec_len out.old + 1 }
+{
+    duel.foe.hp = (duel.foe.hp + n).min(duel.foe.max);
+    let foe = duel.foe;
+    out.push(Event::Heal {
+        who: who(&foe),
+        health: health(&foe),
+    });
+}
+
+#[tactic(auto, unfolding(crate::specs::Suffering::feed_foe))]
+fn bear_seed(duel: &mut Duel, out: &mut Events)
+    requires fit { IsFit duel.old }
+    requires room { array_vec_len out.old + 3 ≤ 160 }
+    ensures after { scene duel.new out.new ≡ (feed_foe (scene duel.old out.old)).1 }
+    ensures fit { IsFit duel.new }
+    ensures known { (moves : ℕ) → IsDuelKnown moves duel.old → IsDuelKnown moves duel.new }
+    ensures room { array_vec_len out.new ≤ array_vec_len out.old + 3 }
+{
+    if !duel.user.vol.seeded {
+        return;
+    }
+    if duel.user.hp == 0 {
+        return;
+    }
+    let base = base(&duel.user);
+    lose_health(duel, 3, base, out);
+    feed(duel, base, out);
+}
+
+/// What the user suffers after its act, where both active members stand.
+#[tactic(auto, unfolding(crate::specs::Suffering::residual))]
+pub(crate) fn suffer(duel: &mut Duel, out: &mut Events)
+    requires fit { IsFit duel.old }
+    requires room { array_vec_len out.old + 5 ≤ 160 }
+    ensures after { scene duel.new out.new ≡ (residual (scene duel.old out.old)).1 }
+    ensures fit { IsFit duel.new }
+    ensures known { (moves : ℕ) → IsDuelKnown moves duel.old → IsDuelKnown moves duel.new }
+    ensures room { array_vec_len out.new ≤ array_vec_len out.old + 5 }
+{
+    if duel.user.hp == 0 {
+        return;
+    }
+    if duel.foe.hp == 0 {
+        return;
+    }
+    bear_status(duel, out);
+    bear_seed(duel, out);
+}

@@ -1,0 +1,40 @@
+-- Haze, and the end of a status.
+use Rattle.std.specs.Prelude.{false, None}
+use Rattle.ps_event.specs.declared.event.Event.TheVariants as events
+use Rattle.ps_mon.specs.declared.duel.Fighter.{Fighter}
+use Rattle.ps_mon.specs.declared.status.Status.{Status}
+use Rattle.ps_mon.specs.declared.status.Status.TheVariants.{Healthy, Tox, Psn}
+use Rattle.ps_mon.specs.Reading.{no_stages}
+use Rattle.ps_hits.specs.Scenes.{Play, ◌>>=◌, ◌>>◌, give, look, tell, change, choose}
+use Rattle.ps_hits.specs.Told.{who_of, status_number}
+use Rattle.ps_status.specs.Afflicting.{is_healthy}
+
+-- a fighter without its status, and without what counted it
+abbrev pub cured : Fighter → Fighter
+cured f = record f { status = Healthy; counter = 0; rested = false }
+
+-- stages, confusion, seed, screens, Mist, Focus Energy and a disabled slot end
+unfoldable pub cleared : Fighter → Fighter
+cleared f =
+    record f { vol = record f.vol { stages = no_stages; confusion = 0; seeded = false; reflect = false; light = false; mist = false; focus = false; disabled = None } }
+
+-- the foe's status ends, where it has one
+unfoldable pub cure_foe : Play (Unit {0})
+cure_foe = do
+  d ← look
+  choose (is_healthy d.foe.status) (give tt) (do
+    change (λ d. record d { foe = cured d.foe })
+    tell (events.CureStatus (who_of d.foe) (status_number d.foe.status)))
+
+-- bad poison becomes a plain one
+abbrev pub milder : Status → Status
+milder Tox = Psn
+milder status = status
+
+-- haze: both members lose what is above; the foe's status ends, and the user's bad poison becomes a plain one
+unfoldable pub haze_row : Play (Unit {0})
+haze_row = do
+  tell events.ClearAll
+  change (λ d. record d { user = cleared d.user; foe = cleared d.foe })
+  cure_foe
+  change (λ d. record d { user = record d.user { status = milder d.user.status } })

@@ -1,0 +1,7 @@
+pub mod Numbers
+pub mod Seconds
+pub mod Afflicting
+pub mod Confusing
+pub mod Boosting
+pub mod Clearing
+pub mod Healing

@@ -1,0 +1,54 @@
+-- What the foe gets: a seed, or its blow back; and a move that does nothing.
+use Rattle.std.specs.Prelude.{ℕ, Bool, true, false, Option, Some, None, ◌*◌, ◌||◌}
+use Rattle.ps_event.specs.declared.event.Event.TheVariants as events
+use Rattle.ps_mon.specs.declared.duel.Fighter.{Fighter}
+use Rattle.ps_mon.specs.declared.facts.Facts.{Facts}
+use Rattle.ps_mon.specs.declared.record.Taken.{Taken}
+use Rattle.ps_mon.specs.Moves.{move_of}
+use Rattle.ps_hits.specs.Scenes.{Play, ◌>>=◌, ◌>>◌, give, look, tell, change, choose}
+use Rattle.ps_hits.specs.Told.{who_of}
+use Rattle.ps_hits.specs.Fighters.{is_of_type}
+use Rattle.ps_hits.specs.Strikes.{accuracy_test}
+use Rattle.ps_hits.specs.Amounts.{deal_alone}
+use Rattle.ps_volat.specs.Numbers as numbers
+
+abbrev pub seeded : Fighter → Fighter
+seeded f = record f { vol = record f.vol { seeded = true } }
+
+-- leechseed: the accuracy test, then Fail where the foe is seeded or has the move's type, else it is seeded
+unfoldable pub leechseed_row : Facts → ℕ → Play (Unit {0})
+leechseed_row facts mv = do
+  lands ← accuracy_test (move_of facts mv).accuracy
+  d ← look
+  choose lands
+      (choose (d.foe.vol.seeded || is_of_type d.foe (move_of facts mv).kind) (tell (events.Fail (who_of d.user))) (do
+        change (λ d. record d { foe = seeded d.foe })
+        tell (events.VolStart (who_of d.foe) numbers.leech_seed None)))
+      (give tt)
+
+-- twice the damage that the user took last in this turn, where a move of type `normal` or `fighting` did it
+abbrev pub answer_to : Bool → ℕ → Option ℕ
+answer_to true damage = Some (2 * damage)
+answer_to false damage = None
+
+abbrev pub answered : Facts → Option Taken → Option ℕ
+answered facts None = None
+answered facts (Some taken) = answer_to (move_of facts taken.mv).contact taken.damage
+
+abbrev pub deal_answer : ℕ → Option ℕ → Play (Unit {0})
+deal_answer mv None = do
+  d ← look
+  tell (events.Fail (who_of d.user))
+deal_answer mv (Some amount) = deal_alone mv amount
+
+-- counter: that is dealt, whatever the types, with no accuracy test; else Fail
+unfoldable pub counter_row : Facts → ℕ → Play (Unit {0})
+counter_row facts mv = do
+  d ← look
+  deal_answer mv (answered facts d.user.vol.taken)
+
+-- nothing: Activate with the move's name
+unfoldable pub nothing_row : ℕ → Play (Unit {0})
+nothing_row mv = do
+  d ← look
+  tell (events.Activate (who_of d.user) numbers.move_name (Some mv))
