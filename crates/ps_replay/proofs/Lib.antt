@@ -1,4 +1,5 @@
 pub mod BlockLemmas
+pub mod CheckLemmas
 pub mod EntryLemmas
 pub mod FlowLemmas
 pub mod HistoryLemmas

@@ -10,4 +10,6 @@ pub mod TwoWorlds
 pub mod Outcomes
 pub mod Statuses
 pub mod Words
+pub mod Checks
+pub mod Files
 pub mod Flow

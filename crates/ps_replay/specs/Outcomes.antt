@@ -17,17 +17,17 @@ use Rattle.ps_script.specs.declared.script.ScriptKind.{ScriptKind}
 use Rattle.ps_script.specs.Scripts.{IsScript, IsFirstFault}
 use Rattle.ps_script.specs.Limits.{long_of}
 use Rattle.ps_replay.specs.declared.status.Status.{Status}
-use Rattle.ps_replay.specs.declared.status.Status.TheVariants.{Done, Usage, FileMissing, FileFault, FileLong, BadDex, BadScript, ScriptLong, ReadFault, WriteFault, NoMemory, NotBuilt}
+use Rattle.ps_replay.specs.declared.status.Status.TheVariants.{Done, Usage, FileMissing, FileFault, FileLong, BadDex, BadConfig, BadScript, ScriptLong, ReadFault, WriteFault, BadTeam, NoMemory, UnknownFormat, BadPack, NotBuilt}
 use Rattle.ps_replay.specs.Worlds.{Place, world_view}
 use Rattle.ps_replay.specs.Entries.{ranks_of, entries, unbuilt_line}
 use Rattle.ps_replay.specs.Transcript.{messages, output, block}
 use Rattle.ps_replay.specs.OneEntry.{HasOneEntryEach}
-use Rattle.ps_replay.specs.Words.{words_in}
+use Rattle.ps_replay.specs.Words.{Asked, Replays, words_in}
 
 -- ---- the words
 
-abbrev pub usage_in : Result (Option (List ℕ)) ℕ → Option ℕ
-usage_in (Ok named) = None
+abbrev pub usage_in : Result Asked ℕ → Option ℕ
+usage_in (Ok asked) = None
 usage_in (Err word) = Some word
 
 -- the place that is told of a faulty word
@@ -41,11 +41,15 @@ usage_told (FileMissing name) = None
 usage_told (FileFault name) = None
 usage_told (FileLong name) = None
 usage_told (BadDex path kind) = None
+usage_told (BadConfig path kind) = None
 usage_told (BadScript line kind) = None
 usage_told (ScriptLong count) = None
 usage_told ReadFault = None
 usage_told WriteFault = None
+usage_told (BadTeam set rule subject) = None
 usage_told NoMemory = None
+usage_told (UnknownFormat id) = None
+usage_told (BadPack at kind) = None
 usage_told (NotBuilt line) = None
 
 -- ---- the dex file
@@ -77,13 +81,17 @@ FilesCause named held old new (FileMissing name) = (named ≡ Some name) × IfSo
 FilesCause named held old new (FileFault name) = (named ≡ Some name) × Rose old.faults new.faults
 FilesCause named held old new (FileLong name) = (named ≡ Some name) × IfSome held (λ look. IsSomeAnd (look name) (λ bytes. most_dex < length bytes)) × Rose old.long new.long
 FilesCause named held old new (BadDex path kind) = IsSomeAnd named (λ name. IfSome held (λ look. IsSomeAnd (look name) (IsBadDex path kind)))
+FilesCause named held old new (BadConfig path kind) = ⊥
 FilesCause named held old new (Usage word) = Unit {0}
 FilesCause named held old new NoMemory = Unit {0}
+FilesCause named held old new (UnknownFormat id) = ⊥
+FilesCause named held old new (BadPack at kind) = ⊥
 FilesCause named held old new Done = HasDex named held
 FilesCause named held old new (BadScript line kind) = HasDex named held
 FilesCause named held old new (ScriptLong count) = HasDex named held
 FilesCause named held old new ReadFault = HasDex named held
 FilesCause named held old new WriteFault = HasDex named held
+FilesCause named held old new (BadTeam set rule subject) = ⊥
 FilesCause named held old new (NotBuilt line) = HasDex named held
 
 -- what is left of the input stays where the words or the dex file ended the run
@@ -93,12 +101,16 @@ KeepsInput old new (FileMissing name) = new ≡ old
 KeepsInput old new (FileFault name) = new ≡ old
 KeepsInput old new (FileLong name) = new ≡ old
 KeepsInput old new (BadDex path kind) = new ≡ old
+KeepsInput old new (BadConfig path kind) = new ≡ old
 KeepsInput old new Done = Unit {0}
 KeepsInput old new (BadScript line kind) = Unit {0}
 KeepsInput old new (ScriptLong count) = Unit {0}
 KeepsInput old new ReadFault = Unit {0}
 KeepsInput old new WriteFault = Unit {0}
+KeepsInput old new (BadTeam set rule subject) = new ≡ old
 KeepsInput old new NoMemory = Unit {0}
+KeepsInput old new (UnknownFormat id) = new ≡ old
+KeepsInput old new (BadPack at kind) = new ≡ old
 KeepsInput old new (NotBuilt line) = Unit {0}
 
 -- ---- the input
@@ -123,11 +135,15 @@ IsOfInput (FileMissing name) = ⊥
 IsOfInput (FileFault name) = ⊥
 IsOfInput (FileLong name) = ⊥
 IsOfInput (BadDex path kind) = ⊥
+IsOfInput (BadConfig path kind) = ⊥
 IsOfInput (BadScript line kind) = Unit {0}
 IsOfInput (ScriptLong count) = Unit {0}
 IsOfInput ReadFault = Unit {0}
 IsOfInput WriteFault = Unit {0}
+IsOfInput (BadTeam set rule subject) = ⊥
 IsOfInput NoMemory = Unit {0}
+IsOfInput (UnknownFormat id) = ⊥
+IsOfInput (BadPack at kind) = ⊥
 IsOfInput (NotBuilt line) = Unit {0}
 
 -- ---- what was written
@@ -158,11 +174,15 @@ WritesPrefix left old new (FileMissing name) = Keeps old new
 WritesPrefix left old new (FileFault name) = Keeps old new
 WritesPrefix left old new (FileLong name) = Keeps old new
 WritesPrefix left old new (BadDex path kind) = Keeps old new
+WritesPrefix left old new (BadConfig path kind) = Keeps old new
 WritesPrefix left old new (BadScript line kind) = Keeps old new
 WritesPrefix left old new (ScriptLong count) = Keeps old new
 WritesPrefix left old new ReadFault = Keeps old new
 WritesPrefix left old new WriteFault = IfSome left (WritesFront old new)
+WritesPrefix left old new (BadTeam set rule subject) = Keeps old new
 WritesPrefix left old new NoMemory = Keeps old new ⊎ IfSome left (WritesFront old new)
+WritesPrefix left old new (UnknownFormat id) = Keeps old new
+WritesPrefix left old new (BadPack at kind) = Keeps old new
 WritesPrefix left old new (NotBuilt line) = Keeps old new
 
 -- ---- the cause of a status
@@ -188,11 +208,15 @@ InputCause left (FileMissing name) = Unit {0}
 InputCause left (FileFault name) = Unit {0}
 InputCause left (FileLong name) = Unit {0}
 InputCause left (BadDex path kind) = Unit {0}
+InputCause left (BadConfig path kind) = Unit {0}
 InputCause left (BadScript line kind) = IfSome left (IsBadScript line kind)
 InputCause left (ScriptLong count) = IfSome left (λ bytes. long_of bytes ≡ Some count)
 InputCause left ReadFault = Unit {0}
 InputCause left WriteFault = Unit {0}
+InputCause left (BadTeam set rule subject) = Unit {0}
 InputCause left NoMemory = Unit {0}
+InputCause left (UnknownFormat id) = Unit {0}
+InputCause left (BadPack at kind) = Unit {0}
 InputCause left (NotBuilt line) = IfSome left (IsUnbuilt line)
 
 -- ---- completeness
@@ -205,11 +229,15 @@ IsSettled (FileMissing name) = ⊥
 IsSettled (FileFault name) = ⊥
 IsSettled (FileLong name) = ⊥
 IsSettled (BadDex path kind) = ⊥
+IsSettled (BadConfig path kind) = ⊥
 IsSettled (BadScript line kind) = ⊥
 IsSettled (ScriptLong count) = ⊥
 IsSettled ReadFault = ⊥
 IsSettled WriteFault = ⊥
+IsSettled (BadTeam set rule subject) = ⊥
 IsSettled NoMemory = Unit {0}
+IsSettled (UnknownFormat id) = ⊥
+IsSettled (BadPack at kind) = ⊥
 IsSettled (NotBuilt line) = Unit {0}
 
 -- no file is named, or the files are told, and the named one is a dex file
@@ -223,7 +251,7 @@ Settles left read_fault write_fault status = IsSomeAnd left IsReadable → (read
 
 -- and so it does with faultless words, and the dex file they name told and good, with no fault of the files
 abbrev pub IsComplete : List (List ℕ) → Option (List ℕ → Option (List ℕ)) → Option (List ℕ) → Type 0 → Type 0 → Type 0 → Status → Type 0
-IsComplete words held left file_fault read_fault write_fault status = (named : Option (List ℕ)) → words_in words ≡ Ok named → KnowsDex named held → (file_fault → ⊥) → Settles left read_fault write_fault status
+IsComplete words held left file_fault read_fault write_fault status = (named : Option (List ℕ)) → words_in words ≡ Ok (Replays named) → KnowsDex named held → (file_fault → ⊥) → Settles left read_fault write_fault status
 
 -- ---- for the code alone
 
@@ -235,11 +263,15 @@ IsOfFiles (FileMissing name) = Unit {0}
 IsOfFiles (FileFault name) = Unit {0}
 IsOfFiles (FileLong name) = Unit {0}
 IsOfFiles (BadDex path kind) = Unit {0}
+IsOfFiles (BadConfig path kind) = ⊥
 IsOfFiles (BadScript line kind) = ⊥
 IsOfFiles (ScriptLong count) = ⊥
 IsOfFiles ReadFault = ⊥
 IsOfFiles WriteFault = ⊥
+IsOfFiles (BadTeam set rule subject) = ⊥
 IsOfFiles NoMemory = Unit {0}
+IsOfFiles (UnknownFormat id) = ⊥
+IsOfFiles (BadPack at kind) = ⊥
 IsOfFiles (NotBuilt line) = ⊥
 
 -- why there is no dex of this name

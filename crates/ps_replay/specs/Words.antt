@@ -1,24 +1,110 @@
 -- The words of a command.
-use Rattle.std.specs.Prelude.{ℕ, Bool, false, not, List, [], ◌∷◌, codes, Option, Some, None, Result, Ok, Err, ◌==◌, if◌then◌else◌}
+use Rattle.std.specs.Prelude.{ℕ, ◌+◌, Bool, false, not, List, [], ◌∷◌, codes, Option, Some, None, Result, Ok, Err, ◌==◌, if◌then◌else◌}
+use Rattle.std.specs.Option.{option_copied}
 use Rattle.std.specs.Str.{bytes_eq}
+use Rattle.ps_replay.specs.declared.words.CheckWords.{CheckWords}
+use Rattle.ps_replay.specs.declared.words.Command.{Command}
+use Rattle.ps_replay.specs.declared.words.Command.TheVariants as commands
 
--- a name of a file: a word that isn't empty and doesn't begin with `-`
-abbrev pub is_file_name : List ℕ → Bool
-is_file_name [] = false
-is_file_name (b ∷ bytes) = not (b == 45)
+-- what a check is asked for
+pub record Checked : Type 0 where
+  pub format : List ℕ
+  pub team : List ℕ
+  pub dex : Option (List ℕ)
+  pub config : Option (List ℕ)
 
--- behind `--dex`: one name, and nothing more
-abbrev pub dex_in : List (List ℕ) → Result (Option (List ℕ)) ℕ
-dex_in [] = Err 2
-dex_in (name ∷ []) = if is_file_name name then Ok (Some name) else Err 2
-dex_in (name ∷ more ∷ words) = if is_file_name name then Err 3 else Err 2
+-- what the words ask for
+pub data Asked : Type 0 where
+  Replays : Option (List ℕ) → Asked
+  Checks : Checked → Asked
 
--- behind `replay`: nothing, or the name of a dex file
-abbrev pub options_in : List (List ℕ) → Result (Option (List ℕ)) ℕ
-options_in [] = Ok None
-options_in (word ∷ words) = if bytes_eq word (codes "--dex") then dex_in words else Err 1
+-- a word that names something: it isn't empty and doesn't begin with `-`
+abbrev pub is_name : List ℕ → Bool
+is_name [] = false
+is_name (b ∷ bytes) = not (b == 45)
 
--- the name of the dex file, if one is named, or else the place of the first word that can't stand, or how many there are if one is missing
-abbrev pub words_in : List (List ℕ) → Result (Option (List ℕ)) ℕ
+-- Everywhere here the answer `Err` is the place of the first word that can't stand, counted from 0, or how many words there are
+-- where one is missing. The words are those from the place `at` on.
+
+-- behind the last option: one name, and nothing more
+abbrev pub last_name : ℕ → List (List ℕ) → Result (Option (List ℕ)) ℕ
+last_name at [] = Err at
+last_name at (name ∷ []) = if is_name name then Ok (Some name) else Err at
+last_name at (name ∷ more ∷ words) = if is_name name then Err (at + 1) else Err at
+
+-- one option with its name, or nothing
+abbrev pub last_option : List ℕ → ℕ → List (List ℕ) → Result (Option (List ℕ)) ℕ
+last_option option at [] = Ok None
+last_option option at (word ∷ words) = if bytes_eq word option then last_name (at + 1) words else Err at
+
+-- ---- replay
+
+abbrev pub replays : Result (Option (List ℕ)) ℕ → Result Asked ℕ
+replays (Ok dex) = Ok (Replays dex)
+replays (Err at) = Err at
+
+-- behind `replay`: `--dex` with its name, or nothing
+abbrev pub replay_in : List (List ℕ) → Result Asked ℕ
+replay_in words = replays (last_option (codes "--dex") 1 words)
+
+-- ---- check
+
+abbrev pub with_config : List ℕ → List ℕ → Option (List ℕ) → Result (Option (List ℕ)) ℕ → Result Asked ℕ
+with_config format team dex (Ok config) = Ok (Checks (record { format = format; team = team; dex = dex; config = config }))
+with_config format team dex (Err at) = Err at
+
+abbrev pub with_dex : List ℕ → List ℕ → Option (List ℕ) → Result (Option (List ℕ)) ℕ → Result Asked ℕ
+with_dex format team config (Ok dex) = Ok (Checks (record { format = format; team = team; dex = dex; config = config }))
+with_dex format team config (Err at) = Err at
+
+-- behind `--dex`: its name, and then `--config` with its own, or nothing
+abbrev pub dex_first : List ℕ → List ℕ → List (List ℕ) → Result Asked ℕ
+dex_first format team [] = Err 4
+dex_first format team (name ∷ words) = if is_name name then with_config format team (Some name) (last_option (codes "--config") 5 words) else Err 4
+
+-- behind `--config`: its name, and then `--dex` with its own, or nothing
+abbrev pub config_first : List ℕ → List ℕ → List (List ℕ) → Result Asked ℕ
+config_first format team [] = Err 4
+config_first format team (name ∷ words) = if is_name name then with_dex format team (Some name) (last_option (codes "--dex") 5 words) else Err 4
+
+-- behind the team's file: the options, each at most once, in either order
+abbrev pub check_options : List ℕ → List ℕ → List (List ℕ) → Result Asked ℕ
+check_options format team [] = Ok (Checks (record { format = format; team = team; dex = None; config = None }))
+check_options format team (word ∷ words) = if bytes_eq word (codes "--dex") then dex_first format team words else (if bytes_eq word (codes "--config") then config_first format team words else Err 3)
+
+-- behind the format: the team's file
+abbrev pub team_in : List ℕ → List (List ℕ) → Result Asked ℕ
+team_in format [] = Err 2
+team_in format (team ∷ words) = if is_name team then check_options format team words else Err 2
+
+-- behind `check`: the format
+abbrev pub check_in : List (List ℕ) → Result Asked ℕ
+check_in [] = Err 1
+check_in (format ∷ words) = if is_name format then team_in format words else Err 1
+
+-- ---- all of it
+
+abbrev pub words_in : List (List ℕ) → Result Asked ℕ
 words_in [] = Err 0
-words_in (word ∷ words) = if bytes_eq word (codes "replay") then options_in words else Err 0
+words_in (word ∷ words) = if bytes_eq word (codes "replay") then replay_in words else (if bytes_eq word (codes "check") then check_in words else Err 0)
+
+-- ---- what holds where the words ask for the one or the other
+
+abbrev pub IfReplay : Result Asked ℕ → (Option (List ℕ) → Type 0) → Type 0
+IfReplay (Ok (Replays dex)) holds = holds dex
+IfReplay (Ok (Checks words)) holds = Unit {0}
+IfReplay (Err at) holds = Unit {0}
+
+abbrev pub IfCheck : Result Asked ℕ → (Checked → Type 0) → Type 0
+IfCheck (Ok (Replays dex)) holds = Unit {0}
+IfCheck (Ok (Checks words)) holds = holds words
+IfCheck (Err at) holds = Unit {0}
+
+-- ---- for the code: what was read, as contracts see it
+
+abbrev pub checked_of : CheckWords → Checked
+checked_of w = record { format = w.format.now; team = w.team.now; dex = option_copied w.dex; config = option_copied w.config }
+
+abbrev pub asked_of : Command → Asked
+asked_of (commands.Replay dex) = Replays (option_copied dex)
+asked_of (commands.Check words) = Checks (checked_of words)

@@ -1,12 +1,15 @@
 //! Reads the dex file that the words name.
 ghost use Rattle.std.specs.Prelude.{◌≡◌, Some, IfOk, IfErr};
-ghost use Rattle.ps_replay.specs.Outcomes.{HasDex, NoDex, IsFileStatus};
+ghost use Rattle.std.specs.Option.{option_copied};
+ghost use Rattle.ps_replay.specs.Outcomes.{HasDex, NoDex};
+ghost use Rattle.ps_replay.specs.Checks.{dex_in};
+ghost use Rattle.ps_replay.specs.Files.{Gave, Ended, StepCause};
 
+use crate::file::read_file;
 use crate::status::Status;
-use ps_base::text::Text;
 use ps_dex::dex::Dex;
 use ps_dex::fault::DexFault;
-use ps_outside::files::{FileEnd, Files};
+use ps_outside::files::Files;
 use std::alloc::Global;
 
 /// The most bytes of a dex file.
@@ -16,10 +19,15 @@ pub const MOST_DEX: u32 = 16_777_216;
 pub fn read_dex<F: Files>(alloc: Global, files: &mut F, name: &str) -> Result<Dex, Status>
     ensures dex { IfOk result (λ _. HasDex (Some name.now) (F.held files.old)) }
     ensures none { IfErr result (NoDex name.now (F.held files.old) (F.counts files.old) (F.counts files.new)) }
+    ensures same { F.held files.new ≡ F.held files.old }
+    ensures value { IfOk result (Gave (F.held files.old) (λ look. dex_in look (Some name.now))) }
+    ensures counts { IfOk result (λ _. F.counts files.new ≡ F.counts files.old) }
+    ensures ended { IfErr result (Ended (F.held files.old) (Some name.now) (λ look. dex_in look (Some name.now))) }
+    ensures cause { IfErr result (StepCause (Some name.now) (F.counts files.old) (F.counts files.new)) }
 {
-    let bytes = match files.read(alloc, name, MOST_DEX) {
+    let bytes = match read_file(alloc, files, name, MOST_DEX) {
+        Err(status) => return Err(status),
         Ok(bytes) => bytes,
-        Err(end) => return Err(no_file(alloc, name, end)),
     };
     match Dex::read(alloc, &bytes) {
         Ok(dex) => Ok(dex),
@@ -28,18 +36,20 @@ pub fn read_dex<F: Files>(alloc: Global, files: &mut F, name: &str) -> Result<De
     }
 }
 
-// The status of a file that was not read.
-fn no_file(alloc: Global, name: &str, end: FileEnd) -> Status
-    ensures { IsFileStatus name.now end result }
+/// The dex of the file of this name, or one of which nothing is said where no file is named.
+pub fn dex_or_none<F: Files>(
+    alloc: Global,
+    files: &mut F,
+    named: Option<&str>,
+) -> Result<Dex, Status>
+    ensures same { F.held files.new ≡ F.held files.old }
+    ensures value { IfOk result (Gave (F.held files.old) (λ look. dex_in look (option_copied named.entry))) }
+    ensures counts { IfOk result (λ _. F.counts files.new ≡ F.counts files.old) }
+    ensures ended { IfErr result (Ended (F.held files.old) (option_copied named.entry) (λ look. dex_in look (option_copied named.entry))) }
+    ensures cause { IfErr result (StepCause (option_copied named.entry) (F.counts files.old) (F.counts files.new)) }
 {
-    let name = match Text::copy_of(alloc, name) {
-        Err(_) => return Status::NoMemory,
-        Ok(name) => name,
-    };
-    match end {
-        FileEnd::Missing => Status::FileMissing { name },
-        FileEnd::TooLong => Status::FileLong { name },
-        FileEnd::Failed => Status::FileFault { name },
-        FileEnd::NoMemory => Status::NoMemory,
+    match named {
+        None => Ok(Dex::empty(alloc)),
+        Some(name) => read_dex(alloc, files, name),
     }
 }

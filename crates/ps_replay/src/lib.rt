@@ -1,7 +1,10 @@
-//! Replays a recorded script of connections.
+//! Replays a recorded script of connections, and checks teams.
 #![tactic(auto)]
 
+pub mod check;
+pub mod config;
 pub mod dex;
+pub mod file;
 pub mod hall;
 pub mod place;
 pub mod play;
