@@ -4,12 +4,10 @@ use Rattle.ps_mon.specs.declared.record.Battle.{Battle}
 use Rattle.ps_mon.specs.declared.record.Phase.{Phase}
 use Rattle.ps_mon.specs.declared.record.Phase.TheVariants as phases
 use Rattle.ps_mon.specs.declared.choice.Choice.{Choice}
-use Rattle.ps_mon.specs.declared.facts.Facts.{Facts}
 use Rattle.ps_mon.specs.Reading.{side_of}
 use Rattle.ps_mon.specs.Valid.{IsStanding, replaces}
 use Rattle.ps_mon.specs.Choices.{is_asked, fault_of, IsChoice, IsChoiceOf, IsThere, incoming}
 use Rattle.ps_mon.proofs.ChoiceLemmas.{legal-is, there-is, replaced-stands}
-use Rattle.ps_battle.specs.Chosen.{HasBuiltMove, CanAct}
 
 -- in a turn both sides are asked
 pub there-in-turn : (b : Battle) (s : ℕ) (choice : Choice) → b.phase ≡ phases.Turn → IsChoiceOf b s choice → IsThere (side_of b s) choice
@@ -17,9 +15,6 @@ there-in-turn b s choice e h =
     let P : Phase → Type 0 = λ phase. IsChoice (is_asked phase s) b s choice in
     let legal : fault_of b.phase s (side_of b s) choice ≡ None = subst P e h in
     there-is _ _ _ _ (legal-is b.phase s (side_of b s) choice legal)
-
-pub can-in-turn : (facts : Facts) (b : Battle) (s : ℕ) (choice : Choice) → b.phase ≡ phases.Turn → IsChoiceOf b s choice → HasBuiltMove facts (side_of b s) choice → CanAct facts (side_of b s) choice
-can-in-turn facts b s choice e h built = record { there = there-in-turn b s choice e h; move = built }
 
 there-where-asked : (asked : Bool) (b : Battle) (s : ℕ) (choice : Choice) → IsChoice asked b s choice → IsThere (side_of b s) choice
 there-where-asked true b s choice h = there-is _ _ _ _ (legal-is b.phase s (side_of b s) choice h)

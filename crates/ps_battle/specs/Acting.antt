@@ -15,9 +15,8 @@ use Rattle.ps_mon.specs.Slots.{is_disabled}
 use Rattle.ps_hits.specs.Scenes.{Play, ◌>>=◌, ◌>>◌, give, look, tell, change, choose, draw}
 use Rattle.ps_hits.specs.Told.{who_of, health_of, status_number}
 use Rattle.ps_hits.specs.Fighters.{stats_now, is_paralysed}
-use Rattle.ps_status.specs.Numbers.{confusion}
 use Rattle.ps_status.specs.Clearing.{cured}
-use Rattle.ps_battle.specs.Numbers as numbers
+use Rattle.ps_event.specs.Numbers as numbers
 
 -- the act ends, and why
 unfoldable pub cannot : ℕ → Play Bool
@@ -37,7 +36,7 @@ sleep_on = do
         change (λ d. record d { user = cured d.user })
         tell (events.CureStatus (who_of d.user) (status_number Slp))
         give false)
-      (cannot numbers.asleep)
+      (cannot numbers.reason_slp)
 
 unfoldable pub stays_awake : Play Bool
 stays_awake = do
@@ -48,7 +47,7 @@ stays_awake = do
 unfoldable pub stays_thawed : Play Bool
 stays_thawed = do
   d ← look
-  choose (is_frz d.user.status) (cannot numbers.frozen) (give true)
+  choose (is_frz d.user.status) (cannot numbers.reason_frz) (give true)
 
 abbrev pub is_trap : LockKind → Bool
 is_trap Trap = true
@@ -63,13 +62,13 @@ traps (Some lock) = is_trap lock.kind
 unfoldable pub stays_free : Play Bool
 stays_free = do
   d ← look
-  choose (traps d.foe.vol.lock) (cannot numbers.trapped) (give true)
+  choose (traps d.foe.vol.lock) (cannot numbers.reason_partially_trapped) (give true)
 
 -- flinching
 unfoldable pub stays_steady : Play Bool
 stays_steady = do
   d ← look
-  choose d.user.vol.flinch (cannot numbers.flinching) (give true)
+  choose d.user.vol.flinch (cannot numbers.reason_flinch) (give true)
 
 -- recharging, which is over then
 unfoldable pub stays_fresh : Play Bool
@@ -78,7 +77,7 @@ stays_fresh = do
   choose d.user.vol.recharge
       (do
         change (λ d. record d { user = record d.user { vol = record d.user.vol { recharge = false } } })
-        cannot numbers.recharging)
+        cannot numbers.reason_recharge)
       (give true)
 
 -- a disabled slot after one more act of its member
@@ -91,7 +90,7 @@ wear_off None = give tt
 wear_off (Some disabled) = do
   d ← look
   change (λ d. record d { user = record d.user { vol = record d.user.vol { disabled = one_act_later disabled } } })
-  choose (disabled.turns - 1 == 0) (tell (events.VolEnd (who_of d.user) numbers.disable)) (give tt)
+  choose (disabled.turns - 1 == 0) (tell (events.VolEnd (who_of d.user) numbers.effect_disable)) (give tt)
 
 unfoldable pub disabled_wears_off : Play (Unit {0})
 disabled_wears_off = do
@@ -108,7 +107,7 @@ unfoldable pub stays_enabled : Option ℕ → Play Bool
 stays_enabled slot = do
   disabled_wears_off
   d ← look
-  choose (is_slot_disabled d.user.vol.disabled slot) (cannot numbers.disabled) (give true)
+  choose (is_slot_disabled d.user.vol.disabled slot) (cannot numbers.reason_disable) (give true)
 
 abbrev pub without_lock : Fighter → Fighter
 without_lock f = record f { vol = record f.vol { lock = None } }
@@ -141,7 +140,7 @@ hurt_itself n = do
 unfoldable pub act_confused : Play Bool
 act_confused = do
   d ← look
-  tell (events.Activate (who_of d.user) confusion None)
+  tell (events.Activate (who_of d.user) numbers.effect_confusion None)
   n ← draw 256
   choose (nat_lt n 128) (hurt_itself (damage_of (own_hit d.user))) (give true)
 
@@ -155,7 +154,7 @@ stays_clear = do
         change (λ d. record d { user = record d.user { vol = record d.user.vol { confusion = left } } })
         choose (left == 0)
             (do
-              tell (events.VolEnd (who_of d.user) confusion)
+              tell (events.VolEnd (who_of d.user) numbers.effect_confusion)
               give true)
             act_confused)
 
@@ -169,7 +168,7 @@ stays_mobile = do
         choose (nat_lt n 63)
             (do
               change (λ d. record d { user = without_lock d.user })
-              cannot numbers.paralysed)
+              cannot numbers.reason_par)
             (give true))
       (give true)
 

@@ -1,5 +1,5 @@
 -- An act: whether the member acts, its move, and what it suffers after it.
-use Rattle.std.specs.Prelude.{ℕ, Bool, true, false, Option, Some, None, ◌-◌, ◌||◌, ◌==◌, if◌then◌else◌}
+use Rattle.std.specs.Prelude.{ℕ, Bool, true, false, Option, Some, None, ◌-◌, ◌||◌, ◌==◌, not, unwrap_or, if◌then◌else◌}
 use Rattle.ps_event.specs.declared.event.Event.TheVariants as events
 use Rattle.ps_event.specs.declared.event.Who.{Who}
 use Rattle.ps_mon.specs.declared.record.Battle.{Battle}
@@ -13,6 +13,7 @@ use Rattle.ps_mon.specs.declared.effect.Aim.TheVariants.{User, Foe}
 use Rattle.ps_mon.specs.declared.effect.CopyKind.{CopyKind}
 use Rattle.ps_mon.specs.declared.effect.CopyKind.TheVariants as copies
 use Rattle.ps_mon.specs.declared.facts.Facts.{Facts}
+use Rattle.ps_mon.specs.declared.record.Lock.{Lock}
 use Rattle.ps_mon.specs.Reading.{side_of, active_of}
 use Rattle.ps_mon.specs.Moves.{move_of, struggle_number}
 use Rattle.ps_mon.specs.Duels.{duel_of}
@@ -20,10 +21,11 @@ use Rattle.ps_mon.specs.Spending.{after_use}
 use Rattle.ps_hits.specs.Scenes.{Play, ◌>>=◌, ◌>>◌, look, tell, change}
 use Rattle.ps_hits.specs.Courses.{Course, played}
 use Rattle.ps_hits.specs.Told.{who_of}
-use Rattle.ps_battle.specs.Effects.{effect}
+use Rattle.ps_battle.specs.Effects.{effect, call}
 use Rattle.ps_battle.specs.Acting.{may_act}
 use Rattle.ps_battle.specs.Suffering.{residual}
 use Rattle.ps_battle.specs.Chosen.{chosen_slot}
+use Rattle.ps_battle.specs.declared.acts.Usage.{Usage}
 
 abbrev pub is_user : Aim → Bool
 is_user User = true
@@ -50,25 +52,79 @@ is_for_user other = false
 abbrev pub target_of : Effect → Duel → Who
 target_of kind d = if is_for_user kind then who_of d.user else who_of d.foe
 
--- Move is told, and the move is the last one of its user
-unfoldable pub named_row : Facts → ℕ → Play (Unit {0})
-named_row facts mv = do
-  change (λ d. record d { user = record d.user { vol = record d.user.vol { last = Some mv } } })
-  d ← look
-  tell (events.Move (who_of d.user) mv (target_of (move_of facts mv).effect d) false None)
+-- whether a move prepares: the first act of a charge does, its Continue strikes
+abbrev pub prepares : Effect → Bool → Bool
+prepares (effects.Charge away) goes_on = not goes_on
+prepares other goes_on = false
 
--- a move and its effect
-unfoldable pub used : Facts → ℕ → ℕ → Course → Course
-used facts user mv c = effect (move_of facts mv).effect facts mv user (played (named_row facts mv) user c)
+-- Move is told, and the move is the last one of its user
+unfoldable pub named_row : Facts → Usage → Play (Unit {0})
+named_row facts u = do
+  change (λ d. record d { user = record d.user { vol = record d.user.vol { last = Some u.mv } } })
+  d ← look
+  tell (events.Move (who_of d.user) u.mv (target_of (move_of facts u.mv).effect d) (prepares (move_of facts u.mv).effect u.goes_on) u.from)
+
+unfoldable pub named : Facts → ℕ → Usage → Course → Course
+named facts user u c = played (named_row facts u) user c
+
+-- a move is told, and takes effect
+unfoldable pub used_alone : Facts → ℕ → Usage → Course → Course
+used_alone facts user u c = effect (move_of facts u.mv).effect facts u.mv u.slot user (named facts user u c)
+
+-- the move that a move calls
+unfoldable pub call_of : Facts → ℕ → Usage → Course → Option ℕ
+call_of facts user u c = call (move_of facts u.mv).effect facts u.mv user (named facts user u c)
+
+-- a called move is used with the slot of who called it, and takes no PP
+abbrev pub calling : Usage → ℕ → Usage
+calling u mv = record { mv = mv; slot = u.slot; from = Some u.mv; goes_on = false }
+
+-- what comes of a call, where there is one
+abbrev pub then_called : Option ℕ → (ℕ → Course → Course) → Course → Course
+then_called None next c = c
+then_called (Some mv) next c = next mv c
+
+-- a called move, and the one that it calls in turn. None calls a third: what Mirror Move calls calls none, and what Metronome calls is
+-- no Metronome
+unfoldable pub used_called : Facts → ℕ → Usage → Course → Course
+used_called facts user u c =
+    then_called (call_of facts user u c) (λ mv. used_alone facts user (calling u mv)) (used_alone facts user u c)
+
+-- a move, and the moves that it calls: at most three
+unfoldable pub used : Facts → ℕ → Usage → Course → Course
+used facts user u c =
+    then_called (call_of facts user u c) (λ mv. used_called facts user (calling u mv)) (used_alone facts user u c)
 
 -- a use takes PP from the slot; Struggle has none
 unfoldable pub with_use_of : ℕ → Option ℕ → Battle → Battle
 with_use_of user None b = b
 with_use_of user (Some slot) b = after_use b user slot
 
+-- a move of a slot, or Struggle, which has none
+abbrev pub fresh_use : Option ℕ → ℕ → Usage
+fresh_use slot mv = record { mv = mv; slot = unwrap_or slot 0; from = None; goes_on = false }
+
+-- a lock's move, which is told with its own name behind it and takes no PP
+abbrev pub continued_use : Lock → Usage
+continued_use lock = record { mv = lock.mv; slot = 0; from = Some lock.mv; goes_on = true }
+
 -- a move takes PP from its slot and is used; then its user suffers, where both active members stand
 unfoldable pub moved : Facts → ℕ → Option ℕ → ℕ → Course → Course
-moved facts user slot mv c = played residual user (used facts user mv (record c { battle = with_use_of user slot c.battle }))
+moved facts user slot mv c =
+    played residual user (used facts user (fresh_use slot mv) (record c { battle = with_use_of user slot c.battle }))
+
+unfoldable pub fail_row : Play (Unit {0})
+fail_row = do
+  d ← look
+  tell (events.Fail (who_of d.user))
+
+-- a long move goes on; where its lock has ended there is Fail in the place of Move and effect
+abbrev pub went_on : Option Lock → Facts → ℕ → Course → Course
+went_on None facts user c = played fail_row user c
+went_on (Some lock) facts user c = used facts user (continued_use lock) c
+
+unfoldable pub continued : Facts → ℕ → Course → Course
+continued facts user c = played residual user (went_on (side_of c.battle user).vol.lock facts user c)
 
 -- whether the member acts: else the line that ends its act stands in the place of the move and of what is suffered after it
 unfoldable pub goes_on : Option ℕ → ℕ → Course → Bool
@@ -79,10 +135,16 @@ tried facts user slot mv c =
     let tested = played (may_act slot) user c in
     if goes_on slot user c then moved facts user slot mv tested else tested
 
--- an act of a side; a switch is none, and a Continue comes with the long moves
+unfoldable pub tried_again : Facts → ℕ → Course → Course
+tried_again facts user c =
+    let tested = played (may_act None) user c in
+    if goes_on None user c then continued facts user tested else tested
+
+-- an act of a side; a switch is none
 unfoldable pub act : Facts → ℕ → Choice → Course → Course
 act facts user (choices.Move n) c = tried facts user (Some (n - 1)) (chosen_slot (side_of c.battle user) n) c
 act facts user choices.Struggle c = tried facts user None struggle_number c
+act facts user choices.Continue c = tried_again facts user c
 act facts user choice c = c
 
 -- whether an active member has fainted

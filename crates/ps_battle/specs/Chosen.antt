@@ -1,4 +1,4 @@
--- Which move a choice uses, and what a commit wants of it until the long and the copying moves are built.
+-- Which move a choice uses.
 use Rattle.std.specs.Prelude.{ℕ, ℤ, pos, Bool, true, false, Option, Some, None, ◌-◌}
 use Rattle.ps_mon.specs.declared.choice.Choice.{Choice}
 use Rattle.ps_mon.specs.declared.choice.Choice.TheVariants as choices
@@ -7,8 +7,6 @@ use Rattle.ps_mon.specs.declared.record.Lock.{Lock}
 use Rattle.ps_mon.specs.declared.record.SideState.{SideState}
 use Rattle.ps_mon.specs.Slots.{slot_now}
 use Rattle.ps_mon.specs.Moves.{move_of, struggle_number}
-use Rattle.ps_mon.specs.Choices.{IsThere}
-use Rattle.ps_battle.specs.Effects.{IsBuiltKind}
 
 -- the choices that are acts; switches are done before
 abbrev pub is_act : Choice → Bool
@@ -39,15 +37,3 @@ priority_by facts (Some mv) = (move_of facts mv).priority
 
 unfoldable pub priority_of : Facts → SideState → Choice → ℤ
 priority_of facts side choice = priority_by facts (chosen_move side choice)
-
--- Until the long and the copying moves are built, what a commit wants of a choice: the kind of its move is built, and it is no Continue, which goes on with a
--- long move or recharges after one
-abbrev pub HasBuiltMove : Facts → SideState → Choice → Type 0
-HasBuiltMove facts side (choices.Move n) = IsBuiltKind (move_of facts (chosen_slot side n)).effect
-HasBuiltMove facts side choices.Continue = ⊥
-HasBuiltMove facts side choice = Unit {0}
-
--- the slot or the position is there, and the move's kind is built
-pub record CanAct (facts : Facts) (side : SideState) (choice : Choice) : Type 0 where
-  pub there : IsThere side choice
-  pub move : HasBuiltMove facts side choice

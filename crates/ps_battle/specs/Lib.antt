@@ -1,4 +1,3 @@
-pub mod Numbers
 pub mod Acting
 pub mod Suffering
 pub mod Effects

@@ -1,5 +1,5 @@
 -- What a member suffers after its act.
-use Rattle.std.specs.Prelude.{ℕ, ◌+◌, ◌*◌, ◌/◌, ◌&&◌, min, max, nat_lt}
+use Rattle.std.specs.Prelude.{ℕ, ◌+◌, ◌*◌, ◌/◌, ◌&&◌, ◌==◌, min, max, nat_lt}
 use Rattle.ps_event.specs.declared.event.Event.TheVariants as events
 use Rattle.ps_mon.specs.declared.duel.Fighter.{Fighter}
 use Rattle.ps_mon.specs.declared.status.Status.{Status}
@@ -7,7 +7,8 @@ use Rattle.ps_mon.specs.declared.status.Status.TheVariants.{Brn, Psn, Tox}
 use Rattle.ps_hits.specs.Scenes.{Play, ◌>>=◌, ◌>>◌, give, look, tell, change, choose}
 use Rattle.ps_hits.specs.Told.{who_of, health_of}
 use Rattle.ps_hits.specs.Shares.{lose}
-use Rattle.ps_battle.specs.Numbers as numbers
+use Rattle.ps_event.specs.Numbers as numbers
+use Rattle.ps_battle.specs.Acting.{traps, without_lock}
 
 -- a sixteenth of the greatest health, rounded down, at least 1
 unfoldable pub base_loss : Fighter → ℕ
@@ -19,16 +20,16 @@ suffer_bad_poison = do
   d ← look
   let count = min 15 (d.user.vol.toxic + 1)
   change (λ d. record d { user = record d.user { vol = record d.user.vol { toxic = count } } })
-  lose numbers.from_poison (base_loss d.user * count)
+  lose numbers.from_psn (base_loss d.user * count)
 
 -- Brn and Psn take the base, Tox more and more
 abbrev pub suffer : Status → Play (Unit {0})
 suffer Brn = do
   d ← look
-  lose numbers.from_burn (base_loss d.user)
+  lose numbers.from_brn (base_loss d.user)
 suffer Psn = do
   d ← look
-  lose numbers.from_poison (base_loss d.user)
+  lose numbers.from_psn (base_loss d.user)
 suffer Tox = suffer_bad_poison
 suffer other = give tt
 
@@ -51,9 +52,15 @@ feed_foe = do
   d ← look
   choose (d.user.vol.seeded && nat_lt 0 d.user.hp)
       (do
-        lose numbers.from_seed (base_loss d.user)
+        lose numbers.from_leech_seed (base_loss d.user)
         foe_gains (base_loss d.user))
       (give tt)
+
+-- a trap ends where its user has fainted
+unfoldable pub lets_go_down : Play (Unit {0})
+lets_go_down = do
+  d ← look
+  choose (d.user.hp == 0 && traps d.user.vol.lock) (change (λ d. record d { user = without_lock d.user })) (give tt)
 
 -- the residual of who acted, where both active members stand
 unfoldable pub residual : Play (Unit {0})
@@ -62,5 +69,6 @@ residual = do
   choose (nat_lt 0 d.user.hp && nat_lt 0 d.foe.hp)
       (do
         suffer_status
-        feed_foe)
+        feed_foe
+        lets_go_down)
       (give tt)

@@ -9,8 +9,12 @@ ghost use Rattle.ps_battle.specs.Acting.{cannot, sleep_on, stays_awake, stays_th
 
 use ps_calc::{Hit, damage, staged};
 use ps_event::event::{Event, Events};
+use ps_event::numbers::{
+    EFFECT_CONFUSION, EFFECT_DISABLE, FROM_CONFUSION, REASON_DISABLE, REASON_FLINCH, REASON_FRZ,
+    REASON_PAR, REASON_PARTIALLY_TRAPPED, REASON_RECHARGE, REASON_SLP,
+};
 use ps_hits::fighters::stats;
-use ps_hits::scene::{draw, health, who};
+use ps_hits::scene::{draw, health, number_of, who};
 use ps_mon::duel::{Duel, Fighter};
 use ps_mon::record::{Disabled, Lock, LockKind};
 use ps_mon::status::Status;
@@ -46,11 +50,11 @@ fn sleep(duel: &mut Duel, out: &mut Events) -> bool
         duel.user = without_status(&duel.user);
         out.push(Event::CureStatus {
             who: who(&before),
-            status: 1,
+            status: number_of(Status::Slp),
         });
         return false;
     }
-    refuse(duel, 0, out)
+    refuse(duel, REASON_SLP, out)
 }
 
 #[tactic(auto, unfolding(crate::specs::Acting::stays_awake))]
@@ -80,12 +84,13 @@ fn is_thawed(duel: &mut Duel, out: &mut Events) -> bool
     ensures room { array_vec_len out.new ≤ array_vec_len out.old + 1 }
 {
     if duel.user.status == Status::Frz {
-        return refuse(duel, 1, out);
+        return refuse(duel, REASON_FRZ, out);
     }
     true
 }
 
-fn holds(lock: Option<Lock>) -> bool
+/// Whether a lock is that of a trap.
+pub(crate) fn holds(lock: Option<Lock>) -> bool
     ensures { result ≡ traps lock }
 {
     match lock {
@@ -105,7 +110,7 @@ fn is_free(duel: &mut Duel, out: &mut Events) -> bool
     ensures room { array_vec_len out.new ≤ array_vec_len out.old + 1 }
 {
     if holds(duel.foe.vol.lock) {
-        return refuse(duel, 2, out);
+        return refuse(duel, REASON_PARTIALLY_TRAPPED, out);
     }
     true
 }
@@ -121,7 +126,7 @@ fn is_steady(duel: &mut Duel, out: &mut Events) -> bool
     ensures room { array_vec_len out.new ≤ array_vec_len out.old + 1 }
 {
     if duel.user.vol.flinch {
-        return refuse(duel, 3, out);
+        return refuse(duel, REASON_FLINCH, out);
     }
     true
 }
@@ -138,7 +143,7 @@ fn is_fresh(duel: &mut Duel, out: &mut Events) -> bool
 {
     if duel.user.vol.recharge {
         duel.user.vol.recharge = false;
-        return refuse(duel, 4, out);
+        return refuse(duel, REASON_RECHARGE, out);
     }
     true
 }
@@ -172,7 +177,7 @@ fn wear_off(duel: &mut Duel, out: &mut Events)
     if disabled.turns.saturating_sub(1) == 0 {
         out.push(Event::VolEnd {
             who: who(&duel.user),
-            effect: 8,
+            effect: EFFECT_DISABLE,
         });
     }
 }
@@ -201,7 +206,7 @@ fn is_enabled(duel: &mut Duel, slot: Option<u8>, out: &mut Events) -> bool
 {
     wear_off(duel, out);
     if bars_slot(duel.user.vol.disabled, slot) {
-        return refuse(duel, 5, out);
+        return refuse(duel, REASON_DISABLE, out);
     }
     true
 }
@@ -239,7 +244,7 @@ fn hit_itself(duel: &mut Duel, n: u16, out: &mut Events) -> bool
     out.push(Event::Damage {
         who: who(&user),
         health: health(&user),
-        from: 5,
+        from: FROM_CONFUSION,
     });
     if user.hp == 0 {
         out.push(Event::Faint { who: who(&user) });
@@ -260,7 +265,7 @@ fn try_confused(duel: &mut Duel, out: &mut Events) -> bool
     let before = duel.user;
     out.push(Event::Activate {
         who: who(&before),
-        effect: 0,
+        effect: EFFECT_CONFUSION,
         mv: None,
     });
     if draw(duel, 256) < 128 {
@@ -286,7 +291,7 @@ fn is_clear(duel: &mut Duel, out: &mut Events) -> bool
     if duel.user.vol.confusion == 0 {
         out.push(Event::VolEnd {
             who: who(&duel.user),
-            effect: 0,
+            effect: EFFECT_CONFUSION,
         });
         return true;
     }
@@ -310,7 +315,7 @@ fn is_mobile(duel: &mut Duel, out: &mut Events) -> bool
         return true;
     }
     duel.user.vol.lock = None;
-    refuse(duel, 6, out)
+    refuse(duel, REASON_PAR, out)
 }
 
 /// Whether the user acts, with the slot of its move, from 0; Struggle and long moves have none.

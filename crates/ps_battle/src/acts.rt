@@ -11,10 +11,9 @@ ghost use Rattle.ps_mon.specs.Duels.{IsFit, IsDuelKnown};
 ghost use Rattle.ps_hits.specs.Scenes.{scene};
 ghost use Rattle.ps_hits.specs.Courses.{course, played};
 ghost use Rattle.ps_battle.specs.Acting.{may_act};
-ghost use Rattle.ps_battle.specs.Effects.{IsBuiltKind};
 ghost use Rattle.ps_battle.specs.Suffering.{residual};
-ghost use Rattle.ps_battle.specs.Chosen.{CanAct};
-ghost use Rattle.ps_battle.specs.Acts.{is_user, is_conversion, is_for_user, target_of, named_row, used, with_use_of, moved, goes_on, tried, act, is_down, has_faint, two_acts};
+ghost use Rattle.ps_mon.specs.Choices.{IsThere};
+ghost use Rattle.ps_battle.specs.Acts.{is_user, is_conversion, is_for_user, target_of, prepares, named_row, named, used_alone, call_of, calling, used_called, used, with_use_of, fresh_use, continued_use, moved, fail_row, went_on, continued, goes_on, tried, tried_again, act, is_down, has_faint, two_acts};
 
 use crate::acting::can_act;
 use crate::chosen::slot_move;
@@ -27,7 +26,7 @@ use ps_mon::duel::Duel;
 use ps_mon::effect::{Aim, CopyKind, Effect};
 use ps_mon::facts::{Facts, STRUGGLE};
 use ps_mon::moves::move_data;
-use ps_mon::record::Battle;
+use ps_mon::record::{Battle, Lock};
 
 fn aims_at_user(aim: Aim) -> bool
     ensures { result ≡ is_user aim }
@@ -75,58 +74,148 @@ fn target(kind: Effect, duel: &Duel) -> Who
     }
 }
 
+/// How a move is used.
+#[derive(Clone, Copy, Debug, PartialEq, Eq)]
+pub(crate) struct Usage {
+    /// The move: a place in the dex, or Struggle's number.
+    pub(crate) mv: u16,
+    /// The slot that was chosen, from 0, which Mimic changes; 0 for a move that has none.
+    pub(crate) slot: u8,
+    /// The move that called it, or itself where a long move goes on.
+    pub(crate) from: Option<u16>,
+    /// Whether a long move goes on.
+    pub(crate) goes_on: bool,
+}
+
+fn is_preparing(kind: Effect, goes_on: bool) -> bool
+    ensures { result ≡ prepares kind goes_on }
+{
+    match kind {
+        Effect::Charge { .. } => !goes_on,
+        _ => false,
+    }
+}
+
 #[tactic(auto, unfolding(crate::specs::Acts::named_row))]
-fn name_in_duel(duel: &mut Duel, facts: Facts<'_>, mv: u16, out: &mut Events)
+fn name_in_duel(duel: &mut Duel, facts: Facts<'_>, usage: Usage, out: &mut Events)
     requires fit { IsFit duel.old }
     requires fair { AreFair facts }
     requires room { array_vec_len out.old + 1 ≤ 160 }
-    ensures after { scene duel.new out.new ≡ (named_row facts.entry mv (scene duel.old out.old)).1 }
+    ensures after { scene duel.new out.new ≡ (named_row facts.entry usage (scene duel.old out.old)).1 }
     ensures fit { IsFit duel.new }
-    ensures known { (moves : ℕ) → IsNamed moves mv → IsDuelKnown moves duel.old → IsDuelKnown moves duel.new }
+    ensures known { (moves : ℕ) → IsNamed moves usage.mv → IsDuelKnown moves duel.old → IsDuelKnown moves duel.new }
     ensures room { array_vec_len out.new ≤ array_vec_len out.old + 1 }
 {
-    duel.user.vol.last = Some(mv);
-    let target = target(move_data(facts, mv).effect, duel);
+    duel.user.vol.last = Some(usage.mv);
+    let kind = move_data(facts, usage.mv).effect;
+    let target = target(kind, duel);
     out.push(Event::Move {
         who: who(&duel.user),
-        mv,
+        mv: usage.mv,
         target,
-        still: false,
-        from: None,
+        still: is_preparing(kind, usage.goes_on),
+        from: usage.from,
     });
 }
 
-fn name_move(battle: &mut Battle, facts: Facts<'_>, user: u8, mv: u16, out: &mut Events)
+#[tactic(auto, unfolding(crate::specs::Acts::named))]
+fn name_move(battle: &mut Battle, facts: Facts<'_>, user: u8, usage: Usage, out: &mut Events)
     requires sound { IsSound battle.old }
     requires fair { AreFair facts }
     requires user { user < 2 }
     requires room { array_vec_len out.old + 1 ≤ 160 }
-    ensures after { course battle.new out.new ≡ played (named_row facts.entry mv) user (course battle.old out.old) }
+    ensures after { course battle.new out.new ≡ named facts.entry user usage (course battle.old out.old) }
     ensures sound { IsSound battle.new }
-    ensures known { (moves : ℕ) → IsNamed moves mv → AreKnown moves battle.old → AreKnown moves battle.new }
+    ensures known { (moves : ℕ) → IsNamed moves usage.mv → AreKnown moves battle.old → AreKnown moves battle.new }
     ensures kept { Keeps user battle.old battle.new }
     ensures room { array_vec_len out.new ≤ array_vec_len out.old + 1 }
 {
     let mut duel = battle.duel(user);
-    name_in_duel(&mut duel, facts, mv, out);
+    name_in_duel(&mut duel, facts, usage, out);
     battle.put(user, &duel);
 }
 
-#[tactic(auto, using(crate::proofs::KeepLemmas::keeps_trans), unfolding(crate::specs::Acts::used))]
-fn use_move(battle: &mut Battle, facts: Facts<'_>, user: u8, mv: u16, out: &mut Events)
+#[tactic(auto, using(crate::proofs::KeepLemmas::keeps_trans), unfolding(crate::specs::Acts::used_alone, crate::specs::Acts::call_of))]
+fn use_alone(
+    battle: &mut Battle,
+    facts: Facts<'_>,
+    user: u8,
+    usage: Usage,
+    out: &mut Events,
+) -> Option<u16>
     requires sound { IsSound battle.old }
     requires fair { AreFair facts }
+    requires known { AreKnown (move_count facts) battle.old }
+    requires named { IsNamed (move_count facts) usage.mv }
     requires user { user < 2 }
-    requires built { IsBuiltKind (move_of facts mv).effect }
+    requires slot { usage.slot < 4 }
     requires room { array_vec_len out.old + 21 ≤ 160 }
-    ensures after { course battle.new out.new ≡ used facts.entry user mv (course battle.old out.old) }
+    ensures value { result ≡ call_of facts.entry user usage (course battle.old out.old) }
+    ensures after { course battle.new out.new ≡ used_alone facts.entry user usage (course battle.old out.old) }
     ensures sound { IsSound battle.new }
-    ensures known { (moves : ℕ) → IsNamed moves mv → AreKnown moves battle.old → AreKnown moves battle.new }
+    ensures known { AreKnown (move_count facts.entry) battle.new }
     ensures kept { Keeps user battle.old battle.new }
+    ensures named { IfSome result (IsNamed (move_count facts.entry)) }
     ensures room { array_vec_len out.new ≤ array_vec_len out.old + 21 }
+    ensures few { IfSome result (λ called. array_vec_len out.new ≤ array_vec_len out.old + 1) }
 {
-    name_move(battle, facts, user, mv, out);
-    take_effect(battle, facts, user, mv, out);
+    name_move(battle, facts, user, usage, out);
+    take_effect(battle, facts, user, usage.mv, usage.slot, out)
+}
+
+fn called(usage: Usage, mv: u16) -> Usage
+    ensures value { result ≡ calling usage mv }
+    ensures mv { result.mv ≡ mv }
+    ensures slot { result.slot ≡ usage.slot }
+{
+    Usage {
+        mv,
+        slot: usage.slot,
+        from: Some(usage.mv),
+        goes_on: false,
+    }
+}
+
+#[tactic(auto, using(crate::proofs::KeepLemmas::keeps_trans), unfolding(crate::specs::Acts::used_called))]
+fn use_called(battle: &mut Battle, facts: Facts<'_>, user: u8, usage: Usage, out: &mut Events)
+    requires sound { IsSound battle.old }
+    requires fair { AreFair facts }
+    requires known { AreKnown (move_count facts) battle.old }
+    requires named { IsNamed (move_count facts) usage.mv }
+    requires user { user < 2 }
+    requires slot { usage.slot < 4 }
+    requires room { array_vec_len out.old + 22 ≤ 160 }
+    ensures after { course battle.new out.new ≡ used_called facts.entry user usage (course battle.old out.old) }
+    ensures sound { IsSound battle.new }
+    ensures known { AreKnown (move_count facts.entry) battle.new }
+    ensures kept { Keeps user battle.old battle.new }
+    ensures room { array_vec_len out.new ≤ array_vec_len out.old + 22 }
+{
+    let Some(mv) = use_alone(battle, facts, user, usage, out) else {
+        return;
+    };
+    let _ = use_alone(battle, facts, user, called(usage, mv), out);
+}
+
+#[tactic(auto, using(crate::proofs::KeepLemmas::keeps_trans), unfolding(crate::specs::Acts::used))]
+fn use_move(battle: &mut Battle, facts: Facts<'_>, user: u8, usage: Usage, out: &mut Events)
+    requires sound { IsSound battle.old }
+    requires fair { AreFair facts }
+    requires known { AreKnown (move_count facts) battle.old }
+    requires named { IsNamed (move_count facts) usage.mv }
+    requires user { user < 2 }
+    requires slot { usage.slot < 4 }
+    requires room { array_vec_len out.old + 23 ≤ 160 }
+    ensures after { course battle.new out.new ≡ used facts.entry user usage (course battle.old out.old) }
+    ensures sound { IsSound battle.new }
+    ensures known { AreKnown (move_count facts.entry) battle.new }
+    ensures kept { Keeps user battle.old battle.new }
+    ensures room { array_vec_len out.new ≤ array_vec_len out.old + 23 }
+{
+    let Some(mv) = use_alone(battle, facts, user, usage, out) else {
+        return;
+    };
+    use_called(battle, facts, user, called(usage, mv), out);
 }
 
 #[tactic(auto, unfolding(crate::specs::Acts::with_use_of))]
@@ -177,6 +266,20 @@ fn bear(battle: &mut Battle, user: u8, out: &mut Events)
     battle.put(user, &duel);
 }
 
+fn fresh(slot: Option<u8>, mv: u16) -> Usage
+    requires { IfSome slot (λ j. j < 4) }
+    ensures value { result ≡ fresh_use slot mv }
+    ensures mv { result.mv ≡ mv }
+    ensures slot { result.slot < 4 }
+{
+    Usage {
+        mv,
+        slot: slot.unwrap_or(0),
+        from: None,
+        goes_on: false,
+    }
+}
+
 #[tactic(auto, using(crate::proofs::KeepLemmas::keeps_trans), unfolding(crate::specs::Acts::moved))]
 fn do_move(
     battle: &mut Battle,
@@ -188,18 +291,19 @@ fn do_move(
 )
     requires sound { IsSound battle.old }
     requires fair { AreFair facts }
+    requires known { AreKnown (move_count facts) battle.old }
+    requires named { IsNamed (move_count facts) mv }
     requires user { user < 2 }
     requires slot { IfSome slot (λ j. j < 4) }
-    requires built { IsBuiltKind (move_of facts mv).effect }
-    requires room { array_vec_len out.old + 26 ≤ 160 }
+    requires room { array_vec_len out.old + 28 ≤ 160 }
     ensures after { course battle.new out.new ≡ moved facts.entry user slot mv (course battle.old out.old) }
     ensures sound { IsSound battle.new }
-    ensures known { (moves : ℕ) → IsNamed moves mv → AreKnown moves battle.old → AreKnown moves battle.new }
+    ensures known { AreKnown (move_count facts.entry) battle.new }
     ensures kept { Keeps user battle.old battle.new }
-    ensures room { array_vec_len out.new ≤ array_vec_len out.old + 26 }
+    ensures room { array_vec_len out.new ≤ array_vec_len out.old + 28 }
 {
     spend(battle, user, slot);
-    use_move(battle, facts, user, mv, out);
+    use_move(battle, facts, user, fresh(slot, mv), out);
     bear(battle, user, out);
 }
 
@@ -214,20 +318,116 @@ fn try_move(
 )
     requires sound { IsSound battle.old }
     requires fair { AreFair facts }
+    requires known { AreKnown (move_count facts) battle.old }
+    requires named { IsNamed (move_count facts) mv }
     requires user { user < 2 }
     requires slot { IfSome slot (λ j. j < 4) }
-    requires built { IsBuiltKind (move_of facts mv).effect }
-    requires room { array_vec_len out.old + 37 ≤ 160 }
+    requires room { array_vec_len out.old + 39 ≤ 160 }
     ensures after { course battle.new out.new ≡ tried facts.entry user slot mv (course battle.old out.old) }
     ensures sound { IsSound battle.new }
-    ensures known { (moves : ℕ) → IsNamed moves mv → AreKnown moves battle.old → AreKnown moves battle.new }
+    ensures known { AreKnown (move_count facts.entry) battle.new }
     ensures kept { Keeps user battle.old battle.new }
-    ensures room { array_vec_len out.new ≤ array_vec_len out.old + 37 }
+    ensures room { array_vec_len out.new ≤ array_vec_len out.old + 39 }
 {
     if !is_able(battle, user, slot, out) {
         return;
     }
     do_move(battle, facts, user, slot, mv, out);
+}
+
+#[tactic(auto, unfolding(crate::specs::Acts::fail_row))]
+fn fail_in_duel(duel: &Duel, out: &mut Events)
+    requires room { array_vec_len out.old + 1 ≤ 160 }
+    ensures after { scene duel.now out.new ≡ (fail_row (scene duel.now out.old)).1 }
+    ensures room { array_vec_len out.new ≤ array_vec_len out.old + 1 }
+{
+    out.push(Event::Fail {
+        who: who(&duel.user),
+    });
+}
+
+fn fail(battle: &mut Battle, user: u8, out: &mut Events)
+    requires sound { IsSound battle.old }
+    requires user { user < 2 }
+    requires room { array_vec_len out.old + 1 ≤ 160 }
+    ensures after { course battle.new out.new ≡ played fail_row user (course battle.old out.old) }
+    ensures sound { IsSound battle.new }
+    ensures known { (moves : ℕ) → AreKnown moves battle.old → AreKnown moves battle.new }
+    ensures kept { Keeps user battle.old battle.new }
+    ensures room { array_vec_len out.new ≤ array_vec_len out.old + 1 }
+{
+    let duel = battle.duel(user);
+    fail_in_duel(&duel, out);
+    battle.put(user, &duel);
+}
+
+fn continued(lock: Lock) -> Usage
+    ensures value { result ≡ continued_use lock }
+    ensures mv { result.mv ≡ lock.mv }
+    ensures slot { result.slot < 4 }
+{
+    Usage {
+        mv: lock.mv,
+        slot: 0,
+        from: Some(lock.mv),
+        goes_on: true,
+    }
+}
+
+fn go_on_with(battle: &mut Battle, facts: Facts<'_>, user: u8, lock: Option<Lock>, out: &mut Events)
+    requires sound { IsSound battle.old }
+    requires fair { AreFair facts }
+    requires known { AreKnown (move_count facts) battle.old }
+    requires lock { IfSome lock (λ l. l.mv < move_count facts) }
+    requires user { user < 2 }
+    requires room { array_vec_len out.old + 23 ≤ 160 }
+    ensures after { course battle.new out.new ≡ went_on lock facts.entry user (course battle.old out.old) }
+    ensures sound { IsSound battle.new }
+    ensures known { AreKnown (move_count facts.entry) battle.new }
+    ensures kept { Keeps user battle.old battle.new }
+    ensures room { array_vec_len out.new ≤ array_vec_len out.old + 23 }
+{
+    match lock {
+        None => fail(battle, user, out),
+        Some(lock) => use_move(battle, facts, user, continued(lock), out),
+    }
+}
+
+#[tactic(auto, using(crate::proofs::KeepLemmas::keeps_trans), unfolding(crate::specs::Acts::continued))]
+fn go_on(battle: &mut Battle, facts: Facts<'_>, user: u8, out: &mut Events)
+    requires sound { IsSound battle.old }
+    requires fair { AreFair facts }
+    requires known { AreKnown (move_count facts) battle.old }
+    requires user { user < 2 }
+    requires room { array_vec_len out.old + 28 ≤ 160 }
+    ensures after { course battle.new out.new ≡ continued facts.entry user (course battle.old out.old) }
+    ensures sound { IsSound battle.new }
+    ensures known { AreKnown (move_count facts.entry) battle.new }
+    ensures kept { Keeps user battle.old battle.new }
+    ensures room { array_vec_len out.new ≤ array_vec_len out.old + 28 }
+{
+    let lock = battle.sides[user as usize].vol.lock;
+    go_on_with(battle, facts, user, lock, out);
+    bear(battle, user, out);
+}
+
+#[tactic(auto, using(crate::proofs::KeepLemmas::keeps_trans), unfolding(crate::specs::Acts::tried_again))]
+fn try_again(battle: &mut Battle, facts: Facts<'_>, user: u8, out: &mut Events)
+    requires sound { IsSound battle.old }
+    requires fair { AreFair facts }
+    requires known { AreKnown (move_count facts) battle.old }
+    requires user { user < 2 }
+    requires room { array_vec_len out.old + 39 ≤ 160 }
+    ensures after { course battle.new out.new ≡ tried_again facts.entry user (course battle.old out.old) }
+    ensures sound { IsSound battle.new }
+    ensures known { AreKnown (move_count facts.entry) battle.new }
+    ensures kept { Keeps user battle.old battle.new }
+    ensures room { array_vec_len out.new ≤ array_vec_len out.old + 39 }
+{
+    if !is_able(battle, user, None, out) {
+        return;
+    }
+    go_on(battle, facts, user, out);
 }
 
 #[tactic(auto, unfolding(crate::specs::Acts::act))]
@@ -236,13 +436,13 @@ fn do_act(battle: &mut Battle, facts: Facts<'_>, user: u8, choice: Choice, out: 
     requires fair { AreFair facts }
     requires known { AreKnown (move_count facts) battle.old }
     requires user { user < 2 }
-    requires can { CanAct facts (side_of battle.old user) choice }
-    requires room { array_vec_len out.old + 37 ≤ 160 }
+    requires there { IsThere (side_of battle.old user) choice }
+    requires room { array_vec_len out.old + 39 ≤ 160 }
     ensures after { course battle.new out.new ≡ act facts.entry user choice (course battle.old out.old) }
     ensures sound { IsSound battle.new }
     ensures known { AreKnown (move_count facts.entry) battle.new }
     ensures kept { Keeps user battle.old battle.new }
-    ensures room { array_vec_len out.new ≤ array_vec_len out.old + 37 }
+    ensures room { array_vec_len out.new ≤ array_vec_len out.old + 39 }
 {
     match choice {
         Choice::Move(n) => {
@@ -250,6 +450,7 @@ fn do_act(battle: &mut Battle, facts: Facts<'_>, user: u8, choice: Choice, out: 
             try_move(battle, facts, user, Some(n - 1), mv, out);
         }
         Choice::Struggle => try_move(battle, facts, user, None, STRUGGLE, out),
+        Choice::Continue => try_again(battle, facts, user, out),
         _ => (),
     }
 }
@@ -287,14 +488,14 @@ pub(crate) fn do_two_acts(
     requires fair { AreFair facts }
     requires known { AreKnown (move_count facts) battle.old }
     requires user { user < 2 }
-    requires first { CanAct facts (side_of battle.old user) first }
-    requires second { CanAct facts (side_of battle.old (1 - user)) second }
-    requires room { array_vec_len out.old + 74 ≤ 160 }
+    requires first { IsThere (side_of battle.old user) first }
+    requires second { IsThere (side_of battle.old (1 - user)) second }
+    requires room { array_vec_len out.old + 78 ≤ 160 }
     ensures after { course battle.new out.new ≡ two_acts facts.entry user first (1 - user) second (course battle.old out.old) }
     ensures sound { IsSound battle.new }
     ensures known { AreKnown (move_count facts.entry) battle.new }
     ensures turn { battle.new.turn ≡ battle.old.turn }
-    ensures room { array_vec_len out.new ≤ array_vec_len out.old + 74 }
+    ensures room { array_vec_len out.new ≤ array_vec_len out.old + 78 }
 {
     do_act(battle, facts, user, first, out);
     if has_fainted(battle) {

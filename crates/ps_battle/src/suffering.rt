@@ -3,9 +3,11 @@ ghost use Rattle.std.specs.Prelude.{◌≡◌, ◌≤◌, ◌<◌, ◌+◌, ℕ}
 ghost use Rattle.arrayvec.specs.ArrayVec.{array_vec_len};
 ghost use Rattle.ps_mon.specs.Duels.{IsFit, IsFighter, IsDuelKnown};
 ghost use Rattle.ps_hits.specs.Scenes.{scene};
-ghost use Rattle.ps_battle.specs.Suffering.{base_loss, suffer_bad_poison, suffer_status, foe_gains, feed_foe, residual};
+ghost use Rattle.ps_battle.specs.Suffering.{base_loss, suffer_bad_poison, suffer_status, foe_gains, feed_foe, lets_go_down, residual};
 
+use crate::acting::holds;
 use ps_event::event::{Event, Events};
+use ps_event::numbers::{FROM_BRN, FROM_LEECH_SEED, FROM_PSN};
 use ps_hits::scene::{health, who};
 use ps_hits::shares::lose_health;
 use ps_mon::duel::{Duel, Fighter};
@@ -32,7 +34,7 @@ fn bear_bad_poison(duel: &mut Duel, out: &mut Events)
     let base = base(&duel.user);
     let count = (duel.user.vol.toxic + 1).min(15);
     duel.user.vol.toxic = count;
-    lose_health(duel, 1, base * u16::from(count), out);
+    lose_health(duel, FROM_PSN, base * u16::from(count), out);
 }
 
 #[tactic(auto, unfolding(crate::specs::Suffering::suffer_status))]
@@ -46,8 +48,8 @@ fn bear_status(duel: &mut Duel, out: &mut Events)
 {
     let base = base(&duel.user);
     match duel.user.status {
-        Status::Brn => lose_health(duel, 2, base, out),
-        Status::Psn => lose_health(duel, 1, base, out),
+        Status::Brn => lose_health(duel, FROM_BRN, base, out),
+        Status::Psn => lose_health(duel, FROM_PSN, base, out),
         Status::Tox => bear_bad_poison(duel, out),
         _ => (),
     }
@@ -87,8 +89,21 @@ fn bear_seed(duel: &mut Duel, out: &mut Events)
         return;
     }
     let base = base(&duel.user);
-    lose_health(duel, 3, base, out);
+    lose_health(duel, FROM_LEECH_SEED, base, out);
     feed(duel, base, out);
+}
+
+#[tactic(auto, unfolding(crate::specs::Suffering::lets_go_down))]
+fn let_go(duel: &mut Duel, out: &mut Events)
+    requires fit { IsFit duel.old }
+    ensures after { scene duel.new out.new ≡ (lets_go_down (scene duel.old out.old)).1 }
+    ensures fit { IsFit duel.new }
+    ensures known { (moves : ℕ) → IsDuelKnown moves duel.old → IsDuelKnown moves duel.new }
+    ensures room { array_vec_len out.new ≤ array_vec_len out.old }
+{
+    if duel.user.hp == 0 && holds(duel.user.vol.lock) {
+        duel.user.vol.lock = None;
+    }
 }
 
 /// What the user suffers after its act, where both active members stand.
@@ -109,4 +124,5 @@ pub(crate) fn suffer(duel: &mut Duel, out: &mut Events)
     }
     bear_status(duel, out);
     bear_seed(duel, out);
+    let_go(duel, out);
 }

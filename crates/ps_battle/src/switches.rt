@@ -1,7 +1,6 @@
 //! Switches, and the begin of a turn.
 ghost use Rattle.std.specs.Prelude.{◌≡◌, ◌≤◌, ◌<◌, ◌+◌, ◌-◌, ℕ, true};
 ghost use Rattle.arrayvec.specs.ArrayVec.{array_vec_len};
-ghost use Rattle.ps_mon.specs.declared.facts.Facts.{Facts};
 ghost use Rattle.ps_mon.specs.declared.choice.Choice.{Choice};
 ghost use Rattle.ps_mon.specs.Keeping.{Keeps};
 ghost use Rattle.ps_mon.specs.Known.{AreKnown};
@@ -10,7 +9,6 @@ ghost use Rattle.ps_mon.specs.Valid.{IsSound, has_standing};
 ghost use Rattle.ps_mon.specs.Choices.{IsThere, incoming};
 ghost use Rattle.ps_mon.specs.Duels.{IsFit, IsDuelKnown};
 ghost use Rattle.ps_hits.specs.Courses.{course};
-ghost use Rattle.ps_battle.specs.Chosen.{CanAct};
 ghost use Rattle.ps_battle.specs.Switches.{switch_event, sent_in, switched, refreshed, refreshed_duel, begun};
 
 use ps_event::event::{Event, Events};
@@ -47,7 +45,7 @@ pub(crate) fn do_switch(battle: &mut Battle, side: u8, choice: Choice, out: &mut
     ensures sound { IsSound battle.new }
     ensures known { (moves : ℕ) → AreKnown moves battle.old → AreKnown moves battle.new }
     ensures kept { Keeps side battle.old battle.new }
-    ensures can { (facts : Facts) → CanAct facts (side_of battle.old side) choice → CanAct facts (side_of battle.new side) choice }
+    ensures there { IsThere (side_of battle.new side) choice }
     ensures some { (s : ℕ) → s < 2 → has_standing (side_of battle.old s) ≡ true → has_standing (side_of battle.new s) ≡ true }
     ensures own { (active_of (side_of battle.new side)).hp ≡ (incoming (side_of battle.old side) choice).hp }
     ensures foe { (c : Choice) → (incoming (side_of battle.new (1 - side)) c).hp ≡ (incoming (side_of battle.old (1 - side)) c).hp }

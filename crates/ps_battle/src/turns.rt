@@ -1,7 +1,6 @@
 //! A commit of both sides' choices.
 ghost use Rattle.std.specs.Prelude.{◌≡◌, ◌≤◌, ◌<◌, ◌+◌, ℕ, [], false, true};
 ghost use Rattle.arrayvec.specs.ArrayVec.{array_vec_len};
-ghost use Rattle.ps_mon.specs.declared.facts.Facts.{Facts};
 ghost use Rattle.ps_mon.specs.Facts.{AreFair};
 ghost use Rattle.ps_mon.specs.Known.{AreKnown, AreFairFor};
 ghost use Rattle.ps_mon.specs.Moves.{move_count};
@@ -10,7 +9,6 @@ ghost use Rattle.ps_mon.specs.Valid.{IsSound, IsValid, has_standing, is_over};
 ghost use Rattle.ps_mon.specs.Choices.{IsThere, IsChoiceOf, incoming};
 ghost use Rattle.ps_mon.specs.Duels.{IsFit};
 ghost use Rattle.ps_hits.specs.Courses.{course};
-ghost use Rattle.ps_battle.specs.Chosen.{CanAct, HasBuiltMove};
 ghost use Rattle.ps_battle.specs.Turns.{faster, first_of, acted, both_switched, turn};
 ghost use Rattle.ps_battle.specs.Switches.{begun};
 ghost use Rattle.ps_battle.specs.Closings.{closed, next_turn};
@@ -79,14 +77,14 @@ fn act_both(battle: &mut Battle, facts: Facts<'_>, c1: Choice, c2: Choice, out: 
     requires sound { IsSound battle.old }
     requires fair { AreFair facts }
     requires known { AreKnown (move_count facts) battle.old }
-    requires first { CanAct facts (side_of battle.old 0) c1 }
-    requires second { CanAct facts (side_of battle.old 1) c2 }
-    requires room { array_vec_len out.old + 74 ≤ 160 }
+    requires first { IsThere (side_of battle.old 0) c1 }
+    requires second { IsThere (side_of battle.old 1) c2 }
+    requires room { array_vec_len out.old + 78 ≤ 160 }
     ensures after { course battle.new out.new ≡ acted facts.entry c1 c2 (course battle.old out.old) }
     ensures sound { IsSound battle.new }
     ensures known { AreKnown (move_count facts.entry) battle.new }
     ensures turn { battle.new.turn ≡ battle.old.turn }
-    ensures room { array_vec_len out.new ≤ array_vec_len out.old + 74 }
+    ensures room { array_vec_len out.new ≤ array_vec_len out.old + 78 }
 {
     if is_p1_first(battle, facts, c1, c2) {
         do_two_acts(battle, facts, 0, c1, c2, out);
@@ -105,8 +103,8 @@ fn switch_both(battle: &mut Battle, c1: Choice, c2: Choice, out: &mut Events)
     ensures sound { IsSound battle.new }
     ensures known { (moves : ℕ) → AreKnown moves battle.old → AreKnown moves battle.new }
     ensures turn { battle.new.turn ≡ battle.old.turn }
-    ensures can_first { (facts : Facts) → CanAct facts (side_of battle.old 0) c1 → CanAct facts (side_of battle.new 0) c1 }
-    ensures can_second { (facts : Facts) → CanAct facts (side_of battle.old 1) c2 → CanAct facts (side_of battle.new 1) c2 }
+    ensures there_first { IsThere (side_of battle.new 0) c1 }
+    ensures there_second { IsThere (side_of battle.new 1) c2 }
     ensures some { (s : ℕ) → s < 2 → has_standing (side_of battle.old s) ≡ true → has_standing (side_of battle.new s) ≡ true }
     ensures active_first { (active_of (side_of battle.new 0)).hp ≡ (incoming (side_of battle.old 0) c1).hp }
     ensures active_second { (active_of (side_of battle.new 1)).hp ≡ (incoming (side_of battle.old 1) c2).hp }
@@ -121,13 +119,13 @@ fn take_turn(battle: &mut Battle, facts: Facts<'_>, c1: Choice, c2: Choice, out:
     requires turn { battle.old.turn < 1000 }
     requires fair { AreFair facts }
     requires known { AreKnown (move_count facts) battle.old }
-    requires first { CanAct facts (side_of battle.old 0) c1 }
-    requires second { CanAct facts (side_of battle.old 1) c2 }
+    requires first { IsThere (side_of battle.old 0) c1 }
+    requires second { IsThere (side_of battle.old 1) c2 }
     requires empty { out.old.items ≡ [] }
     ensures after { course battle.new out.new ≡ closed (acted facts.entry c1 c2 (both_switched c1 c2 (course (begun battle.old) out.old))) }
     ensures valid { IsValid battle.new }
     ensures known { AreKnown (move_count facts.entry) battle.new }
-    ensures room { array_vec_len out.new ≤ 80 }
+    ensures room { array_vec_len out.new ≤ 84 }
 {
     begin(battle);
     switch_both(battle, c1, c2, out);
@@ -153,11 +151,10 @@ fn replace(battle: &mut Battle, c1: Choice, c2: Choice, out: &mut Events)
     go_on(battle, out);
 }
 
-/// Commits the choices of both sides, P1's and P2's: a turn, or replacements. It adds at most 80 events.
+/// Commits the choices of both sides, P1's and P2's: a turn, or replacements. It adds at most 84 events.
 ///
 /// The battle is valid and isn't over, the facts are fair for it, the choice of a side that is asked is legal, and the other
-/// side's is Pass. Until the long and the copying moves are built, no chosen move is one, and no choice is Continue, which comes after a
-/// long move alone.
+/// side's is Pass.
 #[tactic(auto, unfolding(crate::specs::Turns::turn_in))]
 pub fn commit(battle: &mut Battle, facts: Facts<'_>, c1: Choice, c2: Choice, out: &mut Events)
     requires valid { IsValid battle.old }
@@ -165,13 +162,11 @@ pub fn commit(battle: &mut Battle, facts: Facts<'_>, c1: Choice, c2: Choice, out
     requires fair { AreFairFor facts battle.old }
     requires first { IsChoiceOf battle.old 0 c1 }
     requires second { IsChoiceOf battle.old 1 c2 }
-    requires built_first { HasBuiltMove facts (side_of battle.old 0) c1 }
-    requires built_second { HasBuiltMove facts (side_of battle.old 1) c2 }
     requires empty { out.old.items ≡ [] }
     ensures turn { course battle.new out.new ≡ turn facts.entry c1 c2 (course battle.old out.old) }
     ensures valid { IsValid battle.new }
     ensures fair { AreFairFor facts.entry battle.new }
-    ensures room { array_vec_len out.new ≤ 80 }
+    ensures room { array_vec_len out.new ≤ 84 }
 {
     match battle.phase {
         Phase::Turn => take_turn(battle, facts, c1, c2, out),

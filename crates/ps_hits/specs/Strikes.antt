@@ -1,5 +1,5 @@
 -- A strike, step by step.
-use Rattle.std.specs.Prelude.{ℕ, pos, ◌+ℤ◌, int_lt, Option, Some, None, Bool, true, false, ◌+◌, ◌-◌, ◌*◌, ◌/◌, ◌&&◌, ◌||◌, min, max, nat_lt, ◌==◌, List, slice_index, if◌then◌else◌}
+use Rattle.std.specs.Prelude.{ℕ, pos, ◌+ℤ◌, int_lt, Option, Some, None, Bool, true, false, ◌+◌, ◌-◌, ◌*◌, ◌/◌, ◌≤◌, ◌&&◌, ◌||◌, min, max, nat_lt, ◌==◌, List, slice_index, if◌then◌else◌}
 use Rattle.ps_event.specs.declared.event.Event.TheVariants as events
 use Rattle.ps_event.specs.Numbers as numbers
 use Rattle.ps_calc.specs.Damage.{damage_of}
@@ -131,6 +131,12 @@ hit blow = do
   choose crit (tell (events.Crit (who_of before.foe))) (give tt)
   tell_factors blow.factors
   deal blow.mv (damage_of (numbers_of before blow crit (217 + r)))
+
+-- the damage of a strike that hit is at most 5,992
+abbrev pub IsStruck : Struck → Type 0
+IsStruck NoEffect = Unit {0}
+IsStruck Missed = Unit {0}
+IsStruck (Hit dealt) = dealt.damage ≤ 5992
 
 -- a strike: no effect by a factor 0, the accuracy test, and the hit
 unfoldable pub strike : Blow → Play Struck

@@ -6,7 +6,7 @@ ghost use Rattle.ps_mon.specs.Known.{AreNamed};
 ghost use Rattle.ps_mon.specs.Moves.{IsNamed};
 ghost use Rattle.ps_mon.specs.Duels.{IsFit, IsFighter, IsDuelKnown};
 ghost use Rattle.ps_hits.specs.Scenes.{scene};
-ghost use Rattle.ps_hits.specs.Strikes.{deal_to_substitute, taken_after, stored_by, stored_after, hurt_by, enrage, rage_on, deal_to_foe, deal, accuracy_test, halved, numbers_of, tell_factors, hit, strike, blow_of, strike_with};
+ghost use Rattle.ps_hits.specs.Strikes.{deal_to_substitute, taken_after, stored_by, stored_after, hurt_by, enrage, rage_on, deal_to_foe, deal, accuracy_test, halved, numbers_of, tell_factors, hit, IsStruck, strike, blow_of, strike_with};
 
 use crate::fighters::{
     attack, away, defence, has_type, plain_attack, plain_defence, raging, types,
@@ -62,6 +62,7 @@ fn strike_substitute(duel: &mut Duel, n: u16, out: &mut Events) -> Dealt
     requires fit { IsFit duel.old }
     requires room { array_vec_len out.old + 1 ≤ 160 }
     ensures value { result ≡ (deal_to_substitute n (scene duel.old out.old)).0 }
+    ensures damage { result.damage ≡ n }
     ensures after { scene duel.new out.new ≡ (deal_to_substitute n (scene duel.old out.old)).1 }
     ensures fit { IsFit duel.new }
     ensures known { (moves : ℕ) → IsDuelKnown moves duel.old → IsDuelKnown moves duel.new }
@@ -172,6 +173,7 @@ fn strike_foe(duel: &mut Duel, mv: u16, n: u16, out: &mut Events) -> Dealt
     requires fit { IsFit duel.old }
     requires room { array_vec_len out.old + 3 ≤ 160 }
     ensures value { result ≡ (deal_to_foe mv n (scene duel.old out.old)).0 }
+    ensures damage { result.damage ≡ n }
     ensures after { scene duel.new out.new ≡ (deal_to_foe mv n (scene duel.old out.old)).1 }
     ensures fit { IsFit duel.new }
     ensures known { (moves : ℕ) → IsNamed moves mv → IsDuelKnown moves duel.old → IsDuelKnown moves duel.new }
@@ -203,6 +205,7 @@ pub fn deal_out(duel: &mut Duel, mv: u16, n: u16, out: &mut Events) -> Dealt
     requires fit { IsFit duel.old }
     requires room { array_vec_len out.old + 3 ≤ 160 }
     ensures value { result ≡ (deal mv n (scene duel.old out.old)).0 }
+    ensures damage { result.damage ≡ n }
     ensures after { scene duel.new out.new ≡ (deal mv n (scene duel.old out.old)).1 }
     ensures fit { IsFit duel.new }
     ensures known { (moves : ℕ) → IsNamed moves mv → IsDuelKnown moves duel.old → IsDuelKnown moves duel.new }
@@ -314,6 +317,7 @@ fn land(duel: &mut Duel, blow: &Blow, out: &mut Events) -> Dealt
     requires second { slice_index blow.now.factors 1 ≤ 20 }
     requires room { array_vec_len out.old + 5 ≤ 160 }
     ensures value { result ≡ (hit blow.now (scene duel.old out.old)).0 }
+    ensures high { result.damage ≤ 5992 }
     ensures after { scene duel.new out.new ≡ (hit blow.now (scene duel.old out.old)).1 }
     ensures fit { IsFit duel.new }
     ensures known { (moves : ℕ) → IsNamed moves blow.now.mv → IsDuelKnown moves duel.old → IsDuelKnown moves duel.new }
@@ -344,6 +348,7 @@ fn strike_at(duel: &mut Duel, blow: &Blow, out: &mut Events) -> Struck
     requires second { slice_index blow.now.factors 1 ≤ 20 }
     requires room { array_vec_len out.old + 6 ≤ 160 }
     ensures value { result ≡ (strike blow.now (scene duel.old out.old)).0 }
+    ensures high { IsStruck result }
     ensures after { scene duel.new out.new ≡ (strike blow.now (scene duel.old out.old)).1 }
     ensures fit { IsFit duel.new }
     ensures known { (moves : ℕ) → IsNamed moves blow.now.mv → IsDuelKnown moves duel.old → IsDuelKnown moves duel.new }
@@ -392,6 +397,7 @@ pub fn strike_foe_with(
     requires fair { AreFair facts }
     requires room { array_vec_len out.old + 6 ≤ 160 }
     ensures value { result ≡ (strike_with facts.entry mv half (scene duel.old out.old)).0 }
+    ensures high { IsStruck result }
     ensures after { scene duel.new out.new ≡ (strike_with facts.entry mv half (scene duel.old out.old)).1 }
     ensures fit { IsFit duel.new }
     ensures known { (moves : ℕ) → IsNamed moves mv → IsDuelKnown moves duel.old → IsDuelKnown moves duel.new }

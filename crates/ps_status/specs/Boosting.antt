@@ -17,7 +17,7 @@ use Rattle.ps_hits.specs.Scenes.{Play, ◌>>=◌, ◌>>◌, give, look, tell, ch
 use Rattle.ps_hits.specs.Told.{who_of}
 use Rattle.ps_hits.specs.Strikes.{accuracy_test, strike_with}
 use Rattle.ps_status.specs.declared.boosting.Shift.{Shift}
-use Rattle.ps_status.specs.Numbers.{stat_number}
+use Rattle.ps_event.specs.Numbers as numbers
 use Rattle.ps_status.specs.Seconds.{second}
 
 -- a change by at most 6 stages
@@ -56,6 +56,15 @@ stage_now stat f = stage_of stat f.vol.stages
 abbrev pub boosted : Shift → Fighter → Fighter
 boosted shift f =
     record f { vol = record f.vol { stages = with_stage shift.stat (moved (stage_now shift.stat f) shift.by) f.vol.stages } }
+
+-- a stage's place in the list of what has stages
+abbrev pub stat_number : Stat → ℕ
+stat_number Atk = numbers.stat_atk
+stat_number Def = numbers.stat_def
+stat_number Spc = numbers.stat_spc
+stat_number Spe = numbers.stat_spe
+stat_number Acc = numbers.stat_acc
+stat_number Eva = numbers.stat_eva
 
 -- by how many stages a fighter really changes
 unfoldable pub steps_of : Shift → Fighter → ℕ

@@ -9,7 +9,7 @@ use Rattle.ps_mon.specs.Moves.{move_of}
 use Rattle.ps_hits.specs.Scenes.{Play, ◌>>=◌, ◌>>◌, give, look, tell, change, choose, draw}
 use Rattle.ps_hits.specs.Told.{who_of}
 use Rattle.ps_hits.specs.Strikes.{accuracy_test, strike_with}
-use Rattle.ps_status.specs.Numbers as numbers
+use Rattle.ps_event.specs.Numbers as numbers
 use Rattle.ps_status.specs.Seconds.{second}
 
 -- who is confused, or has a substitute, can't be confused
@@ -25,7 +25,7 @@ daze = do
   n ← draw 4
   change (λ d. record d { foe = confused (2 + n) d.foe })
   d ← look
-  tell (events.VolStart (who_of d.foe) numbers.confusion None)
+  tell (events.VolStart (who_of d.foe) numbers.effect_confusion None)
 
 -- confusion as the secondary of a strike
 unfoldable pub confuse_second : Play (Unit {0})

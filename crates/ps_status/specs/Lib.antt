@@ -1,4 +1,3 @@
-pub mod Numbers
 pub mod Seconds
 pub mod Afflicting
 pub mod Confusing

@@ -141,8 +141,9 @@ fn give_status(duel: &mut Duel, status: Status, out: &mut Events)
     });
 }
 
+/// Gives the foe a status as the secondary of a strike with that move, where it can be.
 #[tactic(auto, unfolding(crate::specs::Afflicting::status_second))]
-fn try_second(duel: &mut Duel, status: Status, used: &MoveData, out: &mut Events)
+pub fn try_second(duel: &mut Duel, status: Status, used: &MoveData, out: &mut Events)
     requires fit { IsFit duel.old }
     requires room { array_vec_len out.old + 1 ≤ 160 }
     ensures after { scene duel.new out.new ≡ (status_second status used.now (scene duel.old out.old)).1 }

@@ -12,11 +12,11 @@ ghost use Rattle.ps_hits.specs.Courses.{played, course};
 ghost use Rattle.ps_mon.specs.Duels.{IsFighter};
 ghost use Rattle.ps_mon.specs.Known.{AreNamed};
 ghost use Rattle.ps_mon.specs.Valid.{AreStages};
-ghost use Rattle.ps_status.specs.Numbers.{stat_number};
-ghost use Rattle.ps_status.specs.Boosting.{IsShift, stage_of, with_stage, moved, is_at_end, boosted, steps_of, boost_event, boost_user, boost_foe, boost_at, is_boost_barred, boost_second, boost_by_strike, boost_or_fail, boost_alone, boost_row, boost_effect};
+ghost use Rattle.ps_status.specs.Boosting.{stat_number, IsShift, stage_of, with_stage, moved, is_at_end, boosted, steps_of, boost_event, boost_user, boost_foe, boost_at, is_boost_barred, boost_second, boost_by_strike, boost_or_fail, boost_alone, boost_row, boost_effect};
 
 use crate::seconds::hurts;
 use ps_event::event::{Event, Events};
+use ps_event::numbers::{STAT_ACC, STAT_ATK, STAT_DEF, STAT_EVA, STAT_SPC, STAT_SPE};
 use ps_hits::scene::{draw, who};
 use ps_hits::strike::{lands, strike_foe_with};
 use ps_mon::duel::{Duel, Fighter};
@@ -40,12 +40,12 @@ fn number_of(stat: Stat) -> u8
     ensures { result ≡ stat_number stat }
 {
     match stat {
-        Stat::Atk => 0,
-        Stat::Def => 1,
-        Stat::Spc => 2,
-        Stat::Spe => 3,
-        Stat::Acc => 4,
-        Stat::Eva => 5,
+        Stat::Atk => STAT_ATK,
+        Stat::Def => STAT_DEF,
+        Stat::Spc => STAT_SPC,
+        Stat::Spe => STAT_SPE,
+        Stat::Acc => STAT_ACC,
+        Stat::Eva => STAT_EVA,
     }
 }
 

@@ -13,6 +13,7 @@ ghost use Rattle.ps_status.specs.Confusing.{stays_sane, daze, confuse_second, co
 
 use crate::seconds::hurts;
 use ps_event::event::{Event, Events};
+use ps_event::numbers::EFFECT_CONFUSION;
 use ps_hits::scene::{draw, who};
 use ps_hits::strike::{lands, strike_foe_with};
 use ps_mon::duel::{Duel, Fighter};
@@ -21,7 +22,8 @@ use ps_mon::facts::Facts;
 use ps_mon::moves::move_data;
 use ps_mon::record::Battle;
 
-fn keeps_its_head(f: &Fighter) -> bool
+/// Whether a member can't be confused: it is confused, or has a substitute.
+pub fn keeps_its_head(f: &Fighter) -> bool
     ensures { result ≡ stays_sane f.now }
 {
     f.vol.confusion > 0 || f.vol.substitute > 0
@@ -40,7 +42,7 @@ fn confuse_foe(duel: &mut Duel, out: &mut Events)
     duel.foe.vol.confusion = turns;
     out.push(Event::VolStart {
         who: who(&duel.foe),
-        effect: 0,
+        effect: EFFECT_CONFUSION,
         mv: None,
     });
 }

@@ -12,7 +12,7 @@ ghost use Rattle.ps_hits.specs.Courses.{played, course};
 ghost use Rattle.ps_status.specs.Healing.{heal_row, rest_row};
 
 use ps_event::event::{Event, Events};
-use ps_hits::scene::who;
+use ps_hits::scene::{number_of, who};
 use ps_hits::shares::gain_health;
 use ps_mon::duel::Duel;
 use ps_mon::facts::Facts;
@@ -76,7 +76,7 @@ fn rest_duel(duel: &mut Duel, out: &mut Events)
     duel.user.rested = true;
     out.push(Event::Status {
         who: who(&duel.user),
-        status: 1,
+        status: number_of(Status::Slp),
     });
     let all = duel.user.max;
     gain_health(duel, all, out);

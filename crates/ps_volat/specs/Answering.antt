@@ -10,7 +10,7 @@ use Rattle.ps_hits.specs.Told.{who_of}
 use Rattle.ps_hits.specs.Fighters.{is_of_type}
 use Rattle.ps_hits.specs.Strikes.{accuracy_test}
 use Rattle.ps_hits.specs.Amounts.{deal_alone}
-use Rattle.ps_volat.specs.Numbers as numbers
+use Rattle.ps_event.specs.Numbers as numbers
 
 abbrev pub seeded : Fighter → Fighter
 seeded f = record f { vol = record f.vol { seeded = true } }
@@ -23,7 +23,7 @@ leechseed_row facts mv = do
   choose lands
       (choose (d.foe.vol.seeded || is_of_type d.foe (move_of facts mv).kind) (tell (events.Fail (who_of d.user))) (do
         change (λ d. record d { foe = seeded d.foe })
-        tell (events.VolStart (who_of d.foe) numbers.leech_seed None)))
+        tell (events.VolStart (who_of d.foe) numbers.effect_leech_seed None)))
       (give tt)
 
 -- twice the damage that the user took last in this turn, where a move of type `normal` or `fighting` did it
@@ -51,4 +51,4 @@ counter_row facts mv = do
 unfoldable pub nothing_row : ℕ → Play (Unit {0})
 nothing_row mv = do
   d ← look
-  tell (events.Activate (who_of d.user) numbers.move_name (Some mv))
+  tell (events.Activate (who_of d.user) numbers.effect_move (Some mv))

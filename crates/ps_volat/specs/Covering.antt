@@ -1,7 +1,6 @@
 -- What the user puts before itself: a substitute, screens, Mist and Focus Energy.
 use Rattle.std.specs.Prelude.{ℕ, Bool, true, None, ◌+◌, ◌-◌, ◌/◌, ◌||◌, nat_lt, not}
 use Rattle.ps_event.specs.declared.event.Event.TheVariants as events
-use Rattle.ps_event.specs.Numbers.{effect_substitute}
 use Rattle.ps_mon.specs.declared.duel.Fighter.{Fighter}
 use Rattle.ps_mon.specs.declared.effect.Effect.{Effect}
 use Rattle.ps_mon.specs.declared.effect.Effect.TheVariants as effects
@@ -9,7 +8,7 @@ use Rattle.ps_mon.specs.declared.effect.ScreenKind.{ScreenKind}
 use Rattle.ps_mon.specs.declared.effect.ScreenKind.TheVariants as screens
 use Rattle.ps_hits.specs.Scenes.{Play, ◌>>=◌, ◌>>◌, give, look, tell, change, choose}
 use Rattle.ps_hits.specs.Told.{who_of}
-use Rattle.ps_volat.specs.Numbers as numbers
+use Rattle.ps_event.specs.Numbers as numbers
 
 -- a quarter of the greatest health, rounded down
 abbrev pub cost_of : Fighter → ℕ
@@ -29,7 +28,7 @@ substitute_row = do
   d ← look
   choose (cannot_make_one d.user) (tell (events.Fail (who_of d.user))) (do
     change (λ d. record d { user = with_substitute d.user })
-    tell (events.VolStart (who_of d.user) effect_substitute None))
+    tell (events.VolStart (who_of d.user) numbers.effect_substitute None))
 
 -- Fail where it is on, else it starts, with the number of its name
 abbrev pub start : (Fighter → Bool) → (Fighter → Fighter) → ℕ → Play (Unit {0})
@@ -43,21 +42,26 @@ abbrev pub has_screen : ScreenKind → Fighter → Bool
 has_screen screens.Reflect f = f.vol.reflect
 has_screen screens.Light f = f.vol.light
 
+-- a screen's place in the list of what starts
+abbrev pub screen_number : ScreenKind → ℕ
+screen_number screens.Reflect = numbers.effect_reflect
+screen_number screens.Light = numbers.effect_light_screen
+
 abbrev pub with_screen : ScreenKind → Fighter → Fighter
 with_screen screens.Reflect f = record f { vol = record f.vol { reflect = true } }
 with_screen screens.Light f = record f { vol = record f.vol { light = true } }
 
 -- screen: Reflect or Light Screen
 unfoldable pub screen_row : ScreenKind → Play (Unit {0})
-screen_row which = start (has_screen which) (with_screen which) (numbers.screen_number which)
+screen_row which = start (has_screen which) (with_screen which) (screen_number which)
 
 -- mist
 unfoldable pub mist_row : Play (Unit {0})
-mist_row = start (λ f. f.vol.mist) (λ f. record f { vol = record f.vol { mist = true } }) numbers.mist
+mist_row = start (λ f. f.vol.mist) (λ f. record f { vol = record f.vol { mist = true } }) numbers.effect_mist
 
 -- focus: Focus Energy
 unfoldable pub focus_row : Play (Unit {0})
-focus_row = start (λ f. f.vol.focus) (λ f. record f { vol = record f.vol { focus = true } }) numbers.focus_energy
+focus_row = start (λ f. f.vol.focus) (λ f. record f { vol = record f.vol { focus = true } }) numbers.effect_focus_energy
 
 -- what the call does for a move of that kind; for another kind nothing
 abbrev pub screen_effect : Effect → Play (Unit {0})

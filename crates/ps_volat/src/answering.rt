@@ -12,6 +12,7 @@ ghost use Rattle.ps_hits.specs.Courses.{played, course};
 ghost use Rattle.ps_volat.specs.Answering.{leechseed_row, answer_to, answered, deal_answer, counter_row, nothing_row};
 
 use ps_event::event::{Event, Events};
+use ps_event::numbers::{EFFECT_LEECH_SEED, EFFECT_MOVE};
 use ps_hits::fighters::has_type;
 use ps_hits::scene::who;
 use ps_hits::strike::{deal_out, lands};
@@ -43,7 +44,7 @@ fn leechseed_duel(duel: &mut Duel, facts: Facts<'_>, mv: u16, out: &mut Events)
     duel.foe.vol.seeded = true;
     out.push(Event::VolStart {
         who: who(&duel.foe),
-        effect: 2,
+        effect: EFFECT_LEECH_SEED,
         mv: None,
     });
 }
@@ -128,7 +129,7 @@ fn nothing_duel(duel: &mut Duel, mv: u16, out: &mut Events)
 {
     out.push(Event::Activate {
         who: who(&duel.user),
-        effect: 11,
+        effect: EFFECT_MOVE,
         mv: Some(mv),
     });
 }

@@ -11,10 +11,12 @@ ghost use Rattle.ps_hits.specs.Scenes.{scene};
 ghost use Rattle.ps_hits.specs.Courses.{played, course};
 ghost use Rattle.ps_mon.specs.Duels.{IsFighter};
 ghost use Rattle.ps_mon.specs.Known.{AreNamed};
-ghost use Rattle.ps_volat.specs.Numbers.{screen_number};
-ghost use Rattle.ps_volat.specs.Covering.{cost_of, cannot_make_one, with_substitute, substitute_row, has_screen, with_screen, screen_row, mist_row, focus_row, screen_effect};
+ghost use Rattle.ps_volat.specs.Covering.{screen_number, cost_of, cannot_make_one, with_substitute, substitute_row, has_screen, with_screen, screen_row, mist_row, focus_row, screen_effect};
 
 use ps_event::event::{Event, Events};
+use ps_event::numbers::{
+    EFFECT_FOCUS_ENERGY, EFFECT_LIGHT_SCREEN, EFFECT_MIST, EFFECT_REFLECT, EFFECT_SUBSTITUTE,
+};
 use ps_hits::scene::who;
 use ps_mon::duel::{Duel, Fighter};
 use ps_mon::effect::{Effect, ScreenKind};
@@ -64,7 +66,7 @@ fn substitute_duel(duel: &mut Duel, out: &mut Events)
     duel.user = behind_substitute(&user);
     out.push(Event::VolStart {
         who: who(&user),
-        effect: 1,
+        effect: EFFECT_SUBSTITUTE,
         mv: None,
     });
 }
@@ -91,8 +93,8 @@ fn number_of(which: ScreenKind) -> u8
     ensures { result ≡ screen_number which }
 {
     match which {
-        ScreenKind::Reflect => 3,
-        ScreenKind::Light => 4,
+        ScreenKind::Reflect => EFFECT_REFLECT,
+        ScreenKind::Light => EFFECT_LIGHT_SCREEN,
     }
 }
 
@@ -180,7 +182,7 @@ fn mist_duel(duel: &mut Duel, out: &mut Events)
     duel.user.vol.mist = true;
     out.push(Event::VolStart {
         who: who(&duel.user),
-        effect: 5,
+        effect: EFFECT_MIST,
         mv: None,
     });
 }
@@ -221,7 +223,7 @@ fn focus_duel(duel: &mut Duel, out: &mut Events)
     duel.user.vol.focus = true;
     out.push(Event::VolStart {
         who: who(&duel.user),
-        effect: 6,
+        effect: EFFECT_FOCUS_ENERGY,
         mv: None,
     });
 }

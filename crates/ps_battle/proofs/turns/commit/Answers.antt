@@ -1,14 +1,12 @@
 use Rattle.std.proofs.Common.{arith}
-use Rattle.ps_battle.proofs.ChoiceLemmas.{can-in-turn, there-is-choice, stands-replaced}
+use Rattle.ps_battle.proofs.ChoiceLemmas.{there-in-turn, there-is-choice, stands-replaced}
 use Rattle.ps_battle.proofs.turns.commit.Goals as goal
 
 pub take_turn-requires-clause-first : goal.take_turn-requires-clause-first
-take_turn-requires-clause-first c =
-    can-in-turn c.args.facts c.args.battle.now 0 c.args.c1 c.in-Turn.is c.requires.first c.requires.built_first
+take_turn-requires-clause-first c = there-in-turn c.args.battle.now 0 c.args.c1 c.in-Turn.is c.requires.first
 
 pub take_turn-requires-clause-second : goal.take_turn-requires-clause-second
-take_turn-requires-clause-second c =
-    can-in-turn c.args.facts c.args.battle.now 1 c.args.c2 c.in-Turn.is c.requires.second c.requires.built_second
+take_turn-requires-clause-second c = there-in-turn c.args.battle.now 1 c.args.c2 c.in-Turn.is c.requires.second
 
 pub replace-requires-clause-first : goal.replace-requires-clause-first
 replace-requires-clause-first c = there-is-choice c.args.battle.now 0 c.args.c1 c.requires.first

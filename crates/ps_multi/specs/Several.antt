@@ -1,0 +1,72 @@
+-- Moves that hit several times.
+use Rattle.std.specs.Prelude.{ℕ, zero, suc, ◌+◌, ◌-◌, ◌==◌, ◌||◌, Bool, false, [], ◌∷◌, slice_index}
+use Rattle.ps_event.specs.declared.event.Event.TheVariants as events
+use Rattle.ps_mon.specs.declared.duel.Duel.{Duel}
+use Rattle.ps_mon.specs.declared.effect.Effect.{Effect}
+use Rattle.ps_mon.specs.declared.effect.Effect.TheVariants as effects
+use Rattle.ps_mon.specs.declared.facts.Facts.{Facts}
+use Rattle.ps_mon.specs.declared.status.Status.{Status}
+use Rattle.ps_mon.specs.Moves.{move_of}
+use Rattle.ps_hits.specs.declared.strike.Dealt.{Dealt}
+use Rattle.ps_hits.specs.declared.strike.Struck.{Struck}
+use Rattle.ps_hits.specs.declared.strike.Struck.TheVariants.{NoEffect, Missed, Hit}
+use Rattle.ps_hits.specs.Scenes.{Play, ◌>>=◌, ◌>>◌, give, look, tell, choose, draw}
+use Rattle.ps_hits.specs.Told.{who_of}
+use Rattle.ps_hits.specs.Strikes.{deal, strike_with}
+use Rattle.ps_status.specs.Seconds.{second}
+use Rattle.ps_status.specs.Afflicting.{status_second}
+
+-- how many hits, by a draw below 8
+abbrev pub hits_by : ℕ → ℕ
+hits_by n = slice_index (2 ∷ 2 ∷ 2 ∷ 3 ∷ 3 ∷ 3 ∷ 4 ∷ 5 ∷ []) n
+
+-- no hit comes after one that ended the foe's substitute, and none where the foe has fainted
+abbrev pub is_last : Dealt → Duel → Bool
+is_last dealt d = dealt.ended || d.foe.hp == 0
+
+-- after a hit up to so many others of the same damage; the answer is how many came
+unfoldable pub further_hits : ℕ → ℕ → Dealt → Play ℕ
+further_hits zero mv dealt = give 0
+further_hits (suc n) mv dealt = do
+  d ← look
+  choose (is_last dealt d) (give 0) do
+    again ← deal mv dealt.damage
+    more ← further_hits n mv again
+    give (1 + more)
+
+-- up to so many hits, of which the first has come, and then how many there were
+unfoldable pub hits_in_all : ℕ → ℕ → Dealt → Play (Unit {0})
+hits_in_all n mv first = do
+  more ← further_hits (n - 1) mv first
+  d ← look
+  tell (events.HitCount (who_of d.foe) (1 + more))
+
+unfoldable pub multi_after : ℕ → Struck → Play (Unit {0})
+multi_after mv NoEffect = give tt
+multi_after mv Missed = give tt
+multi_after mv (Hit dealt) = do
+  n ← draw 8
+  hits_in_all (hits_by n) mv dealt
+
+-- multi: a strike; where it hit, two to five hits of its damage in all, by a draw that is made after the first whatever came of it
+unfoldable pub multi_row : Facts → ℕ → Play (Unit {0})
+multi_row facts mv = do
+  struck ← strike_with facts mv false
+  multi_after mv struck
+
+unfoldable pub double_after : ℕ → Struck → Play (Unit {0})
+double_after mv NoEffect = give tt
+double_after mv Missed = give tt
+double_after mv (Hit dealt) = hits_in_all 2 mv dealt
+
+-- double: a strike; where it hit, two hits of its damage in all; then a status as its secondary
+unfoldable pub double_row : Status → ℕ → Facts → ℕ → Play (Unit {0})
+double_row status chance facts mv = do
+  struck ← strike_with facts mv false
+  double_after mv struck
+  second chance struck (status_second status (move_of facts mv))
+
+-- what the call does for a move of that kind; for another kind nothing
+abbrev pub double_effect : Effect → Facts → ℕ → Play (Unit {0})
+double_effect (effects.Double status chance) facts mv = double_row status chance facts mv
+double_effect other facts mv = give tt
