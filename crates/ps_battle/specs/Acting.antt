@@ -7,8 +7,6 @@ use Rattle.ps_calc.specs.declared.formula.Hit.{Hit}
 use Rattle.ps_mon.specs.declared.duel.Fighter.{Fighter}
 use Rattle.ps_mon.specs.declared.record.Disabled.{Disabled}
 use Rattle.ps_mon.specs.declared.record.Lock.{Lock}
-use Rattle.ps_mon.specs.declared.record.LockKind.{LockKind}
-use Rattle.ps_mon.specs.declared.record.LockKind.TheVariants.{Trap}
 use Rattle.ps_mon.specs.declared.status.Status.TheVariants.{Slp}
 use Rattle.ps_mon.specs.Duels.{is_slp, is_frz}
 use Rattle.ps_mon.specs.Slots.{is_disabled}
@@ -17,6 +15,7 @@ use Rattle.ps_hits.specs.Told.{who_of, health_of, status_number}
 use Rattle.ps_hits.specs.Fighters.{stats_now, is_paralysed}
 use Rattle.ps_status.specs.Clearing.{cured}
 use Rattle.ps_event.specs.Numbers as numbers
+use Rattle.ps_multi.specs.Locking.{is_trap}
 
 -- the act ends, and why
 unfoldable pub cannot : ℕ → Play Bool
@@ -48,10 +47,6 @@ unfoldable pub stays_thawed : Play Bool
 stays_thawed = do
   d ← look
   choose (is_frz d.user.status) (cannot numbers.reason_frz) (give true)
-
-abbrev pub is_trap : LockKind → Bool
-is_trap Trap = true
-is_trap other = false
 
 -- a member is trapped while its foe has the lock of a trap
 abbrev pub traps : Option Lock → Bool

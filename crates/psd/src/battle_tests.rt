@@ -1,17 +1,16 @@
 //! Turns of a battle on worked rows.
-ghost use Rattle.std.specs.Prelude.{◌≡◌, ◌<◌, ℕ, []};
+ghost use Rattle.std.specs.Prelude.{◌≡◌, ◌<◌, ℕ, [], false};
 ghost use Rattle.ps_mon.specs.Facts.{AreFair};
-ghost use Rattle.ps_mon.specs.Reading.{slot_of, active_of};
-ghost use Rattle.ps_mon.specs.Teams.{IsFresh, IsFreshMember, IsTeamKnown, opened};
+ghost use Rattle.ps_mon.specs.Reading.{slot_of};
+ghost use Rattle.ps_mon.specs.Valid.{IsValid, is_over};
+ghost use Rattle.ps_mon.specs.Teams.{IsFresh, IsFreshMember, IsTeamKnown};
 
-use ps_battle::{commit, open};
+use ps_battle::{commit, forfeit, open, phase};
 use ps_dex::dex::Dex;
 use ps_event::event::{Event, Events, Health, Who};
 use ps_event::side::Side;
 use ps_mon::choice::Choice;
-use ps_mon::effect::Effect;
 use ps_mon::facts::Facts;
-use ps_mon::moves::move_data;
 use ps_mon::record::{Battle, Phase};
 use ps_mon::status::Status;
 use ps_mon::team::{BattleTeam, Member, MoveSlot};
@@ -20,6 +19,10 @@ use std::test::Fail;
 /// A dex of one move.
 const DEX: &str = r#"{"types":[{"name":"Normal","special":false}],"moves":[
 {"name":"Body Slam","type":"Normal","power":85,"accuracy":100,"pp":24,"priority":0}]}"#;
+
+/// A dex of a move after which its user faints.
+const EXPLOSIVE_DEX: &str = r#"{"types":[{"name":"Normal","special":false}],"moves":[
+{"name":"Explosion","type":"Normal","power":170,"accuracy":100,"pp":24,"priority":0,"effect":{"kind":"explode"}}]}"#;
 
 const BODY_SLAM: MoveSlot = MoveSlot {
     mv: 0,
@@ -64,7 +67,6 @@ fn alone(member: Member) -> BattleTeam
     requires first { (slot_of member 0).mv ≡ 0 }
     ensures fresh { IsFresh result }
     ensures known { (moves : ℕ) → 0 < moves → IsTeamKnown moves result }
-    ensures first { (slot_of (active_of (opened result)) 0).mv ≡ 0 }
 {
     BattleTeam {
         members: [member; 6],
@@ -72,21 +74,16 @@ fn alone(member: Member) -> BattleTeam
     }
 }
 
-/// Tauros and the foe use their first moves in turn 1 of the battle with the seed 0; None where the first move of the dex isn't
-/// a plain one.
+/// Tauros and the foe use their first moves in turn 1 of the battle with the seed 0; None where the dex has no move.
 fn first_turn(facts: Facts<'_>, foe: BattleTeam, out: &mut Events) -> Option<Battle>
     requires fair { AreFair facts }
     requires fresh { IsFresh foe }
     requires known { (moves : ℕ) → 0 < moves → IsTeamKnown moves foe }
-    requires first { (slot_of (active_of (opened foe)) 0).mv ≡ 0 }
     requires empty { out.old.items ≡ [] }
 {
     if facts.moves.is_empty() {
         return None;
     }
-    let Effect::Plain = move_data(facts, 0).effect else {
-        return None;
-    };
     let teams = [alone(TAUROS), foe];
     let mut battle = open(&teams, 64, 0, &mut Events::new());
     commit(&mut battle, facts, Choice::Move(1), Choice::Move(1), out);
@@ -154,5 +151,75 @@ fn the_last_member_faints(rt: HostRuntime) -> Result<(), Fail> {
     let expected = [Event::Faint { who: BOB }, Event::Win { side: Side::P1 }];
     assert!(rt; out.as_slice().ends_with(&expected));
     assert_eq!(rt; (out.len(), battle.phase), (4, Phase::Won(0)));
+    Ok(())
+}
+
+/// Where both last members faint, nobody wins.
+#[test]
+fn both_last_members_faint(rt: HostRuntime) -> Result<(), Fail> {
+    let dex = Dex::read(rt.alloc(), EXPLOSIVE_DEX.as_bytes()).expect(&rt, "a dex");
+    let mut out = Events::new();
+    let battle = first_turn(dex.facts(), alone(DIGLETT), &mut out).expect(&rt, "a plain move");
+    let expected = [
+        Event::Faint { who: BOB },
+        Event::Faint { who: ANN },
+        Event::Tie,
+    ];
+    assert!(rt; out.as_slice().ends_with(&expected));
+    assert_eq!(rt; battle.phase, Phase::Tied);
+    Ok(())
+}
+
+/// A battle of Tauros against Snorlax, and the events of its opening.
+fn opened(out: &mut Events) -> Battle
+    requires empty { out.old.items ≡ [] }
+    ensures valid { IsValid result }
+    ensures going { is_over result.phase ≡ false }
+{
+    open(&[alone(TAUROS), alone(SNORLAX)], 64, 0, out)
+}
+
+fn sent_out(who: Who, species: u16, hp: u16) -> Event {
+    Event::Switch {
+        who,
+        species,
+        level: 100,
+        health: Health {
+            hp,
+            max: hp,
+            status: 0,
+        },
+    }
+}
+
+/// The opening with HP Percentage Mod alone, and a forfeit.
+#[test]
+fn a_battle_is_opened_and_given_up(rt: HostRuntime) -> Result<(), Fail> {
+    let mut out = Events::new();
+    let mut battle = opened(&mut out);
+    let (p1, p2) = (Side::P1, Side::P2);
+    let expected = [
+        Event::Player { side: p1 },
+        Event::Player { side: p2 },
+        Event::TeamSize { side: p1, count: 1 },
+        Event::TeamSize { side: p2, count: 1 },
+        Event::GameType,
+        Event::Gen,
+        Event::Tier,
+        Event::Rule { clause: 6 },
+        Event::Start,
+        sent_out(ANN, 0, 353),
+        sent_out(BOB, 1, 523),
+        Event::Turn { turn: 1 },
+        Event::Request { side: p1 },
+        Event::Request { side: p2 },
+    ];
+    assert_eq!(rt; out.as_slice(), &expected);
+    assert_eq!(rt; phase(&battle), Phase::Turn);
+    let mut out = Events::new();
+    forfeit(&mut battle, 0, &mut out);
+    let expected = [Event::Forfeit { side: p1 }, Event::Win { side: p2 }];
+    assert_eq!(rt; out.as_slice(), &expected);
+    assert_eq!(rt; phase(&battle), Phase::Won(1));
     Ok(())
 }

@@ -83,12 +83,13 @@ fn hits_and_chances(rt: HostRuntime) -> Result<(), Fail> {
     );
     assert_eq!(rt;
         (
+            hundredths(353, 353),
             hundredths(352, 353),
             hundredths(1, 703),
             hundredths(0, 353),
             hundredths(382, 523)
         ),
-        (99, 1, 0, 74)
+        (100, 99, 1, 0, 74)
     );
     Ok(())
 }

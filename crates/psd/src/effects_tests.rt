@@ -1,33 +1,17 @@
-//! Statuses and volatile effects on worked rows: what one turn or two of a battle come to.
-ghost use Rattle.std.specs.Prelude.{◌≡◌, ◌<◌, ◌≤◌, ℕ, IfSome, IsTrue};
-ghost use Rattle.ps_battle.specs.Chosen.{HasBuiltMove};
-ghost use Rattle.ps_battle.specs.Effects.{IsBuiltKind};
-ghost use Rattle.ps_mon.specs.Choices.{IsChoiceOf};
+//! Statuses, volatile effects and whether a member acts, on worked rows: what some turns of a battle come to.
+ghost use Rattle.std.specs.Prelude.{◌≡◌, ◌<◌};
 ghost use Rattle.ps_mon.specs.Facts.{AreFair};
-ghost use Rattle.ps_mon.specs.Known.{AreKnown};
-ghost use Rattle.ps_mon.specs.Moves.{move_count};
-ghost use Rattle.ps_mon.specs.Reading.{side_of};
-ghost use Rattle.ps_mon.specs.Teams.{IsFresh, IsTeamKnown};
-ghost use Rattle.ps_mon.specs.Slots.{is_disabled};
-ghost use Rattle.ps_mon.specs.Valid.{IsValid};
-ghost use Rattle.ps_mon.specs.declared.choice.Choice.TheVariants.{Move};
 
-use ps_battle::{commit, open};
+use crate::arena::{ANN, ANN_2, BOB, Row, Turn, first_without_event, last_turn};
 use ps_dex::dex::Dex;
-use ps_event::event::{Event, Events, Health, Who};
-use ps_event::side::Side;
+use ps_event::event::{Event, Events, Health};
 use ps_mon::choice::Choice;
-use ps_mon::effect::Effect;
 use ps_mon::facts::Facts;
-use ps_mon::moves::move_data;
-use ps_mon::record::{Battle, Disabled, Phase};
-use ps_mon::status::Status;
-use ps_mon::team::{BattleTeam, Member, MoveSlot};
 use std::test::Fail;
 
-/// Moves that never miss.
-const DEX: &str =
-    r#"{"types":[{"name":"Normal","special":false},{"name":"Poison","special":false}],"moves":[
+/// Moves that never miss. Electric is special, and does nothing to Ground.
+const DEX: &str = r#"{"types":[{"name":"Normal","special":false},{"name":"Poison","special":false},
+{"name":"Electric","special":true},{"name":"Ground","special":false}],"factors":[["Electric","Ground",0]],"moves":[
 {"name":"Wait","type":"Normal","power":0,"accuracy":0,"pp":24,"priority":0,"effect":{"kind":"nothing"}},
 {"name":"Poison Powder","type":"Poison","power":0,"accuracy":0,"pp":24,"priority":0,"effect":{"kind":"status","status":"psn"}},
 {"name":"Toxic","type":"Poison","power":0,"accuracy":0,"pp":24,"priority":0,"effect":{"kind":"status","status":"tox"}},
@@ -35,7 +19,22 @@ const DEX: &str =
 {"name":"To 88","type":"Normal","power":0,"accuracy":0,"pp":24,"priority":0,"effect":{"kind":"fixed","amount":265}},
 {"name":"To 89","type":"Normal","power":0,"accuracy":0,"pp":24,"priority":0,"effect":{"kind":"fixed","amount":264}},
 {"name":"Rest","type":"Normal","power":0,"accuracy":0,"pp":24,"priority":0,"effect":{"kind":"rest"}},
-{"name":"Leech Seed","type":"Poison","power":0,"accuracy":0,"pp":24,"priority":0,"effect":{"kind":"leechseed"}}]}"#;
+{"name":"Leech Seed","type":"Poison","power":0,"accuracy":0,"pp":24,"priority":0,"effect":{"kind":"leechseed"}},
+{"name":"Poke","type":"Normal","power":0,"accuracy":0,"pp":24,"priority":0,"effect":{"kind":"fixed","amount":1}},
+{"name":"Spore","type":"Normal","power":0,"accuracy":0,"pp":24,"priority":0,"effect":{"kind":"status","status":"slp"}},
+{"name":"Freeze","type":"Poison","power":0,"accuracy":0,"pp":24,"priority":0,"effect":{"kind":"status","status":"frz"}},
+{"name":"Thunder Wave","type":"Electric","power":0,"accuracy":0,"pp":24,"priority":0,"effect":{"kind":"status","status":"par"}},
+{"name":"Smog","type":"Poison","power":10,"accuracy":0,"pp":24,"priority":0,"effect":{"kind":"status","status":"psn","chance":256}},
+{"name":"Bite","type":"Poison","power":10,"accuracy":0,"pp":24,"priority":0,"effect":{"kind":"flinch","chance":256}},
+{"name":"Confuse Ray","type":"Normal","power":0,"accuracy":0,"pp":24,"priority":0,"effect":{"kind":"confuse"}},
+{"name":"Growl","type":"Normal","power":0,"accuracy":0,"pp":24,"priority":0,"effect":{"kind":"boost","who":"foe","stat":"atk","by":-6}},
+{"name":"Swords Dance","type":"Normal","power":0,"accuracy":0,"pp":24,"priority":0,"effect":{"kind":"boost","who":"self","stat":"atk","by":6}},
+{"name":"Mist","type":"Normal","power":0,"accuracy":0,"pp":24,"priority":0,"effect":{"kind":"mist"}},
+{"name":"Reflect","type":"Normal","power":0,"accuracy":0,"pp":24,"priority":0,"effect":{"kind":"screen","which":"reflect"}},
+{"name":"Focus Energy","type":"Normal","power":0,"accuracy":0,"pp":24,"priority":0,"effect":{"kind":"focus"}},
+{"name":"Recover","type":"Normal","power":0,"accuracy":0,"pp":24,"priority":0,"effect":{"kind":"heal"}},
+{"name":"Counter","type":"Normal","power":0,"accuracy":0,"pp":24,"priority":0,"effect":{"kind":"counter"}},
+{"name":"Tackle","type":"Normal","power":10,"accuracy":0,"pp":24,"priority":0,"effect":{"kind":"plain"}}]}"#;
 
 const WAIT: u16 = 0;
 
@@ -53,217 +52,368 @@ const REST: u16 = 6;
 
 const LEECH_SEED: u16 = 7;
 
-const TAUROS: Member = Member {
-    species: 0,
-    level: 100,
-    types: [0, 0],
-    stats: [298, 288, 238, 318],
-    base_speed: 110,
-    hp: 353,
-    max: 353,
-    status: Status::Healthy,
-    counter: 0,
-    rested: false,
-    slots: [MoveSlot {
-        mv: 0,
-        pp: 24,
-        max_pp: 24,
-    }; 4],
-    slot_count: 1,
+const POKE: u16 = 8;
+
+const SPORE: u16 = 9;
+
+const FREEZE: u16 = 10;
+
+const THUNDER_WAVE: u16 = 11;
+
+const SMOG: u16 = 12;
+
+const BITE: u16 = 13;
+
+const CONFUSE_RAY: u16 = 14;
+
+const GROWL: u16 = 15;
+
+const SWORDS_DANCE: u16 = 16;
+
+const MIST: u16 = 17;
+
+const REFLECT: u16 = 18;
+
+const FOCUS_ENERGY: u16 = 19;
+
+const RECOVER: u16 = 20;
+
+const COUNTER: u16 = 21;
+
+const TACKLE: u16 = 22;
+
+const NORMAL: u8 = 0;
+
+const POISON: u8 = 1;
+
+const GROUND: u8 = 3;
+
+const FIRSTS: Turn = (Choice::Move(1), Choice::Move(1));
+
+const SECONDS: Turn = (Choice::Move(2), Choice::Move(2));
+
+/// Tauros goes out, and the foe uses its second move.
+const SWITCH: Turn = (Choice::Switch(2), Choice::Move(2));
+
+const ONE: &[Turn] = &[FIRSTS];
+
+const TWO: &[Turn] = &[FIRSTS, SECONDS];
+
+const THREE: &[Turn] = &[FIRSTS, SECONDS, SECONDS];
+
+const SWITCHED: &[Turn] = &[FIRSTS, SWITCH];
+
+const TWICE_AND_SWITCHED: &[Turn] = &[FIRSTS, FIRSTS, SWITCH];
+
+/// Poison takes 22.
+const POISONED: Event = Event::Damage {
+    who: ANN,
+    health: Health {
+        hp: 331,
+        max: 353,
+        status: 4,
+    },
+    from: 1,
 };
 
-/// A team of one member with one move.
-fn alone(mv: u16, speed: u16) -> BattleTeam
-    requires low { 1 ≤ speed }
-    requires high { speed ≤ 999 }
-    ensures fresh { IsFresh result }
-    ensures known { (moves : ℕ) → mv < moves → IsTeamKnown moves result }
-{
-    let slot = MoveSlot {
-        mv,
-        pp: 24,
-        max_pp: 24,
-    };
-    let member = Member {
-        stats: [298, 288, 238, speed],
-        slots: [slot; 4],
-        ..TAUROS
-    };
-    BattleTeam {
-        members: [member; 6],
-        count: 1,
-    }
-}
-
-/// A battle of Tauros with one move against a faster one with another.
-fn begin(facts: Facts<'_>, own: u16, other: u16) -> Option<Battle>
-    requires fair { AreFair facts }
-    ensures valid { IfSome result IsValid }
-    ensures known { IfSome result (AreKnown (move_count facts.entry)) }
-{
-    let count = facts.moves.len();
-    if own as usize >= count {
-        return None;
-    }
-    if other as usize >= count {
-        return None;
-    }
-    let teams = [alone(own, 318), alone(other, 400)];
-    Some(open(&teams, 64, 0, &mut Events::new()))
-}
-
-fn is_built(effect: Effect) -> bool
-    ensures { IsTrue result → IsBuiltKind effect }
-{
-    match effect {
-        Effect::Status { .. } => true,
-        Effect::Fixed { .. } => true,
-        Effect::Substitute => true,
-        Effect::LeechSeed => true,
-        Effect::Rest => true,
-        Effect::Nothing => true,
-        _ => false,
-    }
-}
-
-fn bars_first(disabled: Option<Disabled>) -> bool
-    ensures { result ≡ is_disabled disabled 0 }
-{
-    match disabled {
-        None => false,
-        Some(disabled) => disabled.slot == 0,
-    }
-}
-
-/// Whether a side can use its first move.
-#[tactic(auto, unfolding(ps_mon::specs::Choices::fault_of, ps_battle::specs::Chosen::chosen_slot))]
-fn can_use_first(battle: &Battle, facts: Facts<'_>, side: u8) -> bool
-    requires valid { IsValid battle.now }
-    requires fair { AreFair facts }
-    requires side { side < 2 }
-    ensures legal { IsTrue result → IsChoiceOf battle.now side (Move 1) }
-    ensures built { IsTrue result → HasBuiltMove facts.entry (side_of battle.now side) (Move 1) }
-{
-    let Phase::Turn = battle.phase else {
-        return false;
-    };
-    let state = &battle.sides[side as usize];
-    if state.vol.lock.is_some() {
-        return false;
-    }
-    if state.vol.recharge {
-        return false;
-    }
-    if state.slot_count() < 1 {
-        return false;
-    }
-    let slot = state.slot(0);
-    if slot.pp == 0 {
-        return false;
-    }
-    if bars_first(state.vol.disabled) {
-        return false;
-    }
-    is_built(move_data(facts, slot.mv).effect)
-}
-
-/// Both sides use their first moves; None where one can't.
-fn next(battle: &mut Battle, facts: Facts<'_>) -> Option<Events>
-    requires valid { IsValid battle.old }
-    requires fair { AreFair facts }
-    requires known { AreKnown (move_count facts) battle.old }
-    ensures valid { IsValid battle.new }
-    ensures known { AreKnown (move_count facts.entry) battle.new }
-{
-    if !can_use_first(battle, facts, 0) {
-        return None;
-    }
-    if !can_use_first(battle, facts, 1) {
-        return None;
-    }
-    let mut out = Events::new();
-    commit(battle, facts, Choice::Move(1), Choice::Move(1), &mut out);
-    Some(out)
-}
-
-/// What Tauros is told of in the last turn.
-#[derive(Clone, Copy, Debug)]
-enum Told {
-    /// A loss, with the numbers of its status and of the loss's cause.
-    Hurt(u8, u8),
-    /// Its move failed.
-    Failed,
-    /// A substitute.
-    Substitute,
-    /// Sleep.
-    Asleep,
-}
-
-const ANN: Who = Who {
-    side: Side::P1,
-    member: 0,
+/// Bad poison takes 22 first.
+const BADLY_POISONED: Event = Event::Damage {
+    who: ANN,
+    health: Health {
+        hp: 331,
+        max: 353,
+        status: 5,
+    },
+    from: 1,
 };
 
-fn event(told: Told, hp: u16) -> Event {
-    match told {
-        Told::Hurt(status, from) => Event::Damage {
-            who: ANN,
-            health: Health {
-                hp,
-                max: 353,
-                status,
-            },
-            from,
-        },
-        Told::Failed => Event::Fail { who: ANN },
-        Told::Substitute => Event::VolStart {
-            who: ANN,
-            effect: 1,
-            mv: None,
-        },
-        Told::Asleep => Event::Status {
-            who: ANN,
-            status: 1,
-        },
-    }
-}
+/// Then 44.
+const MORE_BADLY_POISONED: Event = Event::Damage {
+    who: ANN,
+    health: Health {
+        hp: 287,
+        max: 353,
+        status: 5,
+    },
+    from: 1,
+};
 
-/// Tauros's move, the other's, how many turns there are, 1 or 2, what is told in the last, and Tauros's health and that of its substitute
-/// after it.
-type Row = (u16, u16, u8, Told, u16, u16);
+/// A seed takes 22.
+const SEEDED: Event = Event::Damage {
+    who: ANN,
+    health: Health {
+        hp: 331,
+        max: 353,
+        status: 0,
+    },
+    from: 3,
+};
 
-/// A poisoned member loses a sixteenth, a badly poisoned one once and then twice that; a substitute takes a quarter, and more has to be there.
-const ROWS: [Row; 8] = [
-    (WAIT, POISON_POWDER, 1, Told::Hurt(4, 1), 331, 0),
-    (WAIT, TOXIC, 1, Told::Hurt(5, 1), 331, 0),
-    (WAIT, TOXIC, 2, Told::Hurt(5, 1), 287, 0),
-    (SUBSTITUTE, TO_88, 1, Told::Failed, 88, 0),
-    (SUBSTITUTE, TO_89, 1, Told::Substitute, 1, 89),
-    (REST, TO_88, 1, Told::Asleep, 353, 0),
-    (REST, WAIT, 1, Told::Failed, 353, 0),
-    (WAIT, LEECH_SEED, 1, Told::Hurt(0, 3), 331, 0),
-];
+/// A hit on itself takes 36.
+const HIT_ITSELF: Event = Event::Damage {
+    who: ANN,
+    health: Health {
+        hp: 317,
+        max: 353,
+        status: 0,
+    },
+    from: 5,
+};
 
-/// The battle and the events of its last turn.
-fn play(facts: Facts<'_>, own: u16, other: u16, turns: u8) -> Option<(Battle, Events)>
+const ASLEEP: Event = Event::Cant {
+    who: ANN,
+    reason: 0,
+};
+
+const FROZEN: Event = Event::Cant {
+    who: ANN,
+    reason: 1,
+};
+
+const FLINCHED: Event = Event::Cant {
+    who: ANN,
+    reason: 3,
+};
+
+const PARALYSED: Event = Event::Cant {
+    who: ANN,
+    reason: 6,
+};
+
+const SLEEPS: Event = Event::Status {
+    who: ANN,
+    status: 1,
+};
+
+const IS_PARALYSED: Event = Event::Status {
+    who: ANN,
+    status: 2,
+};
+
+const IS_POISONED: Event = Event::Status {
+    who: ANN,
+    status: 4,
+};
+
+const SECOND_SLEEPS: Event = Event::Status {
+    who: ANN_2,
+    status: 1,
+};
+
+const WAKES: Event = Event::CureStatus {
+    who: ANN,
+    status: 1,
+};
+
+const CONFUSED: Event = Event::Activate {
+    who: ANN,
+    effect: 0,
+    mv: None,
+};
+
+const CLEAR: Event = Event::VolEnd {
+    who: ANN,
+    effect: 0,
+};
+
+const COVERED: Event = Event::VolStart {
+    who: ANN,
+    effect: 1,
+    mv: None,
+};
+
+const FAILS: Event = Event::Fail { who: ANN };
+
+const FOE_FAILS: Event = Event::Fail { who: BOB };
+
+/// Tauros's health and that of its substitute after a row.
+fn health_after(facts: Facts<'_>, row: &Row) -> Option<(u16, u16)>
     requires { AreFair facts }
 {
-    let mut battle = begin(facts, own, other)?;
-    let mut out = next(&mut battle, facts)?;
-    if turns == 2 {
-        out = next(&mut battle, facts)?;
-    }
-    Some((battle, out))
+    let (battle, _) = last_turn(facts, row)?;
+    let side = &battle.sides[0];
+    Some((side.members[0].hp, side.vol.substitute))
 }
+
+/// A poisoned member loses a sixteenth, a badly poisoned one once and then twice that; a substitute takes a quarter, and
+/// more has to be there.
+const LOSSES: [(Row, u16, u16); 8] = [
+    (
+        (NORMAL, [WAIT, WAIT], [POISON_POWDER, WAIT], ONE, POISONED),
+        331,
+        0,
+    ),
+    (
+        (NORMAL, [WAIT, WAIT], [TOXIC, WAIT], ONE, BADLY_POISONED),
+        331,
+        0,
+    ),
+    (
+        (
+            NORMAL,
+            [WAIT, WAIT],
+            [TOXIC, WAIT],
+            TWO,
+            MORE_BADLY_POISONED,
+        ),
+        287,
+        0,
+    ),
+    (
+        (NORMAL, [SUBSTITUTE, WAIT], [TO_88, WAIT], ONE, FAILS),
+        88,
+        0,
+    ),
+    (
+        (NORMAL, [SUBSTITUTE, WAIT], [TO_89, WAIT], ONE, COVERED),
+        1,
+        89,
+    ),
+    ((NORMAL, [REST, WAIT], [TO_88, WAIT], ONE, SLEEPS), 353, 0),
+    ((NORMAL, [REST, WAIT], [WAIT, WAIT], ONE, FAILS), 353, 0),
+    (
+        (NORMAL, [WAIT, WAIT], [LEECH_SEED, WAIT], ONE, SEEDED),
+        331,
+        0,
+    ),
+];
 
 #[test]
 fn statuses_and_substitutes_cost_what_the_rows_say(rt: HostRuntime) -> Result<(), Fail> {
     let dex = Dex::read(rt.alloc(), DEX.as_bytes()).expect(&rt, "a dex");
-    for (own, other, turns, told, hp, substitute) in ROWS {
-        let (battle, out) = play(dex.facts(), own, other, turns).expect(&rt, "a battle");
-        assert!(rt; out.as_slice().contains(&event(told, hp)));
-        let side = &battle.sides[0];
-        assert_eq!(rt; (side.members[0].hp, side.vol.substitute), (hp, substitute));
+    for (row, hp, substitute) in LOSSES {
+        assert_eq!(rt; first_without_event(dex.facts(), &[row]), None);
+        assert_eq!(rt; health_after(dex.facts(), &row), Some((hp, substitute)));
     }
+    Ok(())
+}
+
+/// Sleep, ice, flinching, confusion with a hit on oneself and its end, paralysis.
+const ACTS: [Row; 8] = [
+    (NORMAL, [REST, WAIT], [POKE, WAIT], TWO, ASLEEP),
+    (NORMAL, [REST, WAIT], [POKE, WAIT], THREE, WAKES),
+    (NORMAL, [WAIT, WAIT], [FREEZE, WAIT], ONE, FROZEN),
+    (NORMAL, [WAIT, WAIT], [BITE, WAIT], ONE, FLINCHED),
+    (NORMAL, [WAIT, WAIT], [CONFUSE_RAY, WAIT], ONE, CONFUSED),
+    (NORMAL, [WAIT, WAIT], [CONFUSE_RAY, WAIT], ONE, HIT_ITSELF),
+    (NORMAL, [WAIT, WAIT], [CONFUSE_RAY, WAIT], TWO, CLEAR),
+    (NORMAL, [WAIT, WAIT], [THUNDER_WAVE, WAIT], ONE, PARALYSED),
+];
+
+#[test]
+fn who_cannot_act_is_told_why(rt: HostRuntime) -> Result<(), Fail> {
+    let dex = Dex::read(rt.alloc(), DEX.as_bytes()).expect(&rt, "a dex");
+    assert_eq!(rt; first_without_event(dex.facts(), &ACTS), None);
+    Ok(())
+}
+
+/// What bars a status with power 0: a status that is there, the clauses, immunity, the type, a substitute. The first
+/// sleep lasts one act, so it takes two for the clause.
+const BARRED_STATUSES: [Row; 8] = [
+    (NORMAL, [WAIT, WAIT], [TOXIC, POISON_POWDER], TWO, FOE_FAILS),
+    (
+        NORMAL,
+        [WAIT, WAIT],
+        [SPORE, SPORE],
+        TWICE_AND_SWITCHED,
+        FOE_FAILS,
+    ),
+    (NORMAL, [WAIT, WAIT], [FREEZE, FREEZE], SWITCHED, FOE_FAILS),
+    (GROUND, [WAIT, WAIT], [THUNDER_WAVE, WAIT], ONE, FOE_FAILS),
+    (POISON, [WAIT, WAIT], [POISON_POWDER, WAIT], ONE, FOE_FAILS),
+    (POISON, [WAIT, WAIT], [FREEZE, WAIT], ONE, FOE_FAILS),
+    (NORMAL, [SUBSTITUTE, WAIT], [WAIT, TOXIC], TWO, FOE_FAILS),
+    (NORMAL, [SUBSTITUTE, WAIT], [WAIT, FREEZE], TWO, FOE_FAILS),
+];
+
+/// What doesn't bar it: a member that rests, a substitute against sleep and paralysis; and a strike does its secondary.
+const STATUSES: [Row; 4] = [
+    (NORMAL, [REST, WAIT], [POKE, SPORE], SWITCHED, SECOND_SLEEPS),
+    (NORMAL, [SUBSTITUTE, WAIT], [WAIT, SPORE], TWO, SLEEPS),
+    (
+        NORMAL,
+        [SUBSTITUTE, WAIT],
+        [WAIT, THUNDER_WAVE],
+        TWO,
+        IS_PARALYSED,
+    ),
+    (NORMAL, [WAIT, WAIT], [SMOG, WAIT], ONE, IS_POISONED),
+];
+
+/// A strike doesn't poison through a substitute, nor its own type; no row has its event.
+const BARRED_SECONDARIES: [Row; 2] = [
+    (POISON, [WAIT, WAIT], [SMOG, WAIT], ONE, IS_POISONED),
+    (NORMAL, [SUBSTITUTE, WAIT], [WAIT, SMOG], TWO, IS_POISONED),
+];
+
+#[test]
+fn statuses_come_unless_they_are_barred(rt: HostRuntime) -> Result<(), Fail> {
+    let dex = Dex::read(rt.alloc(), DEX.as_bytes()).expect(&rt, "a dex");
+    assert_eq!(rt; first_without_event(dex.facts(), &BARRED_STATUSES), None);
+    assert_eq!(rt; first_without_event(dex.facts(), &STATUSES), None);
+    for row in BARRED_SECONDARIES {
+        let (_, out) = last_turn(dex.facts(), &row).expect(&rt, "a turn");
+        assert!(rt; !out.as_slice().contains(&row.4));
+    }
+    Ok(())
+}
+
+/// What bars confusion, changed stages and seeds.
+const BARRED_EFFECTS: [Row; 7] = [
+    (
+        NORMAL,
+        [WAIT, WAIT],
+        [CONFUSE_RAY, CONFUSE_RAY],
+        TWO,
+        FOE_FAILS,
+    ),
+    (
+        NORMAL,
+        [SUBSTITUTE, WAIT],
+        [WAIT, CONFUSE_RAY],
+        TWO,
+        FOE_FAILS,
+    ),
+    (NORMAL, [WAIT, WAIT], [GROWL, GROWL], TWO, FOE_FAILS),
+    (NORMAL, [MIST, WAIT], [WAIT, GROWL], TWO, FOE_FAILS),
+    (NORMAL, [SUBSTITUTE, WAIT], [WAIT, GROWL], TWO, FOE_FAILS),
+    (
+        NORMAL,
+        [WAIT, WAIT],
+        [LEECH_SEED, LEECH_SEED],
+        TWO,
+        FOE_FAILS,
+    ),
+    (POISON, [WAIT, WAIT], [LEECH_SEED, WAIT], ONE, FOE_FAILS),
+];
+
+/// What Tauros can't have twice, nor without need.
+const FAILURES: [Row; 7] = [
+    (NORMAL, [SUBSTITUTE, SUBSTITUTE], [WAIT, WAIT], TWO, FAILS),
+    (NORMAL, [MIST, MIST], [WAIT, WAIT], TWO, FAILS),
+    (NORMAL, [REFLECT, REFLECT], [WAIT, WAIT], TWO, FAILS),
+    (
+        NORMAL,
+        [FOCUS_ENERGY, FOCUS_ENERGY],
+        [WAIT, WAIT],
+        TWO,
+        FAILS,
+    ),
+    (
+        NORMAL,
+        [SWORDS_DANCE, SWORDS_DANCE],
+        [WAIT, WAIT],
+        TWO,
+        FAILS,
+    ),
+    (NORMAL, [RECOVER, WAIT], [WAIT, WAIT], ONE, FAILS),
+    (NORMAL, [COUNTER, WAIT], [SMOG, WAIT], ONE, FAILS),
+];
+
+#[test]
+fn effects_fail_where_they_are_barred(rt: HostRuntime) -> Result<(), Fail> {
+    let dex = Dex::read(rt.alloc(), DEX.as_bytes()).expect(&rt, "a dex");
+    assert_eq!(rt; first_without_event(dex.facts(), &BARRED_EFFECTS), None);
+    assert_eq!(rt; first_without_event(dex.facts(), &FAILURES), None);
     Ok(())
 }

@@ -10,6 +10,8 @@ use std::process::ExitCode;
 use std::{env, io};
 
 #[cfg(test)]
+mod arena;
+#[cfg(test)]
 mod battle_tests;
 #[cfg(test)]
 mod calc_tests;
@@ -25,6 +27,8 @@ mod dex_tests;
 mod effects_tests;
 #[cfg(test)]
 mod laws_tests;
+#[cfg(test)]
+mod long_tests;
 #[cfg(test)]
 mod rules_tests;
 #[cfg(test)]

@@ -1,0 +1,301 @@
+//! Battles for worked rows: two teams of two members, and turns of legal choices.
+ghost use Rattle.std.specs.Prelude.{◌≡◌, ◌<◌, ◌≤◌, ℕ, IfSome, IsTrue, false, slice_index};
+ghost use Rattle.ps_mon.specs.Choices.{IsChoiceOf};
+ghost use Rattle.ps_mon.specs.Facts.{AreFair};
+ghost use Rattle.ps_mon.specs.Known.{AreKnown};
+ghost use Rattle.ps_mon.specs.Moves.{move_count};
+ghost use Rattle.ps_mon.specs.Reading.{member_at};
+ghost use Rattle.ps_mon.specs.Teams.{IsFresh, IsTeamKnown};
+ghost use Rattle.ps_mon.specs.Slots.{is_disabled};
+ghost use Rattle.ps_mon.specs.Valid.{IsSide, IsValid, is_over};
+ghost use Rattle.ps_mon.specs.declared.choice.Choice.TheVariants.{Continue, Move, Switch};
+
+use ps_battle::{commit, open};
+use ps_event::event::{Event, Events, Who};
+use ps_event::side::Side;
+use ps_mon::choice::Choice;
+use ps_mon::facts::Facts;
+use ps_mon::record::{Battle, Disabled, Phase, SideState};
+use ps_mon::status::Status;
+use ps_mon::team::{BattleTeam, Member, MoveSlot};
+
+/// P1's first member.
+pub(crate) const ANN: Who = Who {
+    side: Side::P1,
+    member: 0,
+};
+
+/// The second member of the same side.
+pub(crate) const ANN_2: Who = Who {
+    side: Side::P1,
+    member: 1,
+};
+
+/// P2's first member, which is faster.
+pub(crate) const BOB: Who = Who {
+    side: Side::P2,
+    member: 0,
+};
+
+const TAUROS: Member = Member {
+    species: 0,
+    level: 100,
+    types: [0, 0],
+    stats: [298, 288, 238, 318],
+    base_speed: 0,
+    hp: 353,
+    max: 353,
+    status: Status::Healthy,
+    counter: 0,
+    rested: false,
+    slots: [MoveSlot {
+        mv: 0,
+        pp: 24,
+        max_pp: 24,
+    }; 4],
+    slot_count: 2,
+};
+
+/// A team of two members of one type with the same two moves.
+fn pair(kind: u8, moves: [u16; 2], speed: u16) -> BattleTeam
+    requires kind { kind < 32 }
+    requires low { 1 ≤ speed }
+    requires high { speed ≤ 999 }
+    ensures fresh { IsFresh result }
+    ensures known { (count : ℕ) → slice_index moves 0 < count → slice_index moves 1 < count → IsTeamKnown count result }
+{
+    let [one, two] = moves;
+    let first = MoveSlot {
+        mv: one,
+        pp: 24,
+        max_pp: 24,
+    };
+    let second = MoveSlot {
+        mv: two,
+        pp: 24,
+        max_pp: 24,
+    };
+    let member = Member {
+        types: [kind, kind],
+        stats: [298, 288, 238, speed],
+        slots: [first, second, second, second],
+        ..TAUROS
+    };
+    BattleTeam {
+        members: [member; 6],
+        count: 2,
+    }
+}
+
+/// Sleep Clause Mod, Freeze Clause Mod and HP Percentage Mod.
+const CLAUSES: u8 = 70;
+
+/// A battle of two members of one type, each with the same two moves, against two faster ones of the first type; None where the dex
+/// hasn't these moves.
+fn begin(facts: Facts<'_>, kind: u8, own: [u16; 2], other: [u16; 2]) -> Option<Battle>
+    requires fair { AreFair facts }
+    requires kind { kind < 32 }
+    ensures valid { IfSome result IsValid }
+    ensures known { IfSome result (AreKnown (move_count facts.entry)) }
+{
+    let count = facts.moves.len();
+    if own[0] as usize >= count {
+        return None;
+    }
+    if own[1] as usize >= count {
+        return None;
+    }
+    if other[0] as usize >= count {
+        return None;
+    }
+    if other[1] as usize >= count {
+        return None;
+    }
+    let teams = [pair(kind, own, 318), pair(0, other, 400)];
+    Some(open(&teams, CLAUSES, 0, &mut Events::new()))
+}
+
+fn bars(disabled: Option<Disabled>, slot: u8) -> bool
+    ensures { result ≡ is_disabled disabled slot }
+{
+    match disabled {
+        None => false,
+        Some(disabled) => disabled.slot == slot,
+    }
+}
+
+/// Whether a side can use a move.
+#[tactic(auto, unfolding(ps_mon::specs::Choices::fault_of))]
+fn can_use(battle: &Battle, side: u8, number: u8) -> bool
+    requires valid { IsValid battle.now }
+    requires side { side < 2 }
+    ensures legal { IsTrue result → IsChoiceOf battle.now side (Move number) }
+    ensures going { IsTrue result → is_over battle.now.phase ≡ false }
+{
+    let Phase::Turn = battle.phase else {
+        return false;
+    };
+    let state = &battle.sides[side as usize];
+    if state.vol.lock.is_some() {
+        return false;
+    }
+    if state.vol.recharge {
+        return false;
+    }
+    if number == 0 {
+        return false;
+    }
+    if state.slot_count() < number {
+        return false;
+    }
+    if state.slot(number - 1).pp == 0 {
+        return false;
+    }
+    !bars(state.vol.disabled, number - 1)
+}
+
+/// Whether a side must go on with a long move, or recharge.
+#[tactic(auto, unfolding(ps_mon::specs::Choices::fault_of))]
+fn must_go_on(battle: &Battle, side: u8) -> bool
+    requires valid { IsValid battle.now }
+    requires side { side < 2 }
+    ensures legal { IsTrue result → IsChoiceOf battle.now side Continue }
+    ensures going { IsTrue result → is_over battle.now.phase ≡ false }
+{
+    let Phase::Turn = battle.phase else {
+        return false;
+    };
+    let state = &battle.sides[side as usize];
+    state.vol.lock.is_some() || state.vol.recharge
+}
+
+fn health_at(state: &SideState, position: u8) -> u16
+    requires side { IsSide state.now }
+    requires low { 1 ≤ position }
+    requires high { position ≤ state.now.count }
+    ensures { result ≡ (member_at state.now position).hp }
+{
+    let place = state.order[position as usize - 1];
+    state.members[place as usize].hp
+}
+
+/// Whether a side can send in its second member.
+#[tactic(auto, unfolding(ps_mon::specs::Choices::fault_of))]
+fn can_switch(battle: &Battle, side: u8) -> bool
+    requires valid { IsValid battle.now }
+    requires side { side < 2 }
+    ensures legal { IsTrue result → IsChoiceOf battle.now side (Switch 2) }
+    ensures going { IsTrue result → is_over battle.now.phase ≡ false }
+{
+    let Phase::Turn = battle.phase else {
+        return false;
+    };
+    let state = &battle.sides[side as usize];
+    if state.vol.lock.is_some() {
+        return false;
+    }
+    if state.vol.recharge {
+        return false;
+    }
+    if state.count < 2 {
+        return false;
+    }
+    health_at(state, 2) != 0
+}
+
+/// Whether a side can choose that.
+fn can_choose(battle: &Battle, side: u8, choice: Choice) -> bool
+    requires valid { IsValid battle.now }
+    requires side { side < 2 }
+    ensures legal { IsTrue result → IsChoiceOf battle.now side choice }
+    ensures going { IsTrue result → is_over battle.now.phase ≡ false }
+{
+    match choice {
+        Choice::Move(number) => can_use(battle, side, number),
+        Choice::Continue => must_go_on(battle, side),
+        Choice::Switch(2) => can_switch(battle, side),
+        _ => false,
+    }
+}
+
+/// The choices of both sides in one turn, P1's first.
+pub(crate) type Turn = (Choice, Choice);
+
+/// The events of a turn; None where one of the choices can't be.
+fn next(battle: &mut Battle, facts: Facts<'_>, turn: Turn) -> Option<Events>
+    requires valid { IsValid battle.old }
+    requires fair { AreFair facts }
+    requires known { AreKnown (move_count facts) battle.old }
+    ensures valid { IsValid battle.new }
+    ensures known { AreKnown (move_count facts.entry) battle.new }
+{
+    let (own, other) = turn;
+    if !can_choose(battle, 0, own) {
+        return None;
+    }
+    if !can_choose(battle, 1, other) {
+        return None;
+    }
+    let mut out = Events::new();
+    commit(battle, facts, own, other, &mut out);
+    Some(out)
+}
+
+/// The events of the last of some turns; None where there is no turn, or where a choice can't be.
+fn play_on(battle: &mut Battle, facts: Facts<'_>, turns: &[Turn]) -> Option<Events>
+    requires valid { IsValid battle.old }
+    requires fair { AreFair facts }
+    requires known { AreKnown (move_count facts) battle.old }
+{
+    let (first, more) = turns.split_first()?;
+    let out = next(battle, facts, *first)?;
+    if more.is_empty() {
+        return Some(out);
+    }
+    play_on(battle, facts, more)
+}
+
+/// The battle after some turns, and the events of the last of them; None where one can't be.
+fn play(
+    facts: Facts<'_>,
+    kind: u8,
+    own: [u16; 2],
+    other: [u16; 2],
+    turns: &[Turn],
+) -> Option<(Battle, Events)>
+    requires fair { AreFair facts }
+    requires kind { kind < 32 }
+{
+    let mut battle = begin(facts, kind, own, other)?;
+    let out = play_on(&mut battle, facts, turns)?;
+    Some((battle, out))
+}
+
+/// A type and two moves of P1's members, the moves of P2's, the turns, and an event of the last one.
+pub(crate) type Row = (u8, [u16; 2], [u16; 2], &'static [Turn], Event);
+
+/// The battle after a row, and the events of its last turn; None where a choice can't be.
+pub(crate) fn last_turn(facts: Facts<'_>, row: &Row) -> Option<(Battle, Events)>
+    requires { AreFair facts }
+{
+    let (kind, own, other, turns, _) = row;
+    if *kind > 3 {
+        return None;
+    }
+    play(facts, *kind, *own, *other, turns)
+}
+
+/// The first row, from 0, whose last turn doesn't have its event.
+pub(crate) fn first_without_event(facts: Facts<'_>, rows: &[Row]) -> Option<usize>
+    requires { AreFair facts }
+{
+    for (place, row) in rows.iter().enumerate() {
+        let Some((_, out)) = last_turn(facts, row) else {
+            return Some(place);
+        };
+        if !out.as_slice().contains(&row.4) {
+            return Some(place);
+        }
+    }
+    None
+}
