@@ -1,7 +1,7 @@
 //! The machine of a chat room.
 ghost use Rattle.std.specs.Prelude.{◌≡◌, ◌<◌, List, length, IfOk, OnOk, OnErr, None};
 ghost use Rattle.std.specs.Option.{option_copied};
-ghost use Rattle.ps_chat.specs.Looks.{member, user};
+ghost use Rattle.ps_chat.specs.Looks.{member};
 ghost use Rattle.ps_chat.specs.Rooms.{presents, room_of};
 ghost use Rattle.ps_chat.specs.Verdicts.{verdict};
 ghost use Rattle.ps_chat.specs.Steps.{opened, after};
@@ -167,13 +167,6 @@ impl Chat {
         ensures { option_copied result ≡ member conn (presents self.now.opening self.now.state) }
     {
         self.room.members.get(conn)
-    }
-
-    /// The first member with an id, if there is one. Takes no memory.
-    pub fn user(&self, id: &str) -> Option<&Present>
-        ensures { option_copied result ≡ user id.now (presents self.now.opening self.now.state) }
-    {
-        self.room.members.user(id)
     }
 
     /// The title.

@@ -394,20 +394,6 @@ impl Room {
         })
     }
 
-    /// The room's number.
-    pub fn no(&self) -> RoomNo
-        ensures { result ≡ self.now.no }
-    {
-        self.no
-    }
-
-    /// The room's id.
-    pub fn id(&self) -> &str
-        ensures { result.now ≡ self.now.id }
-    {
-        self.id.as_str()
-    }
-
     /// Why the entry is refused; `None` where it is allowed. Takes no memory.
     pub fn verdict(&self, entry: &Entry) -> Option<Why>
         ensures { result ≡ verdict self.now.state entry.now }
