@@ -19,15 +19,9 @@ use Rattle.ps_chat.specs.declared.present.Present.{Present}
 use Rattle.ps_chat.specs.declared.room.Room.{Room}
 use Rattle.ps_room.specs.declared.entry.Entry.{Entry}
 use Rattle.ps_room.specs.declared.role.Role.TheVariants.{Outside}
-use Rattle.ps_room.specs.Answers.{IsAnswered}
 use Rattle.ps_room.specs.Records.{Record, presents_of}
 use Rattle.ps_room.specs.Rooms.{verdict, told, after, role_in, message, seen_texts}
-use Rattle.ps_room.proofs.AnswerLemmas as answers
 use Rattle.ps_room.proofs.AnswerLemmas.{after_allowed, after_refused, silent_line}
-
--- every entry gets the answer of its verdict
-pub answered : (r : Record) (e : Entry) → IsAnswered r e
-answered = answers.answered
 
 -- ---- who is no member sees no line of a row
 
