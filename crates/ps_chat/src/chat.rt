@@ -26,7 +26,7 @@ use std::alloc::{AllocError, Global};
 use std::marker::Model;
 
 /// The chat of a room: its members, their rights and what they say. Contracts see what it was opened
-/// with, its record, and the lines of the entry that was applied last.
+/// with, its record, and the lines of the entry that `apply` applied last.
 #[derive(Drop)]
 pub struct Chat {
     room: Room,
@@ -109,8 +109,8 @@ impl Chat {
         joiner(alloc, &self.room, conn, badge)
     }
 
-    /// Changes the record as an entry that is allowed does, and makes no lines. Where memory fails nothing
-    /// changes. A battle's commands change nothing here.
+    /// Changes the record as an entry that is allowed does, and makes no lines: `lines` tells those that it
+    /// told before. Where memory fails nothing changes. A battle's commands change nothing here.
     pub fn change(
         &mut self,
         alloc: Global,
@@ -147,7 +147,8 @@ impl Chat {
         Ok(())
     }
 
-    /// The lines of the entry that was applied last. Takes no memory.
+    /// The lines of the entry that `apply` applied last, none before the first. An entry of `change` has no
+    /// part in them. Takes no memory.
     pub fn lines(&self) -> &[ChatLine]
         ensures { result.now ≡ self.now.lines }
     {
