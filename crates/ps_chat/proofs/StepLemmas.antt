@@ -13,7 +13,7 @@ use Rattle.ps_group.specs.declared.group.Group.{Group}
 use Rattle.ps_lines.specs.declared.command.Command.{Command}
 use Rattle.ps_lines.specs.declared.command.Command.TheVariants.{Join, Leave, Quit, Say, Announce, Modnote, Warn, Mute, Unmute, Ban, Unban, Promote, Modchat, Choose, Undo, Forfeit}
 use Rattle.ps_chat.specs.ById.{ById}
-use Rattle.ps_chat.specs.Records.{Member, Record}
+use Rattle.ps_chat.specs.Records.{Member}
 use Rattle.ps_chat.specs.Looks.{has_id, member}
 use Rattle.ps_chat.specs.Rooms.{present, bare, ranked, room_of, opening_of, record_of}
 use Rattle.ps_chat.specs.Refusals.{refusal_of_join}
@@ -85,9 +85,6 @@ bare_ranked id rank (p ∷ ps) = rw (bare_ranked_by (higher p.badge.rank rank) p
 promoted_record : (r : Room) (id : List ℕ) (o : Option ℕ) → record_of (room_with_rank r id o) ≡ Rattle.ps_chat.specs.Changes.with_rank (record_of r) id o
 promoted_record r id None = refl
 promoted_record r id (Some rank) = ap (λ (ms : List Member). record { members = ms; ranks = insert r.ranks id rank; mutes = r.mutes; bans = r.bans; modchat = r.modchat }) (bare_ranked id rank r.members)
-
-with_members : Room → List Member → Record
-with_members r ms = record { members = ms; ranks = r.ranks; mutes = r.mutes; bans = r.bans; modchat = r.modchat }
 
 pub record_is : (r : Room) (conn : ℕ) (badge : Badge) (moment : ℕ) (cmd : Command) → record_of (room_after r (joiner r conn badge) moment cmd) ≡ record_after r.groups (record_of r) conn badge moment cmd
 record_is r conn badge moment (Join room) = ap (λ (ms : List Member). record (record_of r) { members = ms }) (map-append bare r.members (joiner r conn badge ∷ []))

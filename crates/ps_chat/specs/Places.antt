@@ -1,4 +1,4 @@
--- The places of members in a list.
+-- The places of members in a list: for the code's indices alone.
 use Rattle.std.specs.Prelude.{◌≡◌, ℕ, suc, ◌-◌, nat_lt, ◌==◌, Bool, List, [], ◌∷◌, Option, Some, None, String, if◌then◌else◌}
 use Rattle.std.specs.Option.{option_map}
 use Rattle.std.specs.Ordering.{nat_cmp}

@@ -1,4 +1,4 @@
--- The same rows over a room as its rows read it: each change of the record, with the ranks of its members.
+-- The same rows over a room as its rows read it, each change of the record with the ranks of its members: for the code alone.
 use Rattle.std.specs.Prelude.{◌≡◌, ℕ, not, List, [], ◌∷◌, ◌++◌, map, Option, Some, None, ◌==◌}
 use Rattle.std.specs.List.{filter}
 use Rattle.std.specs.FinMap.{insert, remove}

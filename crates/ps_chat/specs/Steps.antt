@@ -7,7 +7,8 @@ use Rattle.ps_chat.specs.Lines.{Line}
 use Rattle.ps_chat.specs.Told.{lines}
 use Rattle.ps_chat.specs.Changes.{record_after}
 
--- what it was opened with, its record, and the lines of the entry that was applied last
+-- what it was opened with, its record, and the lines of the entry that was applied last; a change of the record alone leaves
+-- them as they were
 pub record Seen : Type 0 where
   pub opening : Opening
   pub state : Record

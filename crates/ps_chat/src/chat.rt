@@ -1,7 +1,7 @@
 //! The machine of a chat room.
 ghost use Rattle.std.specs.Prelude.{◌≡◌, ◌<◌, List, length, IfOk, OnOk, OnErr, None};
 ghost use Rattle.std.specs.Option.{option_copied};
-ghost use Rattle.ps_chat.specs.Looks.{member, user};
+ghost use Rattle.ps_chat.specs.Looks.{member};
 ghost use Rattle.ps_chat.specs.Rooms.{presents, room_of};
 ghost use Rattle.ps_chat.specs.Verdicts.{verdict};
 ghost use Rattle.ps_chat.specs.Steps.{opened, after};
@@ -26,7 +26,7 @@ use std::alloc::{AllocError, Global};
 use std::marker::Model;
 
 /// The chat of a room: its members, their rights and what they say. Contracts see what it was opened
-/// with, its record, and the lines of the entry that was applied last.
+/// with, its record, and the lines of the entry that `apply` applied last.
 #[derive(Drop)]
 pub struct Chat {
     room: Room,
@@ -109,8 +109,8 @@ impl Chat {
         joiner(alloc, &self.room, conn, badge)
     }
 
-    /// Changes the record as an entry that is allowed does, and makes no lines. Where memory fails nothing
-    /// changes. A battle's commands change nothing here.
+    /// Changes the record as an entry that is allowed does, and makes no lines: `lines` tells those that it
+    /// told before. Where memory fails nothing changes. A battle's commands change nothing here.
     pub fn change(
         &mut self,
         alloc: Global,
@@ -147,7 +147,8 @@ impl Chat {
         Ok(())
     }
 
-    /// The lines of the entry that was applied last. Takes no memory.
+    /// The lines of the entry that `apply` applied last, none before the first. An entry of `change` has no
+    /// part in them. Takes no memory.
     pub fn lines(&self) -> &[ChatLine]
         ensures { result.now ≡ self.now.lines }
     {
@@ -167,13 +168,6 @@ impl Chat {
         ensures { option_copied result ≡ member conn (presents self.now.opening self.now.state) }
     {
         self.room.members.get(conn)
-    }
-
-    /// The first member with an id, if there is one. Takes no memory.
-    pub fn user(&self, id: &str) -> Option<&Present>
-        ensures { option_copied result ≡ user id.now (presents self.now.opening self.now.state) }
-    {
-        self.room.members.user(id)
     }
 
     /// The title.

@@ -5,7 +5,7 @@ mod change;
 pub mod chat;
 pub mod id_map;
 pub mod line;
-mod look;
+pub mod look;
 pub mod members;
 pub mod present;
 mod refusal;

@@ -19,7 +19,7 @@ const MUTE: u64 = 420;
 const LONGEST: usize = 300;
 
 /// Whether a member has an id.
-pub(crate) fn has_id(member: &Present, id: &str) -> bool
+pub fn has_id(member: &Present, id: &str) -> bool
     ensures { result ≡ has_id id.now member.now }
 {
     member.badge.name.id().as_str() == id

@@ -8,5 +8,6 @@ pub mod OverLemmas
 pub mod PlayLemmas
 pub mod PrintLemmas
 pub mod RouteLemmas
+pub mod SymbolLemmas
 pub mod TextLemmas
 pub mod TwoWorldLemmas

@@ -34,7 +34,3 @@ room_set rooms room d new e within is =
     map-set state_of rooms room new
     ∙ ap (λ (s : Seen). slice_set (map state_of rooms) room (state_of s)) is
     ∙ rw (found_state rooms room d within) refl
-
--- nothing changes where no room has the number
-pub no_room_set : (rooms : List Seen) (room : ℕ) (e : Entry) → length rooms ≤ room → map state_of rooms ≡ rooms_after (map state_of rooms) room e
-no_room_set rooms room e past = rw (slice_get_past (map state_of rooms) room (omega (arith, length-map rooms state_of))) refl

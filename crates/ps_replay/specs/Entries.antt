@@ -28,7 +28,8 @@ use Rattle.ps_replay.specs.Worlds.{Place, in_hall, in_room, World, is_full, worl
 
 -- ---- what lines give that make no entry
 
--- the ranks after a line; each symbol of a script has a group, so `lowest` is never taken here
+-- the ranks after a line. The symbols of scripts are those of the default groups (`law_of_symbols`), so `lowest` is never taken
+-- here
 abbrev pub with_ranking : ById ℕ → Item → ById ℕ
 with_ranking ranks (Group symbol id) = insert ranks id (unwrap_or (rank_of symbol default_groups) lowest)
 with_ranking ranks other = ranks

@@ -1,25 +1,19 @@
 -- What a replay stands on as long as no configuration is read: the default groups, staff and rooms.
-use Rattle.std.specs.Prelude.{ℕ, List, [], ◌∷◌, codes, map, slice_get, Option, Some, None, if◌then◌else◌}
+use Rattle.std.specs.Prelude.{ℕ, List, [], ◌∷◌, map, slice_get, Option, Some, None, if◌then◌else◌}
 use Rattle.std.specs.Option.{option_map_or}
 use Rattle.std.specs.Str.{bytes_eq}
-use Rattle.ps_group.specs.Defaults.{default_groups}
+use Rattle.ps_valid.specs.Rooms.{lobby as standard_room}
+use Rattle.ps_valid.specs.Standard.{standard}
 use Rattle.ps_room.specs.declared.opening.Opening.{Opening}
 use Rattle.ps_room.specs.Records.{Record, opened}
-
--- the lowest rank that sees staff notes: that of the drivers
-abbrev pub staff : ℕ
-staff = 3
 
 -- the rank of the last of the default groups, which everybody has whom no line ranks
 abbrev pub lowest : ℕ
 lowest = 5
 
-abbrev pub lobby_id : List ℕ
-lobby_id = codes "lobby"
-
--- the one room
+-- the one room: the lobby of the standard configuration
 abbrev pub lobby : Opening
-lobby = record { no = 0; id = lobby_id; title = codes "Lobby"; groups = default_groups; staff = staff }
+lobby = record { no = 0; id = standard_room.id; title = standard_room.title; groups = standard.groups; staff = standard.staff }
 
 -- the rooms by their numbers
 abbrev pub openings : List Opening
@@ -35,4 +29,4 @@ room_id room = option_map_or (λ o. o.id) (slice_get openings room) []
 
 -- the number of the room with an id, compared as the whole text
 abbrev pub number_of : List ℕ → Option ℕ
-number_of id = if bytes_eq id lobby_id then Some 0 else None
+number_of id = if bytes_eq id lobby.id then Some 0 else None

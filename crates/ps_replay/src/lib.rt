@@ -6,6 +6,7 @@ pub mod config;
 pub mod dex;
 pub mod file;
 pub mod hall;
+pub mod law;
 pub mod place;
 pub mod play;
 pub mod print;

@@ -8,7 +8,7 @@ use crate::table::{Table, is_any_unbuilt};
 use ps_script::item::Item;
 use std::alloc::{AllocError, Global};
 
-// The same, by the state that each line leaves.
+// The first line that makes an entry of the hall that isn't built, found by the state that each line leaves.
 fn unbuilt_past(alloc: Global, items: &[Item]) -> Result<Option<u32>, AllocError>
     requires { length items.now < 2 ^ 31 }
     ensures { IfOk result (λ o. o ≡ unbuilt_past 1 (fresh (ranks_of items.now)) items.now) }

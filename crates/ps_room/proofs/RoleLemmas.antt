@@ -47,13 +47,6 @@ module _ (f : Member → Present) (conn : ℕ) where
   kept_by test m ms true t out more = rw t (ap (cond ((f m).conn == conn) (Some (f m))) more)
   kept_by test m ms false t out more = rw (t, out refl) more
 
-one_not_named : (from conn : ℕ) → names conn (from ∷ []) ≡ false → (from == conn) ≡ false
-one_not_named from conn h = by (from == conn) h
-  where
-    by : (b : Bool) → cond b true false ≡ false → b ≡ false
-    by true e = absurd cc
-    by false e = refl
-
 -- who leaves is another
 left_by : (m from conn : ℕ) (b : Bool) → not (m == from) ≡ b → (from == conn) ≡ false → b ≡ false → (m == conn) ≡ false
 left_by m from conn true t other e = absurd cc
@@ -126,9 +119,9 @@ find_promoted o chat id conn (Some rank) h = find_ranked o.groups chat.ranks id 
 
 unnamed : (o : ChatOpening) (chat : ChatRecord) (conn from : ℕ) (badge : Badge) (moment : ℕ) (cmd : Command) → names conn (touched_by cmd (presents o chat) from) ≡ false
     → member conn (presents o (record_after o.groups chat from badge moment cmd)) ≡ member conn (presents o chat)
-unnamed o chat conn from badge moment (Join room) h = find_push (present o.groups chat.ranks) conn chat.members (record { conn = from; badge = kept o.groups badge }) (one_not_named from conn h)
-unnamed o chat conn from badge moment Leave h = find_left (present o.groups chat.ranks) (λ m. refl) from conn chat.members (one_not_named from conn h)
-unnamed o chat conn from badge moment Quit h = find_left (present o.groups chat.ranks) (λ m. refl) from conn chat.members (one_not_named from conn h)
+unnamed o chat conn from badge moment (Join room) h = find_push (present o.groups chat.ranks) conn chat.members (record { conn = from; badge = kept o.groups badge }) (first_not_named from conn [] h)
+unnamed o chat conn from badge moment Leave h = find_left (present o.groups chat.ranks) (λ m. refl) from conn chat.members (first_not_named from conn [] h)
+unnamed o chat conn from badge moment Quit h = find_left (present o.groups chat.ranks) (λ m. refl) from conn chat.members (first_not_named from conn [] h)
 unnamed o chat conn from badge moment (Say text) h = refl
 unnamed o chat conn from badge moment (Announce text) h = refl
 unnamed o chat conn from badge moment (Modnote text) h = refl

@@ -18,17 +18,10 @@ use Rattle.ps_chat.specs.Changes.{record_after, with_rank}
 use Rattle.ps_chat.specs.declared.present.Present.{Present}
 use Rattle.ps_chat.specs.declared.room.Room.{Room}
 use Rattle.ps_room.specs.declared.entry.Entry.{Entry}
-use Rattle.ps_room.specs.declared.opening.Opening.{Opening}
 use Rattle.ps_room.specs.declared.role.Role.TheVariants.{Outside}
-use Rattle.ps_room.specs.Answers.{IsAnswered}
-use Rattle.ps_room.specs.Records.{Record, opened, presents_of}
+use Rattle.ps_room.specs.Records.{Record, presents_of}
 use Rattle.ps_room.specs.Rooms.{verdict, told, after, role_in, message, seen_texts}
-use Rattle.ps_room.proofs.AnswerLemmas as answers
 use Rattle.ps_room.proofs.AnswerLemmas.{after_allowed, after_refused, silent_line}
-
--- every entry gets the answer of its verdict
-pub answered : (r : Record) (e : Entry) → IsAnswered r e
-answered = answers.answered
 
 -- ---- who is no member sees no line of a row
 
@@ -114,9 +107,6 @@ up_to_more n k (m ∷ ms) le h = ((h.0.0, omega (arith, h.0.1)), up_to_more n k 
 
 pub housed_more : (n k : ℕ) (r : Record) → n ≤ k → Housed n r → Housed k r
 housed_more n k r le h = up_to_more n k r.chat.members le h
-
-pub housed_opened : (n : ℕ) (o : Opening) → Housed n (opened o)
-housed_opened n o = tt
 
 up_to_push : (n : ℕ) (ms : List Member) (m : Member) → AreUpTo n ms → IsUpTo n m.conn → AreUpTo n (ms ++ m ∷ [])
 up_to_push n [] m h by = (by, tt)

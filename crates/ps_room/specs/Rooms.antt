@@ -87,19 +87,6 @@ after_by None r e = applied r e
 unfoldable pub after : Record → Entry → Record
 after r e = after_by (verdict r e) r e
 
--- what one entry does: the record after it, and what it gives
-pub record Step : Type 0 where
-  pub record_after : Record
-  pub gives : Told
-
-abbrev pub step : Record → Entry → Step
-step r e = record { record_after = after r e; gives = told r e }
-
--- every step of a history, from a record on
-abbrev pub run : Record → List Entry → List Step
-run r [] = []
-run r (e ∷ es) = step r e ∷ run (after r e) es
-
 -- the record after a history
 abbrev pub run_record : Record → List Entry → Record
 run_record r [] = r

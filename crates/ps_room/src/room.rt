@@ -22,6 +22,7 @@ use ps_base::text::Text;
 use ps_base::why::{Why, error_line};
 use ps_chat::chat::Chat;
 use ps_chat::line::ChatLine;
+use ps_chat::look::has_id;
 use ps_chat::present::Present;
 use ps_event::audience::Audience;
 use ps_lines::command::Command;
@@ -122,7 +123,7 @@ fn conns_with(alloc: Global, id: &str, members: &[Present]) -> Result<Vec<Change
 {
     let mut changes = Vec::new(alloc);
     for member in members {
-        if member.badge.name.id().as_str() == id {
+        if has_id(member, id) {
             changes.push(unset(member.conn))?;
         }
     }
@@ -392,20 +393,6 @@ impl Room {
             logged: Vec::new(alloc),
             log: Vec::new(alloc),
         })
-    }
-
-    /// The room's number.
-    pub fn no(&self) -> RoomNo
-        ensures { result ≡ self.now.no }
-    {
-        self.no
-    }
-
-    /// The room's id.
-    pub fn id(&self) -> &str
-        ensures { result.now ≡ self.now.id }
-    {
-        self.id.as_str()
     }
 
     /// Why the entry is refused; `None` where it is allowed. Takes no memory.

@@ -2,9 +2,6 @@
 ghost use Rattle.std.specs.Prelude.{◌≡◌};
 ghost use Rattle.ps_script.specs.Groups.{rank_of};
 
-/// The place of the last group, which everybody has who was given no other.
-pub const LOWEST: u8 = 5;
-
 /// The place of a symbol's group in the list of groups, 0 the highest; `None` where no group has it.
 pub fn rank_of(symbol: char) -> Option<u8>
     ensures { result ≡ rank_of symbol }
@@ -15,7 +12,7 @@ pub fn rank_of(symbol: char) -> Option<u8>
         '@' => Some(2),
         '%' => Some(3),
         '+' => Some(4),
-        ' ' => Some(LOWEST),
+        ' ' => Some(5),
         _ => None,
     }
 }

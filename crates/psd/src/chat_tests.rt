@@ -4,6 +4,8 @@ use ps_base::msg::Msg;
 use ps_base::name::Name;
 use ps_base::number::{ConnNo, Moment, RoomNo};
 use ps_base::text::Text;
+use ps_chat::chat::Chat;
+use ps_chat::line::ChatLine;
 use ps_group::groups::Groups;
 use ps_lines::command::{Command, Parsed};
 use ps_lines::read::read_command;
@@ -319,7 +321,7 @@ fn ranks_in_a_room(rt: HostRuntime) -> Result<(), Fail> {
 fn letters(alloc: Global, count: u32) -> Result<String, Fail> {
     let mut text = String::new(alloc);
     for _ in 0..count {
-        text.push_str("x")?;
+        text.push_str("a")?;
     }
     Ok(text)
 }
@@ -336,7 +338,7 @@ fn longest_text(rt: HostRuntime) -> Result<(), Fail> {
     let said = letters(alloc, 300)?;
     enter(alloc, &mut room, 1, 0, said.as_str())?;
     let line = pulled(alloc, &room, &mut cursor)?;
-    assert!(rt; line.starts_with("|c:|0|%Ann|xxx"));
+    assert!(rt; line.starts_with("|c:|0|%Ann|aaa"));
     assert_eq!(rt; line.len(), 311);
     let long = letters(alloc, 301)?;
     enter(alloc, &mut room, 1, 0, long.as_str())?;
@@ -368,5 +370,77 @@ fn last_hundred_lines(rt: HostRuntime) -> Result<(), Fail> {
         joined.starts_with("|init|chat/|title|Lobby/|users|2,%Ann, Bob/|c:|0|%Ann|1/|c:|0|%Ann|2/")
     );
     assert!(rt; joined.ends_with("/|c:|0|%Ann|99/|c:|0|%Ann|100"));
+    Ok(())
+}
+
+fn join_all(alloc: Global, room: &mut Room, count: u32) -> Result<(), Fail> {
+    for conn in 0..count {
+        enter(alloc, room, conn, 0, "/join lobby")?;
+    }
+    Ok(())
+}
+
+/// A room has place for 256 members, and for no more.
+#[test]
+fn full_room(rt: HostRuntime) -> Result<(), Fail> {
+    let alloc = rt.alloc();
+    let mut room = opened(&rt, alloc)?;
+    join_all(alloc, &mut room, 257)?;
+    let joined = pulled(alloc, &room, &mut Cursor::new(ConnNo(255)))?;
+    assert!(rt; joined.starts_with("|init|chat/|title|Lobby/|users|256, Zed,%Ann,"));
+    let refused = pulled(alloc, &room, &mut Cursor::new(ConnNo(256)))?;
+    assert_eq!(rt; refused.as_str(), "|error|[RoomFull]");
+    Ok(())
+}
+
+// ---- a chat by itself
+
+fn chat(rt: &impl Abort, alloc: Global) -> Result<Chat, Fail> {
+    let groups = Groups::standard(alloc)?;
+    let fit = 3 < groups.count();
+    assert!(rt; fit);
+    Ok(Chat::new(alloc, "Lobby", false, &groups, 3)?)
+}
+
+fn apply_allowed(alloc: Global, chat: &mut Chat, badge: &Badge, cmd: &Command) -> Result<(), Fail> {
+    match chat.verdict(ConnNo(1), badge, Moment(0), cmd) {
+        Some(_) => Ok(()),
+        None => {
+            chat.apply(alloc, ConnNo(1), badge, Moment(0), cmd)?;
+            Ok(())
+        }
+    }
+}
+
+fn enter_chat(alloc: Global, chat: &mut Chat, text: &str) -> Result<(), Fail> {
+    let cmd = command(alloc, text)?;
+    let badge = badge_of(alloc, 1)?;
+    apply_allowed(alloc, chat, &badge, &cmd)
+}
+
+fn texts(alloc: Global, lines: &[ChatLine]) -> Result<String, Fail> {
+    let mut out = String::new(alloc);
+    for line in lines {
+        out.push_str(line.text.as_str())?;
+    }
+    Ok(out)
+}
+
+fn chat_row(alloc: Global, chat: &mut Chat, text: &str) -> Result<String, Fail> {
+    enter_chat(alloc, chat, text)?;
+    texts(alloc, chat.lines())
+}
+
+/// The lines are those of the last entry that was allowed.
+#[test]
+fn chat_by_itself(rt: HostRuntime) -> Result<(), Fail> {
+    let alloc = rt.alloc();
+    let mut chat = chat(&rt, alloc)?;
+    let join = chat_row(alloc, &mut chat, "/join lobby")?;
+    assert_eq!(rt; join.as_str(), "|j|%Ann");
+    let said = chat_row(alloc, &mut chat, "hi")?;
+    assert_eq!(rt; said.as_str(), "|c:|0|%Ann|hi");
+    let refused = chat_row(alloc, &mut chat, "  ")?;
+    assert_eq!(rt; refused.as_str(), "|c:|0|%Ann|hi");
     Ok(())
 }

@@ -1,4 +1,4 @@
-use Rattle.ps_room.proofs.SilenceLemmas.{answered}
+use Rattle.ps_room.proofs.AnswerLemmas.{answered}
 use Rattle.ps_room.proofs.law.law_of_answers.Goals as goal
 
 pub returns : goal.returns
