@@ -2,4 +2,3 @@ pub mod KeepLemmas
 pub mod ChoiceLemmas
 pub mod CloseLemmas
 pub mod OrderLemmas
-pub mod FirstTurnLemmas

@@ -1,11 +1,12 @@
 //! Turns of a battle on worked rows.
-ghost use Rattle.std.specs.Prelude.{◌≡◌, ◌<◌, ℕ, [], false};
+ghost use Rattle.std.specs.Prelude.{◌≡◌, ◌<◌, ℕ, []};
 ghost use Rattle.ps_mon.specs.Facts.{AreFair};
 ghost use Rattle.ps_mon.specs.Reading.{slot_of};
-ghost use Rattle.ps_mon.specs.Valid.{IsValid, is_over};
+ghost use Rattle.ps_mon.specs.Valid.{IsValid};
 ghost use Rattle.ps_mon.specs.Teams.{IsFresh, IsFreshMember, IsTeamKnown};
 
-use ps_battle::{commit, forfeit, open, phase};
+use crate::arena::{ANN, BOB, next};
+use ps_battle::{forfeit, open, phase};
 use ps_dex::dex::Dex;
 use ps_event::event::{Event, Events, Health, Who};
 use ps_event::side::Side;
@@ -74,38 +75,27 @@ fn alone(member: Member) -> BattleTeam
     }
 }
 
-/// Tauros and the foe use their first moves in turn 1 of the battle with the seed 0; None where the dex has no move.
-fn first_turn(facts: Facts<'_>, foe: BattleTeam, out: &mut Events) -> Option<Battle>
+/// The battle after Tauros and the foe used their first moves in turn 1, with the seed 0, and the events; None where the dex has no
+/// move.
+fn first_turn(facts: Facts<'_>, foe: BattleTeam) -> Option<(Battle, Events)>
     requires fair { AreFair facts }
     requires fresh { IsFresh foe }
     requires known { (moves : ℕ) → 0 < moves → IsTeamKnown moves foe }
-    requires empty { out.old.items ≡ [] }
 {
     if facts.moves.is_empty() {
         return None;
     }
     let teams = [alone(TAUROS), foe];
     let mut battle = open(&teams, 64, 0, &mut Events::new());
-    commit(&mut battle, facts, Choice::Move(1), Choice::Move(1), out);
-    Some(battle)
+    let out = next(&mut battle, facts, (Choice::Move(1), Choice::Move(1)))?;
+    Some((battle, out))
 }
-
-const ANN: Who = Who {
-    side: Side::P1,
-    member: 0,
-};
-
-const BOB: Who = Who {
-    side: Side::P2,
-    member: 0,
-};
 
 /// The draws of Tauros's act are 0, 113 and 1: a hit, not critical, of 120.
 #[test]
 fn a_plain_move_deals_120(rt: HostRuntime) -> Result<(), Fail> {
     let dex = Dex::read(rt.alloc(), DEX.as_bytes()).expect(&rt, "a dex");
-    let mut out = Events::new();
-    let battle = first_turn(dex.facts(), alone(SNORLAX), &mut out).expect(&rt, "a plain move");
+    let (battle, out) = first_turn(dex.facts(), alone(SNORLAX)).expect(&rt, "a turn");
     let expected = [
         Event::Move {
             who: ANN,
@@ -146,8 +136,7 @@ const DIGLETT: Member = Member {
 #[test]
 fn the_last_member_faints(rt: HostRuntime) -> Result<(), Fail> {
     let dex = Dex::read(rt.alloc(), DEX.as_bytes()).expect(&rt, "a dex");
-    let mut out = Events::new();
-    let battle = first_turn(dex.facts(), alone(DIGLETT), &mut out).expect(&rt, "a plain move");
+    let (battle, out) = first_turn(dex.facts(), alone(DIGLETT)).expect(&rt, "a turn");
     let expected = [Event::Faint { who: BOB }, Event::Win { side: Side::P1 }];
     assert!(rt; out.as_slice().ends_with(&expected));
     assert_eq!(rt; (out.len(), battle.phase), (4, Phase::Won(0)));
@@ -158,8 +147,7 @@ fn the_last_member_faints(rt: HostRuntime) -> Result<(), Fail> {
 #[test]
 fn both_last_members_faint(rt: HostRuntime) -> Result<(), Fail> {
     let dex = Dex::read(rt.alloc(), EXPLOSIVE_DEX.as_bytes()).expect(&rt, "a dex");
-    let mut out = Events::new();
-    let battle = first_turn(dex.facts(), alone(DIGLETT), &mut out).expect(&rt, "a plain move");
+    let (battle, out) = first_turn(dex.facts(), alone(DIGLETT)).expect(&rt, "a turn");
     let expected = [
         Event::Faint { who: BOB },
         Event::Faint { who: ANN },
@@ -174,7 +162,6 @@ fn both_last_members_faint(rt: HostRuntime) -> Result<(), Fail> {
 fn opened(out: &mut Events) -> Battle
     requires empty { out.old.items ≡ [] }
     ensures valid { IsValid result }
-    ensures going { is_over result.phase ≡ false }
 {
     open(&[alone(TAUROS), alone(SNORLAX)], 64, 0, out)
 }
@@ -190,6 +177,19 @@ fn sent_out(who: Who, species: u16, hp: u16) -> Event {
             status: 0,
         },
     }
+}
+
+/// Gives up for a side in a turn; whether there was one.
+fn give_up(battle: &mut Battle, side: u8, out: &mut Events) -> bool
+    requires valid { IsValid battle.old }
+    requires side { side < 2 }
+    requires empty { out.old.items ≡ [] }
+{
+    let Phase::Turn = battle.phase else {
+        return false;
+    };
+    forfeit(battle, side, out);
+    true
 }
 
 /// The opening with HP Percentage Mod alone, and a forfeit.
@@ -214,12 +214,12 @@ fn a_battle_is_opened_and_given_up(rt: HostRuntime) -> Result<(), Fail> {
         Event::Request { side: p1 },
         Event::Request { side: p2 },
     ];
-    assert_eq!(rt; out.as_slice(), &expected);
+    assert_eq!(rt; out.as_slice(), expected.as_slice());
     assert_eq!(rt; phase(&battle), Phase::Turn);
     let mut out = Events::new();
-    forfeit(&mut battle, 0, &mut out);
+    assert!(rt; give_up(&mut battle, 0, &mut out));
     let expected = [Event::Forfeit { side: p1 }, Event::Win { side: p2 }];
-    assert_eq!(rt; out.as_slice(), &expected);
+    assert_eq!(rt; out.as_slice(), expected.as_slice());
     assert_eq!(rt; phase(&battle), Phase::Won(1));
     Ok(())
 }

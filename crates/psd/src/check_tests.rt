@@ -1,16 +1,18 @@
 //! Teams against the rules of formats, the members of legal ones, and the command `check`.
+use crate::runs::end_of;
 use ps_base::id::to_id;
 use ps_base::list::List;
 use ps_base::text::Text;
 use ps_dex::dex::Dex;
-use ps_mon::status::Status;
+use ps_mon::status::Status as Condition;
 use ps_mon::team::{Member, MoveSlot};
 use ps_outside::files::{MemFiles, NamedFile};
 use ps_outside::sink::MemSink;
 use ps_outside::source::MemSource;
 use ps_packed::team::read_team;
-use ps_replay::run::run;
+use ps_replay::status::Status;
 use ps_rules::formats::resolve;
+use ps_rules::row::RuleTable;
 use ps_valid::check::check_team;
 use ps_valid::config::Config;
 use ps_valid::start::Legal;
@@ -141,6 +143,16 @@ const PAIRS: Rows = &[
     ),
 ];
 
+fn rules_of(
+    rt: &impl Abort,
+    alloc: Global,
+    config: &Config,
+    format: &str,
+) -> Result<RuleTable, AllocError> {
+    let id = to_id(alloc, format)?;
+    Ok(resolve(alloc, config.formats(), &id).expect(rt, "a format"))
+}
+
 fn checked(
     rt: &impl Abort,
     alloc: Global,
@@ -149,8 +161,7 @@ fn checked(
     format: &str,
     text: &str,
 ) -> Result<Legal, TeamFault> {
-    let id = to_id(alloc, format)?;
-    let rules = resolve(alloc, config.formats(), &id).expect(rt, "a format");
+    let rules = rules_of(rt, alloc, config, format)?;
     let team = read_team(alloc, text).expect(rt, "a team");
     check_team(alloc, dex, &rules, &team)
 }
@@ -209,7 +220,7 @@ const TAUROS: Member = Member {
     base_speed: 110,
     hp: 353,
     max: 353,
-    status: Status::Healthy,
+    status: Condition::Healthy,
     counter: 0,
     rested: false,
     slots: [
@@ -239,7 +250,7 @@ const JYNX: Member = Member {
     base_speed: 95,
     hp: 135,
     max: 135,
-    status: Status::Healthy,
+    status: Condition::Healthy,
     counter: 0,
     rested: false,
     slots: [
@@ -255,6 +266,15 @@ const JYNX: Member = Member {
     slot_count: 1,
 };
 
+fn nicks_of(alloc: Global, legal: &Legal) -> Result<String, AllocError> {
+    let mut nicks = String::new(alloc);
+    for nick in legal.nicks.as_slice() {
+        nicks.push_str(nick.as_str())?;
+        nicks.push_str(" ")?;
+    }
+    Ok(nicks)
+}
+
 #[test]
 fn members_of_a_legal_team(rt: HostRuntime) -> Result<(), Fail> {
     let alloc = rt.alloc();
@@ -266,11 +286,7 @@ fn members_of_a_legal_team(rt: HostRuntime) -> Result<(), Fail> {
     assert_eq!(rt; legal.team.count, 2);
     assert_eq!(rt; legal.team.members[0], TAUROS);
     assert_eq!(rt; legal.team.members[1], JYNX);
-    let mut nicks = String::new(alloc);
-    for nick in legal.nicks.as_slice() {
-        nicks.push_str(nick.as_str())?;
-        nicks.push_str(" ")?;
-    }
+    let nicks = nicks_of(alloc, &legal)?;
     assert_eq!(rt; nicks.as_str(), "Bull Ice ");
     Ok(())
 }
@@ -324,6 +340,19 @@ fn split(alloc: Global, words: &str) -> Result<Vec<String>, AllocError> {
     Ok(list)
 }
 
+fn status_of(
+    alloc: Global,
+    words: &str,
+    held: Vec<NamedFile>,
+    read: &[u64],
+    out: &mut MemSink,
+) -> Result<Status, AllocError> {
+    let words = split(alloc, words)?;
+    let mut files = MemFiles::new(held, read.to_vec(alloc)?);
+    let mut input = MemSource::new(Vec::new(alloc), [1].to_vec(alloc)?);
+    Ok(end_of(alloc, &words, &mut files, &mut input, out))
+}
+
 /// The status of the words over these files, and behind a colon what was written. The calls of these
 /// numbers fail; the input fails at its first call.
 fn run_of(
@@ -333,11 +362,8 @@ fn run_of(
     read: &[u64],
     write: &[u64],
 ) -> Result<String, AllocError> {
-    let words = split(alloc, words)?;
-    let mut files = MemFiles::new(held, read.to_vec(alloc)?);
-    let mut input = MemSource::new(Vec::new(alloc), [1].to_vec(alloc)?);
     let mut out = MemSink::new(alloc, write.to_vec(alloc)?);
-    let status = run(alloc, &words, &mut files, &mut input, &mut out);
+    let status = status_of(alloc, words, held, read, &mut out)?;
     let written = std::str::from_utf8(out.bytes()).unwrap_or("");
     format!(in alloc; "{status}:{written}")
 }
@@ -400,13 +426,7 @@ fn options_of_check(rt: HostRuntime) -> Result<(), Fail> {
         ),
     ];
     for (words, wanted) in rows {
-        let held = held(
-            alloc,
-            ROW_DEX.as_bytes(),
-            ROW_CONFIG.as_bytes(),
-            TAUROS_TEAM.as_bytes(),
-        )?;
-        let told = run_of(alloc, words, held, &[], &[])?;
+        let told = legal_check(alloc, words, &[], &[])?;
         assert_eq!(rt; told.as_str(), *wanted, "{words}");
     }
     Ok(())
@@ -465,15 +485,41 @@ fn files_of_check(rt: HostRuntime) -> Result<(), Fail> {
     Ok(())
 }
 
+/// What a check of so many bars ends in.
+fn end_of_bars(alloc: Global, count: usize) -> Result<String, AllocError> {
+    let team = vec![in alloc; b'|'; count]?;
+    check_of(alloc, ROW_DEX, ROW_CONFIG, &team)
+}
+
 #[test]
-fn limits_and_faults_of_check(rt: HostRuntime) -> Result<(), Fail> {
+fn longest_team_files(rt: HostRuntime) -> Result<(), Fail> {
     let alloc = rt.alloc();
-    let team = vec![in alloc; b'|'; 8_192]?;
-    let told = check_of(alloc, ROW_DEX, ROW_CONFIG, &team)?;
-    assert_eq!(rt; told.as_str(), "BadPack at=1 kind=EmptySet:");
-    let team = vec![in alloc; b'|'; 8_193]?;
-    let told = check_of(alloc, ROW_DEX, ROW_CONFIG, &team)?;
-    assert_eq!(rt; told.as_str(), "FileLong name=t:");
+    let longest = end_of_bars(alloc, 8_192)?;
+    assert_eq!(rt; longest.as_str(), "BadPack at=1 kind=EmptySet:");
+    let longer = end_of_bars(alloc, 8_193)?;
+    assert_eq!(rt; longer.as_str(), "FileLong name=t:");
+    Ok(())
+}
+
+/// A check of the legal team, where the calls of these numbers fail.
+fn legal_check(
+    alloc: Global,
+    words: &str,
+    read: &[u64],
+    write: &[u64],
+) -> Result<String, AllocError> {
+    let held = held(
+        alloc,
+        ROW_DEX.as_bytes(),
+        ROW_CONFIG.as_bytes(),
+        TAUROS_TEAM.as_bytes(),
+    )?;
+    run_of(alloc, words, held, read, write)
+}
+
+#[test]
+fn faults_of_check(rt: HostRuntime) -> Result<(), Fail> {
+    let alloc = rt.alloc();
     let rows: &[(&[u64], &[u64], &str)] = &[
         (&[1], &[], "FileFault name=d:"),
         (&[2], &[], "FileFault name=c:"),
@@ -482,19 +528,7 @@ fn limits_and_faults_of_check(rt: HostRuntime) -> Result<(), Fail> {
         (&[], &[2], "Done:legal\n"),
     ];
     for (read, write, wanted) in rows {
-        let held = held(
-            alloc,
-            ROW_DEX.as_bytes(),
-            ROW_CONFIG.as_bytes(),
-            TAUROS_TEAM.as_bytes(),
-        )?;
-        let told = run_of(
-            alloc,
-            "check gen1ou t --dex d --config c",
-            held,
-            read,
-            write,
-        )?;
+        let told = legal_check(alloc, "check gen1ou t --dex d --config c", read, write)?;
         assert_eq!(rt; told.as_str(), *wanted);
     }
     Ok(())

@@ -1,8 +1,5 @@
 //! Two scripts whose worlds of the lobby are the same to a connection give it the same lines.
-use ps_outside::files::SureFiles;
-use ps_outside::sink::MemSink;
-use ps_outside::source::SureSource;
-use ps_replay::run::run;
+use crate::runs::{lines_of, replayed};
 use std::alloc::{AllocError, Global};
 use std::process::Abort;
 use std::test::Fail;
@@ -24,40 +21,16 @@ const TOLD: &str = ">1 lobby|watch\n>2 lobby|hi\n>2 lobby|/leave\n>2 |/join lobb
 /// The same with Bob refused, by texts of its own.
 const OWN: &str = ">2 lobby|/modnote psst\n>2 lobby|hi\n>2 lobby|/leave\n>2 |/join lobby\n";
 
-fn script_of(alloc: Global, rest: &str) -> Result<Vec<u8>, AllocError> {
-    let text = format!(in alloc; "{BEGIN}{rest}")?;
-    text.as_bytes().to_vec(alloc)
-}
-
-/// What is written for a script that begins so and goes on with this.
-fn written(alloc: Global, rest: &str) -> Result<Vec<u8>, AllocError> {
-    let mut words = Vec::new(alloc);
-    words.push(String::from_str(alloc, "replay")?)?;
-    let mut files = SureFiles::new(Vec::new(alloc));
-    let mut source = SureSource::new(script_of(alloc, rest)?);
-    let mut sink = MemSink::new(alloc, Vec::new(alloc));
-    let _ = run(alloc, &words, &mut files, &mut source, &mut sink);
-    sink.bytes().to_vec(alloc)
-}
-
-/// The lines of a connection in what is written for the script.
-fn lines_of(alloc: Global, conn: &str, rest: &str) -> Result<String, AllocError> {
-    let bytes = written(alloc, rest)?;
-    let mut lines = String::new(alloc);
-    let text = std::str::from_utf8(&bytes).unwrap_or("");
-    for line in text.lines() {
-        if line.starts_with(conn) {
-            lines.push_str(line)?;
-            lines.push_str("\n")?;
-        }
-    }
-    Ok(lines)
+/// The lines of a connection in what is written for a script that begins so and goes on with this.
+fn lines_after(alloc: Global, conn: char, rest: &str) -> Result<String, AllocError> {
+    let bytes = replayed(alloc, format!(in alloc; "{BEGIN}{rest}")?)?;
+    lines_of(alloc, &bytes, conn)
 }
 
 /// Whether two scripts give a connection the same lines.
-fn are_same(alloc: Global, conn: &str, one: &str, two: &str) -> Result<bool, AllocError> {
-    let first = lines_of(alloc, conn, one)?;
-    let second = lines_of(alloc, conn, two)?;
+fn are_same(alloc: Global, conn: char, one: &str, two: &str) -> Result<bool, AllocError> {
+    let first = lines_after(alloc, conn, one)?;
+    let second = lines_after(alloc, conn, two)?;
     Ok(first.as_str() == second.as_str())
 }
 
@@ -68,8 +41,8 @@ fn has_line(rt: &impl Abort, text: &str, line: &str) {
 #[test]
 fn unseen_notes_and_foreign_refusals_change_no_line(rt: HostRuntime) -> Result<(), Fail> {
     let alloc = rt.alloc();
-    assert!(rt; are_same(alloc, "2", NOTED, QUIET)?);
-    let lines = lines_of(alloc, "2", NOTED)?;
+    assert!(rt; are_same(alloc, '2', NOTED, QUIET)?);
+    let lines = lines_after(alloc, '2', NOTED)?;
     has_line(&rt, lines.as_str(), "2. |c:|0| Bob|hi");
     has_line(&rt, lines.as_str(), "2. |users|3,%Ann, Cat, Bob");
     Ok(())
@@ -79,8 +52,8 @@ fn unseen_notes_and_foreign_refusals_change_no_line(rt: HostRuntime) -> Result<(
 fn what_is_seen_does_change_lines(rt: HostRuntime) -> Result<(), Fail> {
     let alloc = rt.alloc();
     // A line to everybody, a refusal of Bob's own, and notes to who sees them.
-    assert!(rt; !are_same(alloc, "2", TOLD, QUIET)?);
-    assert!(rt; !are_same(alloc, "2", OWN, QUIET)?);
-    assert!(rt; !are_same(alloc, "1", NOTED, QUIET)?);
+    assert!(rt; !are_same(alloc, '2', TOLD, QUIET)?);
+    assert!(rt; !are_same(alloc, '2', OWN, QUIET)?);
+    assert!(rt; !are_same(alloc, '1', NOTED, QUIET)?);
     Ok(())
 }

@@ -32,6 +32,8 @@ mod long_tests;
 #[cfg(test)]
 mod rules_tests;
 #[cfg(test)]
+mod runs;
+#[cfg(test)]
 mod script_tests;
 #[cfg(test)]
 mod tests;

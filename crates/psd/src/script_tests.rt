@@ -1,8 +1,5 @@
 //! Scripts of chat rooms and names, by what a connection is sent at their end.
-use ps_outside::files::SureFiles;
-use ps_outside::sink::MemSink;
-use ps_outside::source::SureSource;
-use ps_replay::run::run;
+use crate::runs::{lines_of, replayed};
 use std::alloc::{AllocError, Global};
 use std::process::Abort;
 use std::test::Fail;
@@ -95,29 +92,6 @@ const NAMES: Rows = &[
     ),
     ("", ">1 |/trn Zed,0,\n", '1', "1< |popup|[AlreadyNamed]\n"),
 ];
-
-fn replayed(alloc: Global, script: String) -> Result<Vec<u8>, AllocError> {
-    let mut words = Vec::new(alloc);
-    words.push(String::from_str(alloc, "replay")?)?;
-    let mut files = SureFiles::new(Vec::new(alloc));
-    let mut source = SureSource::new(script.into_bytes());
-    let mut sink = MemSink::new(alloc, Vec::new(alloc));
-    let _ = run(alloc, &words, &mut files, &mut source, &mut sink);
-    sink.bytes().to_vec(alloc)
-}
-
-/// The lines of a connection.
-fn lines_of(alloc: Global, bytes: &[u8], conn: char) -> Result<String, AllocError> {
-    let mut lines = String::new(alloc);
-    let text = std::str::from_utf8(bytes).unwrap_or("");
-    for line in text.lines() {
-        if line.starts_with(conn) {
-            lines.push_str(line)?;
-            lines.push_str("\n")?;
-        }
-    }
-    Ok(lines)
-}
 
 fn script_of(alloc: Global, front: &str, rest: &str) -> Result<String, AllocError> {
     format!(in alloc; "{front}{START}{rest}")

@@ -1,4 +1,7 @@
 //! Rows that show what the program does, worked out by hand.
+ghost use Rattle.std.specs.Prelude.{◌≤◌};
+
+use crate::runs::{end_of, lines_of, told};
 use ps_base::decimal::read_u32;
 use ps_base::id::{read_id, to_id};
 use ps_base::list::List;
@@ -6,8 +9,6 @@ use ps_base::text::Text;
 use ps_outside::files::{MemFiles, NamedFile, SureFiles};
 use ps_outside::sink::{MemSink, SureSink};
 use ps_outside::source::{MemSource, SureSource};
-use ps_replay::run::run;
-use ps_replay::status::Status;
 use std::alloc::{AllocError, Global};
 use std::test::Fail;
 
@@ -28,8 +29,15 @@ fn words_of(alloc: Global, words: &[&str]) -> Result<Vec<String>, AllocError> {
     Ok(list)
 }
 
-fn told(alloc: Global, status: &Status) -> Result<String, AllocError> {
-    format!(in alloc; "{status}")
+fn replay_into(
+    alloc: Global,
+    source: &mut MemSource,
+    sink: &mut MemSink,
+) -> Result<String, AllocError> {
+    let words = words_of(alloc, &["replay"])?;
+    let mut files = SureFiles::new(Vec::new(alloc));
+    let status = end_of(alloc, &words, &mut files, source, sink);
+    told(alloc, &status)
 }
 
 fn replay(
@@ -38,12 +46,31 @@ fn replay(
     read: &[u64],
     write: &[u64],
 ) -> Result<(String, Vec<u8>), AllocError> {
-    let words = words_of(alloc, &["replay"])?;
-    let mut files = SureFiles::new(Vec::new(alloc));
     let mut source = MemSource::new(input.to_vec(alloc)?, read.to_vec(alloc)?);
     let mut sink = MemSink::new(alloc, write.to_vec(alloc)?);
-    let status = run(alloc, &words, &mut files, &mut source, &mut sink);
-    Ok((told(alloc, &status)?, sink.bytes().to_vec(alloc)?))
+    let status = replay_into(alloc, &mut source, &mut sink)?;
+    Ok((status, sink.bytes().to_vec(alloc)?))
+}
+
+/// The files with the name `dex`, of which the calls of these numbers fail.
+fn dex_file(alloc: Global, bytes: &[u8], failing: &[u64]) -> Result<MemFiles, AllocError> {
+    let mut held = Vec::new(alloc);
+    held.push(NamedFile {
+        name: Text::copy_of(alloc, "dex")?,
+        bytes: List::from_vec(bytes.to_vec(alloc)?),
+    })?;
+    Ok(MemFiles::new(held, failing.to_vec(alloc)?))
+}
+
+fn replay_over(
+    alloc: Global,
+    files: &mut MemFiles,
+    sink: &mut MemSink,
+) -> Result<String, AllocError> {
+    let words = words_of(alloc, &["replay", "--dex", "dex"])?;
+    let mut source = SureSource::new(LOBBY.as_bytes().to_vec(alloc)?);
+    let status = end_of(alloc, &words, files, &mut source, sink);
+    told(alloc, &status)
 }
 
 /// Replays the lobby's script with the words `--dex dex`, where the dex file has these bytes, and the
@@ -53,30 +80,19 @@ fn replay_with(
     bytes: &[u8],
     failing: &[u64],
 ) -> Result<(String, Vec<u8>), AllocError> {
-    let words = words_of(alloc, &["replay", "--dex", "dex"])?;
-    let mut held = Vec::new(alloc);
-    held.push(NamedFile {
-        name: Text::copy_of(alloc, "dex")?,
-        bytes: List::from_vec(bytes.to_vec(alloc)?),
-    })?;
-    let mut files = MemFiles::new(held, failing.to_vec(alloc)?);
-    let mut source = SureSource::new(LOBBY.as_bytes().to_vec(alloc)?);
+    let mut files = dex_file(alloc, bytes, failing)?;
     let mut sink = MemSink::new(alloc, Vec::new(alloc));
-    let status = run(alloc, &words, &mut files, &mut source, &mut sink);
-    Ok((told(alloc, &status)?, sink.bytes().to_vec(alloc)?))
+    let status = replay_over(alloc, &mut files, &mut sink)?;
+    Ok((status, sink.bytes().to_vec(alloc)?))
 }
 
-/// The lines of connection 2.
-fn lines_of_two(alloc: Global, bytes: &[u8]) -> Result<String, AllocError> {
-    let mut lines = String::new(alloc);
-    let text = std::str::from_utf8(bytes).unwrap_or("");
-    for line in text.lines() {
-        if line.starts_with("2") {
-            lines.push_str(line)?;
-            lines.push_str("\n")?;
-        }
-    }
-    Ok(lines)
+fn ended(alloc: Global, words: &[&str]) -> Result<String, AllocError> {
+    let words = words_of(alloc, words)?;
+    let mut files = SureFiles::new(Vec::new(alloc));
+    let mut source = SureSource::new(Vec::new(alloc));
+    let mut sink = SureSink::new(alloc);
+    let status = end_of(alloc, &words, &mut files, &mut source, &mut sink);
+    told(alloc, &status)
 }
 
 #[test]
@@ -94,12 +110,7 @@ fn words_that_are_no_command(rt: HostRuntime) -> Result<(), Fail> {
         (&["replay", "--dex", "a"], "FileMissing name=a"),
     ];
     for (words, status) in rows {
-        let words = words_of(alloc, words)?;
-        let mut files = SureFiles::new(Vec::new(alloc));
-        let mut source = SureSource::new(Vec::new(alloc));
-        let mut sink = SureSink::new(alloc);
-        let ended = run(alloc, &words, &mut files, &mut source, &mut sink);
-        assert_eq!(rt; told(alloc, &ended)?.as_str(), *status);
+        assert_eq!(rt; ended(alloc, words)?.as_str(), *status);
     }
     Ok(())
 }
@@ -125,13 +136,23 @@ fn scripts_by_their_status(rt: HostRuntime) -> Result<(), Fail> {
         let (ended, _) = replay(alloc, input.as_bytes(), &[], &[])?;
         assert_eq!(rt; ended.as_str(), *status, "{input:?}");
     }
-    let lines = vec![in alloc; b'\n'; 200_000]?;
-    let (ended, _) = replay(alloc, &lines, &[], &[])?;
-    assert_eq!(rt; ended.as_str(), "Done");
-    let lines = vec![in alloc; b'\n'; 200_001]?;
+    Ok(())
+}
+
+/// What so many empty lines end in.
+fn end_of_lines(alloc: Global, count: usize) -> Result<String, AllocError> {
+    let lines = vec![in alloc; b'\n'; count]?;
     let (ended, written) = replay(alloc, &lines, &[], &[])?;
-    assert_eq!(rt; ended.as_str(), "ScriptLong count=200001");
-    assert_eq!(rt; written.len(), 0);
+    format!(in alloc; "{ended}, {}", written.len())
+}
+
+#[test]
+fn longest_scripts(rt: HostRuntime) -> Result<(), Fail> {
+    let alloc = rt.alloc();
+    let longest = end_of_lines(alloc, 200_000)?;
+    assert_eq!(rt; longest.as_str(), "Done, 0");
+    let longer = end_of_lines(alloc, 200_001)?;
+    assert_eq!(rt; longer.as_str(), "ScriptLong count=200001, 0");
     Ok(())
 }
 
@@ -140,8 +161,8 @@ fn staff_note_is_unseen(rt: HostRuntime) -> Result<(), Fail> {
     let alloc = rt.alloc();
     let (_, noted) = replay(alloc, LOBBY.as_bytes(), &[], &[])?;
     let (_, quiet) = replay(alloc, QUIET_LOBBY.as_bytes(), &[], &[])?;
-    let noted = lines_of_two(alloc, &noted)?;
-    let quiet = lines_of_two(alloc, &quiet)?;
+    let noted = lines_of(alloc, &noted, '2')?;
+    let quiet = lines_of(alloc, &quiet, '2')?;
     assert_eq!(rt; noted.as_str(), LOBBY_OF_BOB);
     assert_eq!(rt; quiet.as_str(), LOBBY_OF_BOB);
     Ok(())
@@ -184,15 +205,27 @@ fn dex_files_by_their_status(rt: HostRuntime) -> Result<(), Fail> {
         let (ended, _) = replay_with(alloc, bytes.as_bytes(), failing)?;
         assert_eq!(rt; ended.as_str(), *status, "{bytes:?}");
     }
-    let mut bytes = vec![in alloc; b' '; 16_777_216]?;
+    Ok(())
+}
+
+/// What a replay ends in over an empty object of so many bytes, and how much was written.
+fn end_of_spaces(alloc: Global, count: usize) -> Result<String, AllocError>
+    requires { 2 ≤ count }
+{
+    let mut bytes = vec![in alloc; b' '; count]?;
     bytes[0] = b'{';
     bytes[1] = b'}';
-    let (ended, _) = replay_with(alloc, &bytes, &[])?;
-    assert_eq!(rt; ended.as_str(), "Done");
-    bytes.push(b' ')?;
     let (ended, written) = replay_with(alloc, &bytes, &[])?;
-    assert_eq!(rt; ended.as_str(), "FileLong name=dex");
-    assert_eq!(rt; written.len(), 0);
+    format!(in alloc; "{ended}, {}", written.len())
+}
+
+#[test]
+fn longest_dex_files(rt: HostRuntime) -> Result<(), Fail> {
+    let alloc = rt.alloc();
+    let longest = end_of_spaces(alloc, 16_777_216)?;
+    assert!(rt; longest.starts_with("Done, "));
+    let longer = end_of_spaces(alloc, 16_777_217)?;
+    assert_eq!(rt; longer.as_str(), "FileLong name=dex, 0");
     Ok(())
 }
 

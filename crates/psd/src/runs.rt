@@ -1,0 +1,48 @@
+//! Runs of the program, for rows.
+use ps_outside::files::{Files, SureFiles};
+use ps_outside::sink::{MemSink, Sink};
+use ps_outside::source::{Source, SureSource};
+use ps_replay::run::run;
+use ps_replay::status::Status;
+use std::alloc::{AllocError, Global};
+
+/// How a run ends, and nothing of what else it promises: a row compares what was written with a text, and the proofs of
+/// its functions stay small.
+pub(crate) fn end_of<F: Files, S: Source, K: Sink>(
+    alloc: Global,
+    words: &[String],
+    files: &mut F,
+    input: &mut S,
+    out: &mut K,
+) -> Status {
+    run(alloc, words, files, input, out)
+}
+
+/// The line that tells a status.
+pub(crate) fn told(alloc: Global, status: &Status) -> Result<String, AllocError> {
+    format!(in alloc; "{status}")
+}
+
+/// What is written for a script, without a dex file.
+pub(crate) fn replayed(alloc: Global, script: String) -> Result<Vec<u8>, AllocError> {
+    let mut words = Vec::new(alloc);
+    words.push(String::from_str(alloc, "replay")?)?;
+    let mut files = SureFiles::new(Vec::new(alloc));
+    let mut source = SureSource::new(script.into_bytes());
+    let mut sink = MemSink::new(alloc, Vec::new(alloc));
+    let _ = end_of(alloc, &words, &mut files, &mut source, &mut sink);
+    sink.bytes().to_vec(alloc)
+}
+
+/// The lines of a connection, by the digit that they begin with.
+pub(crate) fn lines_of(alloc: Global, bytes: &[u8], conn: char) -> Result<String, AllocError> {
+    let mut lines = String::new(alloc);
+    let text = std::str::from_utf8(bytes).unwrap_or("");
+    for line in text.lines() {
+        if line.starts_with(conn) {
+            lines.push_str(line)?;
+            lines.push_str("\n")?;
+        }
+    }
+    Ok(lines)
+}
