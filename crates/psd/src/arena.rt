@@ -11,6 +11,7 @@ ghost use Rattle.ps_mon.specs.Valid.{IsSide, IsValid, is_over};
 ghost use Rattle.ps_mon.specs.declared.choice.Choice.TheVariants.{Continue, Move, Switch};
 
 use ps_battle::{commit, open};
+use ps_dex::dex::Dex;
 use ps_event::event::{Event, Events, Who};
 use ps_event::side::Side;
 use ps_mon::choice::Choice;
@@ -18,6 +19,7 @@ use ps_mon::facts::Facts;
 use ps_mon::record::{Battle, Disabled, Phase, SideState};
 use ps_mon::status::Status;
 use ps_mon::team::{BattleTeam, Member, MoveSlot};
+use std::process::Abort;
 
 /// P1's first member.
 pub(crate) const ANN: Who = Who {
@@ -286,7 +288,7 @@ pub(crate) fn last_turn(facts: Facts<'_>, row: &Row) -> Option<(Battle, Events)>
 }
 
 /// The first row, from 0, whose last turn doesn't have its event.
-pub(crate) fn first_without_event(facts: Facts<'_>, rows: &[Row]) -> Option<usize>
+fn first_without_event(facts: Facts<'_>, rows: &[Row]) -> Option<usize>
     requires { AreFair facts }
 {
     for (place, row) in rows.iter().enumerate() {
@@ -298,4 +300,15 @@ pub(crate) fn first_without_event(facts: Facts<'_>, rows: &[Row]) -> Option<usiz
         }
     }
     None
+}
+
+/// Each row's last turn has its event.
+pub(crate) fn hold(rt: &impl Abort, dex: &Dex, tables: &[&[Row]]) {
+    for (place, rows) in tables.iter().enumerate() {
+        assert_eq!(rt;
+            first_without_event(dex.facts(), rows),
+            None,
+            "table {place}"
+        );
+    }
 }

@@ -2,7 +2,7 @@
 ghost use Rattle.std.specs.Prelude.{◌≡◌, ◌<◌};
 ghost use Rattle.ps_mon.specs.Facts.{AreFair};
 
-use crate::arena::{ANN, ANN_2, BOB, Row, Turn, first_without_event, last_turn};
+use crate::arena::{ANN, ANN_2, BOB, Row, Turn, hold, last_turn};
 use ps_dex::dex::Dex;
 use ps_event::event::{Event, Events, Health};
 use ps_mon::choice::Choice;
@@ -282,7 +282,7 @@ const LOSSES: [(Row, u16, u16); 8] = [
 fn statuses_and_substitutes_cost_what_the_rows_say(rt: HostRuntime) -> Result<(), Fail> {
     let dex = Dex::read(rt.alloc(), DEX.as_bytes()).expect(&rt, "a dex");
     for (row, hp, substitute) in LOSSES {
-        assert_eq!(rt; first_without_event(dex.facts(), &[row]), None);
+        hold(&rt, &dex, &[&[row]]);
         assert_eq!(rt; health_after(dex.facts(), &row), Some((hp, substitute)));
     }
     Ok(())
@@ -303,7 +303,7 @@ const ACTS: [Row; 8] = [
 #[test]
 fn who_cannot_act_is_told_why(rt: HostRuntime) -> Result<(), Fail> {
     let dex = Dex::read(rt.alloc(), DEX.as_bytes()).expect(&rt, "a dex");
-    assert_eq!(rt; first_without_event(dex.facts(), &ACTS), None);
+    hold(&rt, &dex, &[&ACTS]);
     Ok(())
 }
 
@@ -349,11 +349,23 @@ const BARRED_SECONDARIES: [Row; 2] = [
 #[test]
 fn statuses_come_unless_they_are_barred(rt: HostRuntime) -> Result<(), Fail> {
     let dex = Dex::read(rt.alloc(), DEX.as_bytes()).expect(&rt, "a dex");
-    assert_eq!(rt; first_without_event(dex.facts(), &BARRED_STATUSES), None);
-    assert_eq!(rt; first_without_event(dex.facts(), &STATUSES), None);
+    hold(&rt, &dex, &[&BARRED_STATUSES, &STATUSES]);
+    Ok(())
+}
+
+/// Whether a row's last turn has its event; None where a choice can't be.
+fn has_event(facts: Facts<'_>, row: &Row) -> Option<bool>
+    requires { AreFair facts }
+{
+    let (_, out) = last_turn(facts, row)?;
+    Some(out.as_slice().contains(&row.4))
+}
+
+#[test]
+fn barred_secondaries_do_not_come(rt: HostRuntime) -> Result<(), Fail> {
+    let dex = Dex::read(rt.alloc(), DEX.as_bytes()).expect(&rt, "a dex");
     for row in BARRED_SECONDARIES {
-        let (_, out) = last_turn(dex.facts(), &row).expect(&rt, "a turn");
-        assert!(rt; !out.as_slice().contains(&row.4));
+        assert_eq!(rt; has_event(dex.facts(), &row), Some(false));
     }
     Ok(())
 }
@@ -413,7 +425,6 @@ const FAILURES: [Row; 7] = [
 #[test]
 fn effects_fail_where_they_are_barred(rt: HostRuntime) -> Result<(), Fail> {
     let dex = Dex::read(rt.alloc(), DEX.as_bytes()).expect(&rt, "a dex");
-    assert_eq!(rt; first_without_event(dex.facts(), &BARRED_EFFECTS), None);
-    assert_eq!(rt; first_without_event(dex.facts(), &FAILURES), None);
+    hold(&rt, &dex, &[&BARRED_EFFECTS, &FAILURES]);
     Ok(())
 }

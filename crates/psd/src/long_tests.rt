@@ -2,7 +2,7 @@
 ghost use Rattle.std.specs.Prelude.{◌≡◌, ◌<◌};
 ghost use Rattle.ps_mon.specs.Facts.{AreFair};
 
-use crate::arena::{ANN, BOB, Row, Turn, first_without_event, last_turn};
+use crate::arena::{ANN, BOB, Row, Turn, hold, last_turn};
 use ps_dex::dex::Dex;
 use ps_event::event::{Event, Health};
 use ps_mon::choice::Choice;
@@ -672,24 +672,26 @@ const DISABLES: &[Row] = &[
 #[test]
 fn long_moves_start_go_on_and_end(rt: HostRuntime) -> Result<(), Fail> {
     let dex = Dex::read(rt.alloc(), DEX.as_bytes()).expect(&rt, "a dex");
-    let facts = dex.facts();
-    assert_eq!(rt; first_without_event(facts, SEVERAL_HITS), None);
-    assert_eq!(rt; first_without_event(facts, CHARGES), None);
-    assert_eq!(rt; first_without_event(facts, RECHARGES), None);
-    assert_eq!(rt; first_without_event(facts, TRAPS), None);
-    assert_eq!(rt; first_without_event(facts, THRASHES), None);
-    assert_eq!(rt; first_without_event(facts, BIDES), None);
-    assert_eq!(rt; first_without_event(facts, RAGES), None);
+    hold(
+        &rt,
+        &dex,
+        &[
+            SEVERAL_HITS,
+            CHARGES,
+            RECHARGES,
+            TRAPS,
+            THRASHES,
+            BIDES,
+            RAGES,
+        ],
+    );
     Ok(())
 }
 
 #[test]
 fn copying_moves_do_what_the_rows_say(rt: HostRuntime) -> Result<(), Fail> {
     let dex = Dex::read(rt.alloc(), DEX.as_bytes()).expect(&rt, "a dex");
-    let facts = dex.facts();
-    assert_eq!(rt; first_without_event(facts, COPIES), None);
-    assert_eq!(rt; first_without_event(facts, CALLS), None);
-    assert_eq!(rt; first_without_event(facts, DISABLES), None);
+    hold(&rt, &dex, &[COPIES, CALLS, DISABLES]);
     Ok(())
 }
 
@@ -730,12 +732,17 @@ fn pp_after(facts: Facts<'_>, row: &Row) -> Option<u8>
 }
 
 #[test]
+fn metronome_alone_fails(rt: HostRuntime) -> Result<(), Fail> {
+    let dex = Dex::read(rt.alloc(), METRONOME_ALONE.as_bytes()).expect(&rt, "a dex");
+    hold(&rt, &dex, &[&[ALONE]]);
+    Ok(())
+}
+
+#[test]
 fn three_moves_take_the_pp_of_one(rt: HostRuntime) -> Result<(), Fail> {
     let dex = Dex::read(rt.alloc(), CALLERS.as_bytes()).expect(&rt, "a dex");
-    assert_eq!(rt; first_without_event(dex.facts(), &[CHAIN]), None);
+    hold(&rt, &dex, &[&[CHAIN]]);
     assert_eq!(rt; pp_after(dex.facts(), &CHAIN), Some(23));
-    let dex = Dex::read(rt.alloc(), METRONOME_ALONE.as_bytes()).expect(&rt, "a dex");
-    assert_eq!(rt; first_without_event(dex.facts(), &[ALONE]), None);
     Ok(())
 }
 
