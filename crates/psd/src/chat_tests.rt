@@ -326,24 +326,48 @@ fn letters(alloc: Global, count: u32) -> Result<String, Fail> {
     Ok(text)
 }
 
-/// A text of 300 characters is said, and one of 301 is too long.
+/// The room with Ann in it.
+fn opened_by_ann(rt: &impl Abort, alloc: Global) -> Result<Room, Fail> {
+    let mut room = opened(rt, alloc)?;
+    enter(alloc, &mut room, 1, 0, "/join lobby")?;
+    Ok(room)
+}
+
+/// What a connection is sent from the room, from its begin on.
+fn sent_to(alloc: Global, room: &Room, conn: u32) -> Result<String, Fail> {
+    let mut cursor = Cursor::new(ConnNo(conn));
+    pulled(alloc, room, &mut cursor)
+}
+
+fn say_letters(alloc: Global, room: &mut Room, count: u32) -> Result<(), Fail> {
+    let text = letters(alloc, count)?;
+    enter(alloc, room, 1, 0, text.as_str())
+}
+
+/// What Ann is sent who says so many letters.
+fn sent_for_letters(rt: &impl Abort, alloc: Global, count: u32) -> Result<String, Fail> {
+    let mut room = opened_by_ann(rt, alloc)?;
+    say_letters(alloc, &mut room, count)?;
+    sent_to(alloc, &room, 1)
+}
+
+/// A text of 300 characters is said.
 #[test]
 fn longest_text(rt: HostRuntime) -> Result<(), Fail> {
-    let alloc = rt.alloc();
-    let mut room = opened(&rt, alloc)?;
-    enter(alloc, &mut room, 1, 0, "/join lobby")?;
-    let mut cursor = Cursor::new(ConnNo(1));
-    let joined = pulled(alloc, &room, &mut cursor)?;
-    assert_eq!(rt; joined.as_str(), "|init|chat/|title|Lobby/|users|1,%Ann");
-    let said = letters(alloc, 300)?;
-    enter(alloc, &mut room, 1, 0, said.as_str())?;
-    let line = pulled(alloc, &room, &mut cursor)?;
-    assert!(rt; line.starts_with("|c:|0|%Ann|aaa"));
-    assert_eq!(rt; line.len(), 311);
-    let long = letters(alloc, 301)?;
-    enter(alloc, &mut room, 1, 0, long.as_str())?;
-    let refused = pulled(alloc, &room, &mut cursor)?;
-    assert_eq!(rt; refused.as_str(), "|error|[TooLong]");
+    let sent = sent_for_letters(&rt, rt.alloc(), 300)?;
+    assert!(rt; sent.starts_with("|init|chat/|title|Lobby/|users|1,%Ann/|c:|0|%Ann|aaa"));
+    assert_eq!(rt; sent.len(), 349);
+    Ok(())
+}
+
+/// One of 301 is too long.
+#[test]
+fn longer_text(rt: HostRuntime) -> Result<(), Fail> {
+    let sent = sent_for_letters(&rt, rt.alloc(), 301)?;
+    assert_eq!(rt;
+        sent.as_str(),
+        "|init|chat/|title|Lobby/|users|1,%Ann/|error|[TooLong]"
+    );
     Ok(())
 }
 
@@ -355,21 +379,24 @@ fn say_numbers(alloc: Global, room: &mut Room, count: u32) -> Result<(), Fail> {
     Ok(())
 }
 
+/// What Bob is sent who joins after so many lines of Ann and a staff note.
+fn sent_after(rt: &impl Abort, alloc: Global, count: u32) -> Result<String, Fail> {
+    let mut room = opened_by_ann(rt, alloc)?;
+    say_numbers(alloc, &mut room, count)?;
+    enter(alloc, &mut room, 1, 0, "/modnote hush")?;
+    enter(alloc, &mut room, 2, 0, "/join lobby")?;
+    sent_to(alloc, &room, 2)
+}
+
 /// Who joins is sent the last hundred of 101 logged lines, without the staff note behind them.
 #[test]
 fn last_hundred_lines(rt: HostRuntime) -> Result<(), Fail> {
-    let alloc = rt.alloc();
-    let mut room = opened(&rt, alloc)?;
-    enter(alloc, &mut room, 1, 0, "/join lobby")?;
-    say_numbers(alloc, &mut room, 101)?;
-    enter(alloc, &mut room, 1, 0, "/modnote hush")?;
-    enter(alloc, &mut room, 2, 0, "/join lobby")?;
-    let joined = pulled(alloc, &room, &mut Cursor::new(ConnNo(2)))?;
-    assert_eq!(rt; joined.as_str().split("/").count(), 103);
+    let sent = sent_after(&rt, rt.alloc(), 101)?;
+    assert_eq!(rt; sent.as_str().split("/").count(), 103);
     assert!(rt;
-        joined.starts_with("|init|chat/|title|Lobby/|users|2,%Ann, Bob/|c:|0|%Ann|1/|c:|0|%Ann|2/")
+        sent.starts_with("|init|chat/|title|Lobby/|users|2,%Ann, Bob/|c:|0|%Ann|1/|c:|0|%Ann|2/")
     );
-    assert!(rt; joined.ends_with("/|c:|0|%Ann|99/|c:|0|%Ann|100"));
+    assert!(rt; sent.ends_with("/|c:|0|%Ann|99/|c:|0|%Ann|100"));
     Ok(())
 }
 
@@ -380,16 +407,26 @@ fn join_all(alloc: Global, room: &mut Room, count: u32) -> Result<(), Fail> {
     Ok(())
 }
 
-/// A room has place for 256 members, and for no more.
+/// What the last of so many who join is sent.
+fn sent_to_last(rt: &impl Abort, alloc: Global, count: u32) -> Result<String, Fail> {
+    let mut room = opened(rt, alloc)?;
+    join_all(alloc, &mut room, count)?;
+    sent_to(alloc, &room, count.saturating_sub(1))
+}
+
+/// A room has place for 256 members.
 #[test]
 fn full_room(rt: HostRuntime) -> Result<(), Fail> {
-    let alloc = rt.alloc();
-    let mut room = opened(&rt, alloc)?;
-    join_all(alloc, &mut room, 257)?;
-    let joined = pulled(alloc, &room, &mut Cursor::new(ConnNo(255)))?;
-    assert!(rt; joined.starts_with("|init|chat/|title|Lobby/|users|256, Zed,%Ann,"));
-    let refused = pulled(alloc, &room, &mut Cursor::new(ConnNo(256)))?;
-    assert_eq!(rt; refused.as_str(), "|error|[RoomFull]");
+    let sent = sent_to_last(&rt, rt.alloc(), 256)?;
+    assert!(rt; sent.starts_with("|init|chat/|title|Lobby/|users|256, Zed,%Ann,"));
+    Ok(())
+}
+
+/// It has none for another one.
+#[test]
+fn overfull_room(rt: HostRuntime) -> Result<(), Fail> {
+    let sent = sent_to_last(&rt, rt.alloc(), 257)?;
+    assert_eq!(rt; sent.as_str(), "|error|[RoomFull]");
     Ok(())
 }
 
@@ -431,16 +468,19 @@ fn chat_row(alloc: Global, chat: &mut Chat, text: &str) -> Result<String, Fail> 
     texts(alloc, chat.lines())
 }
 
+/// What a chat's lines are after each of three texts.
+fn lines_of_three(rt: &impl Abort, alloc: Global) -> Result<String, Fail> {
+    let mut chat = chat(rt, alloc)?;
+    let join = chat_row(alloc, &mut chat, "/join lobby")?;
+    let said = chat_row(alloc, &mut chat, "hi")?;
+    let refused = chat_row(alloc, &mut chat, "  ")?;
+    Ok(format!(in alloc; "{join}/{said}/{refused}")?)
+}
+
 /// The lines are those of the last entry that was allowed.
 #[test]
 fn chat_by_itself(rt: HostRuntime) -> Result<(), Fail> {
-    let alloc = rt.alloc();
-    let mut chat = chat(&rt, alloc)?;
-    let join = chat_row(alloc, &mut chat, "/join lobby")?;
-    assert_eq!(rt; join.as_str(), "|j|%Ann");
-    let said = chat_row(alloc, &mut chat, "hi")?;
-    assert_eq!(rt; said.as_str(), "|c:|0|%Ann|hi");
-    let refused = chat_row(alloc, &mut chat, "  ")?;
-    assert_eq!(rt; refused.as_str(), "|c:|0|%Ann|hi");
+    let lines = lines_of_three(&rt, rt.alloc())?;
+    assert_eq!(rt; lines.as_str(), "|j|%Ann/|c:|0|%Ann|hi/|c:|0|%Ann|hi");
     Ok(())
 }

@@ -275,23 +275,34 @@ fn nicks_of(alloc: Global, legal: &Legal) -> Result<String, AllocError> {
     Ok(nicks)
 }
 
+/// What a team is in the format that bars nothing.
+fn free_team(rt: &impl Abort, alloc: Global, text: &str) -> Result<Legal, TeamFault> {
+    let dex = Dex::read(alloc, DEX.as_bytes()).expect(rt, "a dex");
+    let config = Config::read(alloc, CONFIG.as_bytes(), &dex).expect(rt, "a configuration");
+    checked(rt, alloc, &dex, &config, "free", text)
+}
+
+const TWO: &str =
+    "Bull||||fissure,slam|||||||]Ice|Jynx|||bodyslam||4,40,0,252,8,252||31,30,29,28,0,3||50|";
+
 #[test]
 fn members_of_a_legal_team(rt: HostRuntime) -> Result<(), Fail> {
-    let alloc = rt.alloc();
-    let dex = Dex::read(alloc, DEX.as_bytes()).expect(&rt, "a dex");
-    let config = Config::read(alloc, CONFIG.as_bytes(), &dex).expect(&rt, "a configuration");
-    let team =
-        "Bull||||fissure,slam|||||||]Ice|Jynx|||bodyslam||4,40,0,252,8,252||31,30,29,28,0,3||50|";
-    let legal = checked(&rt, alloc, &dex, &config, "free", team).expect(&rt, "a legal team");
+    let legal = free_team(&rt, rt.alloc(), TWO).expect(&rt, "a legal team");
     assert_eq!(rt; legal.team.count, 2);
     assert_eq!(rt; legal.team.members[0], TAUROS);
     assert_eq!(rt; legal.team.members[1], JYNX);
-    let nicks = nicks_of(alloc, &legal)?;
+    Ok(())
+}
+
+#[test]
+fn nicknames_of_a_legal_team(rt: HostRuntime) -> Result<(), Fail> {
+    let legal = free_team(&rt, rt.alloc(), TWO).expect(&rt, "a legal team");
+    let nicks = nicks_of(rt.alloc(), &legal)?;
     assert_eq!(rt; nicks.as_str(), "Bull Ice ");
     Ok(())
 }
 
-/// Some moves and species of data/row/dex.json.
+/// A dex of five moves and one species.
 const ROW_DEX: &str = r#"{
   "types": [{"name": "Normal", "special": false}, {"name": "Psychic", "special": true}],
   "moves": [
