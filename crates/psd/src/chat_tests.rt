@@ -29,7 +29,9 @@ const WHO: [(&str, u8); 7] = [
 
 /// A connection, a moment, a text, and what is sent: each message once, behind the connections that get it,
 /// its lines parted by slashes. `quit` stands for the end of the connection.
-type Rows = &'static [(u32, u64, &'static str, &'static str)];
+type Row = (u32, u64, &'static str, &'static str);
+
+type Rows = &'static [Row];
 
 /// Joins, texts and leaving: the backlog has no staff notes, and who leaves gets its own line.
 const TALK: Rows = &[
@@ -288,12 +290,25 @@ fn row(
     told(alloc, texts.as_slice())
 }
 
+/// A text of a row is sent what the row says.
+fn holds(
+    rt: &impl Abort,
+    alloc: Global,
+    room: &mut Room,
+    cursors: &mut [Cursor],
+    said: &Row,
+) -> Result<(), Fail> {
+    let (conn, moment, text, sent) = said;
+    let given = row(alloc, room, cursors, *conn, *moment, text)?;
+    assert_eq!(rt; given.as_str(), *sent, "{conn} at {moment}: {text}");
+    Ok(())
+}
+
 fn play(rt: &impl Abort, alloc: Global, rows: Rows) -> Result<(), Fail> {
     let mut room = opened(rt, alloc)?;
     let mut cursors = cursors(alloc)?;
-    for (conn, moment, text, sent) in rows {
-        let given = row(alloc, &mut room, &mut cursors, *conn, *moment, text)?;
-        assert_eq!(rt; given.as_str(), *sent, "{conn} at {moment}: {text}");
+    for row in rows {
+        holds(rt, alloc, &mut room, &mut cursors, row)?;
     }
     Ok(())
 }
@@ -455,32 +470,38 @@ fn enter_chat(alloc: Global, chat: &mut Chat, text: &str) -> Result<(), Fail> {
     apply_allowed(alloc, chat, &badge, &cmd)
 }
 
-fn texts(alloc: Global, lines: &[ChatLine]) -> Result<String, Fail> {
-    let mut out = String::new(alloc);
+fn push_texts(lines: &[ChatLine], out: &mut String) -> Result<(), Fail> {
     for line in lines {
         out.push_str(line.text.as_str())?;
+        out.push_str("/")?;
     }
-    Ok(out)
+    Ok(())
 }
 
-fn chat_row(alloc: Global, chat: &mut Chat, text: &str) -> Result<String, Fail> {
+fn push_row(alloc: Global, chat: &mut Chat, text: &str, out: &mut String) -> Result<(), Fail> {
     enter_chat(alloc, chat, text)?;
-    texts(alloc, chat.lines())
+    push_texts(chat.lines(), out)
 }
 
-/// What a chat's lines are after each of three texts.
-fn lines_of_three(rt: &impl Abort, alloc: Global) -> Result<String, Fail> {
+fn push_rows(alloc: Global, chat: &mut Chat, texts: &[&str], out: &mut String) -> Result<(), Fail> {
+    for text in texts {
+        push_row(alloc, chat, text, out)?;
+    }
+    Ok(())
+}
+
+/// What a chat's lines are after each of some texts.
+fn lines_of(rt: &impl Abort, alloc: Global, texts: &[&str]) -> Result<String, Fail> {
     let mut chat = chat(rt, alloc)?;
-    let join = chat_row(alloc, &mut chat, "/join lobby")?;
-    let said = chat_row(alloc, &mut chat, "hi")?;
-    let refused = chat_row(alloc, &mut chat, "  ")?;
-    Ok(format!(in alloc; "{join}/{said}/{refused}")?)
+    let mut out = String::new(alloc);
+    push_rows(alloc, &mut chat, texts, &mut out)?;
+    Ok(out)
 }
 
 /// The lines are those of the last entry that was allowed.
 #[test]
 fn chat_by_itself(rt: HostRuntime) -> Result<(), Fail> {
-    let lines = lines_of_three(&rt, rt.alloc())?;
-    assert_eq!(rt; lines.as_str(), "|j|%Ann/|c:|0|%Ann|hi/|c:|0|%Ann|hi");
+    let lines = lines_of(&rt, rt.alloc(), &["/join lobby", "hi", "  "])?;
+    assert_eq!(rt; lines.as_str(), "|j|%Ann/|c:|0|%Ann|hi/|c:|0|%Ann|hi/");
     Ok(())
 }
