@@ -1,6 +1,8 @@
 pub mod Clauses
 pub mod Rules
+pub mod Places
 pub mod Walk
+pub mod Steps
 pub mod Reading
 pub mod Resolve
 pub mod Faults

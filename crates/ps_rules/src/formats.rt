@@ -9,6 +9,7 @@ ghost use Rattle.ps_rules.specs.Faults.{GivesFormats, Finds};
 use crate::fault::{FormatFault, RuleFault, told};
 use crate::read::read_said;
 use crate::row::{Format, Rule, RuleTable, Said};
+use crate::rulesets::Rulesets;
 use crate::walk::clauses_of;
 use ps_base::id::Id;
 use ps_base::list::List;
@@ -92,7 +93,7 @@ fn alone(alloc: Global, said: &Said, id: &Id) -> Result<RuleTable, RuleFault>
         id: id.copy(alloc)?,
         repeals: false,
     };
-    let clauses = clauses_of(alloc, said.rulesets.as_slice(), &[rule])?;
+    let clauses = clauses_of(alloc, &said.rulesets, &[rule])?;
     Ok(plain(alloc, clauses))
 }
 
@@ -103,7 +104,7 @@ impl Formats {
     {
         Formats {
             said: Said {
-                rulesets: List::from_vec(Vec::new(alloc)),
+                rulesets: Rulesets::none(alloc),
                 formats: List::from_vec(Vec::new(alloc)),
             },
         }

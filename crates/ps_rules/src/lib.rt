@@ -8,6 +8,7 @@ mod list;
 mod name;
 mod read;
 pub mod row;
+pub mod rulesets;
 mod walk;
 
 pub use ps_data::fault::DataKind;

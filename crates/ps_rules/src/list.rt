@@ -9,6 +9,7 @@ ghost use Rattle.ps_rules.specs.Walk.{clauses_of};
 
 use crate::fault::RuleFault;
 use crate::row::{Rule, Ruleset};
+use crate::rulesets::Rulesets;
 use crate::walk::clauses_of;
 use ps_base::id::{Id, to_id};
 use ps_base::list::List;
@@ -113,14 +114,14 @@ impl EntryForm<Ruleset> for RulesetForm {
 }
 
 /// The rulesets of a configuration.
-pub(crate) fn rulesets_at(alloc: Global, value: &Value) -> Result<List<Ruleset>, Refusal>
+pub(crate) fn rulesets_at(alloc: Global, value: &Value) -> Result<Rulesets, Refusal>
     ensures { Gives result (entries_at (codes "rulesets") ruleset_in (view value.now)) }
 {
     let rulesets = entries_at(alloc, &RulesetForm, value, "rulesets")?;
-    Ok(List::from_vec(rulesets))
+    Ok(Rulesets::from_vec(alloc, rulesets)?)
 }
 
-fn or_kind(alloc: Global, sets: &[Ruleset], rules: &[Rule]) -> Result<u8, Refusal>
+fn or_kind(alloc: Global, sets: &Rulesets, rules: &[Rule]) -> Result<u8, Refusal>
     ensures { Gives result (or_kind (clauses_of sets.now rules.now)) }
 {
     match clauses_of(alloc, sets, rules) {
@@ -134,7 +135,7 @@ fn or_kind(alloc: Global, sets: &[Ruleset], rules: &[Rule]) -> Result<u8, Refusa
 
 /// The clauses that a format's rule list leaves on, or the kind of the first fault of its walk.
 #[tactic(auto, unfolding(crate::specs::Reading::clauses_in))]
-pub(crate) fn read_clauses(alloc: Global, sets: &[Ruleset], value: &Value) -> Result<u8, Refusal>
+pub(crate) fn read_clauses(alloc: Global, sets: &Rulesets, value: &Value) -> Result<u8, Refusal>
     ensures { Gives result (clauses_in sets.now (view value.now)) }
 {
     let rules = rules(alloc, value)?;

@@ -7,7 +7,8 @@ ghost use Rattle.ps_rules.specs.Reading.{clauses_in, has_ban, is_known, ban_in, 
 
 use crate::list::{read_clauses, rulesets_at};
 use crate::name::{Named, read_name};
-use crate::row::{Format, RuleTable, Ruleset, Said};
+use crate::row::{Format, RuleTable, Said};
+use crate::rulesets::Rulesets;
 use ps_base::id::{Id, to_id};
 use ps_base::list::List;
 use ps_data::fault::{DataKind, Refusal, refused};
@@ -18,7 +19,7 @@ use ps_dex::dex::Dex;
 use serde_json::Value;
 use std::alloc::Global;
 
-fn clauses_at(alloc: Global, sets: &[Ruleset], value: &Value) -> Result<u8, Refusal>
+fn clauses_at(alloc: Global, sets: &Rulesets, value: &Value) -> Result<u8, Refusal>
     ensures { Gives result (optional (codes "rules") 64 (clauses_in sets.now) (view value.now)) }
 {
     match value.get("rules") {
@@ -149,7 +150,7 @@ fn levels_at(alloc: Global, value: &Value) -> Result<[u8; 2], Refusal>
 }
 
 #[tactic(auto, unfolding(crate::specs::Reading::table_in))]
-fn table(alloc: Global, sets: &[Ruleset], dex: &Dex, value: &Value) -> Result<RuleTable, Refusal>
+fn table(alloc: Global, sets: &Rulesets, dex: &Dex, value: &Value) -> Result<RuleTable, Refusal>
     ensures { Gives result (table_in sets.now dex.now (view value.now)) }
 {
     let clauses = clauses_at(alloc, sets, value)?;
@@ -171,7 +172,7 @@ fn table(alloc: Global, sets: &[Ruleset], dex: &Dex, value: &Value) -> Result<Ru
 #[tactic(auto, unfolding(crate::specs::Reading::format_in))]
 fn format(
     alloc: Global,
-    sets: &[Ruleset],
+    sets: &Rulesets,
     dex: &Dex,
     before: &[Format],
     value: &Value,
@@ -192,7 +193,7 @@ fn format(
 /// The form of a format, over the rulesets and the dex.
 #[derive(Drop)]
 struct FormatForm<'a> {
-    sets: &'a List<Ruleset>,
+    sets: &'a Rulesets,
     dex: &'a Dex,
 }
 
@@ -206,17 +207,12 @@ impl ItemForm<Format> for FormatForm<'_> {
         _after: &[Value],
         value: &Value,
     ) -> Result<Format, Refusal> {
-        format(alloc, self.sets.as_slice(), self.dex, before, value)
+        format(alloc, self.sets, self.dex, before, value)
     }
 }
 
 #[tactic(auto, unfolding(crate::specs::Reading::formats_in))]
-fn formats(
-    alloc: Global,
-    sets: &List<Ruleset>,
-    dex: &Dex,
-    value: &Value,
-) -> Result<Vec<Format>, Refusal>
+fn formats(alloc: Global, sets: &Rulesets, dex: &Dex, value: &Value) -> Result<Vec<Format>, Refusal>
     ensures { GivesBy (λ v. v.items) result (formats_in sets.now dex.now (view value.now)) }
 {
     let values = array(alloc, value)?;
@@ -225,7 +221,7 @@ fn formats(
 
 fn formats_at(
     alloc: Global,
-    sets: &List<Ruleset>,
+    sets: &Rulesets,
     dex: &Dex,
     value: &Value,
 ) -> Result<List<Format>, Refusal>

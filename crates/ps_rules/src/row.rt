@@ -1,6 +1,7 @@
 //! What a configuration says of rules.
 ghost use Rattle.std.specs.Prelude.{◌≡◌};
 
+use crate::rulesets::Rulesets;
 use ps_base::id::Id;
 use ps_base::list::List;
 use ps_base::text::Text;
@@ -72,7 +73,7 @@ impl HasId for Format {
 #[derive(Debug, Drop)]
 pub struct Said {
     /// The rulesets, in byte order of their keys.
-    pub rulesets: List<Ruleset>,
+    pub rulesets: Rulesets,
     /// The formats, in order.
     pub formats: List<Format>,
 }

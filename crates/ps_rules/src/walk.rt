@@ -1,16 +1,16 @@
 //! The walk of a rule list.
-ghost use Rattle.std.specs.Prelude.{◌≡◌, ◌∷◌, [], length, map, slice_get, IfOk, IfSome};
-ghost use Rattle.ps_rules.specs.Rules.{place_of};
-ghost use Rattle.ps_rules.specs.Walk.{nothing, left_on, naming, repealing, own, with_inner, set_named, rules_of, is_open, set_at, texts, walk, clauses_of, by_clause};
-ghost use Rattle.ps_rules.specs.Clauses.{clause_of, bit_of};
+ghost use Rattle.std.specs.Prelude.{◌≡◌, ◌+◌, ◌^◌, ◌<◌, length, replicate, slice_get, slice_set, option_copied, IfOk, IfSome, OnSome};
+ghost use Rattle.ps_rules.specs.Walk.{nothing, left_on, naming, repealing, own, with_inner, set_named, rules_of, walk, clauses_of};
+ghost use Rattle.ps_rules.specs.Steps.{rules_in, frame_at, further, by_mark, heard, turn_in, closed};
 ghost use Rattle.ps_rules.specs.Faults.{Finds};
 
 use crate::clause::{Clause, has};
 use crate::fault::RuleFault;
 use crate::row::{Rule, Ruleset};
+use crate::rulesets::Rulesets;
 use ps_base::id::Id;
-use ps_data::ids;
 use std::alloc::{AllocError, Global};
+use std::collections::VecDeque;
 
 /// What one list says so far: the clauses of its inner lists, those that it names and those that it
 /// repeals.
@@ -19,6 +19,39 @@ struct Tally {
     inner: u8,
     named: u8,
     repealed: u8,
+}
+
+/// How far the walk is with a ruleset.
+#[derive(Clone, Copy)]
+enum Mark {
+    /// The walk hasn't met it.
+    New,
+    /// The walk stands inside it.
+    Open,
+    /// Its list was walked, and leaves these clauses on wherever it is met.
+    Done(u8),
+}
+
+/// A list that the walk is in.
+#[derive(Clone, Copy)]
+struct Frame {
+    /// The place of its ruleset. None for the list that the walk begins with.
+    place: Option<usize>,
+    /// How many of its texts have been walked.
+    next: usize,
+    /// What these say.
+    tally: Tally,
+}
+
+/// The next step in a list.
+#[derive(Clone, Copy)]
+enum Turn {
+    /// One text more has been walked.
+    Further(Frame),
+    /// The text names a ruleset that the walk hasn't met, at a place.
+    Inner(usize),
+    /// No text is left, and the list leaves these clauses on.
+    Over(u8),
 }
 
 fn nothing() -> Tally
@@ -87,22 +120,15 @@ fn with_inner(tally: Tally, clauses: u8) -> Tally
     }
 }
 
-#[tactic(auto, unfolding(crate::specs::Rules::place_of))]
-fn place_of(sets: &[Ruleset], id: &str) -> Option<usize>
-    ensures { result ≡ place_of id.now sets.now }
-{
-    ids::place_of(sets, id)
-}
-
 /// The ruleset that a text names. A ruleset can't be repealed.
 #[tactic(auto, unfolding(crate::specs::Walk::set_named))]
-fn set_named(sets: &[Ruleset], rule: &Rule) -> Option<usize>
+fn set_named(sets: &Rulesets, rule: &Rule) -> Option<usize>
     ensures { result ≡ set_named sets.now rule.now }
 {
     if rule.repeals {
         None
     } else {
-        place_of(sets, rule.id.as_str())
+        sets.place_of(rule.id.as_str())
     }
 }
 
@@ -115,100 +141,172 @@ fn rules_at(sets: &[Ruleset], place: usize) -> &[Rule]
     }
 }
 
-fn is_open(places: &[usize], place: usize) -> bool
-    ensures { result ≡ is_open place places.now }
+fn rules_in<'a>(sets: &'a Rulesets, first: &'a [Rule], place: Option<usize>) -> &'a [Rule]
+    ensures { result.now ≡ rules_in sets.now first.now place }
 {
-    places.iter().any(|p| *p == place)
+    match place {
+        None => first,
+        Some(place) => rules_at(sets.as_slice(), place),
+    }
 }
 
-/// The places with one more in front.
-fn entered(alloc: Global, within: &[usize], place: usize) -> Result<Vec<usize>, AllocError>
-    ensures { IfOk result (λ v. v.items ≡ place ∷ within.now) }
+/// The text that comes next in a list, if one is left.
+fn next_text(rules: &[Rule], next: usize) -> Option<&Rule>
+    ensures text { option_copied result ≡ slice_get rules.now next }
+    ensures room { OnSome result (next + 1 < 2 ^ 64) }
 {
-    let mut places = Vec::new(alloc);
-    places.push(place)?;
-    places.extend_from_slice(within)?;
-    Ok(places)
+    if next < rules.len() {
+        Some(&rules[next])
+    } else {
+        None
+    }
 }
 
-/// The clauses that the ruleset at a place leaves on, inside the rulesets at the places `within`.
-/// One list may be entered for each of `deeper`.
-#[cycle(walking)]
-fn enter(
+fn frame_at(place: Option<usize>) -> Frame
+    ensures { result ≡ frame_at place }
+{
+    Frame {
+        place,
+        next: 0,
+        tally: nothing(),
+    }
+}
+
+fn further(frame: Frame, tally: Tally) -> Frame
+    requires { frame.next + 1 < 2 ^ 64 }
+    ensures { result ≡ further frame tally }
+{
+    Frame {
+        place: frame.place,
+        next: frame.next + 1,
+        tally,
+    }
+}
+
+/// A text that names the ruleset with a mark.
+fn by_mark(
     alloc: Global,
-    deeper: &[Ruleset],
-    sets: &[Ruleset],
-    within: &[usize],
     id: &Id,
+    frame: Frame,
     place: usize,
-) -> Result<u8, RuleFault>
-    ensures { Finds result (set_at deeper.now sets.now within.now id.now place) }
+    mark: Option<Mark>,
+) -> Result<Turn, RuleFault>
+    requires { frame.next + 1 < 2 ^ 64 }
+    ensures { Finds result (by_mark id.now frame place mark) }
 {
-    match deeper {
-        [] => Err(RuleFault::Cycle {
+    match mark {
+        Some(Mark::New) => Ok(Turn::Inner(place)),
+        Some(Mark::Done(clauses)) => Ok(Turn::Further(further(
+            frame,
+            with_inner(frame.tally, clauses),
+        ))),
+        Some(Mark::Open) | None => Err(RuleFault::Cycle {
             id: id.copy(alloc)?,
         }),
-        [_, rest @ ..] => {
-            if is_open(within, place) {
-                return Err(RuleFault::Cycle {
-                    id: id.copy(alloc)?,
-                });
-            }
-            let places = entered(alloc, within, place)?;
-            texts(alloc, rest, sets, &places, rules_at(sets, place))
-        }
     }
 }
 
-/// The clauses that the texts of a list leave on, inside the rulesets at the places `within`.
-#[cycle(walking)]
-fn texts(
+/// The step at a text.
+#[tactic(auto, unfolding(crate::specs::Steps::heard))]
+fn heard(
     alloc: Global,
-    deeper: &[Ruleset],
-    sets: &[Ruleset],
-    within: &[usize],
-    rules: &[Rule],
-) -> Result<u8, RuleFault>
-    ensures { Finds result (texts sets.now (set_at deeper.now sets.now within.now) nothing rules.now) }
+    sets: &Rulesets,
+    marks: &[Mark],
+    frame: Frame,
+    rule: &Rule,
+) -> Result<Turn, RuleFault>
+    requires { frame.next + 1 < 2 ^ 64 }
+    ensures { Finds result (heard sets.now marks.now frame rule.now) }
 {
-    let mut tally = nothing();
-    for rule in rules {
-        if let Some(clause) = Clause::from_id(rule.id.as_str()) {
-            match own(tally, clause.bit(), rule.repeals) {
-                None => {
-                    return Err(RuleFault::Contradiction {
-                        id: rule.id.copy(alloc)?,
-                    });
-                }
-                Some(next) => {
-                    tally = next;
-                    continue;
-                }
-            }
-        }
-        let Some(place) = set_named(sets, rule) else {
-            return Err(RuleFault::UnknownRule {
+    if let Some(clause) = Clause::from_id(rule.id.as_str()) {
+        return match own(frame.tally, clause.bit(), rule.repeals) {
+            None => Err(RuleFault::Contradiction {
                 id: rule.id.copy(alloc)?,
-            });
+            }),
+            Some(tally) => Ok(Turn::Further(further(frame, tally))),
         };
-        match enter(alloc, deeper, sets, within, &rule.id, place) {
-            Ok(clauses) => tally = with_inner(tally, clauses),
-            Err(fault) => return Err(fault),
-        }
     }
-    Ok(left_on(tally))
+    match set_named(sets, rule) {
+        None => Err(RuleFault::UnknownRule {
+            id: rule.id.copy(alloc)?,
+        }),
+        Some(place) => by_mark(alloc, &rule.id, frame, place, marks.get(place).copied()),
+    }
 }
 
-#[tactic(auto, unfolding(crate::specs::Walk::walk))]
-fn walk(alloc: Global, sets: &[Ruleset], rules: &[Rule]) -> Result<u8, RuleFault>
+/// The next step in a list.
+#[tactic(auto, unfolding(crate::specs::Steps::turn_in))]
+fn turn_in(
+    alloc: Global,
+    sets: &Rulesets,
+    marks: &[Mark],
+    first: &[Rule],
+    frame: Frame,
+) -> Result<Turn, RuleFault>
+    ensures { Finds result (turn_in sets.now marks.now first.now frame) }
+{
+    match next_text(rules_in(sets, first, frame.place), frame.next) {
+        None => Ok(Turn::Over(left_on(frame.tally))),
+        Some(rule) => heard(alloc, sets, marks, frame, rule),
+    }
+}
+
+fn all_new(alloc: Global, count: usize) -> Result<Vec<Mark>, AllocError>
+    ensures { IfOk result (λ marks. marks.items ≡ replicate count Mark.New) }
+{
+    let mut marks = Vec::new(alloc);
+    marks.resize(count, Mark::New)?;
+    Ok(marks)
+}
+
+fn set_mark(marks: &mut Vec<Mark>, place: usize, mark: Mark)
+    requires { place < length marks.old.items }
+    ensures { marks.new.items ≡ slice_set marks.old.items place mark }
+{
+    marks[place] = mark;
+}
+
+/// The ruleset of a list leaves these clauses on from now on.
+fn close(marks: &mut Vec<Mark>, place: Option<usize>, clauses: u8)
+    requires { IfSome place (λ p. p < length marks.old.items) }
+    ensures { marks.new.items ≡ closed marks.old.items place clauses }
+{
+    if let Some(place) = place {
+        set_mark(marks, place, Mark::Done(clauses));
+    }
+}
+
+/// Each ruleset is entered once: its mark says afterwards what it leaves on. The lists that wait for
+/// an inner one lie in `waiting`, the innermost first, each at the text that names the next.
+fn walk(alloc: Global, sets: &Rulesets, rules: &[Rule]) -> Result<u8, RuleFault>
     ensures { Finds result (walk sets.now rules.now) }
 {
-    texts(alloc, sets, sets, &[], rules)
+    let mut marks = all_new(alloc, sets.as_slice().len())?;
+    let mut waiting = VecDeque::new(alloc);
+    let mut frame = frame_at(None);
+    'steps: loop {
+        match turn_in(alloc, sets, &marks, rules, frame) {
+            Err(fault) => return Err(fault),
+            Ok(Turn::Further(next)) => frame = next,
+            Ok(Turn::Inner(place)) => {
+                waiting.push_front(frame)?;
+                set_mark(&mut marks, place, Mark::Open);
+                frame = frame_at(Some(place));
+            }
+            Ok(Turn::Over(clauses)) => {
+                let Some(outer) = waiting.pop_front() else {
+                    return Ok(clauses);
+                };
+                close(&mut marks, frame.place, clauses);
+                frame = outer;
+            }
+        }
+    }
 }
 
 /// The clauses that a rule list leaves on, with HP Percentage Mod, which is always on.
 #[tactic(auto, unfolding(crate::specs::Walk::clauses_of))]
-pub(crate) fn clauses_of(alloc: Global, sets: &[Ruleset], rules: &[Rule]) -> Result<u8, RuleFault>
+pub(crate) fn clauses_of(alloc: Global, sets: &Rulesets, rules: &[Rule]) -> Result<u8, RuleFault>
     ensures { Finds result (clauses_of sets.now rules.now) }
 {
     let clauses = walk(alloc, sets, rules)?;

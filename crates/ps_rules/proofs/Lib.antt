@@ -1,0 +1,5 @@
+mod ListLemmas
+mod PlaceLemmas
+mod TallyLemmas
+mod StackLemmas
+mod StepLemmas

@@ -1,0 +1,65 @@
+-- One step of the walk, as the code makes it: the lists that wait for an inner one lie on a stack, and each ruleset has a
+-- mark. Only private clauses cite this file; what a walk finds is said in `Walk`.
+use Rattle.std.specs.Prelude.{ℕ, ◌+◌, List, slice_get, slice_set, Option, Some, None, Result, Ok, Err}
+use Rattle.ps_rules.specs.declared.clause.Clause.{Clause}
+use Rattle.ps_rules.specs.declared.row.Rule.{Rule}
+use Rattle.ps_rules.specs.declared.row.Ruleset.{Ruleset}
+use Rattle.ps_rules.specs.declared.walk.Tally.{Tally}
+use Rattle.ps_rules.specs.declared.walk.Mark.{Mark}
+use Rattle.ps_rules.specs.declared.walk.Mark.TheVariants.{New, Open, Done}
+use Rattle.ps_rules.specs.declared.walk.Frame.{Frame}
+use Rattle.ps_rules.specs.declared.walk.Turn.{Turn}
+use Rattle.ps_rules.specs.declared.walk.Turn.TheVariants.{Further, Inner, Over}
+use Rattle.ps_rules.specs.declared.fault.RuleFault.{RuleFault}
+use Rattle.ps_rules.specs.declared.fault.RuleFault.TheVariants.{UnknownRule, Cycle, Contradiction}
+use Rattle.ps_rules.specs.Clauses.{clause_of, bit_of}
+use Rattle.ps_rules.specs.Walk.{nothing, left_on, own, with_inner, set_named, rules_of}
+
+-- the texts of the ruleset at a place, or those that the walk begins with
+abbrev pub rules_in : List Ruleset → List Rule → Option ℕ → List Rule
+rules_in sets first None = first
+rules_in sets first (Some place) = rules_of (slice_get sets place)
+
+-- no text of a list has been walked yet
+abbrev pub frame_at : Option ℕ → Frame
+frame_at place = record { place = place; next = 0; tally = nothing }
+
+-- one text more has been walked
+abbrev pub further : Frame → Tally → Frame
+further f t = record { place = f.place; next = f.next + 1; tally = t }
+
+-- a text that names the ruleset with a mark
+abbrev pub by_mark : List ℕ → Frame → ℕ → Option Mark → Result Turn RuleFault
+by_mark id f place None = Err (Cycle id)
+by_mark id f place (Some New) = Ok (Inner place)
+by_mark id f place (Some Open) = Err (Cycle id)
+by_mark id f place (Some (Done clauses)) = Ok (Further (further f (with_inner f.tally clauses)))
+
+abbrev pub by_place : List Mark → List ℕ → Frame → Option ℕ → Result Turn RuleFault
+by_place marks id f None = Err (UnknownRule id)
+by_place marks id f (Some place) = by_mark id f place (slice_get marks place)
+
+-- a text that names a clause
+abbrev pub by_own : List ℕ → Frame → Option Tally → Result Turn RuleFault
+by_own id f None = Err (Contradiction id)
+by_own id f (Some t) = Ok (Further (further f t))
+
+abbrev pub by_name : List Ruleset → List Mark → Frame → Rule → Option Clause → Result Turn RuleFault
+by_name sets marks f r (Some clause) = by_own r.id f (own f.tally (bit_of clause) r.repeals)
+by_name sets marks f r None = by_place marks r.id f (set_named sets r)
+
+unfoldable pub heard : List Ruleset → List Mark → Frame → Rule → Result Turn RuleFault
+heard sets marks f r = by_name sets marks f r (clause_of r.id)
+
+abbrev pub at_text : List Ruleset → List Mark → Frame → Option Rule → Result Turn RuleFault
+at_text sets marks f None = Ok (Over (left_on f.tally))
+at_text sets marks f (Some r) = heard sets marks f r
+
+-- the next step in a list
+unfoldable pub turn_in : List Ruleset → List Mark → List Rule → Frame → Result Turn RuleFault
+turn_in sets marks first f = at_text sets marks f (slice_get (rules_in sets first f.place) f.next)
+
+-- the ruleset of a list leaves these clauses on from now on
+abbrev pub closed : List Mark → Option ℕ → ℕ → List Mark
+closed marks None clauses = marks
+closed marks (Some place) clauses = slice_set marks place (Done clauses)
