@@ -36,6 +36,8 @@ mod runs;
 #[cfg(test)]
 mod script_tests;
 #[cfg(test)]
+mod start_tests;
+#[cfg(test)]
 mod tests;
 
 const HELP: &str = "\

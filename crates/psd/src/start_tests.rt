@@ -1,0 +1,152 @@
+//! What a battle can start with, and what it can't.
+use ps_base::id::to_id;
+use ps_base::list::List;
+use ps_base::name::Name;
+use ps_base::text::Text;
+use ps_dex::dex::Dex;
+use ps_mon::status::Status;
+use ps_mon::team::{BattleTeam, Member, MoveSlot};
+use ps_start::fit::is_fit;
+use ps_valid::config::Config;
+use ps_valid::start::{Legal, Start};
+use std::alloc::{AllocError, Global};
+use std::process::Abort;
+use std::test::Fail;
+
+/// A dex of one move and one species.
+const DEX: &str = r#"{"types":[{"name":"Normal","special":false}],
+"moves":[{"name":"Body Slam","type":"Normal","power":85,"accuracy":100,"pp":24,"priority":0}],
+"species":[{"name":"Tauros","types":["Normal"],"stats":[75,100,95,70,110],"learns":["bodyslam"]}]}"#;
+
+const CONFIG: &str = r#"{"formats":[{"name":"[Gen 1] OU"}]}"#;
+
+const BODY_SLAM: MoveSlot = MoveSlot {
+    mv: 0,
+    pp: 24,
+    max_pp: 24,
+};
+
+const TAUROS: Member = Member {
+    species: 0,
+    level: 100,
+    types: [0, 0],
+    stats: [298, 288, 238, 318],
+    base_speed: 110,
+    hp: 353,
+    max: 353,
+    status: Status::Healthy,
+    counter: 0,
+    rested: false,
+    slots: [BODY_SLAM; 4],
+    slot_count: 1,
+};
+
+const FAINTED: Member = Member { hp: 0, ..TAUROS };
+
+const BURNT: Member = Member {
+    status: Status::Brn,
+    ..TAUROS
+};
+
+/// Its one move can't be used any more.
+const SPENT: Member = Member {
+    slots: [MoveSlot { pp: 0, ..BODY_SLAM }; 4],
+    ..TAUROS
+};
+
+/// It knows a move that the dex hasn't.
+const UNKNOWN_MOVE: Member = Member {
+    slots: [MoveSlot { mv: 1, ..BODY_SLAM }; 4],
+    ..TAUROS
+};
+
+/// It is of a species that the dex hasn't.
+const UNKNOWN_SPECIES: Member = Member {
+    species: 1,
+    ..TAUROS
+};
+
+fn nicks(alloc: Global, count: u8) -> Result<List<Text>, AllocError> {
+    let mut nicks = Vec::new(alloc);
+    for _ in 0..count {
+        nicks.push(Text::copy_of(alloc, "Bull")?)?;
+    }
+    Ok(List::from_vec(nicks))
+}
+
+/// A team of so many members that are alike, and its nicknames.
+fn legal(alloc: Global, member: Member, count: u8, nicked: u8) -> Result<Legal, AllocError> {
+    let nicks = nicks(alloc, nicked)?;
+    let team = BattleTeam {
+        members: [member; 6],
+        count,
+    };
+    Ok(Legal { team, nicks })
+}
+
+/// A start of Ann with a good team, in this format, against this name and team.
+fn start_of(alloc: Global, format: &str, foe: &str, team: Legal) -> Result<Start, AllocError> {
+    let format = to_id(alloc, format)?;
+    let own = Name::new(alloc, "Ann")?;
+    let other = Name::new(alloc, foe)?;
+    let good = legal(alloc, TAUROS, 1, 1)?;
+    Ok(Start {
+        number: 1,
+        format,
+        players: [own, other],
+        teams: [good, team],
+        seed: 0,
+    })
+}
+
+/// Whether a battle with this start can begin over the dex and the configuration.
+fn fits(rt: &impl Abort, alloc: Global, start: &Start) -> bool {
+    let dex = Dex::read(alloc, DEX.as_bytes()).expect(rt, "a dex");
+    let config = Config::read(alloc, CONFIG.as_bytes(), &dex).expect(rt, "a configuration");
+    is_fit(start, &config, &dex)
+}
+
+/// Whether a start of so many members and nicknames fits.
+fn fits_with(
+    rt: &impl Abort,
+    alloc: Global,
+    names: (&str, &str),
+    member: Member,
+    counts: (u8, u8),
+) -> Result<bool, AllocError> {
+    let (format, foe) = names;
+    let (count, nicked) = counts;
+    let team = legal(alloc, member, count, nicked)?;
+    let start = start_of(alloc, format, foe, team)?;
+    Ok(fits(rt, alloc, &start))
+}
+
+/// A format, the foe's name, its numbers of members and of nicknames, and whether a battle can start.
+const STARTS: &[(&str, &str, u8, u8, bool)] = &[
+    ("[Gen 1] OU", "Bob", 2, 2, true),
+    ("[Gen 2] OU", "Bob", 2, 2, false),
+    ("[Gen 1] OU", "a.n.n", 2, 2, false),
+    ("[Gen 1] OU", "Bob", 2, 1, false),
+    ("[Gen 1] OU", "Bob", 0, 0, false),
+];
+
+#[test]
+fn starts(rt: HostRuntime) -> Result<(), Fail> {
+    for (format, foe, count, nicked, wanted) in STARTS {
+        let fits = fits_with(&rt, rt.alloc(), (format, foe), TAUROS, (*count, *nicked))?;
+        assert_eq!(rt; fits, *wanted);
+    }
+    Ok(())
+}
+
+/// Members with which no battle can start.
+const UNFIT: &[Member] = &[FAINTED, BURNT, SPENT, UNKNOWN_MOVE, UNKNOWN_SPECIES];
+
+#[test]
+fn members_that_do_not_fit(rt: HostRuntime) -> Result<(), Fail> {
+    for (place, member) in UNFIT.iter().enumerate() {
+        let fits = fits_with(&rt, rt.alloc(), ("gen1ou", "Bob"), *member, (1, 1))?;
+        assert!(rt; !fits, "member {place}");
+    }
+    Ok(())
+}
