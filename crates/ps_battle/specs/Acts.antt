@@ -12,7 +12,7 @@ use Rattle.ps_mon.specs.declared.effect.Aim.{Aim}
 use Rattle.ps_mon.specs.declared.effect.Aim.TheVariants.{User, Foe}
 use Rattle.ps_mon.specs.declared.effect.CopyKind.{CopyKind}
 use Rattle.ps_mon.specs.declared.effect.CopyKind.TheVariants as copies
-use Rattle.ps_mon.specs.declared.facts.Facts.{Facts}
+use Rattle.ps_mon.specs.Facts.{Figures}
 use Rattle.ps_mon.specs.declared.record.Lock.{Lock}
 use Rattle.ps_mon.specs.Reading.{side_of, active_of}
 use Rattle.ps_mon.specs.Moves.{move_of, struggle_number}
@@ -58,21 +58,21 @@ prepares (effects.Charge away) goes_on = not goes_on
 prepares other goes_on = false
 
 -- Move is told, and the move is the last one of its user
-unfoldable pub named_row : Facts → Usage → Play (Unit {0})
+unfoldable pub named_row : Figures → Usage → Play (Unit {0})
 named_row facts u = do
   change (λ d. record d { user = record d.user { vol = record d.user.vol { last = Some u.mv } } })
   d ← look
   tell (events.Move (who_of d.user) u.mv (target_of (move_of facts u.mv).effect d) (prepares (move_of facts u.mv).effect u.goes_on) u.from)
 
-unfoldable pub named : Facts → ℕ → Usage → Course → Course
+unfoldable pub named : Figures → ℕ → Usage → Course → Course
 named facts user u c = played (named_row facts u) user c
 
 -- a move is told, and takes effect
-unfoldable pub used_alone : Facts → ℕ → Usage → Course → Course
+unfoldable pub used_alone : Figures → ℕ → Usage → Course → Course
 used_alone facts user u c = effect (move_of facts u.mv).effect facts u.mv u.slot user (named facts user u c)
 
 -- the move that a move calls
-unfoldable pub call_of : Facts → ℕ → Usage → Course → Option ℕ
+unfoldable pub call_of : Figures → ℕ → Usage → Course → Option ℕ
 call_of facts user u c = call (move_of facts u.mv).effect facts u.mv user (named facts user u c)
 
 -- a called move is used with the slot of who called it, and takes no PP
@@ -86,12 +86,12 @@ then_called (Some mv) next c = next mv c
 
 -- a called move, and the one that it calls in turn. None calls a third: what Mirror Move calls calls none, and what Metronome calls is
 -- no Metronome
-unfoldable pub used_called : Facts → ℕ → Usage → Course → Course
+unfoldable pub used_called : Figures → ℕ → Usage → Course → Course
 used_called facts user u c =
     then_called (call_of facts user u c) (λ mv. used_alone facts user (calling u mv)) (used_alone facts user u c)
 
 -- a move, and the moves that it calls: at most three
-unfoldable pub used : Facts → ℕ → Usage → Course → Course
+unfoldable pub used : Figures → ℕ → Usage → Course → Course
 used facts user u c =
     then_called (call_of facts user u c) (λ mv. used_called facts user (calling u mv)) (used_alone facts user u c)
 
@@ -109,7 +109,7 @@ abbrev pub continued_use : Lock → Usage
 continued_use lock = record { mv = lock.mv; slot = 0; from = Some lock.mv; goes_on = true }
 
 -- a move takes PP from its slot and is used; then its user suffers, where both active members stand
-unfoldable pub moved : Facts → ℕ → Option ℕ → ℕ → Course → Course
+unfoldable pub moved : Figures → ℕ → Option ℕ → ℕ → Course → Course
 moved facts user slot mv c =
     played residual user (used facts user (fresh_use slot mv) (record c { battle = with_use_of user slot c.battle }))
 
@@ -119,29 +119,29 @@ fail_row = do
   tell (events.Fail (who_of d.user))
 
 -- a long move goes on; where its lock has ended there is Fail in the place of Move and effect
-abbrev pub went_on : Option Lock → Facts → ℕ → Course → Course
+abbrev pub went_on : Option Lock → Figures → ℕ → Course → Course
 went_on None facts user c = played fail_row user c
 went_on (Some lock) facts user c = used facts user (continued_use lock) c
 
-unfoldable pub continued : Facts → ℕ → Course → Course
+unfoldable pub continued : Figures → ℕ → Course → Course
 continued facts user c = played residual user (went_on (side_of c.battle user).vol.lock facts user c)
 
 -- whether the member acts: else the line that ends its act stands in the place of the move and of what is suffered after it
 unfoldable pub goes_on : Option ℕ → ℕ → Course → Bool
 goes_on slot user c = (may_act slot (record { duel = duel_of c.battle user; told = c.told })).0
 
-unfoldable pub tried : Facts → ℕ → Option ℕ → ℕ → Course → Course
+unfoldable pub tried : Figures → ℕ → Option ℕ → ℕ → Course → Course
 tried facts user slot mv c =
     let tested = played (may_act slot) user c in
     if goes_on slot user c then moved facts user slot mv tested else tested
 
-unfoldable pub tried_again : Facts → ℕ → Course → Course
+unfoldable pub tried_again : Figures → ℕ → Course → Course
 tried_again facts user c =
     let tested = played (may_act None) user c in
     if goes_on None user c then continued facts user tested else tested
 
 -- an act of a side; a switch is none
-unfoldable pub act : Facts → ℕ → Choice → Course → Course
+unfoldable pub act : Figures → ℕ → Choice → Course → Course
 act facts user (choices.Move n) c = tried facts user (Some (n - 1)) (chosen_slot (side_of c.battle user) n) c
 act facts user choices.Struggle c = tried facts user None struggle_number c
 act facts user choices.Continue c = tried_again facts user c
@@ -155,7 +155,7 @@ unfoldable pub has_faint : Battle → Bool
 has_faint b = is_down b 0 || is_down b 1
 
 -- two acts, the second only where nobody fainted in the first
-unfoldable pub two_acts : Facts → ℕ → Choice → ℕ → Choice → Course → Course
+unfoldable pub two_acts : Figures → ℕ → Choice → ℕ → Choice → Course → Course
 two_acts facts s first t second c =
     let one = act facts s first c in
     if has_faint one.battle then one else act facts t second one

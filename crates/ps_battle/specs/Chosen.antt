@@ -2,7 +2,7 @@
 use Rattle.std.specs.Prelude.{ℕ, ℤ, pos, Bool, true, false, Option, Some, None, ◌-◌}
 use Rattle.ps_mon.specs.declared.choice.Choice.{Choice}
 use Rattle.ps_mon.specs.declared.choice.Choice.TheVariants as choices
-use Rattle.ps_mon.specs.declared.facts.Facts.{Facts}
+use Rattle.ps_mon.specs.Facts.{Figures}
 use Rattle.ps_mon.specs.declared.record.Lock.{Lock}
 use Rattle.ps_mon.specs.declared.record.SideState.{SideState}
 use Rattle.ps_mon.specs.Slots.{slot_now}
@@ -31,9 +31,9 @@ chosen_move side choices.Continue = locked_move side.vol.lock
 chosen_move side choice = None
 
 -- that of the move, 0 where there is none
-abbrev pub priority_by : Facts → Option ℕ → ℤ
+abbrev pub priority_by : Figures → Option ℕ → ℤ
 priority_by facts None = pos 0
 priority_by facts (Some mv) = (move_of facts mv).priority
 
-unfoldable pub priority_of : Facts → SideState → Choice → ℤ
+unfoldable pub priority_of : Figures → SideState → Choice → ℤ
 priority_of facts side choice = priority_by facts (chosen_move side choice)

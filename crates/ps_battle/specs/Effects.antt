@@ -2,7 +2,7 @@
 use Rattle.std.specs.Prelude.{ℕ, Option, None}
 use Rattle.ps_mon.specs.declared.effect.Effect.{Effect}
 use Rattle.ps_mon.specs.declared.effect.Effect.TheVariants as effects
-use Rattle.ps_mon.specs.declared.facts.Facts.{Facts}
+use Rattle.ps_mon.specs.Facts.{Figures}
 use Rattle.ps_hits.specs.Courses.{Course, played}
 use Rattle.ps_hits.specs.Hits.{plain_row, explode_row}
 use Rattle.ps_hits.specs.Amounts.{fixed_row, level_row, half_row, psywave_row, ohko_row}
@@ -25,7 +25,7 @@ IsOtherKind (effects.Copy sub) = ⊥
 IsOtherKind other = Unit {0}
 
 -- what the move `mv`, of that kind, does where side `user` uses it with a slot, from 0
-unfoldable pub effect : Effect → Facts → ℕ → ℕ → ℕ → Course → Course
+unfoldable pub effect : Effect → Figures → ℕ → ℕ → ℕ → Course → Course
 effect effects.Plain facts mv slot user = played (plain_row facts mv) user
 effect (effects.Fixed amount) facts mv slot user = played (fixed_row amount facts mv) user
 effect effects.Level facts mv slot user = played (level_row facts mv) user
@@ -62,6 +62,6 @@ effect effects.Rage facts mv slot user = played (rage_row facts mv) user
 effect (effects.Copy sub) facts mv slot user = copied sub facts mv slot user
 
 -- the move that is used in the place of the move `mv`, of that kind: only Metronome and Mirror Move call one
-unfoldable pub call : Effect → Facts → ℕ → ℕ → Course → Option ℕ
+unfoldable pub call : Effect → Figures → ℕ → ℕ → Course → Option ℕ
 call (effects.Copy sub) facts mv user c = called sub facts mv user c
 call other facts mv user c = None

@@ -6,7 +6,7 @@ use Rattle.ps_mon.specs.declared.record.Phase.{Phase}
 use Rattle.ps_mon.specs.declared.record.Phase.TheVariants as phases
 use Rattle.ps_mon.specs.declared.choice.Choice.{Choice}
 use Rattle.ps_mon.specs.declared.duel.Duel.{Duel}
-use Rattle.ps_mon.specs.declared.facts.Facts.{Facts}
+use Rattle.ps_mon.specs.Facts.{Figures}
 use Rattle.ps_mon.specs.Reading.{side_of}
 use Rattle.ps_mon.specs.Duels.{duel_of}
 use Rattle.ps_hits.specs.Courses.{Course}
@@ -28,14 +28,14 @@ unfoldable pub ordered : ℤ → ℤ → Duel → ℕ → Bool × ℕ
 ordered p q d x = if int_lt q p then (true, x) else if int_lt p q then (false, x) else faster d x
 
 -- whether P1 acts first; where one side alone acts there is no draw
-unfoldable pub first_of : Facts → Choice → Choice → Battle → Bool × ℕ
+unfoldable pub first_of : Figures → Choice → Choice → Battle → Bool × ℕ
 first_of facts c1 c2 b =
     if is_act c1 && is_act c2
     then ordered (priority_of facts (side_of b 0) c1) (priority_of facts (side_of b 1) c2) (duel_of b 0) b.rng
     else (true, b.rng)
 
 -- the acts of a turn in their order
-unfoldable pub acted : Facts → Choice → Choice → Course → Course
+unfoldable pub acted : Figures → Choice → Choice → Course → Course
 acted facts c1 c2 c =
     let first = first_of facts c1 c2 c.battle in
     let from : Course = record c { battle = record c.battle { rng = first.1 } } in
@@ -46,11 +46,11 @@ unfoldable pub both_switched : Choice → Choice → Course → Course
 both_switched c1 c2 c = switched 1 c2 (switched 0 c1 c)
 
 -- a commit by its phase: switches, then acts, then what follows them; or replacements, and the next turn
-unfoldable pub turn_in : Phase → Facts → Choice → Choice → Course → Course
+unfoldable pub turn_in : Phase → Figures → Choice → Choice → Course → Course
 turn_in phases.Turn facts c1 c2 c =
     closed (acted facts c1 c2 (both_switched c1 c2 (record c { battle = begun c.battle })))
 turn_in (phases.Replace p1 p2) facts c1 c2 c = next_turn (both_switched c1 c2 c)
 turn_in over facts c1 c2 c = c
 
-abbrev pub turn : Facts → Choice → Choice → Course → Course
+abbrev pub turn : Figures → Choice → Choice → Course → Course
 turn facts c1 c2 c = turn_in c.battle.phase facts c1 c2 c

@@ -1,7 +1,7 @@
 //! Acts.
 ghost use Rattle.std.specs.Prelude.{◌≡◌, ◌≤◌, ◌<◌, ◌+◌, ◌-◌, ℕ, IfSome};
 ghost use Rattle.arrayvec.specs.ArrayVec.{array_vec_len};
-ghost use Rattle.ps_mon.specs.Facts.{AreFair};
+ghost use Rattle.ps_mon.specs.Facts.{AreFair, figures};
 ghost use Rattle.ps_mon.specs.Keeping.{Keeps};
 ghost use Rattle.ps_mon.specs.Known.{AreKnown};
 ghost use Rattle.ps_mon.specs.Moves.{IsNamed, move_of, move_count};
@@ -99,9 +99,9 @@ fn is_preparing(kind: Effect, goes_on: bool) -> bool
 #[tactic(auto, unfolding(crate::specs::Acts::named_row))]
 fn name_in_duel(duel: &mut Duel, facts: Facts<'_>, usage: Usage, out: &mut Events)
     requires fit { IsFit duel.old }
-    requires fair { AreFair facts }
+    requires fair { AreFair (figures facts) }
     requires room { array_vec_len out.old + 1 ≤ 160 }
-    ensures after { scene duel.new out.new ≡ (named_row facts.entry usage (scene duel.old out.old)).1 }
+    ensures after { scene duel.new out.new ≡ (named_row (figures facts.entry) usage (scene duel.old out.old)).1 }
     ensures fit { IsFit duel.new }
     ensures known { (moves : ℕ) → IsNamed moves usage.mv → IsDuelKnown moves duel.old → IsDuelKnown moves duel.new }
     ensures room { array_vec_len out.new ≤ array_vec_len out.old + 1 }
@@ -121,10 +121,10 @@ fn name_in_duel(duel: &mut Duel, facts: Facts<'_>, usage: Usage, out: &mut Event
 #[tactic(auto, unfolding(crate::specs::Acts::named))]
 fn name_move(battle: &mut Battle, facts: Facts<'_>, user: u8, usage: Usage, out: &mut Events)
     requires sound { IsSound battle.old }
-    requires fair { AreFair facts }
+    requires fair { AreFair (figures facts) }
     requires user { user < 2 }
     requires room { array_vec_len out.old + 1 ≤ 160 }
-    ensures after { course battle.new out.new ≡ named facts.entry user usage (course battle.old out.old) }
+    ensures after { course battle.new out.new ≡ named (figures facts.entry) user usage (course battle.old out.old) }
     ensures sound { IsSound battle.new }
     ensures known { (moves : ℕ) → IsNamed moves usage.mv → AreKnown moves battle.old → AreKnown moves battle.new }
     ensures kept { Keeps user battle.old battle.new }
@@ -144,18 +144,18 @@ fn use_alone(
     out: &mut Events,
 ) -> Option<u16>
     requires sound { IsSound battle.old }
-    requires fair { AreFair facts }
-    requires known { AreKnown (move_count facts) battle.old }
-    requires named { IsNamed (move_count facts) usage.mv }
+    requires fair { AreFair (figures facts) }
+    requires known { AreKnown (move_count (figures facts)) battle.old }
+    requires named { IsNamed (move_count (figures facts)) usage.mv }
     requires user { user < 2 }
     requires slot { usage.slot < 4 }
     requires room { array_vec_len out.old + 21 ≤ 160 }
-    ensures value { result ≡ call_of facts.entry user usage (course battle.old out.old) }
-    ensures after { course battle.new out.new ≡ used_alone facts.entry user usage (course battle.old out.old) }
+    ensures value { result ≡ call_of (figures facts.entry) user usage (course battle.old out.old) }
+    ensures after { course battle.new out.new ≡ used_alone (figures facts.entry) user usage (course battle.old out.old) }
     ensures sound { IsSound battle.new }
-    ensures known { AreKnown (move_count facts.entry) battle.new }
+    ensures known { AreKnown (move_count (figures facts.entry)) battle.new }
     ensures kept { Keeps user battle.old battle.new }
-    ensures named { IfSome result (IsNamed (move_count facts.entry)) }
+    ensures named { IfSome result (IsNamed (move_count (figures facts.entry))) }
     ensures room { array_vec_len out.new ≤ array_vec_len out.old + 21 }
     ensures few { IfSome result (λ called. array_vec_len out.new ≤ array_vec_len out.old + 1) }
 {
@@ -179,15 +179,15 @@ fn called(usage: Usage, mv: u16) -> Usage
 #[tactic(auto, using(crate::proofs::KeepLemmas::keeps_trans), unfolding(crate::specs::Acts::used_called))]
 fn use_called(battle: &mut Battle, facts: Facts<'_>, user: u8, usage: Usage, out: &mut Events)
     requires sound { IsSound battle.old }
-    requires fair { AreFair facts }
-    requires known { AreKnown (move_count facts) battle.old }
-    requires named { IsNamed (move_count facts) usage.mv }
+    requires fair { AreFair (figures facts) }
+    requires known { AreKnown (move_count (figures facts)) battle.old }
+    requires named { IsNamed (move_count (figures facts)) usage.mv }
     requires user { user < 2 }
     requires slot { usage.slot < 4 }
     requires room { array_vec_len out.old + 22 ≤ 160 }
-    ensures after { course battle.new out.new ≡ used_called facts.entry user usage (course battle.old out.old) }
+    ensures after { course battle.new out.new ≡ used_called (figures facts.entry) user usage (course battle.old out.old) }
     ensures sound { IsSound battle.new }
-    ensures known { AreKnown (move_count facts.entry) battle.new }
+    ensures known { AreKnown (move_count (figures facts.entry)) battle.new }
     ensures kept { Keeps user battle.old battle.new }
     ensures room { array_vec_len out.new ≤ array_vec_len out.old + 22 }
 {
@@ -200,15 +200,15 @@ fn use_called(battle: &mut Battle, facts: Facts<'_>, user: u8, usage: Usage, out
 #[tactic(auto, using(crate::proofs::KeepLemmas::keeps_trans), unfolding(crate::specs::Acts::used))]
 fn use_move(battle: &mut Battle, facts: Facts<'_>, user: u8, usage: Usage, out: &mut Events)
     requires sound { IsSound battle.old }
-    requires fair { AreFair facts }
-    requires known { AreKnown (move_count facts) battle.old }
-    requires named { IsNamed (move_count facts) usage.mv }
+    requires fair { AreFair (figures facts) }
+    requires known { AreKnown (move_count (figures facts)) battle.old }
+    requires named { IsNamed (move_count (figures facts)) usage.mv }
     requires user { user < 2 }
     requires slot { usage.slot < 4 }
     requires room { array_vec_len out.old + 23 ≤ 160 }
-    ensures after { course battle.new out.new ≡ used facts.entry user usage (course battle.old out.old) }
+    ensures after { course battle.new out.new ≡ used (figures facts.entry) user usage (course battle.old out.old) }
     ensures sound { IsSound battle.new }
-    ensures known { AreKnown (move_count facts.entry) battle.new }
+    ensures known { AreKnown (move_count (figures facts.entry)) battle.new }
     ensures kept { Keeps user battle.old battle.new }
     ensures room { array_vec_len out.new ≤ array_vec_len out.old + 23 }
 {
@@ -290,15 +290,15 @@ fn do_move(
     out: &mut Events,
 )
     requires sound { IsSound battle.old }
-    requires fair { AreFair facts }
-    requires known { AreKnown (move_count facts) battle.old }
-    requires named { IsNamed (move_count facts) mv }
+    requires fair { AreFair (figures facts) }
+    requires known { AreKnown (move_count (figures facts)) battle.old }
+    requires named { IsNamed (move_count (figures facts)) mv }
     requires user { user < 2 }
     requires slot { IfSome slot (λ j. j < 4) }
     requires room { array_vec_len out.old + 28 ≤ 160 }
-    ensures after { course battle.new out.new ≡ moved facts.entry user slot mv (course battle.old out.old) }
+    ensures after { course battle.new out.new ≡ moved (figures facts.entry) user slot mv (course battle.old out.old) }
     ensures sound { IsSound battle.new }
-    ensures known { AreKnown (move_count facts.entry) battle.new }
+    ensures known { AreKnown (move_count (figures facts.entry)) battle.new }
     ensures kept { Keeps user battle.old battle.new }
     ensures room { array_vec_len out.new ≤ array_vec_len out.old + 28 }
 {
@@ -317,15 +317,15 @@ fn try_move(
     out: &mut Events,
 )
     requires sound { IsSound battle.old }
-    requires fair { AreFair facts }
-    requires known { AreKnown (move_count facts) battle.old }
-    requires named { IsNamed (move_count facts) mv }
+    requires fair { AreFair (figures facts) }
+    requires known { AreKnown (move_count (figures facts)) battle.old }
+    requires named { IsNamed (move_count (figures facts)) mv }
     requires user { user < 2 }
     requires slot { IfSome slot (λ j. j < 4) }
     requires room { array_vec_len out.old + 39 ≤ 160 }
-    ensures after { course battle.new out.new ≡ tried facts.entry user slot mv (course battle.old out.old) }
+    ensures after { course battle.new out.new ≡ tried (figures facts.entry) user slot mv (course battle.old out.old) }
     ensures sound { IsSound battle.new }
-    ensures known { AreKnown (move_count facts.entry) battle.new }
+    ensures known { AreKnown (move_count (figures facts.entry)) battle.new }
     ensures kept { Keeps user battle.old battle.new }
     ensures room { array_vec_len out.new ≤ array_vec_len out.old + 39 }
 {
@@ -376,14 +376,14 @@ fn continued(lock: Lock) -> Usage
 
 fn go_on_with(battle: &mut Battle, facts: Facts<'_>, user: u8, lock: Option<Lock>, out: &mut Events)
     requires sound { IsSound battle.old }
-    requires fair { AreFair facts }
-    requires known { AreKnown (move_count facts) battle.old }
-    requires lock { IfSome lock (λ l. l.mv < move_count facts) }
+    requires fair { AreFair (figures facts) }
+    requires known { AreKnown (move_count (figures facts)) battle.old }
+    requires lock { IfSome lock (λ l. l.mv < move_count (figures facts)) }
     requires user { user < 2 }
     requires room { array_vec_len out.old + 23 ≤ 160 }
-    ensures after { course battle.new out.new ≡ went_on lock facts.entry user (course battle.old out.old) }
+    ensures after { course battle.new out.new ≡ went_on lock (figures facts.entry) user (course battle.old out.old) }
     ensures sound { IsSound battle.new }
-    ensures known { AreKnown (move_count facts.entry) battle.new }
+    ensures known { AreKnown (move_count (figures facts.entry)) battle.new }
     ensures kept { Keeps user battle.old battle.new }
     ensures room { array_vec_len out.new ≤ array_vec_len out.old + 23 }
 {
@@ -396,13 +396,13 @@ fn go_on_with(battle: &mut Battle, facts: Facts<'_>, user: u8, lock: Option<Lock
 #[tactic(auto, using(crate::proofs::KeepLemmas::keeps_trans), unfolding(crate::specs::Acts::continued))]
 fn go_on(battle: &mut Battle, facts: Facts<'_>, user: u8, out: &mut Events)
     requires sound { IsSound battle.old }
-    requires fair { AreFair facts }
-    requires known { AreKnown (move_count facts) battle.old }
+    requires fair { AreFair (figures facts) }
+    requires known { AreKnown (move_count (figures facts)) battle.old }
     requires user { user < 2 }
     requires room { array_vec_len out.old + 28 ≤ 160 }
-    ensures after { course battle.new out.new ≡ continued facts.entry user (course battle.old out.old) }
+    ensures after { course battle.new out.new ≡ continued (figures facts.entry) user (course battle.old out.old) }
     ensures sound { IsSound battle.new }
-    ensures known { AreKnown (move_count facts.entry) battle.new }
+    ensures known { AreKnown (move_count (figures facts.entry)) battle.new }
     ensures kept { Keeps user battle.old battle.new }
     ensures room { array_vec_len out.new ≤ array_vec_len out.old + 28 }
 {
@@ -414,13 +414,13 @@ fn go_on(battle: &mut Battle, facts: Facts<'_>, user: u8, out: &mut Events)
 #[tactic(auto, using(crate::proofs::KeepLemmas::keeps_trans), unfolding(crate::specs::Acts::tried_again))]
 fn try_again(battle: &mut Battle, facts: Facts<'_>, user: u8, out: &mut Events)
     requires sound { IsSound battle.old }
-    requires fair { AreFair facts }
-    requires known { AreKnown (move_count facts) battle.old }
+    requires fair { AreFair (figures facts) }
+    requires known { AreKnown (move_count (figures facts)) battle.old }
     requires user { user < 2 }
     requires room { array_vec_len out.old + 39 ≤ 160 }
-    ensures after { course battle.new out.new ≡ tried_again facts.entry user (course battle.old out.old) }
+    ensures after { course battle.new out.new ≡ tried_again (figures facts.entry) user (course battle.old out.old) }
     ensures sound { IsSound battle.new }
-    ensures known { AreKnown (move_count facts.entry) battle.new }
+    ensures known { AreKnown (move_count (figures facts.entry)) battle.new }
     ensures kept { Keeps user battle.old battle.new }
     ensures room { array_vec_len out.new ≤ array_vec_len out.old + 39 }
 {
@@ -433,14 +433,14 @@ fn try_again(battle: &mut Battle, facts: Facts<'_>, user: u8, out: &mut Events)
 #[tactic(auto, unfolding(crate::specs::Acts::act))]
 fn do_act(battle: &mut Battle, facts: Facts<'_>, user: u8, choice: Choice, out: &mut Events)
     requires sound { IsSound battle.old }
-    requires fair { AreFair facts }
-    requires known { AreKnown (move_count facts) battle.old }
+    requires fair { AreFair (figures facts) }
+    requires known { AreKnown (move_count (figures facts)) battle.old }
     requires user { user < 2 }
     requires there { IsThere (side_of battle.old user) choice }
     requires room { array_vec_len out.old + 39 ≤ 160 }
-    ensures after { course battle.new out.new ≡ act facts.entry user choice (course battle.old out.old) }
+    ensures after { course battle.new out.new ≡ act (figures facts.entry) user choice (course battle.old out.old) }
     ensures sound { IsSound battle.new }
-    ensures known { AreKnown (move_count facts.entry) battle.new }
+    ensures known { AreKnown (move_count (figures facts.entry)) battle.new }
     ensures kept { Keeps user battle.old battle.new }
     ensures room { array_vec_len out.new ≤ array_vec_len out.old + 39 }
 {
@@ -485,15 +485,15 @@ pub(crate) fn do_two_acts(
     out: &mut Events,
 )
     requires sound { IsSound battle.old }
-    requires fair { AreFair facts }
-    requires known { AreKnown (move_count facts) battle.old }
+    requires fair { AreFair (figures facts) }
+    requires known { AreKnown (move_count (figures facts)) battle.old }
     requires user { user < 2 }
     requires first { IsThere (side_of battle.old user) first }
     requires second { IsThere (side_of battle.old (1 - user)) second }
     requires room { array_vec_len out.old + 78 ≤ 160 }
-    ensures after { course battle.new out.new ≡ two_acts facts.entry user first (1 - user) second (course battle.old out.old) }
+    ensures after { course battle.new out.new ≡ two_acts (figures facts.entry) user first (1 - user) second (course battle.old out.old) }
     ensures sound { IsSound battle.new }
-    ensures known { AreKnown (move_count facts.entry) battle.new }
+    ensures known { AreKnown (move_count (figures facts.entry)) battle.new }
     ensures turn { battle.new.turn ≡ battle.old.turn }
     ensures room { array_vec_len out.new ≤ array_vec_len out.old + 78 }
 {

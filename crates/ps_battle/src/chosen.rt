@@ -1,6 +1,6 @@
 //! Which move a choice uses.
 ghost use Rattle.std.specs.Prelude.{◌≡◌, ◌≤◌, ◌<◌, ◌-◌, ℕ};
-ghost use Rattle.ps_mon.specs.Facts.{AreFair};
+ghost use Rattle.ps_mon.specs.Facts.{AreFair, figures};
 ghost use Rattle.ps_mon.specs.Known.{IsSideKnown};
 ghost use Rattle.ps_mon.specs.Valid.{IsSide};
 ghost use Rattle.ps_mon.specs.Choices.{IsThere};
@@ -61,8 +61,8 @@ fn choice_move(side: &SideState, choice: Choice) -> Option<u16>
 }
 
 fn move_priority(facts: Facts<'_>, mv: Option<u16>) -> i8
-    requires { AreFair facts }
-    ensures { result ≡ priority_by facts.entry mv }
+    requires { AreFair (figures facts) }
+    ensures { result ≡ priority_by (figures facts.entry) mv }
 {
     match mv {
         None => 0,
@@ -74,9 +74,9 @@ fn move_priority(facts: Facts<'_>, mv: Option<u16>) -> i8
 #[tactic(auto, unfolding(crate::specs::Chosen::priority_of))]
 pub(crate) fn priority(side: &SideState, facts: Facts<'_>, choice: Choice) -> i8
     requires side { IsSide side.now }
-    requires fair { AreFair facts }
+    requires fair { AreFair (figures facts) }
     requires there { IsThere side.now choice }
-    ensures { result ≡ priority_of facts.entry side.now choice }
+    ensures { result ≡ priority_of (figures facts.entry) side.now choice }
 {
     move_priority(facts, choice_move(side, choice))
 }

@@ -1,7 +1,7 @@
 //! What each kind of effect does.
 ghost use Rattle.std.specs.Prelude.{◌≡◌, ◌≤◌, ◌<◌, ◌+◌, ℕ, IfSome, None};
 ghost use Rattle.arrayvec.specs.ArrayVec.{array_vec_len};
-ghost use Rattle.ps_mon.specs.Facts.{AreFair};
+ghost use Rattle.ps_mon.specs.Facts.{AreFair, figures};
 ghost use Rattle.ps_mon.specs.Keeping.{Keeps};
 ghost use Rattle.ps_mon.specs.Known.{AreKnown};
 ghost use Rattle.ps_mon.specs.Moves.{IsNamed, move_of, move_count};
@@ -32,12 +32,12 @@ use ps_volat::covering::{focus, mist, screen, substitute};
 #[tactic(auto, unfolding(crate::specs::Effects::effect, crate::specs::Effects::call))]
 fn take_other(battle: &mut Battle, facts: Facts<'_>, user: u8, mv: u16, slot: u8, out: &mut Events)
     requires sound { IsSound battle.old }
-    requires fair { AreFair facts }
+    requires fair { AreFair (figures facts) }
     requires user { user < 2 }
-    requires other { IsOtherKind (move_of facts mv).effect }
+    requires other { IsOtherKind (move_of (figures facts) mv).effect }
     requires room { array_vec_len out.old + 20 ≤ 160 }
-    ensures effect { course battle.new out.new ≡ effect (move_of facts.entry mv).effect facts.entry mv slot user (course battle.old out.old) }
-    ensures value { call (move_of facts.entry mv).effect facts.entry mv user (course battle.old out.old) ≡ None }
+    ensures effect { course battle.new out.new ≡ effect (move_of (figures facts.entry) mv).effect (figures facts.entry) mv slot user (course battle.old out.old) }
+    ensures value { call (move_of (figures facts.entry) mv).effect (figures facts.entry) mv user (course battle.old out.old) ≡ None }
     ensures sound { IsSound battle.new }
     ensures known { (moves : ℕ) → IsNamed moves mv → AreKnown moves battle.old → AreKnown moves battle.new }
     ensures kept { Keeps user battle.old battle.new }
@@ -92,16 +92,16 @@ pub(crate) fn take_effect(
     out: &mut Events,
 ) -> Option<u16>
     requires sound { IsSound battle.old }
-    requires fair { AreFair facts }
+    requires fair { AreFair (figures facts) }
     requires user { user < 2 }
     requires slot { slot < 4 }
     requires room { array_vec_len out.old + 20 ≤ 160 }
-    ensures value { result ≡ call (move_of facts.entry mv).effect facts.entry mv user (course battle.old out.old) }
-    ensures effect { course battle.new out.new ≡ effect (move_of facts.entry mv).effect facts.entry mv slot user (course battle.old out.old) }
+    ensures value { result ≡ call (move_of (figures facts.entry) mv).effect (figures facts.entry) mv user (course battle.old out.old) }
+    ensures effect { course battle.new out.new ≡ effect (move_of (figures facts.entry) mv).effect (figures facts.entry) mv slot user (course battle.old out.old) }
     ensures sound { IsSound battle.new }
     ensures known { (moves : ℕ) → IsNamed moves mv → AreKnown moves battle.old → AreKnown moves battle.new }
     ensures kept { Keeps user battle.old battle.new }
-    ensures named { AreKnown (move_count facts.entry) battle.old → IfSome result (IsNamed (move_count facts.entry)) }
+    ensures named { AreKnown (move_count (figures facts.entry)) battle.old → IfSome result (IsNamed (move_count (figures facts.entry))) }
     ensures room { array_vec_len out.new ≤ array_vec_len out.old + 20 }
     ensures few { IfSome result (λ called. array_vec_len out.new ≤ array_vec_len out.old) }
 {

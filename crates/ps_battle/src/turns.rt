@@ -1,7 +1,7 @@
 //! A commit of both sides' choices.
 ghost use Rattle.std.specs.Prelude.{◌≡◌, ◌≤◌, ◌<◌, ◌+◌, ℕ, [], false, true};
 ghost use Rattle.arrayvec.specs.ArrayVec.{array_vec_len};
-ghost use Rattle.ps_mon.specs.Facts.{AreFair};
+ghost use Rattle.ps_mon.specs.Facts.{AreFair, figures};
 ghost use Rattle.ps_mon.specs.Known.{AreKnown, AreFairFor};
 ghost use Rattle.ps_mon.specs.Moves.{move_count};
 ghost use Rattle.ps_mon.specs.Reading.{side_of, active_of};
@@ -45,11 +45,11 @@ fn is_faster(duel: &Duel, source: &mut Rng5) -> bool
 #[tactic(auto, unfolding(crate::specs::Turns::first_of, crate::specs::Turns::ordered))]
 fn is_p1_first(battle: &mut Battle, facts: Facts<'_>, c1: Choice, c2: Choice) -> bool
     requires sound { IsSound battle.old }
-    requires fair { AreFair facts }
+    requires fair { AreFair (figures facts) }
     requires first { IsThere (side_of battle.old 0) c1 }
     requires second { IsThere (side_of battle.old 1) c2 }
-    ensures first { result ≡ (first_of facts.entry c1 c2 battle.old).0 }
-    ensures after { battle.new ≡ record battle.old { rng = (first_of facts.entry c1 c2 battle.old).1 } }
+    ensures first { result ≡ (first_of (figures facts.entry) c1 c2 battle.old).0 }
+    ensures after { battle.new ≡ record battle.old { rng = (first_of (figures facts.entry) c1 c2 battle.old).1 } }
 {
     if !acts(c1) {
         return true;
@@ -75,14 +75,14 @@ fn is_p1_first(battle: &mut Battle, facts: Facts<'_>, c1: Choice, c2: Choice) ->
 #[tactic(auto, unfolding(crate::specs::Turns::acted))]
 fn act_both(battle: &mut Battle, facts: Facts<'_>, c1: Choice, c2: Choice, out: &mut Events)
     requires sound { IsSound battle.old }
-    requires fair { AreFair facts }
-    requires known { AreKnown (move_count facts) battle.old }
+    requires fair { AreFair (figures facts) }
+    requires known { AreKnown (move_count (figures facts)) battle.old }
     requires first { IsThere (side_of battle.old 0) c1 }
     requires second { IsThere (side_of battle.old 1) c2 }
     requires room { array_vec_len out.old + 78 ≤ 160 }
-    ensures after { course battle.new out.new ≡ acted facts.entry c1 c2 (course battle.old out.old) }
+    ensures after { course battle.new out.new ≡ acted (figures facts.entry) c1 c2 (course battle.old out.old) }
     ensures sound { IsSound battle.new }
-    ensures known { AreKnown (move_count facts.entry) battle.new }
+    ensures known { AreKnown (move_count (figures facts.entry)) battle.new }
     ensures turn { battle.new.turn ≡ battle.old.turn }
     ensures room { array_vec_len out.new ≤ array_vec_len out.old + 78 }
 {
@@ -117,14 +117,14 @@ fn switch_both(battle: &mut Battle, c1: Choice, c2: Choice, out: &mut Events)
 fn take_turn(battle: &mut Battle, facts: Facts<'_>, c1: Choice, c2: Choice, out: &mut Events)
     requires sound { IsSound battle.old }
     requires turn { battle.old.turn < 1000 }
-    requires fair { AreFair facts }
-    requires known { AreKnown (move_count facts) battle.old }
+    requires fair { AreFair (figures facts) }
+    requires known { AreKnown (move_count (figures facts)) battle.old }
     requires first { IsThere (side_of battle.old 0) c1 }
     requires second { IsThere (side_of battle.old 1) c2 }
     requires empty { out.old.items ≡ [] }
-    ensures after { course battle.new out.new ≡ closed (acted facts.entry c1 c2 (both_switched c1 c2 (course (begun battle.old) out.old))) }
+    ensures after { course battle.new out.new ≡ closed (acted (figures facts.entry) c1 c2 (both_switched c1 c2 (course (begun battle.old) out.old))) }
     ensures valid { IsValid battle.new }
-    ensures known { AreKnown (move_count facts.entry) battle.new }
+    ensures known { AreKnown (move_count (figures facts.entry)) battle.new }
     ensures room { array_vec_len out.new ≤ 84 }
 {
     begin(battle);
@@ -159,13 +159,13 @@ fn replace(battle: &mut Battle, c1: Choice, c2: Choice, out: &mut Events)
 pub fn commit(battle: &mut Battle, facts: Facts<'_>, c1: Choice, c2: Choice, out: &mut Events)
     requires valid { IsValid battle.old }
     requires going { is_over battle.old.phase ≡ false }
-    requires fair { AreFairFor facts battle.old }
+    requires fair { AreFairFor (figures facts) battle.old }
     requires first { IsChoiceOf battle.old 0 c1 }
     requires second { IsChoiceOf battle.old 1 c2 }
     requires empty { out.old.items ≡ [] }
-    ensures turn { course battle.new out.new ≡ turn facts.entry c1 c2 (course battle.old out.old) }
+    ensures turn { course battle.new out.new ≡ turn (figures facts.entry) c1 c2 (course battle.old out.old) }
     ensures valid { IsValid battle.new }
-    ensures fair { AreFairFor facts.entry battle.new }
+    ensures fair { AreFairFor (figures facts.entry) battle.new }
     ensures room { array_vec_len out.new ≤ 84 }
 {
     match battle.phase {

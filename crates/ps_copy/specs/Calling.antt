@@ -5,7 +5,7 @@ use Rattle.ps_mon.specs.declared.effect.Effect.{Effect}
 use Rattle.ps_mon.specs.declared.effect.Effect.TheVariants as effects
 use Rattle.ps_mon.specs.declared.effect.CopyKind.{CopyKind}
 use Rattle.ps_mon.specs.declared.effect.CopyKind.TheVariants as kinds
-use Rattle.ps_mon.specs.declared.facts.Facts.{Facts}
+use Rattle.ps_mon.specs.Facts.{Figures}
 use Rattle.ps_mon.specs.declared.facts.MoveData.{MoveData}
 use Rattle.ps_mon.specs.Moves.{move_of}
 use Rattle.ps_hits.specs.Scenes.{Play, ◌>>=◌, ◌>>◌, give, look, tell, choose, draw}
@@ -47,8 +47,8 @@ abbrev pub is_callable : MoveData → Bool
 is_callable m = not (is_metronome m.effect)
 
 -- the places of those moves in the dex
-unfoldable pub callable : Facts → List ℕ
-callable facts = places is_callable 0 facts.moves.now
+unfoldable pub callable : Figures → List ℕ
+callable facts = places is_callable 0 facts.moves
 
 abbrev pub fail : Play (Option ℕ)
 fail = do
@@ -57,7 +57,7 @@ fail = do
   give None
 
 -- metronome: one of those moves, drawn; Fail where there is none
-unfoldable pub metronome_row : Facts → Play (Option ℕ)
+unfoldable pub metronome_row : Figures → Play (Option ℕ)
 metronome_row facts = choose (length (callable facts) == 0) fail (do
   k ← draw (length (callable facts))
   give (Some (slice_index (callable facts) k)))
@@ -67,7 +67,7 @@ abbrev pub unless_calling : Bool → ℕ → Option ℕ
 unless_calling true mv = None
 unless_calling false mv = Some mv
 
-abbrev pub mirrored : Facts → Option ℕ → Option ℕ
+abbrev pub mirrored : Figures → Option ℕ → Option ℕ
 mirrored facts None = None
 mirrored facts (Some mv) = unless_calling (is_calling (move_of facts mv).effect) mv
 
@@ -76,7 +76,7 @@ give_or_fail None = fail
 give_or_fail (Some mv) = give (Some mv)
 
 -- mirrormove: the foe's last move; Fail where there is none that it can take
-unfoldable pub mirrormove_row : Facts → Play (Option ℕ)
+unfoldable pub mirrormove_row : Figures → Play (Option ℕ)
 mirrormove_row facts = do
   d ← look
   give_or_fail (mirrored facts d.foe.vol.last)

@@ -2,7 +2,7 @@
 use Rattle.std.specs.Prelude.{ℕ, Option, None}
 use Rattle.ps_mon.specs.declared.effect.CopyKind.{CopyKind}
 use Rattle.ps_mon.specs.declared.effect.CopyKind.TheVariants as kinds
-use Rattle.ps_mon.specs.declared.facts.Facts.{Facts}
+use Rattle.ps_mon.specs.Facts.{Figures}
 use Rattle.ps_hits.specs.Courses.{Course, played}
 use Rattle.ps_copy.specs.Answers.{answer_of}
 use Rattle.ps_copy.specs.Calling.{metronome_row, mirrormove_row}
@@ -10,13 +10,13 @@ use Rattle.ps_copy.specs.Learning.{mimic_effect, transform_effect, conversion_ro
 use Rattle.ps_copy.specs.Disabling.{disable_effect}
 
 -- the move that is used in the place of the move `mv`, of that kind, where side `user` uses it
-unfoldable pub called : CopyKind → Facts → ℕ → ℕ → Course → Option ℕ
+unfoldable pub called : CopyKind → Figures → ℕ → ℕ → Course → Option ℕ
 called kinds.Metronome facts mv user c = answer_of (metronome_row facts) user c
 called kinds.MirrorMove facts mv user c = answer_of (mirrormove_row facts) user c
 called other facts mv user c = None
 
 -- what the move `mv`, of that kind, does where side `user` uses it by a slot, but for the move in its place
-unfoldable pub copied : CopyKind → Facts → ℕ → ℕ → ℕ → Course → Course
+unfoldable pub copied : CopyKind → Figures → ℕ → ℕ → ℕ → Course → Course
 copied kinds.Mimic facts mv slot user c = mimic_effect facts mv slot user c
 copied kinds.Transform facts mv slot user c = transform_effect user c
 copied kinds.Metronome facts mv slot user c = played (metronome_row facts) user c

@@ -3,7 +3,7 @@ use Rattle.std.specs.Prelude.{ℕ, Bool, Option, Some, None, is_some, List, [], 
 use Rattle.ps_event.specs.declared.event.Event.TheVariants as events
 use Rattle.ps_event.specs.Numbers as numbers
 use Rattle.ps_mon.specs.declared.duel.Fighter.{Fighter}
-use Rattle.ps_mon.specs.declared.facts.Facts.{Facts}
+use Rattle.ps_mon.specs.Facts.{Figures}
 use Rattle.ps_mon.specs.Duels.{fighter_of}
 use Rattle.ps_mon.specs.Moves.{move_of}
 use Rattle.ps_mon.specs.Reading.{side_of}
@@ -33,7 +33,7 @@ disable_one slots = do
   give (Some slot)
 
 -- the accuracy test of Disable, then Fail where the foe has a disabled slot, or none with PP; else the slot that is disabled
-unfoldable pub disable_row : Facts → ℕ → Play (Option ℕ)
+unfoldable pub disable_row : Figures → ℕ → Play (Option ℕ)
 disable_row facts mv = do
   lands ← accuracy_test (move_of facts mv).accuracy
   d ← look
@@ -49,6 +49,6 @@ told_disabled user (Some slot) c =
     record c { told = c.told ++ events.VolStart (who_of (fighter_of (1 - user) theirs)) numbers.effect_disable (Some (slot_now theirs slot).mv) ∷ [] }
 
 -- disable
-unfoldable pub disable_effect : Facts → ℕ → ℕ → Course → Course
+unfoldable pub disable_effect : Figures → ℕ → ℕ → Course → Course
 disable_effect facts mv user c =
     told_disabled user (answer_of (disable_row facts mv) user c) (played (disable_row facts mv) user c)

@@ -3,7 +3,7 @@ use Rattle.std.specs.Prelude.{ℕ, Option, Some, None, [], ◌∷◌, ◌++◌, 
 use Rattle.ps_event.specs.declared.event.Event.TheVariants as events
 use Rattle.ps_event.specs.Numbers as numbers
 use Rattle.ps_mon.specs.declared.duel.Fighter.{Fighter}
-use Rattle.ps_mon.specs.declared.facts.Facts.{Facts}
+use Rattle.ps_mon.specs.Facts.{Figures}
 use Rattle.ps_mon.specs.Duels.{fighter_of}
 use Rattle.ps_mon.specs.Moves.{move_of}
 use Rattle.ps_mon.specs.Reading.{side_of}
@@ -17,7 +17,7 @@ use Rattle.ps_copy.specs.Answers.{answer_of}
 use Rattle.ps_copy.specs.Changing.{with_slots, with_mimic, copied_from}
 
 -- the accuracy test of Mimic, and where it hits the slot of the foe that is drawn
-unfoldable pub mimic_row : Facts → ℕ → Play (Option ℕ)
+unfoldable pub mimic_row : Figures → ℕ → Play (Option ℕ)
 mimic_row facts mv = do
   d ← look
   lands ← accuracy_test (move_of facts mv).accuracy
@@ -39,7 +39,7 @@ learned_from slot user None c = c
 learned_from slot user (Some from) c = learned slot user from c
 
 -- mimic: where it lands the used slot takes a move of the foe
-unfoldable pub mimic_effect : Facts → ℕ → ℕ → ℕ → Course → Course
+unfoldable pub mimic_effect : Figures → ℕ → ℕ → ℕ → Course → Course
 mimic_effect facts mv slot user c =
     learned_from slot user (answer_of (mimic_row facts mv) user c) (played (mimic_row facts mv) user c)
 

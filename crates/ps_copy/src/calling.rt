@@ -1,7 +1,7 @@
 //! Moves in whose place another move is used.
 ghost use Rattle.std.specs.Prelude.{◌≡◌, ◌≤◌, ◌<◌, ◌+◌, ℕ, All, IfSome, false};
 ghost use Rattle.arrayvec.specs.ArrayVec.{array_vec_len};
-ghost use Rattle.ps_mon.specs.Facts.{AreFair};
+ghost use Rattle.ps_mon.specs.Facts.{AreFair, figures};
 ghost use Rattle.ps_mon.specs.Known.{AreKnown};
 ghost use Rattle.ps_mon.specs.Moves.{IsNamed, move_count, move_of};
 ghost use Rattle.ps_mon.specs.Keeping.{Keeps, StillStands};
@@ -48,12 +48,12 @@ fn is_calling(effect: Effect) -> bool
 }
 
 // The moves that Metronome can take, by their places in the dex.
-#[tactic(auto, unfolding(crate::specs::Calling::callable))]
+#[tactic(auto, unfolding(crate::specs::Calling::callable, ps_mon::specs::Facts::figures))]
 fn callable_places(facts: Facts<'_>) -> ArrayVec<u16, 1024>
-    requires { AreFair facts }
-    ensures value { result.items ≡ callable facts.entry }
-    ensures inside { All (λ place. place < move_count facts.entry) result.items }
-    ensures ends { All (λ place. calls_left (move_of facts.entry place).effect < 2) result.items }
+    requires { AreFair (figures facts) }
+    ensures value { result.items ≡ callable (figures facts.entry) }
+    ensures inside { All (λ place. place < move_count (figures facts.entry)) result.items }
+    ensures ends { All (λ place. calls_left (move_of (figures facts.entry) place).effect < 2) result.items }
 {
     let mut places = ArrayVec::new();
     for at in 0..facts.moves.len() as u16 {
@@ -68,14 +68,14 @@ fn callable_places(facts: Facts<'_>) -> ArrayVec<u16, 1024>
 #[tactic(auto, unfolding(crate::specs::Calling::metronome_row))]
 fn metronome_duel(duel: &mut Duel, facts: Facts<'_>, out: &mut Events) -> Option<u16>
     requires fit { IsFit duel.old }
-    requires fair { AreFair facts }
+    requires fair { AreFair (figures facts) }
     requires room { array_vec_len out.old + 1 ≤ 160 }
-    ensures value { result ≡ (metronome_row facts.entry (scene duel.old out.old)).0 }
-    ensures after { scene duel.new out.new ≡ (metronome_row facts.entry (scene duel.old out.old)).1 }
+    ensures value { result ≡ (metronome_row (figures facts.entry) (scene duel.old out.old)).0 }
+    ensures after { scene duel.new out.new ≡ (metronome_row (figures facts.entry) (scene duel.old out.old)).1 }
     ensures fit { IsFit duel.new }
     ensures known { (moves : ℕ) → IsDuelKnown moves duel.old → IsDuelKnown moves duel.new }
-    ensures named { IfSome result (IsNamed (move_count facts.entry)) }
-    ensures ends { IfSome result (λ m. calls_left (move_of facts.entry m).effect < 2) }
+    ensures named { IfSome result (IsNamed (move_count (figures facts.entry))) }
+    ensures ends { IfSome result (λ m. calls_left (move_of (figures facts.entry) m).effect < 2) }
     ensures few { IfSome result (λ m. array_vec_len out.new ≤ array_vec_len out.old) }
     ensures room { array_vec_len out.new ≤ array_vec_len out.old + 1 }
 {
@@ -98,17 +98,17 @@ pub(crate) fn metronome(
     out: &mut Events,
 ) -> Option<u16>
     requires sound { IsSound battle.old }
-    requires fair { AreFair facts }
+    requires fair { AreFair (figures facts) }
     requires user { user < 2 }
     requires room { array_vec_len out.old + 20 ≤ 160 }
-    ensures value { result ≡ answer_of (metronome_row facts.entry) user (course battle.old out.old) }
-    ensures effect { course battle.new out.new ≡ played (metronome_row facts.entry) user (course battle.old out.old) }
+    ensures value { result ≡ answer_of (metronome_row (figures facts.entry)) user (course battle.old out.old) }
+    ensures effect { course battle.new out.new ≡ played (metronome_row (figures facts.entry)) user (course battle.old out.old) }
     ensures sound { IsSound battle.new }
     ensures whole { IsValid battle.old → StillStands battle.old battle.new → IsValid battle.new }
     ensures known { (moves : ℕ) → AreKnown moves battle.old → AreKnown moves battle.new }
     ensures kept { Keeps user battle.old battle.new }
-    ensures named { IfSome result (IsNamed (move_count facts.entry)) }
-    ensures ends { IfSome result (λ m. calls_left (move_of facts.entry m).effect < 2) }
+    ensures named { IfSome result (IsNamed (move_count (figures facts.entry))) }
+    ensures ends { IfSome result (λ m. calls_left (move_of (figures facts.entry) m).effect < 2) }
     ensures few { IfSome result (λ m. array_vec_len out.new ≤ array_vec_len out.old) }
     ensures room { array_vec_len out.new ≤ array_vec_len out.old + 20 }
 {
@@ -119,10 +119,10 @@ pub(crate) fn metronome(
 }
 
 fn mirror(facts: Facts<'_>, last: Option<u16>) -> Option<u16>
-    requires { AreFair facts }
-    ensures value { result ≡ mirrored facts.entry last }
+    requires { AreFair (figures facts) }
+    ensures value { result ≡ mirrored (figures facts.entry) last }
     ensures named { (moves : ℕ) → IfSome last (IsNamed moves) → IfSome result (IsNamed moves) }
-    ensures ends { IfSome result (λ m. calls_left (move_of facts.entry m).effect < 1) }
+    ensures ends { IfSome result (λ m. calls_left (move_of (figures facts.entry) m).effect < 1) }
 {
     let mv = last?;
     if is_calling(move_data(facts, mv).effect) {
@@ -134,14 +134,14 @@ fn mirror(facts: Facts<'_>, last: Option<u16>) -> Option<u16>
 #[tactic(auto, unfolding(crate::specs::Calling::mirrormove_row))]
 fn mirrormove_duel(duel: &mut Duel, facts: Facts<'_>, out: &mut Events) -> Option<u16>
     requires fit { IsFit duel.old }
-    requires fair { AreFair facts }
+    requires fair { AreFair (figures facts) }
     requires room { array_vec_len out.old + 1 ≤ 160 }
-    ensures value { result ≡ (mirrormove_row facts.entry (scene duel.old out.old)).0 }
-    ensures after { scene duel.new out.new ≡ (mirrormove_row facts.entry (scene duel.old out.old)).1 }
+    ensures value { result ≡ (mirrormove_row (figures facts.entry) (scene duel.old out.old)).0 }
+    ensures after { scene duel.new out.new ≡ (mirrormove_row (figures facts.entry) (scene duel.old out.old)).1 }
     ensures fit { IsFit duel.new }
     ensures known { (moves : ℕ) → IsDuelKnown moves duel.old → IsDuelKnown moves duel.new }
     ensures named { (moves : ℕ) → IsDuelKnown moves duel.old → IfSome result (IsNamed moves) }
-    ensures ends { IfSome result (λ m. calls_left (move_of facts.entry m).effect < 1) }
+    ensures ends { IfSome result (λ m. calls_left (move_of (figures facts.entry) m).effect < 1) }
     ensures few { IfSome result (λ m. array_vec_len out.new ≤ array_vec_len out.old) }
     ensures room { array_vec_len out.new ≤ array_vec_len out.old + 1 }
 {
@@ -163,17 +163,17 @@ pub(crate) fn mirrormove(
     out: &mut Events,
 ) -> Option<u16>
     requires sound { IsSound battle.old }
-    requires fair { AreFair facts }
+    requires fair { AreFair (figures facts) }
     requires user { user < 2 }
     requires room { array_vec_len out.old + 20 ≤ 160 }
-    ensures value { result ≡ answer_of (mirrormove_row facts.entry) user (course battle.old out.old) }
-    ensures effect { course battle.new out.new ≡ played (mirrormove_row facts.entry) user (course battle.old out.old) }
+    ensures value { result ≡ answer_of (mirrormove_row (figures facts.entry)) user (course battle.old out.old) }
+    ensures effect { course battle.new out.new ≡ played (mirrormove_row (figures facts.entry)) user (course battle.old out.old) }
     ensures sound { IsSound battle.new }
     ensures whole { IsValid battle.old → StillStands battle.old battle.new → IsValid battle.new }
     ensures known { (moves : ℕ) → AreKnown moves battle.old → AreKnown moves battle.new }
     ensures kept { Keeps user battle.old battle.new }
     ensures named { (moves : ℕ) → AreKnown moves battle.old → IfSome result (IsNamed moves) }
-    ensures ends { IfSome result (λ m. calls_left (move_of facts.entry m).effect < 1) }
+    ensures ends { IfSome result (λ m. calls_left (move_of (figures facts.entry) m).effect < 1) }
     ensures few { IfSome result (λ m. array_vec_len out.new ≤ array_vec_len out.old) }
     ensures room { array_vec_len out.new ≤ array_vec_len out.old + 20 }
 {

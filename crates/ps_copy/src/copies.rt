@@ -1,7 +1,7 @@
 //! Effects that copy something of the foe, or that use another move.
 ghost use Rattle.std.specs.Prelude.{◌≡◌, ◌≤◌, ◌<◌, ◌+◌, ℕ, IfSome};
 ghost use Rattle.arrayvec.specs.ArrayVec.{array_vec_len};
-ghost use Rattle.ps_mon.specs.Facts.{AreFair};
+ghost use Rattle.ps_mon.specs.Facts.{AreFair, figures};
 ghost use Rattle.ps_mon.specs.Known.{AreKnown};
 ghost use Rattle.ps_mon.specs.Moves.{IsNamed, move_count, move_of};
 ghost use Rattle.ps_mon.specs.Keeping.{Keeps, StillStands};
@@ -32,18 +32,18 @@ pub fn copy(
     out: &mut Events,
 ) -> Option<u16>
     requires sound { IsSound battle.old }
-    requires fair { AreFair facts }
+    requires fair { AreFair (figures facts) }
     requires user { user < 2 }
     requires slot { slot < 4 }
     requires room { array_vec_len out.old + 20 ≤ 160 }
-    ensures value { result ≡ called sub facts.entry mv user (course battle.old out.old) }
-    ensures effect { course battle.new out.new ≡ copied sub facts.entry mv slot user (course battle.old out.old) }
+    ensures value { result ≡ called sub (figures facts.entry) mv user (course battle.old out.old) }
+    ensures effect { course battle.new out.new ≡ copied sub (figures facts.entry) mv slot user (course battle.old out.old) }
     ensures sound { IsSound battle.new }
     ensures whole { IsValid battle.old → StillStands battle.old battle.new → IsValid battle.new }
     ensures known { (moves : ℕ) → AreKnown moves battle.old → AreKnown moves battle.new }
     ensures kept { Keeps user battle.old battle.new }
-    ensures named { AreKnown (move_count facts.entry) battle.old → IfSome result (IsNamed (move_count facts.entry)) }
-    ensures ends { IfSome result (λ m. calls_left (move_of facts.entry m).effect < calls_of sub) }
+    ensures named { AreKnown (move_count (figures facts.entry)) battle.old → IfSome result (IsNamed (move_count (figures facts.entry))) }
+    ensures ends { IfSome result (λ m. calls_left (move_of (figures facts.entry) m).effect < calls_of sub) }
     ensures few { IfSome result (λ m. array_vec_len out.new ≤ array_vec_len out.old) }
     ensures room { array_vec_len out.new ≤ array_vec_len out.old + 20 }
 {

@@ -1,7 +1,7 @@
 //! Disable: a slot of the foe can't be chosen for some acts.
 ghost use Rattle.std.specs.Prelude.{◌≡◌, ◌≤◌, ◌<◌, ◌+◌, ◌-◌, ℕ, All, Some, IfSome};
 ghost use Rattle.arrayvec.specs.ArrayVec.{array_vec_len};
-ghost use Rattle.ps_mon.specs.Facts.{AreFair};
+ghost use Rattle.ps_mon.specs.Facts.{AreFair, figures};
 ghost use Rattle.ps_mon.specs.Known.{AreKnown};
 ghost use Rattle.ps_mon.specs.Keeping.{Keeps, StillStands};
 ghost use Rattle.ps_mon.specs.Valid.{IsSound, IsValid};
@@ -56,10 +56,10 @@ fn disable_drawn(duel: &mut Duel, slots: &ArrayVec<u8, 4>, out: &Events) -> u8
 #[tactic(auto, unfolding(crate::specs::Disabling::disable_row))]
 fn disable_duel(duel: &mut Duel, facts: Facts<'_>, mv: u16, out: &mut Events) -> Option<u8>
     requires fit { IsFit duel.old }
-    requires fair { AreFair facts }
+    requires fair { AreFair (figures facts) }
     requires room { array_vec_len out.old + 2 ≤ 160 }
-    ensures value { result ≡ (disable_row facts.entry mv (scene duel.old out.old)).0 }
-    ensures after { scene duel.new out.new ≡ (disable_row facts.entry mv (scene duel.old out.old)).1 }
+    ensures value { result ≡ (disable_row (figures facts.entry) mv (scene duel.old out.old)).0 }
+    ensures after { scene duel.new out.new ≡ (disable_row (figures facts.entry) mv (scene duel.old out.old)).1 }
     ensures fit { IsFit duel.new }
     ensures known { (moves : ℕ) → IsDuelKnown moves duel.old → IsDuelKnown moves duel.new }
     ensures inside { IfSome result (λ slot. slot < 4) }
@@ -99,10 +99,10 @@ fn tell_disabled(battle: &Battle, user: u8, slot: u8, out: &mut Events)
 #[tactic(auto, unfolding(crate::specs::Disabling::disable_effect))]
 pub(crate) fn disable(battle: &mut Battle, facts: Facts<'_>, user: u8, mv: u16, out: &mut Events)
     requires sound { IsSound battle.old }
-    requires fair { AreFair facts }
+    requires fair { AreFair (figures facts) }
     requires user { user < 2 }
     requires room { array_vec_len out.old + 20 ≤ 160 }
-    ensures effect { course battle.new out.new ≡ disable_effect facts.entry mv user (course battle.old out.old) }
+    ensures effect { course battle.new out.new ≡ disable_effect (figures facts.entry) mv user (course battle.old out.old) }
     ensures sound { IsSound battle.new }
     ensures whole { IsValid battle.old → StillStands battle.old battle.new → IsValid battle.new }
     ensures known { (moves : ℕ) → AreKnown moves battle.old → AreKnown moves battle.new }

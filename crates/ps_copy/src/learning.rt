@@ -1,7 +1,7 @@
 //! What the user takes from the foe: a move, its whole form, or its types.
 ghost use Rattle.std.specs.Prelude.{◌≡◌, ◌≤◌, ◌<◌, ◌+◌, ◌-◌, ℕ, IfSome};
 ghost use Rattle.arrayvec.specs.ArrayVec.{array_vec_len};
-ghost use Rattle.ps_mon.specs.Facts.{AreFair};
+ghost use Rattle.ps_mon.specs.Facts.{AreFair, figures};
 ghost use Rattle.ps_mon.specs.Known.{AreKnown, AreNamed};
 ghost use Rattle.ps_mon.specs.Keeping.{Keeps, StillStands};
 ghost use Rattle.ps_mon.specs.Reading.{side_of};
@@ -26,11 +26,11 @@ use ps_mon::record::Battle;
 #[tactic(auto, unfolding(crate::specs::Learning::mimic_row))]
 fn mimic_duel(duel: &mut Duel, facts: Facts<'_>, mv: u16, out: &mut Events) -> Option<u8>
     requires fit { IsFit duel.old }
-    requires fair { AreFair facts }
+    requires fair { AreFair (figures facts) }
     requires count { 1 ≤ duel.old.slot_count }
     requires room { array_vec_len out.old + 1 ≤ 160 }
-    ensures value { result ≡ (mimic_row facts.entry mv (scene duel.old out.old)).0 }
-    ensures after { scene duel.new out.new ≡ (mimic_row facts.entry mv (scene duel.old out.old)).1 }
+    ensures value { result ≡ (mimic_row (figures facts.entry) mv (scene duel.old out.old)).0 }
+    ensures after { scene duel.new out.new ≡ (mimic_row (figures facts.entry) mv (scene duel.old out.old)).1 }
     ensures fit { IsFit duel.new }
     ensures known { (moves : ℕ) → IsDuelKnown moves duel.old → IsDuelKnown moves duel.new }
     ensures inside { IfSome result (λ from. from < duel.old.slot_count) }
@@ -81,11 +81,11 @@ pub(crate) fn mimic(
     out: &mut Events,
 )
     requires sound { IsSound battle.old }
-    requires fair { AreFair facts }
+    requires fair { AreFair (figures facts) }
     requires user { user < 2 }
     requires slot { slot < 4 }
     requires room { array_vec_len out.old + 20 ≤ 160 }
-    ensures effect { course battle.new out.new ≡ mimic_effect facts.entry mv slot user (course battle.old out.old) }
+    ensures effect { course battle.new out.new ≡ mimic_effect (figures facts.entry) mv slot user (course battle.old out.old) }
     ensures sound { IsSound battle.new }
     ensures whole { IsValid battle.old → StillStands battle.old battle.new → IsValid battle.new }
     ensures known { (moves : ℕ) → AreKnown moves battle.old → AreKnown moves battle.new }

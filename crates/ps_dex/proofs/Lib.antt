@@ -1,3 +1,4 @@
 pub mod Holds
 pub mod FitLemmas
 pub mod TableLemmas
+pub mod FigureLemmas

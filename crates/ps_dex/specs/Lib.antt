@@ -8,5 +8,6 @@ pub mod Species
 pub mod Aliases
 pub mod Tables
 pub mod Lookups
+pub mod Figures
 pub mod Fit
 pub mod Faults

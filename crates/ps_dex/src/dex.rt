@@ -1,8 +1,10 @@
 //! The dex and its look-ups.
-ghost use Rattle.std.specs.Prelude.{◌≡◌, ◌<◌, ℕ, length, map, slice_get, slice_index, IfOk, IfSome};
-ghost use Rattle.ps_mon.specs.Facts.{AreFair, factor_at};
+ghost use Rattle.std.specs.Prelude.{◌≡◌, ◌<◌, length, map, slice_get, IfOk, IfSome};
+ghost use Rattle.ps_mon.specs.Facts.{AreFair, figures};
+ghost use Rattle.ps_base.specs.Ids.{id_of};
 ghost use Rattle.ps_dex.specs.Tables.{tables_of};
 ghost use Rattle.ps_dex.specs.Lookups.{no_tables, species_of, move_of, is_taken, factor_of, learned_by, learns, name_of_move, built_in};
+ghost use Rattle.ps_dex.specs.Figures.{factor_row, factor_table, figures_of};
 ghost use Rattle.ps_dex.specs.Fit.{AreFit};
 
 use crate::aliases::{alias_place, move_number, species_number};
@@ -10,6 +12,7 @@ use crate::fault::{DexFault, told};
 use crate::moves::has_move;
 use crate::row::{AliasRow, FactorRow, MoveRow, SpeciesRow, Tables, TypeRow};
 use crate::species::{has_number, has_species};
+use crate::spelled;
 use crate::tables::read_tables;
 use crate::types::{is_contact, is_special};
 use ps_base::id::Id;
@@ -28,17 +31,17 @@ pub struct Dex {
 }
 
 impl Model for Dex {
-    ghost use Rattle.std.specs.Prelude.{◌≡◌, ◌<◌, ℕ, map};
-    ghost use Rattle.ps_mon.specs.Facts.{factor_at};
+    ghost use Rattle.std.specs.Prelude.{◌≡◌, map};
     ghost use Rattle.ps_dex.specs.declared.row.Tables.{Tables as Said};
-    ghost use Rattle.ps_dex.specs.Lookups.{factor_of, built_in};
+    ghost use Rattle.ps_dex.specs.Lookups.{built_in};
+    ghost use Rattle.ps_dex.specs.Figures.{factor_table};
     ghost use Rattle.ps_dex.specs.Fit.{AreFit};
 
     ghost Value = { Said };
 
     ghost view = { λ d. d.tables };
 
-    ghost invariant = { λ d. AreFit d.tables × (d.numbers.items ≡ map (λ m. m.numbers) d.tables.moves) × ((attack defend : ℕ) → attack < 32 → defend < 32 → factor_at d.factors attack defend ≡ factor_of d.tables.factors attack defend) × (d.struggle ≡ built_in d.tables.types) };
+    ghost invariant = { λ d. AreFit d.tables × (d.numbers.items ≡ map (λ m. m.numbers) d.tables.moves) × (d.factors ≡ factor_table d.tables.factors) × (d.struggle ≡ built_in d.tables.types) };
 }
 
 fn numbers_of(alloc: Global, moves: &[MoveRow]) -> Result<Vec<MoveData>, AllocError>
@@ -63,8 +66,9 @@ fn factor_of(rows: &[FactorRow], attack: u8, defend: u8) -> u8
 }
 
 /// The factors of one attacking type.
+#[tactic(auto, unfolding(crate::specs::Figures::factor_row), using(crate::proofs::FigureLemmas::listed_all))]
 fn factor_row(rows: &[FactorRow], attack: u8) -> [u8; 32]
-    ensures { (defend : ℕ) → defend < 32 → slice_index result defend ≡ factor_of rows.now attack defend }
+    ensures { result ≡ factor_row rows.now attack }
 {
     let mut factors = [10; 32];
     for defend in 0..32 {
@@ -73,8 +77,9 @@ fn factor_row(rows: &[FactorRow], attack: u8) -> [u8; 32]
     factors
 }
 
+#[tactic(auto, unfolding(crate::specs::Figures::factor_table), using(crate::proofs::FigureLemmas::listed_all))]
 fn factor_table(rows: &[FactorRow]) -> Factors
-    ensures { (attack defend : ℕ) → attack < 32 → defend < 32 → factor_at result attack defend ≡ factor_of rows.now attack defend }
+    ensures { result ≡ factor_table rows.now }
 {
     let mut factors = [[10; 32]; 32];
     for attack in 0..32 {
@@ -135,6 +140,23 @@ fn move_of(tables: &Tables, id: &str) -> Option<u16>
     }
     let aliases = tables.aliases.as_slice();
     match alias_place(aliases, id) {
+        None => None,
+        Some(place) => aliases[place].mv,
+    }
+}
+
+/// As `move_of`, for the id of a text.
+fn move_named(tables: &Tables, text: &str) -> Option<u16>
+    requires { AreFit tables.now }
+    ensures place { result ≡ move_of (id_of text.now) tables.now }
+    ensures within { IfSome result (λ mv. mv < length tables.now.moves) }
+{
+    let moves = tables.moves.as_slice();
+    if spelled::is_taken(tables.species.as_slice(), moves, text) {
+        return spelled::move_number(moves, text);
+    }
+    let aliases = tables.aliases.as_slice();
+    match spelled::alias_place(aliases, text) {
         None => None,
         Some(place) => aliases[place].mv,
     }
@@ -233,6 +255,14 @@ impl Dex {
         move_of(&self.tables, id.as_str())
     }
 
+    /// The number of the move that a text names: the one that `move_of` gives for the text's id. Takes no memory.
+    pub fn move_named(&self, text: &str) -> Option<u16>
+        ensures place { result ≡ move_of (id_of text.now) self.now }
+        ensures within { IfSome result (λ mv. mv < length self.now.moves) }
+    {
+        move_named(&self.tables, text)
+    }
+
     /// The factor of a type on a type, in tenths: 0, 5, 10 or 20. Both numbers are below 32.
     pub fn factor(&self, attack: u8, defend: u8) -> u8
         requires attack { attack < 32 }
@@ -257,11 +287,10 @@ impl Dex {
     }
 
     /// The numbers of the moves, the factors and Struggle.
+    #[tactic(auto, unfolding(ps_mon::specs::Facts::figures, crate::specs::Figures::figures_of))]
     pub fn facts(&self) -> Facts<'_>
-        ensures moves { result.moves.now ≡ map (λ m. m.numbers) self.now.moves }
-        ensures factors { (attack defend : ℕ) → attack < 32 → defend < 32 → factor_at result.factors.now attack defend ≡ factor_of self.now.factors attack defend }
-        ensures struggle { result.struggle.now ≡ built_in self.now.types }
-        ensures fair { AreFair result }
+        ensures figures { figures result ≡ figures_of self.now }
+        ensures fair { AreFair (figures result) }
     {
         Facts {
             moves: self.numbers.as_slice(),

@@ -11,6 +11,7 @@ mod moves;
 mod name;
 pub mod row;
 mod species;
+pub mod spelled;
 mod tables;
 mod types;
 

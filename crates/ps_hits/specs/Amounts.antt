@@ -1,7 +1,7 @@
 -- Effects that deal a stated amount: the types aren't looked at, but by one.
 use Rattle.std.specs.Prelude.{ℕ, ◌+◌, ◌*◌, ◌/◌, ◌||◌, ◌==◌, max, nat_lt, slice_index}
 use Rattle.ps_event.specs.declared.event.Event.TheVariants as events
-use Rattle.ps_mon.specs.declared.facts.Facts.{Facts}
+use Rattle.ps_mon.specs.Facts.{Figures}
 use Rattle.ps_mon.specs.Moves.{move_of, move_factors}
 use Rattle.ps_mon.specs.declared.effect.Effect.{Effect}
 use Rattle.ps_mon.specs.declared.effect.Effect.TheVariants as effects
@@ -17,36 +17,36 @@ deal_alone mv n = do
   give tt
 
 -- the accuracy test, and where it hits what comes then
-abbrev pub where_it_lands : Facts → ℕ → Play (Unit {0}) → Play (Unit {0})
+abbrev pub where_it_lands : Figures → ℕ → Play (Unit {0}) → Play (Unit {0})
 where_it_lands facts mv then_this = do
   lands ← accuracy_test (move_of facts mv).accuracy
   choose lands then_this (give tt)
 
 -- fixed: the amount of the move
-unfoldable pub fixed_row : ℕ → Facts → ℕ → Play (Unit {0})
+unfoldable pub fixed_row : ℕ → Figures → ℕ → Play (Unit {0})
 fixed_row amount facts mv = where_it_lands facts mv (deal_alone mv amount)
 
 -- level: the user's level
-unfoldable pub level_row : Facts → ℕ → Play (Unit {0})
+unfoldable pub level_row : Figures → ℕ → Play (Unit {0})
 level_row facts mv = where_it_lands facts mv do
   d ← look
   deal_alone mv d.user.level
 
 -- half: half of the foe's health, at least 1
-unfoldable pub half_row : Facts → ℕ → Play (Unit {0})
+unfoldable pub half_row : Figures → ℕ → Play (Unit {0})
 half_row facts mv = where_it_lands facts mv do
   d ← look
   deal_alone mv (max 1 (d.foe.hp / 2))
 
 -- psywave: 1 to one and a half times the user's level
-unfoldable pub psywave_row : Facts → ℕ → Play (Unit {0})
+unfoldable pub psywave_row : Figures → ℕ → Play (Unit {0})
 psywave_row facts mv = where_it_lands facts mv do
   d ← look
   n ← draw (3 * d.user.level / 2)
   deal_alone mv (1 + n)
 
 -- ohko: no effect by a factor 0, Fail where the user is slower, then all of the foe's health
-unfoldable pub ohko_row : Facts → ℕ → Play (Unit {0})
+unfoldable pub ohko_row : Figures → ℕ → Play (Unit {0})
 ohko_row facts mv = do
   d ← look
   let factors = move_factors facts mv (types_now d.foe)

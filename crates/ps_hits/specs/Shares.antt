@@ -2,7 +2,7 @@
 use Rattle.std.specs.Prelude.{ℕ, false, ◌+◌, ◌-◌, ◌/◌, ◌==◌, min, max}
 use Rattle.ps_event.specs.declared.event.Event.TheVariants as events
 use Rattle.ps_event.specs.Numbers as numbers
-use Rattle.ps_mon.specs.declared.facts.Facts.{Facts}
+use Rattle.ps_mon.specs.Facts.{Figures}
 use Rattle.ps_mon.specs.declared.effect.Effect.{Effect}
 use Rattle.ps_mon.specs.declared.effect.Effect.TheVariants as effects
 use Rattle.ps_mon.specs.Duels.{is_slp}
@@ -36,13 +36,13 @@ drained Missed = give tt
 drained (Hit dealt) = gain (max 1 (dealt.amount / 2))
 
 -- drain: a strike; the user gains half of what it dealt
-unfoldable pub drain_row : Facts → ℕ → Play (Unit {0})
+unfoldable pub drain_row : Figures → ℕ → Play (Unit {0})
 drain_row facts mv = do
   struck ← strike_with facts mv false
   drained struck
 
 -- dreameater: Fail unless the foe sleeps, then drain
-unfoldable pub dreameater_row : Facts → ℕ → Play (Unit {0})
+unfoldable pub dreameater_row : Figures → ℕ → Play (Unit {0})
 dreameater_row facts mv = do
   d ← look
   choose (is_slp d.foe.status) (drain_row facts mv) (tell (events.Fail (who_of d.user)))
@@ -54,7 +54,7 @@ recoiled by Missed = give tt
 recoiled by (Hit dealt) = lose numbers.from_recoil (max 1 (dealt.amount / by))
 
 -- recoil: a strike; the user loses a part of what it dealt
-unfoldable pub recoil_row : ℕ → Facts → ℕ → Play (Unit {0})
+unfoldable pub recoil_row : ℕ → Figures → ℕ → Play (Unit {0})
 recoil_row by facts mv = do
   struck ← strike_with facts mv false
   recoiled by struck
@@ -65,7 +65,7 @@ crashed Missed = lose numbers.from_crash 1
 crashed (Hit dealt) = give tt
 
 -- crash: a strike; at a Miss the user loses 1
-unfoldable pub crash_row : Facts → ℕ → Play (Unit {0})
+unfoldable pub crash_row : Figures → ℕ → Play (Unit {0})
 crash_row facts mv = do
   struck ← strike_with facts mv false
   crashed struck

@@ -5,7 +5,7 @@ use Rattle.ps_event.specs.Numbers as numbers
 use Rattle.ps_calc.specs.Damage.{damage_of}
 use Rattle.ps_calc.specs.declared.formula.Hit.{Hit as Numbers}
 use Rattle.ps_calc.specs.Chances.{accuracy_byte_of, crit_byte_of}
-use Rattle.ps_mon.specs.declared.facts.Facts.{Facts}
+use Rattle.ps_mon.specs.Facts.{Figures}
 use Rattle.ps_mon.specs.declared.record.Lock.{Lock}
 use Rattle.ps_mon.specs.declared.record.LockKind.{LockKind}
 use Rattle.ps_mon.specs.declared.record.LockKind.TheVariants.{Bide}
@@ -155,11 +155,11 @@ strike blow = do
             (give Missed))
 
 -- a move as a strike on a fighter
-unfoldable pub blow_of : Facts → ℕ → Bool → Fighter → Blow
+unfoldable pub blow_of : Figures → ℕ → Bool → Fighter → Blow
 blow_of facts mv half foe = record { mv = mv; move_data = move_of facts mv; factors = move_factors facts mv (types_now foe); half = half }
 
 -- a move as a strike on the foe
-unfoldable pub strike_with : Facts → ℕ → Bool → Play Struck
+unfoldable pub strike_with : Figures → ℕ → Bool → Play Struck
 strike_with facts mv half = do
   d ← look
   strike (blow_of facts mv half d.foe)

@@ -1,7 +1,7 @@
 //! Effects that deal a stated amount.
 ghost use Rattle.std.specs.Prelude.{◌≡◌, ◌≤◌, ◌<◌, ◌+◌, ℕ, slice_index};
 ghost use Rattle.arrayvec.specs.ArrayVec.{array_vec_len};
-ghost use Rattle.ps_mon.specs.Facts.{AreFair};
+ghost use Rattle.ps_mon.specs.Facts.{AreFair, figures};
 ghost use Rattle.ps_mon.specs.Known.{AreKnown};
 ghost use Rattle.ps_mon.specs.Moves.{IsNamed, move_of};
 ghost use Rattle.ps_mon.specs.Keeping.{Keeps, StillStands};
@@ -33,9 +33,9 @@ fn amount(effect: Effect) -> u16
 #[tactic(auto, unfolding(crate::specs::Amounts::fixed_row))]
 fn fixed_duel(duel: &mut Duel, amount: u16, facts: Facts<'_>, mv: u16, out: &mut Events)
     requires fit { IsFit duel.old }
-    requires fair { AreFair facts }
+    requires fair { AreFair (figures facts) }
     requires room { array_vec_len out.old + 4 ≤ 160 }
-    ensures after { scene duel.new out.new ≡ (fixed_row amount facts.entry mv (scene duel.old out.old)).1 }
+    ensures after { scene duel.new out.new ≡ (fixed_row amount (figures facts.entry) mv (scene duel.old out.old)).1 }
     ensures fit { IsFit duel.new }
     ensures known { (moves : ℕ) → IsNamed moves mv → IsDuelKnown moves duel.old → IsDuelKnown moves duel.new }
     ensures room { array_vec_len out.new ≤ array_vec_len out.old + 4 }
@@ -49,10 +49,10 @@ fn fixed_duel(duel: &mut Duel, amount: u16, facts: Facts<'_>, mv: u16, out: &mut
 /// Takes the amount of the move, whatever the types; 0 for a move of another kind.
 pub fn fixed(battle: &mut Battle, facts: Facts<'_>, user: u8, mv: u16, out: &mut Events)
     requires sound { IsSound battle.old }
-    requires fair { AreFair facts }
+    requires fair { AreFair (figures facts) }
     requires user { user < 2 }
     requires room { array_vec_len out.old + 20 ≤ 160 }
-    ensures effect { course battle.new out.new ≡ played (fixed_row (amount_of (move_of facts.entry mv).effect) facts.entry mv) user (course battle.old out.old) }
+    ensures effect { course battle.new out.new ≡ played (fixed_row (amount_of (move_of (figures facts.entry) mv).effect) (figures facts.entry) mv) user (course battle.old out.old) }
     ensures sound { IsSound battle.new }
     ensures whole { IsValid battle.old → StillStands battle.old battle.new → IsValid battle.new }
     ensures known { (moves : ℕ) → IsNamed moves mv → AreKnown moves battle.old → AreKnown moves battle.new }
@@ -68,9 +68,9 @@ pub fn fixed(battle: &mut Battle, facts: Facts<'_>, user: u8, mv: u16, out: &mut
 #[tactic(auto, unfolding(crate::specs::Amounts::level_row))]
 fn level_duel(duel: &mut Duel, facts: Facts<'_>, mv: u16, out: &mut Events)
     requires fit { IsFit duel.old }
-    requires fair { AreFair facts }
+    requires fair { AreFair (figures facts) }
     requires room { array_vec_len out.old + 4 ≤ 160 }
-    ensures after { scene duel.new out.new ≡ (level_row facts.entry mv (scene duel.old out.old)).1 }
+    ensures after { scene duel.new out.new ≡ (level_row (figures facts.entry) mv (scene duel.old out.old)).1 }
     ensures fit { IsFit duel.new }
     ensures known { (moves : ℕ) → IsNamed moves mv → IsDuelKnown moves duel.old → IsDuelKnown moves duel.new }
     ensures room { array_vec_len out.new ≤ array_vec_len out.old + 4 }
@@ -85,10 +85,10 @@ fn level_duel(duel: &mut Duel, facts: Facts<'_>, mv: u16, out: &mut Events)
 /// Takes as much health as the user's level.
 pub fn level(battle: &mut Battle, facts: Facts<'_>, user: u8, mv: u16, out: &mut Events)
     requires sound { IsSound battle.old }
-    requires fair { AreFair facts }
+    requires fair { AreFair (figures facts) }
     requires user { user < 2 }
     requires room { array_vec_len out.old + 20 ≤ 160 }
-    ensures effect { course battle.new out.new ≡ played (level_row facts.entry mv) user (course battle.old out.old) }
+    ensures effect { course battle.new out.new ≡ played (level_row (figures facts.entry) mv) user (course battle.old out.old) }
     ensures sound { IsSound battle.new }
     ensures whole { IsValid battle.old → StillStands battle.old battle.new → IsValid battle.new }
     ensures known { (moves : ℕ) → IsNamed moves mv → AreKnown moves battle.old → AreKnown moves battle.new }
@@ -103,9 +103,9 @@ pub fn level(battle: &mut Battle, facts: Facts<'_>, user: u8, mv: u16, out: &mut
 #[tactic(auto, unfolding(crate::specs::Amounts::half_row))]
 fn half_duel(duel: &mut Duel, facts: Facts<'_>, mv: u16, out: &mut Events)
     requires fit { IsFit duel.old }
-    requires fair { AreFair facts }
+    requires fair { AreFair (figures facts) }
     requires room { array_vec_len out.old + 4 ≤ 160 }
-    ensures after { scene duel.new out.new ≡ (half_row facts.entry mv (scene duel.old out.old)).1 }
+    ensures after { scene duel.new out.new ≡ (half_row (figures facts.entry) mv (scene duel.old out.old)).1 }
     ensures fit { IsFit duel.new }
     ensures known { (moves : ℕ) → IsNamed moves mv → IsDuelKnown moves duel.old → IsDuelKnown moves duel.new }
     ensures room { array_vec_len out.new ≤ array_vec_len out.old + 4 }
@@ -120,10 +120,10 @@ fn half_duel(duel: &mut Duel, facts: Facts<'_>, mv: u16, out: &mut Events)
 /// Takes half of the foe's health, at least 1.
 pub fn half(battle: &mut Battle, facts: Facts<'_>, user: u8, mv: u16, out: &mut Events)
     requires sound { IsSound battle.old }
-    requires fair { AreFair facts }
+    requires fair { AreFair (figures facts) }
     requires user { user < 2 }
     requires room { array_vec_len out.old + 20 ≤ 160 }
-    ensures effect { course battle.new out.new ≡ played (half_row facts.entry mv) user (course battle.old out.old) }
+    ensures effect { course battle.new out.new ≡ played (half_row (figures facts.entry) mv) user (course battle.old out.old) }
     ensures sound { IsSound battle.new }
     ensures whole { IsValid battle.old → StillStands battle.old battle.new → IsValid battle.new }
     ensures known { (moves : ℕ) → IsNamed moves mv → AreKnown moves battle.old → AreKnown moves battle.new }
@@ -138,9 +138,9 @@ pub fn half(battle: &mut Battle, facts: Facts<'_>, user: u8, mv: u16, out: &mut 
 #[tactic(auto, unfolding(crate::specs::Amounts::psywave_row))]
 fn psywave_duel(duel: &mut Duel, facts: Facts<'_>, mv: u16, out: &mut Events)
     requires fit { IsFit duel.old }
-    requires fair { AreFair facts }
+    requires fair { AreFair (figures facts) }
     requires room { array_vec_len out.old + 4 ≤ 160 }
-    ensures after { scene duel.new out.new ≡ (psywave_row facts.entry mv (scene duel.old out.old)).1 }
+    ensures after { scene duel.new out.new ≡ (psywave_row (figures facts.entry) mv (scene duel.old out.old)).1 }
     ensures fit { IsFit duel.new }
     ensures known { (moves : ℕ) → IsNamed moves mv → IsDuelKnown moves duel.old → IsDuelKnown moves duel.new }
     ensures room { array_vec_len out.new ≤ array_vec_len out.old + 4 }
@@ -156,10 +156,10 @@ fn psywave_duel(duel: &mut Duel, facts: Facts<'_>, mv: u16, out: &mut Events)
 /// Takes 1 to one and a half times the user's level.
 pub fn psywave(battle: &mut Battle, facts: Facts<'_>, user: u8, mv: u16, out: &mut Events)
     requires sound { IsSound battle.old }
-    requires fair { AreFair facts }
+    requires fair { AreFair (figures facts) }
     requires user { user < 2 }
     requires room { array_vec_len out.old + 20 ≤ 160 }
-    ensures effect { course battle.new out.new ≡ played (psywave_row facts.entry mv) user (course battle.old out.old) }
+    ensures effect { course battle.new out.new ≡ played (psywave_row (figures facts.entry) mv) user (course battle.old out.old) }
     ensures sound { IsSound battle.new }
     ensures whole { IsValid battle.old → StillStands battle.old battle.new → IsValid battle.new }
     ensures known { (moves : ℕ) → IsNamed moves mv → AreKnown moves battle.old → AreKnown moves battle.new }
@@ -174,9 +174,9 @@ pub fn psywave(battle: &mut Battle, facts: Facts<'_>, user: u8, mv: u16, out: &m
 #[tactic(auto, unfolding(crate::specs::Amounts::ohko_row))]
 fn ohko_duel(duel: &mut Duel, facts: Facts<'_>, mv: u16, out: &mut Events)
     requires fit { IsFit duel.old }
-    requires fair { AreFair facts }
+    requires fair { AreFair (figures facts) }
     requires room { array_vec_len out.old + 4 ≤ 160 }
-    ensures after { scene duel.new out.new ≡ (ohko_row facts.entry mv (scene duel.old out.old)).1 }
+    ensures after { scene duel.new out.new ≡ (ohko_row (figures facts.entry) mv (scene duel.old out.old)).1 }
     ensures fit { IsFit duel.new }
     ensures known { (moves : ℕ) → IsNamed moves mv → IsDuelKnown moves duel.old → IsDuelKnown moves duel.new }
     ensures room { array_vec_len out.new ≤ array_vec_len out.old + 4 }
@@ -204,10 +204,10 @@ fn ohko_duel(duel: &mut Duel, facts: Facts<'_>, mv: u16, out: &mut Events)
 /// Takes all of the foe's health, unless a type of it is immune or the user is slower.
 pub fn ohko(battle: &mut Battle, facts: Facts<'_>, user: u8, mv: u16, out: &mut Events)
     requires sound { IsSound battle.old }
-    requires fair { AreFair facts }
+    requires fair { AreFair (figures facts) }
     requires user { user < 2 }
     requires room { array_vec_len out.old + 20 ≤ 160 }
-    ensures effect { course battle.new out.new ≡ played (ohko_row facts.entry mv) user (course battle.old out.old) }
+    ensures effect { course battle.new out.new ≡ played (ohko_row (figures facts.entry) mv) user (course battle.old out.old) }
     ensures sound { IsSound battle.new }
     ensures whole { IsValid battle.old → StillStands battle.old battle.new → IsValid battle.new }
     ensures known { (moves : ℕ) → IsNamed moves mv → AreKnown moves battle.old → AreKnown moves battle.new }

@@ -1,7 +1,7 @@
 //! Effects by which the user gains or loses a part of what it dealt.
 ghost use Rattle.std.specs.Prelude.{◌≡◌, ◌≤◌, ◌<◌, ◌+◌, ℕ};
 ghost use Rattle.arrayvec.specs.ArrayVec.{array_vec_len};
-ghost use Rattle.ps_mon.specs.Facts.{AreFair};
+ghost use Rattle.ps_mon.specs.Facts.{AreFair, figures};
 ghost use Rattle.ps_mon.specs.Known.{AreKnown};
 ghost use Rattle.ps_mon.specs.Moves.{IsNamed, move_of};
 ghost use Rattle.ps_mon.specs.Keeping.{Keeps, StillStands};
@@ -80,9 +80,9 @@ fn drink(duel: &mut Duel, struck: Struck, out: &mut Events)
 #[tactic(auto, unfolding(crate::specs::Shares::drain_row))]
 fn drain_duel(duel: &mut Duel, facts: Facts<'_>, mv: u16, out: &mut Events)
     requires fit { IsFit duel.old }
-    requires fair { AreFair facts }
+    requires fair { AreFair (figures facts) }
     requires room { array_vec_len out.old + 7 ≤ 160 }
-    ensures after { scene duel.new out.new ≡ (drain_row facts.entry mv (scene duel.old out.old)).1 }
+    ensures after { scene duel.new out.new ≡ (drain_row (figures facts.entry) mv (scene duel.old out.old)).1 }
     ensures fit { IsFit duel.new }
     ensures known { (moves : ℕ) → IsNamed moves mv → IsDuelKnown moves duel.old → IsDuelKnown moves duel.new }
     ensures room { array_vec_len out.new ≤ array_vec_len out.old + 7 }
@@ -94,10 +94,10 @@ fn drain_duel(duel: &mut Duel, facts: Facts<'_>, mv: u16, out: &mut Events)
 /// A strike; the user gains half of what it dealt, at least 1.
 pub fn drain(battle: &mut Battle, facts: Facts<'_>, user: u8, mv: u16, out: &mut Events)
     requires sound { IsSound battle.old }
-    requires fair { AreFair facts }
+    requires fair { AreFair (figures facts) }
     requires user { user < 2 }
     requires room { array_vec_len out.old + 20 ≤ 160 }
-    ensures effect { course battle.new out.new ≡ played (drain_row facts.entry mv) user (course battle.old out.old) }
+    ensures effect { course battle.new out.new ≡ played (drain_row (figures facts.entry) mv) user (course battle.old out.old) }
     ensures sound { IsSound battle.new }
     ensures whole { IsValid battle.old → StillStands battle.old battle.new → IsValid battle.new }
     ensures known { (moves : ℕ) → IsNamed moves mv → AreKnown moves battle.old → AreKnown moves battle.new }
@@ -112,9 +112,9 @@ pub fn drain(battle: &mut Battle, facts: Facts<'_>, user: u8, mv: u16, out: &mut
 #[tactic(auto, unfolding(crate::specs::Shares::dreameater_row))]
 fn dreameater_duel(duel: &mut Duel, facts: Facts<'_>, mv: u16, out: &mut Events)
     requires fit { IsFit duel.old }
-    requires fair { AreFair facts }
+    requires fair { AreFair (figures facts) }
     requires room { array_vec_len out.old + 7 ≤ 160 }
-    ensures after { scene duel.new out.new ≡ (dreameater_row facts.entry mv (scene duel.old out.old)).1 }
+    ensures after { scene duel.new out.new ≡ (dreameater_row (figures facts.entry) mv (scene duel.old out.old)).1 }
     ensures fit { IsFit duel.new }
     ensures known { (moves : ℕ) → IsNamed moves mv → IsDuelKnown moves duel.old → IsDuelKnown moves duel.new }
     ensures room { array_vec_len out.new ≤ array_vec_len out.old + 7 }
@@ -131,10 +131,10 @@ fn dreameater_duel(duel: &mut Duel, facts: Facts<'_>, mv: u16, out: &mut Events)
 /// The same against a foe that sleeps; against another it fails.
 pub fn dreameater(battle: &mut Battle, facts: Facts<'_>, user: u8, mv: u16, out: &mut Events)
     requires sound { IsSound battle.old }
-    requires fair { AreFair facts }
+    requires fair { AreFair (figures facts) }
     requires user { user < 2 }
     requires room { array_vec_len out.old + 20 ≤ 160 }
-    ensures effect { course battle.new out.new ≡ played (dreameater_row facts.entry mv) user (course battle.old out.old) }
+    ensures effect { course battle.new out.new ≡ played (dreameater_row (figures facts.entry) mv) user (course battle.old out.old) }
     ensures sound { IsSound battle.new }
     ensures whole { IsValid battle.old → StillStands battle.old battle.new → IsValid battle.new }
     ensures known { (moves : ℕ) → IsNamed moves mv → AreKnown moves battle.old → AreKnown moves battle.new }
@@ -178,10 +178,10 @@ fn recoil_from(duel: &mut Duel, by: u8, struck: Struck, out: &mut Events)
 #[tactic(auto, unfolding(crate::specs::Shares::recoil_row))]
 fn recoil_duel(duel: &mut Duel, by: u8, facts: Facts<'_>, mv: u16, out: &mut Events)
     requires fit { IsFit duel.old }
-    requires fair { AreFair facts }
+    requires fair { AreFair (figures facts) }
     requires by { 1 ≤ by }
     requires room { array_vec_len out.old + 8 ≤ 160 }
-    ensures after { scene duel.new out.new ≡ (recoil_row by facts.entry mv (scene duel.old out.old)).1 }
+    ensures after { scene duel.new out.new ≡ (recoil_row by (figures facts.entry) mv (scene duel.old out.old)).1 }
     ensures fit { IsFit duel.new }
     ensures known { (moves : ℕ) → IsNamed moves mv → IsDuelKnown moves duel.old → IsDuelKnown moves duel.new }
     ensures room { array_vec_len out.new ≤ array_vec_len out.old + 8 }
@@ -193,10 +193,10 @@ fn recoil_duel(duel: &mut Duel, by: u8, facts: Facts<'_>, mv: u16, out: &mut Eve
 /// A strike; the user loses what it dealt, divided by the move's number, at least 1. A move of another kind counts as if its number were 1.
 pub fn recoil(battle: &mut Battle, facts: Facts<'_>, user: u8, mv: u16, out: &mut Events)
     requires sound { IsSound battle.old }
-    requires fair { AreFair facts }
+    requires fair { AreFair (figures facts) }
     requires user { user < 2 }
     requires room { array_vec_len out.old + 20 ≤ 160 }
-    ensures effect { course battle.new out.new ≡ played (recoil_row (divisor_of (move_of facts.entry mv).effect) facts.entry mv) user (course battle.old out.old) }
+    ensures effect { course battle.new out.new ≡ played (recoil_row (divisor_of (move_of (figures facts.entry) mv).effect) (figures facts.entry) mv) user (course battle.old out.old) }
     ensures sound { IsSound battle.new }
     ensures whole { IsValid battle.old → StillStands battle.old battle.new → IsValid battle.new }
     ensures known { (moves : ℕ) → IsNamed moves mv → AreKnown moves battle.old → AreKnown moves battle.new }
@@ -227,9 +227,9 @@ fn crash_after(duel: &mut Duel, struck: Struck, out: &mut Events)
 #[tactic(auto, unfolding(crate::specs::Shares::crash_row))]
 fn crash_duel(duel: &mut Duel, facts: Facts<'_>, mv: u16, out: &mut Events)
     requires fit { IsFit duel.old }
-    requires fair { AreFair facts }
+    requires fair { AreFair (figures facts) }
     requires room { array_vec_len out.old + 8 ≤ 160 }
-    ensures after { scene duel.new out.new ≡ (crash_row facts.entry mv (scene duel.old out.old)).1 }
+    ensures after { scene duel.new out.new ≡ (crash_row (figures facts.entry) mv (scene duel.old out.old)).1 }
     ensures fit { IsFit duel.new }
     ensures known { (moves : ℕ) → IsNamed moves mv → IsDuelKnown moves duel.old → IsDuelKnown moves duel.new }
     ensures room { array_vec_len out.new ≤ array_vec_len out.old + 8 }
@@ -241,10 +241,10 @@ fn crash_duel(duel: &mut Duel, facts: Facts<'_>, mv: u16, out: &mut Events)
 /// A strike; where it misses the user loses 1.
 pub fn crash(battle: &mut Battle, facts: Facts<'_>, user: u8, mv: u16, out: &mut Events)
     requires sound { IsSound battle.old }
-    requires fair { AreFair facts }
+    requires fair { AreFair (figures facts) }
     requires user { user < 2 }
     requires room { array_vec_len out.old + 20 ≤ 160 }
-    ensures effect { course battle.new out.new ≡ played (crash_row facts.entry mv) user (course battle.old out.old) }
+    ensures effect { course battle.new out.new ≡ played (crash_row (figures facts.entry) mv) user (course battle.old out.old) }
     ensures sound { IsSound battle.new }
     ensures whole { IsValid battle.old → StillStands battle.old battle.new → IsValid battle.new }
     ensures known { (moves : ℕ) → IsNamed moves mv → AreKnown moves battle.old → AreKnown moves battle.new }

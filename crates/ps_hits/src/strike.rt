@@ -1,7 +1,7 @@
 //! A strike, step by step.
 ghost use Rattle.std.specs.Prelude.{◌≡◌, ◌≤◌, ◌<◌, ◌+◌, ℕ, pos, int_lt, slice_index};
 ghost use Rattle.arrayvec.specs.ArrayVec.{array_vec_len};
-ghost use Rattle.ps_mon.specs.Facts.{AreFair};
+ghost use Rattle.ps_mon.specs.Facts.{AreFair, figures};
 ghost use Rattle.ps_mon.specs.Known.{AreNamed};
 ghost use Rattle.ps_mon.specs.Moves.{IsNamed};
 ghost use Rattle.ps_mon.specs.Duels.{IsFit, IsFighter, IsDuelKnown};
@@ -368,9 +368,9 @@ fn strike_at(duel: &mut Duel, blow: &Blow, out: &mut Events) -> Struck
 
 #[tactic(auto, unfolding(crate::specs::Strikes::blow_of))]
 fn blow_on(facts: Facts<'_>, mv: u16, half: bool, foe: &Fighter) -> Blow
-    requires fair { AreFair facts }
+    requires fair { AreFair (figures facts) }
     requires fit { IsFighter foe.now }
-    ensures value { result ≡ blow_of facts.entry mv half foe.now }
+    ensures value { result ≡ blow_of (figures facts.entry) mv half foe.now }
     ensures mv { result.mv ≡ mv }
     ensures first { slice_index result.factors 0 ≤ 20 }
     ensures second { slice_index result.factors 1 ≤ 20 }
@@ -394,11 +394,11 @@ pub fn strike_foe_with(
     out: &mut Events,
 ) -> Struck
     requires fit { IsFit duel.old }
-    requires fair { AreFair facts }
+    requires fair { AreFair (figures facts) }
     requires room { array_vec_len out.old + 6 ≤ 160 }
-    ensures value { result ≡ (strike_with facts.entry mv half (scene duel.old out.old)).0 }
+    ensures value { result ≡ (strike_with (figures facts.entry) mv half (scene duel.old out.old)).0 }
     ensures high { IsStruck result }
-    ensures after { scene duel.new out.new ≡ (strike_with facts.entry mv half (scene duel.old out.old)).1 }
+    ensures after { scene duel.new out.new ≡ (strike_with (figures facts.entry) mv half (scene duel.old out.old)).1 }
     ensures fit { IsFit duel.new }
     ensures known { (moves : ℕ) → IsNamed moves mv → IsDuelKnown moves duel.old → IsDuelKnown moves duel.new }
     ensures room { array_vec_len out.new ≤ array_vec_len out.old + 6 }

@@ -6,6 +6,19 @@ use Rattle.ps_mon.specs.declared.effect.Effect.TheVariants as effects
 use Rattle.ps_mon.specs.declared.facts.MoveData.{MoveData}
 use Rattle.ps_mon.specs.declared.facts.Facts.{Facts}
 
+-- ---- the figures that facts lend
+
+pub record Figures : Type 0 where
+  pub moves : List MoveData
+  pub factors : List (List ℕ)
+  pub struggle : MoveData
+
+-- what the facts refer to; two facts with the same figures are the same to every definition
+unfoldable pub figures : Facts → Figures
+figures facts = record { moves = facts.moves.now; factors = facts.factors.now; struggle = facts.struggle.now }
+
+-- ---- when they are fair
+
 -- the built-in move: a strike of type 0 with power 50 and accuracy 100, half of what it dealt as recoil
 abbrev pub struggle : Bool → Bool → MoveData
 struggle special contact = record { kind = 0; special = special; contact = contact; power = 50; accuracy = 100; pp = 1; priority = pos 0; high = false; effect = effects.Recoil 2 }
@@ -41,8 +54,8 @@ abbrev pub factor_at : List (List ℕ) → ℕ → ℕ → ℕ
 factor_at factors attack defend = slice_index (slice_index_or factors attack []) defend
 
 -- The moves are at most 1,024 and in their ranges, the factors are factors, and Struggle is the built-in one.
-pub record AreFair (facts : Facts) : Type 0 where
-  pub few : length facts.moves.now ≤ 1024
-  pub moves : All IsFairMove facts.moves.now
-  pub factors : (attack defend : ℕ) → attack < 32 → defend < 32 → IsFactor (factor_at facts.factors.now attack defend)
-  pub struggle : (special contact : Bool) × (facts.struggle.now ≡ struggle special contact)
+pub record AreFair (facts : Figures) : Type 0 where
+  pub few : length facts.moves ≤ 1024
+  pub moves : All IsFairMove facts.moves
+  pub factors : (attack defend : ℕ) → attack < 32 → defend < 32 → IsFactor (factor_at facts.factors attack defend)
+  pub struggle : (special contact : Bool) × (facts.struggle ≡ struggle special contact)

@@ -6,8 +6,7 @@ use Rattle.ps_mon.specs.declared.record.CopiedSlots.{CopiedSlots}
 use Rattle.ps_mon.specs.declared.record.ChangedSlots.{ChangedSlots}
 use Rattle.ps_mon.specs.declared.record.Volatiles.{Volatiles}
 use Rattle.ps_mon.specs.declared.team.Member.{Member}
-use Rattle.ps_mon.specs.declared.facts.Facts.{Facts}
-use Rattle.ps_mon.specs.Facts.{AreFair}
+use Rattle.ps_mon.specs.Facts.{Figures, AreFair}
 use Rattle.ps_mon.specs.Moves.{IsNamed, move_count}
 use Rattle.ps_mon.specs.Reading.{side_of, member_of, slot_of, no_slot}
 
@@ -38,6 +37,6 @@ pub record AreKnown (moves : ℕ) (b : Battle) : Type 0 where
   pub sides : (s : ℕ) → s < 2 → IsSideKnown moves (side_of b s)
 
 -- the facts are fair for a battle
-pub record AreFairFor (facts : Facts) (b : Battle) : Type 0 where
+pub record AreFairFor (facts : Figures) (b : Battle) : Type 0 where
   pub ranges : AreFair facts
   pub known : AreKnown (move_count facts) b

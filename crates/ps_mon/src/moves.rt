@@ -1,14 +1,15 @@
 //! The numbers of a move, and the factors of its type.
 ghost use Rattle.std.specs.Prelude.{◌≡◌, ◌<◌, ◌≤◌, slice_index};
-ghost use Rattle.ps_mon.specs.Facts.{AreFair, IsFairMove};
+ghost use Rattle.ps_mon.specs.Facts.{AreFair, IsFairMove, figures};
 ghost use Rattle.ps_mon.specs.Moves.{move_of, factors_on, move_factors};
 
 use crate::facts::{Facts, MoveData, STRUGGLE};
 
 /// The numbers of a move; Struggle's past the places of the dex.
+#[tactic(auto, unfolding(crate::specs::Facts::figures))]
 pub fn move_data(facts: Facts<'_>, mv: u16) -> MoveData
-    requires { AreFair facts }
-    ensures value { result ≡ move_of facts.entry mv }
+    requires { AreFair (figures facts) }
+    ensures value { result ≡ move_of (figures facts.entry) mv }
     ensures fair { IsFairMove result }
 {
     match facts.moves.get(mv as usize) {
@@ -17,12 +18,13 @@ pub fn move_data(facts: Facts<'_>, mv: u16) -> MoveData
     }
 }
 
+#[tactic(auto, unfolding(crate::specs::Facts::figures))]
 fn type_factors(facts: Facts<'_>, kind: u8, types: [u8; 2]) -> [u8; 2]
-    requires fair { AreFair facts }
+    requires fair { AreFair (figures facts) }
     requires kind { kind < 32 }
     requires first { slice_index types 0 < 32 }
     requires second { slice_index types 1 < 32 }
-    ensures value { result ≡ factors_on facts.entry kind types }
+    ensures value { result ≡ factors_on (figures facts.entry) kind types }
     ensures first { slice_index result 0 ≤ 20 }
     ensures second { slice_index result 1 ≤ 20 }
 {
@@ -40,10 +42,10 @@ fn type_factors(facts: Facts<'_>, kind: u8, types: [u8; 2]) -> [u8; 2]
 /// second factor is then 10. Struggle does 10 to every type.
 #[tactic(auto, unfolding(crate::specs::Moves::move_factors))]
 pub fn factors(facts: Facts<'_>, mv: u16, types: [u8; 2]) -> [u8; 2]
-    requires fair { AreFair facts }
+    requires fair { AreFair (figures facts) }
     requires first { slice_index types 0 < 32 }
     requires second { slice_index types 1 < 32 }
-    ensures value { result ≡ move_factors facts.entry mv types }
+    ensures value { result ≡ move_factors (figures facts.entry) mv types }
     ensures first { slice_index result 0 ≤ 20 }
     ensures second { slice_index result 1 ≤ 20 }
 {

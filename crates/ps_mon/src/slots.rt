@@ -48,8 +48,9 @@ impl SideState {
         }
     }
 
+    /// Whether a slot of the active member, from 0, is there and has PP left.
     #[tactic(auto, unfolding(crate::specs::Slots::is_ready))]
-    fn is_ready(&self, slot: u8) -> bool
+    pub fn is_ready(&self, slot: u8) -> bool
         requires side { IsSide self.now }
         requires slot { slot < 4 }
         ensures { result ≡ is_ready self.now slot }

@@ -4,7 +4,7 @@ use Rattle.ps_event.specs.declared.event.Event.TheVariants as events
 use Rattle.ps_mon.specs.declared.duel.Duel.{Duel}
 use Rattle.ps_mon.specs.declared.effect.Effect.{Effect}
 use Rattle.ps_mon.specs.declared.effect.Effect.TheVariants as effects
-use Rattle.ps_mon.specs.declared.facts.Facts.{Facts}
+use Rattle.ps_mon.specs.Facts.{Figures}
 use Rattle.ps_mon.specs.declared.record.Lock.{Lock}
 use Rattle.ps_mon.specs.declared.record.LockKind.{LockKind}
 use Rattle.ps_mon.specs.declared.record.LockKind.TheVariants.{Charge}
@@ -39,19 +39,19 @@ prepare away mv = do
   lock_user (Some (new_lock (Charge away) mv 1 0))
 
 -- the strike that was prepared; the lock ends, whatever came of it
-unfoldable pub charged_strike : Facts → ℕ → Play (Unit {0})
+unfoldable pub charged_strike : Figures → ℕ → Play (Unit {0})
 charged_strike facts mv = do
   struck ← strike_with facts mv false
   lock_user None
 
 -- charge: first Prepare and a lock, out of reach if the move says so; then the strike, and the lock ends
-unfoldable pub charge_row : Bool → Facts → ℕ → Play (Unit {0})
+unfoldable pub charge_row : Bool → Figures → ℕ → Play (Unit {0})
 charge_row away facts mv = do
   d ← look
   choose (has_prepared d.user.vol.lock) (charged_strike facts mv) (prepare away mv)
 
 -- what the call does for a move of that kind; for another kind nothing
-abbrev pub charge_effect : Effect → Facts → ℕ → Play (Unit {0})
+abbrev pub charge_effect : Effect → Figures → ℕ → Play (Unit {0})
 charge_effect (effects.Charge away) facts mv = charge_row away facts mv
 charge_effect other facts mv = give tt
 
@@ -69,7 +69,7 @@ tire = do
   tell (events.MustRecharge (who_of d.user))
 
 -- recharge: a strike; the user must recharge where it hit, the foe stands and no substitute ended
-unfoldable pub recharge_row : Facts → ℕ → Play (Unit {0})
+unfoldable pub recharge_row : Figures → ℕ → Play (Unit {0})
 recharge_row facts mv = do
   struck ← strike_with facts mv false
   d ← look

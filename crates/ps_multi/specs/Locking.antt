@@ -2,7 +2,7 @@
 use Rattle.std.specs.Prelude.{ℕ, Bool, true, false, Option, Some, None, ◌+◌, ◌-◌, ◌*◌, ◌==◌, ◌||◌, if◌then◌else◌}
 use Rattle.ps_event.specs.declared.event.Event.TheVariants as events
 use Rattle.ps_event.specs.Numbers.{effect_confusion, effect_bide}
-use Rattle.ps_mon.specs.declared.facts.Facts.{Facts}
+use Rattle.ps_mon.specs.Facts.{Figures}
 use Rattle.ps_mon.specs.declared.record.Lock.{Lock}
 use Rattle.ps_mon.specs.declared.record.LockKind.{LockKind}
 use Rattle.ps_mon.specs.declared.record.LockKind.TheVariants.{Trap, Thrash, Bide, Rage}
@@ -59,7 +59,7 @@ trap_after mv (Hit dealt) = do
   choose (d.foe.hp == 0) (give tt) (trap_foe mv dealt)
 
 -- a trap begins: a strike, and the foe is trapped
-unfoldable pub trap_begins : Facts → ℕ → Play (Unit {0})
+unfoldable pub trap_begins : Figures → ℕ → Play (Unit {0})
 trap_begins facts mv = do
   struck ← strike_with facts mv false
   trap_after mv struck
@@ -76,12 +76,12 @@ trap_goes_on mv lock = do
   dealt ← deal mv lock.damage
   trap_wears_off (one_act_less lock)
 
-abbrev pub trap_by : Option Lock → Facts → ℕ → Play (Unit {0})
+abbrev pub trap_by : Option Lock → Figures → ℕ → Play (Unit {0})
 trap_by None facts mv = trap_begins facts mv
 trap_by (Some lock) facts mv = trap_goes_on mv lock
 
 -- trap: a strike that traps the foe; then its damage again in each act, without a test
-unfoldable pub trap_row : Facts → ℕ → Play (Unit {0})
+unfoldable pub trap_row : Figures → ℕ → Play (Unit {0})
 trap_row facts mv = do
   d ← look
   trap_by (own_lock is_trap d.user.vol.lock) facts mv
@@ -102,7 +102,7 @@ thrash_wears_off lock = choose (lock.turns == 0) (do
   grow_dizzy) (lock_user (Some lock))
 
 -- thrash: a strike in each of 3 or 4 acts, of which this may be the first; it goes on though the strike misses
-unfoldable pub thrash_row : Facts → ℕ → Play (Unit {0})
+unfoldable pub thrash_row : Figures → ℕ → Play (Unit {0})
 thrash_row facts mv = do
   d ← look
   lock ← lock_or_new Thrash 3 mv (own_lock is_thrash d.user.vol.lock)
@@ -132,7 +132,7 @@ bide_row mv = do
   choose (lock.turns == 0) (bide_ends mv lock) (bide_on lock)
 
 -- rage: a strike, and a lock without end, whatever came of it
-unfoldable pub rage_row : Facts → ℕ → Play (Unit {0})
+unfoldable pub rage_row : Figures → ℕ → Play (Unit {0})
 rage_row facts mv = do
   struck ← strike_with facts mv false
   lock_user (Some (new_lock Rage mv 0 0))

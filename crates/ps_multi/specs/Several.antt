@@ -4,7 +4,7 @@ use Rattle.ps_event.specs.declared.event.Event.TheVariants as events
 use Rattle.ps_mon.specs.declared.duel.Duel.{Duel}
 use Rattle.ps_mon.specs.declared.effect.Effect.{Effect}
 use Rattle.ps_mon.specs.declared.effect.Effect.TheVariants as effects
-use Rattle.ps_mon.specs.declared.facts.Facts.{Facts}
+use Rattle.ps_mon.specs.Facts.{Figures}
 use Rattle.ps_mon.specs.declared.status.Status.{Status}
 use Rattle.ps_mon.specs.Moves.{move_of}
 use Rattle.ps_hits.specs.declared.strike.Dealt.{Dealt}
@@ -49,7 +49,7 @@ multi_after mv (Hit dealt) = do
   hits_in_all (hits_by n) mv dealt
 
 -- multi: a strike; where it hit, two to five hits of its damage in all, by a draw that is made after the first whatever came of it
-unfoldable pub multi_row : Facts → ℕ → Play (Unit {0})
+unfoldable pub multi_row : Figures → ℕ → Play (Unit {0})
 multi_row facts mv = do
   struck ← strike_with facts mv false
   multi_after mv struck
@@ -60,13 +60,13 @@ double_after mv Missed = give tt
 double_after mv (Hit dealt) = hits_in_all 2 mv dealt
 
 -- double: a strike; where it hit, two hits of its damage in all; then a status as its secondary
-unfoldable pub double_row : Status → ℕ → Facts → ℕ → Play (Unit {0})
+unfoldable pub double_row : Status → ℕ → Figures → ℕ → Play (Unit {0})
 double_row status chance facts mv = do
   struck ← strike_with facts mv false
   double_after mv struck
   second chance struck (status_second status (move_of facts mv))
 
 -- what the call does for a move of that kind; for another kind nothing
-abbrev pub double_effect : Effect → Facts → ℕ → Play (Unit {0})
+abbrev pub double_effect : Effect → Figures → ℕ → Play (Unit {0})
 double_effect (effects.Double status chance) facts mv = double_row status chance facts mv
 double_effect other facts mv = give tt

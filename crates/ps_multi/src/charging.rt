@@ -1,7 +1,7 @@
 //! Moves that take the act before their strike, or the one after it.
 ghost use Rattle.std.specs.Prelude.{◌≡◌, ◌≤◌, ◌<◌, ◌+◌, ℕ};
 ghost use Rattle.arrayvec.specs.ArrayVec.{array_vec_len};
-ghost use Rattle.ps_mon.specs.Facts.{AreFair};
+ghost use Rattle.ps_mon.specs.Facts.{AreFair, figures};
 ghost use Rattle.ps_mon.specs.Known.{AreKnown};
 ghost use Rattle.ps_mon.specs.Moves.{IsNamed, move_of};
 ghost use Rattle.ps_mon.specs.Keeping.{Keeps, StillStands};
@@ -64,9 +64,9 @@ fn make_ready(duel: &mut Duel, away: bool, mv: u16, out: &mut Events)
 #[tactic(auto, unfolding(crate::specs::Charging::charged_strike))]
 fn strike_charged(duel: &mut Duel, facts: Facts<'_>, mv: u16, out: &mut Events)
     requires fit { IsFit duel.old }
-    requires fair { AreFair facts }
+    requires fair { AreFair (figures facts) }
     requires room { array_vec_len out.old + 6 ≤ 160 }
-    ensures after { scene duel.new out.new ≡ (charged_strike facts.entry mv (scene duel.old out.old)).1 }
+    ensures after { scene duel.new out.new ≡ (charged_strike (figures facts.entry) mv (scene duel.old out.old)).1 }
     ensures fit { IsFit duel.new }
     ensures known { (moves : ℕ) → IsNamed moves mv → IsDuelKnown moves duel.old → IsDuelKnown moves duel.new }
     ensures room { array_vec_len out.new ≤ array_vec_len out.old + 6 }
@@ -78,9 +78,9 @@ fn strike_charged(duel: &mut Duel, facts: Facts<'_>, mv: u16, out: &mut Events)
 #[tactic(auto, unfolding(crate::specs::Charging::charge_row))]
 fn charge_duel(duel: &mut Duel, away: bool, facts: Facts<'_>, mv: u16, out: &mut Events)
     requires fit { IsFit duel.old }
-    requires fair { AreFair facts }
+    requires fair { AreFair (figures facts) }
     requires room { array_vec_len out.old + 6 ≤ 160 }
-    ensures after { scene duel.new out.new ≡ (charge_row away facts.entry mv (scene duel.old out.old)).1 }
+    ensures after { scene duel.new out.new ≡ (charge_row away (figures facts.entry) mv (scene duel.old out.old)).1 }
     ensures fit { IsFit duel.new }
     ensures known { (moves : ℕ) → mv < moves → IsDuelKnown moves duel.old → IsDuelKnown moves duel.new }
     ensures room { array_vec_len out.new ≤ array_vec_len out.old + 6 }
@@ -95,10 +95,10 @@ fn charge_duel(duel: &mut Duel, away: bool, facts: Facts<'_>, mv: u16, out: &mut
 /// First the user prepares, out of reach if the move says so; in its next act it strikes. A move of another kind does nothing.
 pub fn charge(battle: &mut Battle, facts: Facts<'_>, user: u8, mv: u16, out: &mut Events)
     requires sound { IsSound battle.old }
-    requires fair { AreFair facts }
+    requires fair { AreFair (figures facts) }
     requires user { user < 2 }
     requires room { array_vec_len out.old + 20 ≤ 160 }
-    ensures effect { course battle.new out.new ≡ played (charge_effect (move_of facts.entry mv).effect facts.entry mv) user (course battle.old out.old) }
+    ensures effect { course battle.new out.new ≡ played (charge_effect (move_of (figures facts.entry) mv).effect (figures facts.entry) mv) user (course battle.old out.old) }
     ensures sound { IsSound battle.new }
     ensures whole { IsValid battle.old → StillStands battle.old battle.new → IsValid battle.new }
     ensures known { (moves : ℕ) → mv < moves → AreKnown moves battle.old → AreKnown moves battle.new }
@@ -139,9 +139,9 @@ fn tire_user(duel: &mut Duel, out: &mut Events)
 #[tactic(auto, unfolding(crate::specs::Charging::recharge_row))]
 fn recharge_duel(duel: &mut Duel, facts: Facts<'_>, mv: u16, out: &mut Events)
     requires fit { IsFit duel.old }
-    requires fair { AreFair facts }
+    requires fair { AreFair (figures facts) }
     requires room { array_vec_len out.old + 7 ≤ 160 }
-    ensures after { scene duel.new out.new ≡ (recharge_row facts.entry mv (scene duel.old out.old)).1 }
+    ensures after { scene duel.new out.new ≡ (recharge_row (figures facts.entry) mv (scene duel.old out.old)).1 }
     ensures fit { IsFit duel.new }
     ensures known { (moves : ℕ) → IsNamed moves mv → IsDuelKnown moves duel.old → IsDuelKnown moves duel.new }
     ensures room { array_vec_len out.new ≤ array_vec_len out.old + 7 }
@@ -155,10 +155,10 @@ fn recharge_duel(duel: &mut Duel, facts: Facts<'_>, mv: u16, out: &mut Events)
 /// A strike; where it hits, the foe stands and no substitute ended, the user must recharge in its next act.
 pub fn recharge(battle: &mut Battle, facts: Facts<'_>, user: u8, mv: u16, out: &mut Events)
     requires sound { IsSound battle.old }
-    requires fair { AreFair facts }
+    requires fair { AreFair (figures facts) }
     requires user { user < 2 }
     requires room { array_vec_len out.old + 20 ≤ 160 }
-    ensures effect { course battle.new out.new ≡ played (recharge_row facts.entry mv) user (course battle.old out.old) }
+    ensures effect { course battle.new out.new ≡ played (recharge_row (figures facts.entry) mv) user (course battle.old out.old) }
     ensures sound { IsSound battle.new }
     ensures whole { IsValid battle.old → StillStands battle.old battle.new → IsValid battle.new }
     ensures known { (moves : ℕ) → IsNamed moves mv → AreKnown moves battle.old → AreKnown moves battle.new }

@@ -1,7 +1,7 @@
 //! Moves that hold their user for several acts.
 ghost use Rattle.std.specs.Prelude.{◌≡◌, ◌≤◌, ◌<◌, ◌+◌, ◌*◌, ℕ, IfSome};
 ghost use Rattle.arrayvec.specs.ArrayVec.{array_vec_len};
-ghost use Rattle.ps_mon.specs.Facts.{AreFair};
+ghost use Rattle.ps_mon.specs.Facts.{AreFair, figures};
 ghost use Rattle.ps_mon.specs.Known.{AreKnown};
 ghost use Rattle.ps_mon.specs.Moves.{IsNamed};
 ghost use Rattle.ps_mon.specs.Keeping.{Keeps, StillStands};
@@ -114,9 +114,9 @@ fn catch_after(duel: &mut Duel, mv: u16, struck: Struck)
 #[tactic(auto, unfolding(crate::specs::Locking::trap_begins))]
 fn begin_trap(duel: &mut Duel, facts: Facts<'_>, mv: u16, out: &mut Events)
     requires fit { IsFit duel.old }
-    requires fair { AreFair facts }
+    requires fair { AreFair (figures facts) }
     requires room { array_vec_len out.old + 6 ≤ 160 }
-    ensures after { scene duel.new out.new ≡ (trap_begins facts.entry mv (scene duel.old out.old)).1 }
+    ensures after { scene duel.new out.new ≡ (trap_begins (figures facts.entry) mv (scene duel.old out.old)).1 }
     ensures fit { IsFit duel.new }
     ensures known { (moves : ℕ) → mv < moves → IsDuelKnown moves duel.old → IsDuelKnown moves duel.new }
     ensures room { array_vec_len out.new ≤ array_vec_len out.old + 6 }
@@ -157,9 +157,9 @@ fn go_on_trapping(duel: &mut Duel, mv: u16, lock: Lock, out: &mut Events)
 #[tactic(auto, unfolding(crate::specs::Locking::trap_row))]
 fn trap_duel(duel: &mut Duel, facts: Facts<'_>, mv: u16, out: &mut Events)
     requires fit { IsFit duel.old }
-    requires fair { AreFair facts }
+    requires fair { AreFair (figures facts) }
     requires room { array_vec_len out.old + 6 ≤ 160 }
-    ensures after { scene duel.new out.new ≡ (trap_row facts.entry mv (scene duel.old out.old)).1 }
+    ensures after { scene duel.new out.new ≡ (trap_row (figures facts.entry) mv (scene duel.old out.old)).1 }
     ensures fit { IsFit duel.new }
     ensures known { (moves : ℕ) → mv < moves → IsDuelKnown moves duel.old → IsDuelKnown moves duel.new }
     ensures room { array_vec_len out.new ≤ array_vec_len out.old + 6 }
@@ -173,10 +173,10 @@ fn trap_duel(duel: &mut Duel, facts: Facts<'_>, mv: u16, out: &mut Events)
 /// A strike that traps the foe for 1 to 4 acts, in each of which its damage is dealt again.
 pub fn trap(battle: &mut Battle, facts: Facts<'_>, user: u8, mv: u16, out: &mut Events)
     requires sound { IsSound battle.old }
-    requires fair { AreFair facts }
+    requires fair { AreFair (figures facts) }
     requires user { user < 2 }
     requires room { array_vec_len out.old + 20 ≤ 160 }
-    ensures effect { course battle.new out.new ≡ played (trap_row facts.entry mv) user (course battle.old out.old) }
+    ensures effect { course battle.new out.new ≡ played (trap_row (figures facts.entry) mv) user (course battle.old out.old) }
     ensures sound { IsSound battle.new }
     ensures whole { IsValid battle.old → StillStands battle.old battle.new → IsValid battle.new }
     ensures known { (moves : ℕ) → mv < moves → AreKnown moves battle.old → AreKnown moves battle.new }
@@ -230,9 +230,9 @@ fn count_thrash(duel: &mut Duel, lock: Lock, out: &mut Events)
 #[tactic(auto, unfolding(crate::specs::Locking::thrash_row))]
 fn thrash_duel(duel: &mut Duel, facts: Facts<'_>, mv: u16, out: &mut Events)
     requires fit { IsFit duel.old }
-    requires fair { AreFair facts }
+    requires fair { AreFair (figures facts) }
     requires room { array_vec_len out.old + 7 ≤ 160 }
-    ensures after { scene duel.new out.new ≡ (thrash_row facts.entry mv (scene duel.old out.old)).1 }
+    ensures after { scene duel.new out.new ≡ (thrash_row (figures facts.entry) mv (scene duel.old out.old)).1 }
     ensures fit { IsFit duel.new }
     ensures known { (moves : ℕ) → mv < moves → IsDuelKnown moves duel.old → IsDuelKnown moves duel.new }
     ensures room { array_vec_len out.new ≤ array_vec_len out.old + 7 }
@@ -246,10 +246,10 @@ fn thrash_duel(duel: &mut Duel, facts: Facts<'_>, mv: u16, out: &mut Events)
 /// A strike in each of 3 or 4 acts, after which the user is confused.
 pub fn thrash(battle: &mut Battle, facts: Facts<'_>, user: u8, mv: u16, out: &mut Events)
     requires sound { IsSound battle.old }
-    requires fair { AreFair facts }
+    requires fair { AreFair (figures facts) }
     requires user { user < 2 }
     requires room { array_vec_len out.old + 20 ≤ 160 }
-    ensures effect { course battle.new out.new ≡ played (thrash_row facts.entry mv) user (course battle.old out.old) }
+    ensures effect { course battle.new out.new ≡ played (thrash_row (figures facts.entry) mv) user (course battle.old out.old) }
     ensures sound { IsSound battle.new }
     ensures whole { IsValid battle.old → StillStands battle.old battle.new → IsValid battle.new }
     ensures known { (moves : ℕ) → mv < moves → AreKnown moves battle.old → AreKnown moves battle.new }
@@ -324,7 +324,7 @@ fn bide_duel(duel: &mut Duel, mv: u16, out: &mut Events)
 /// In 2 or 3 acts the user stores what it loses; in the act after them it deals twice of that, or fails where it is nothing.
 pub fn bide(battle: &mut Battle, _facts: Facts<'_>, user: u8, mv: u16, out: &mut Events)
     requires sound { IsSound battle.old }
-    requires fair { AreFair _facts }
+    requires fair { AreFair (figures _facts) }
     requires user { user < 2 }
     requires room { array_vec_len out.old + 20 ≤ 160 }
     ensures effect { course battle.new out.new ≡ played (bide_row mv) user (course battle.old out.old) }
@@ -342,9 +342,9 @@ pub fn bide(battle: &mut Battle, _facts: Facts<'_>, user: u8, mv: u16, out: &mut
 #[tactic(auto, unfolding(crate::specs::Locking::rage_row))]
 fn rage_duel(duel: &mut Duel, facts: Facts<'_>, mv: u16, out: &mut Events)
     requires fit { IsFit duel.old }
-    requires fair { AreFair facts }
+    requires fair { AreFair (figures facts) }
     requires room { array_vec_len out.old + 6 ≤ 160 }
-    ensures after { scene duel.new out.new ≡ (rage_row facts.entry mv (scene duel.old out.old)).1 }
+    ensures after { scene duel.new out.new ≡ (rage_row (figures facts.entry) mv (scene duel.old out.old)).1 }
     ensures fit { IsFit duel.new }
     ensures known { (moves : ℕ) → mv < moves → IsDuelKnown moves duel.old → IsDuelKnown moves duel.new }
     ensures room { array_vec_len out.new ≤ array_vec_len out.old + 6 }
@@ -356,10 +356,10 @@ fn rage_duel(duel: &mut Duel, facts: Facts<'_>, mv: u16, out: &mut Events)
 /// A strike in each act from now on; the user rages.
 pub fn rage(battle: &mut Battle, facts: Facts<'_>, user: u8, mv: u16, out: &mut Events)
     requires sound { IsSound battle.old }
-    requires fair { AreFair facts }
+    requires fair { AreFair (figures facts) }
     requires user { user < 2 }
     requires room { array_vec_len out.old + 20 ≤ 160 }
-    ensures effect { course battle.new out.new ≡ played (rage_row facts.entry mv) user (course battle.old out.old) }
+    ensures effect { course battle.new out.new ≡ played (rage_row (figures facts.entry) mv) user (course battle.old out.old) }
     ensures sound { IsSound battle.new }
     ensures whole { IsValid battle.old → StillStands battle.old battle.new → IsValid battle.new }
     ensures known { (moves : ℕ) → mv < moves → AreKnown moves battle.old → AreKnown moves battle.new }

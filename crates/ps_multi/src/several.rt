@@ -1,7 +1,7 @@
 //! Moves that hit several times.
 ghost use Rattle.std.specs.Prelude.{◌≡◌, ◌≤◌, ◌<◌, ◌+◌, ◌*◌, ℕ};
 ghost use Rattle.arrayvec.specs.ArrayVec.{array_vec_len};
-ghost use Rattle.ps_mon.specs.Facts.{AreFair};
+ghost use Rattle.ps_mon.specs.Facts.{AreFair, figures};
 ghost use Rattle.ps_mon.specs.Known.{AreKnown};
 ghost use Rattle.ps_mon.specs.Moves.{IsNamed, move_of};
 ghost use Rattle.ps_mon.specs.Keeping.{Keeps, StillStands};
@@ -101,9 +101,9 @@ fn hit_by_draw(duel: &mut Duel, mv: u16, struck: Struck, out: &mut Events)
 #[tactic(auto, unfolding(crate::specs::Several::multi_row))]
 fn multi_duel(duel: &mut Duel, facts: Facts<'_>, mv: u16, out: &mut Events)
     requires fit { IsFit duel.old }
-    requires fair { AreFair facts }
+    requires fair { AreFair (figures facts) }
     requires room { array_vec_len out.old + 19 ≤ 160 }
-    ensures after { scene duel.new out.new ≡ (multi_row facts.entry mv (scene duel.old out.old)).1 }
+    ensures after { scene duel.new out.new ≡ (multi_row (figures facts.entry) mv (scene duel.old out.old)).1 }
     ensures fit { IsFit duel.new }
     ensures known { (moves : ℕ) → IsNamed moves mv → IsDuelKnown moves duel.old → IsDuelKnown moves duel.new }
     ensures room { array_vec_len out.new ≤ array_vec_len out.old + 19 }
@@ -115,10 +115,10 @@ fn multi_duel(duel: &mut Duel, facts: Facts<'_>, mv: u16, out: &mut Events)
 /// A strike; where it hits, its damage is dealt again until there were two to five hits, the foe faints or its substitute ends.
 pub fn multi(battle: &mut Battle, facts: Facts<'_>, user: u8, mv: u16, out: &mut Events)
     requires sound { IsSound battle.old }
-    requires fair { AreFair facts }
+    requires fair { AreFair (figures facts) }
     requires user { user < 2 }
     requires room { array_vec_len out.old + 20 ≤ 160 }
-    ensures effect { course battle.new out.new ≡ played (multi_row facts.entry mv) user (course battle.old out.old) }
+    ensures effect { course battle.new out.new ≡ played (multi_row (figures facts.entry) mv) user (course battle.old out.old) }
     ensures sound { IsSound battle.new }
     ensures whole { IsValid battle.old → StillStands battle.old battle.new → IsValid battle.new }
     ensures known { (moves : ℕ) → IsNamed moves mv → AreKnown moves battle.old → AreKnown moves battle.new }
@@ -154,9 +154,9 @@ fn double_duel(
     out: &mut Events,
 )
     requires fit { IsFit duel.old }
-    requires fair { AreFair facts }
+    requires fair { AreFair (figures facts) }
     requires room { array_vec_len out.old + 20 ≤ 160 }
-    ensures after { scene duel.new out.new ≡ (double_row status chance facts.entry mv (scene duel.old out.old)).1 }
+    ensures after { scene duel.new out.new ≡ (double_row status chance (figures facts.entry) mv (scene duel.old out.old)).1 }
     ensures fit { IsFit duel.new }
     ensures known { (moves : ℕ) → IsNamed moves mv → IsDuelKnown moves duel.old → IsDuelKnown moves duel.new }
     ensures room { array_vec_len out.new ≤ array_vec_len out.old + 20 }
@@ -175,10 +175,10 @@ fn double_duel(
 /// The same with two hits, and then a status as its secondary. A move of another kind does nothing.
 pub fn double(battle: &mut Battle, facts: Facts<'_>, user: u8, mv: u16, out: &mut Events)
     requires sound { IsSound battle.old }
-    requires fair { AreFair facts }
+    requires fair { AreFair (figures facts) }
     requires user { user < 2 }
     requires room { array_vec_len out.old + 20 ≤ 160 }
-    ensures effect { course battle.new out.new ≡ played (double_effect (move_of facts.entry mv).effect facts.entry mv) user (course battle.old out.old) }
+    ensures effect { course battle.new out.new ≡ played (double_effect (move_of (figures facts.entry) mv).effect (figures facts.entry) mv) user (course battle.old out.old) }
     ensures sound { IsSound battle.new }
     ensures whole { IsValid battle.old → StillStands battle.old battle.new → IsValid battle.new }
     ensures known { (moves : ℕ) → IsNamed moves mv → AreKnown moves battle.old → AreKnown moves battle.new }

@@ -5,7 +5,7 @@ use Rattle.ps_mon.specs.declared.duel.Fighter.{Fighter}
 use Rattle.ps_mon.specs.declared.duel.Duel.{Duel}
 use Rattle.ps_mon.specs.declared.effect.Effect.{Effect}
 use Rattle.ps_mon.specs.declared.effect.Effect.TheVariants as effects
-use Rattle.ps_mon.specs.declared.facts.Facts.{Facts}
+use Rattle.ps_mon.specs.Facts.{Figures}
 use Rattle.ps_mon.specs.declared.facts.MoveData.{MoveData}
 use Rattle.ps_mon.specs.declared.status.Status.{Status}
 use Rattle.ps_mon.specs.declared.status.Status.TheVariants.{Healthy, Slp, Brn, Psn, Tox, Frz}
@@ -96,13 +96,13 @@ status_second status used = do
   choose (is_barred_second status used d) (give tt) (afflict status)
 
 -- a strike, and a status as its secondary
-unfoldable pub status_by_strike : Status → ℕ → Facts → ℕ → Play (Unit {0})
+unfoldable pub status_by_strike : Status → ℕ → Figures → ℕ → Play (Unit {0})
 status_by_strike status chance facts mv = do
   struck ← strike_with facts mv false
   second chance struck (status_second status (move_of facts mv))
 
 -- with power 0: the accuracy test, and the status, or Fail where it can't be
-unfoldable pub status_alone : Status → Facts → ℕ → Play (Unit {0})
+unfoldable pub status_alone : Status → Figures → ℕ → Play (Unit {0})
 status_alone status facts mv = do
   lands ← accuracy_test (move_of facts mv).accuracy
   d ← look
@@ -111,11 +111,11 @@ status_alone status facts mv = do
       (give tt)
 
 -- status: by strike and secondary, or with power 0
-unfoldable pub status_row : Status → ℕ → Facts → ℕ → Play (Unit {0})
+unfoldable pub status_row : Status → ℕ → Figures → ℕ → Play (Unit {0})
 status_row status chance facts mv =
     choose ((move_of facts mv).power == 0) (status_alone status facts mv) (status_by_strike status chance facts mv)
 
 -- what the call does for a move of that kind; for another kind nothing
-abbrev pub status_effect : Effect → Facts → ℕ → Play (Unit {0})
+abbrev pub status_effect : Effect → Figures → ℕ → Play (Unit {0})
 status_effect (effects.Status status chance) facts mv = status_row status chance facts mv
 status_effect other facts mv = give tt

@@ -10,7 +10,7 @@ use Rattle.ps_mon.specs.declared.effect.Stat.{Stat}
 use Rattle.ps_mon.specs.declared.effect.Stat.TheVariants.{Atk, Def, Spc, Spe, Acc, Eva}
 use Rattle.ps_mon.specs.declared.effect.Effect.{Effect}
 use Rattle.ps_mon.specs.declared.effect.Effect.TheVariants as effects
-use Rattle.ps_mon.specs.declared.facts.Facts.{Facts}
+use Rattle.ps_mon.specs.Facts.{Figures}
 use Rattle.ps_mon.specs.declared.record.Stages.{Stages}
 use Rattle.ps_mon.specs.Moves.{move_of}
 use Rattle.ps_hits.specs.Scenes.{Play, ◌>>=◌, ◌>>◌, give, look, tell, change, choose}
@@ -110,7 +110,7 @@ boost_second shift = do
   choose (is_boost_barred shift d) (give tt) (boost_at shift.who shift)
 
 -- a strike, and a change as its secondary
-unfoldable pub boost_by_strike : Shift → ℕ → Facts → ℕ → Play (Unit {0})
+unfoldable pub boost_by_strike : Shift → ℕ → Figures → ℕ → Play (Unit {0})
 boost_by_strike shift chance facts mv = do
   struck ← strike_with facts mv false
   second chance struck (boost_second shift)
@@ -122,21 +122,21 @@ boost_or_fail shift = do
   choose (is_boost_barred shift d) (tell (events.Fail (who_of d.user))) (boost_at shift.who shift)
 
 -- with power 0: the accuracy test is for a foe alone
-abbrev pub boost_alone_at : Aim → Shift → Facts → ℕ → Play (Unit {0})
+abbrev pub boost_alone_at : Aim → Shift → Figures → ℕ → Play (Unit {0})
 boost_alone_at User shift facts mv = boost_or_fail shift
 boost_alone_at Foe shift facts mv = do
   lands ← accuracy_test (move_of facts mv).accuracy
   choose lands (boost_or_fail shift) (give tt)
 
-unfoldable pub boost_alone : Shift → Facts → ℕ → Play (Unit {0})
+unfoldable pub boost_alone : Shift → Figures → ℕ → Play (Unit {0})
 boost_alone shift facts mv = boost_alone_at shift.who shift facts mv
 
 -- boost: by strike and secondary, or with power 0
-unfoldable pub boost_row : Shift → ℕ → Facts → ℕ → Play (Unit {0})
+unfoldable pub boost_row : Shift → ℕ → Figures → ℕ → Play (Unit {0})
 boost_row shift chance facts mv =
     choose ((move_of facts mv).power == 0) (boost_alone shift facts mv) (boost_by_strike shift chance facts mv)
 
 -- what the call does for a move of that kind; for another kind nothing
-abbrev pub boost_effect : Effect → Facts → ℕ → Play (Unit {0})
+abbrev pub boost_effect : Effect → Figures → ℕ → Play (Unit {0})
 boost_effect (effects.Boost who stat by chance) facts mv = boost_row (record { who = who; stat = stat; by = by }) chance facts mv
 boost_effect other facts mv = give tt

@@ -4,7 +4,7 @@ use Rattle.ps_event.specs.declared.event.Event.TheVariants as events
 use Rattle.ps_mon.specs.declared.duel.Fighter.{Fighter}
 use Rattle.ps_mon.specs.declared.effect.Effect.{Effect}
 use Rattle.ps_mon.specs.declared.effect.Effect.TheVariants as effects
-use Rattle.ps_mon.specs.declared.facts.Facts.{Facts}
+use Rattle.ps_mon.specs.Facts.{Figures}
 use Rattle.ps_mon.specs.Moves.{move_of}
 use Rattle.ps_hits.specs.Scenes.{Play, ◌>>=◌, ◌>>◌, give, look, tell, change, choose, draw}
 use Rattle.ps_hits.specs.Told.{who_of}
@@ -34,20 +34,20 @@ confuse_second = do
   choose (stays_sane d.foe) (give tt) daze
 
 -- a strike, and confusion as its secondary
-unfoldable pub confuse_by_strike : ℕ → Facts → ℕ → Play (Unit {0})
+unfoldable pub confuse_by_strike : ℕ → Figures → ℕ → Play (Unit {0})
 confuse_by_strike chance facts mv = do
   struck ← strike_with facts mv false
   second chance struck confuse_second
 
 -- with power 0: the accuracy test, and confusion, or Fail where it can't be
-unfoldable pub confuse_alone : Facts → ℕ → Play (Unit {0})
+unfoldable pub confuse_alone : Figures → ℕ → Play (Unit {0})
 confuse_alone facts mv = do
   lands ← accuracy_test (move_of facts mv).accuracy
   d ← look
   choose lands (choose (stays_sane d.foe) (tell (events.Fail (who_of d.user))) daze) (give tt)
 
 -- confuse: by strike and secondary, or with power 0
-unfoldable pub confuse_row : ℕ → Facts → ℕ → Play (Unit {0})
+unfoldable pub confuse_row : ℕ → Figures → ℕ → Play (Unit {0})
 confuse_row chance facts mv =
     choose ((move_of facts mv).power == 0) (confuse_alone facts mv) (confuse_by_strike chance facts mv)
 
@@ -55,16 +55,16 @@ abbrev pub flinching : Fighter → Fighter
 flinching f = record f { vol = record f.vol { flinch = true } }
 
 -- flinch: a strike and, as its secondary, the foe flinches
-unfoldable pub flinch_row : ℕ → Facts → ℕ → Play (Unit {0})
+unfoldable pub flinch_row : ℕ → Figures → ℕ → Play (Unit {0})
 flinch_row chance facts mv = do
   struck ← strike_with facts mv false
   second chance struck (change (λ d. record d { foe = flinching d.foe }))
 
 -- what the calls do for a move of that kind; for another kind nothing
-abbrev pub confuse_effect : Effect → Facts → ℕ → Play (Unit {0})
+abbrev pub confuse_effect : Effect → Figures → ℕ → Play (Unit {0})
 confuse_effect (effects.Confuse chance) facts mv = confuse_row chance facts mv
 confuse_effect other facts mv = give tt
 
-abbrev pub flinch_effect : Effect → Facts → ℕ → Play (Unit {0})
+abbrev pub flinch_effect : Effect → Figures → ℕ → Play (Unit {0})
 flinch_effect (effects.Flinch chance) facts mv = flinch_row chance facts mv
 flinch_effect other facts mv = give tt

@@ -1,7 +1,7 @@
 //! A status, by a strike or without one.
 ghost use Rattle.std.specs.Prelude.{◌≡◌, ◌≤◌, ◌<◌, ◌+◌, ℕ};
 ghost use Rattle.arrayvec.specs.ArrayVec.{array_vec_len};
-ghost use Rattle.ps_mon.specs.Facts.{AreFair};
+ghost use Rattle.ps_mon.specs.Facts.{AreFair, figures};
 ghost use Rattle.ps_mon.specs.Known.{AreKnown};
 ghost use Rattle.ps_mon.specs.Moves.{IsNamed, move_of};
 ghost use Rattle.ps_mon.specs.Keeping.{Keeps, StillStands};
@@ -167,9 +167,9 @@ fn strike_and_afflict(
     out: &mut Events,
 )
     requires fit { IsFit duel.old }
-    requires fair { AreFair facts }
+    requires fair { AreFair (figures facts) }
     requires room { array_vec_len out.old + 7 ≤ 160 }
-    ensures after { scene duel.new out.new ≡ (status_by_strike status chance facts.entry mv (scene duel.old out.old)).1 }
+    ensures after { scene duel.new out.new ≡ (status_by_strike status chance (figures facts.entry) mv (scene duel.old out.old)).1 }
     ensures fit { IsFit duel.new }
     ensures known { (moves : ℕ) → IsNamed moves mv → IsDuelKnown moves duel.old → IsDuelKnown moves duel.new }
     ensures room { array_vec_len out.new ≤ array_vec_len out.old + 7 }
@@ -187,9 +187,9 @@ fn strike_and_afflict(
 #[tactic(auto, unfolding(crate::specs::Afflicting::status_alone))]
 fn afflict_alone(duel: &mut Duel, status: Status, facts: Facts<'_>, mv: u16, out: &mut Events)
     requires fit { IsFit duel.old }
-    requires fair { AreFair facts }
+    requires fair { AreFair (figures facts) }
     requires room { array_vec_len out.old + 2 ≤ 160 }
-    ensures after { scene duel.new out.new ≡ (status_alone status facts.entry mv (scene duel.old out.old)).1 }
+    ensures after { scene duel.new out.new ≡ (status_alone status (figures facts.entry) mv (scene duel.old out.old)).1 }
     ensures fit { IsFit duel.new }
     ensures known { (moves : ℕ) → IsDuelKnown moves duel.old → IsDuelKnown moves duel.new }
     ensures room { array_vec_len out.new ≤ array_vec_len out.old + 2 }
@@ -218,9 +218,9 @@ fn status_duel(
     out: &mut Events,
 )
     requires fit { IsFit duel.old }
-    requires fair { AreFair facts }
+    requires fair { AreFair (figures facts) }
     requires room { array_vec_len out.old + 7 ≤ 160 }
-    ensures after { scene duel.new out.new ≡ (status_row status chance facts.entry mv (scene duel.old out.old)).1 }
+    ensures after { scene duel.new out.new ≡ (status_row status chance (figures facts.entry) mv (scene duel.old out.old)).1 }
     ensures fit { IsFit duel.new }
     ensures known { (moves : ℕ) → IsNamed moves mv → IsDuelKnown moves duel.old → IsDuelKnown moves duel.new }
     ensures room { array_vec_len out.new ≤ array_vec_len out.old + 7 }
@@ -235,10 +235,10 @@ fn status_duel(
 /// Gives the foe a status: as the secondary of a strike or, with power 0, after an accuracy test. A move of another kind does nothing.
 pub fn status(battle: &mut Battle, facts: Facts<'_>, user: u8, mv: u16, out: &mut Events)
     requires sound { IsSound battle.old }
-    requires fair { AreFair facts }
+    requires fair { AreFair (figures facts) }
     requires user { user < 2 }
     requires room { array_vec_len out.old + 20 ≤ 160 }
-    ensures effect { course battle.new out.new ≡ played (status_effect (move_of facts.entry mv).effect facts.entry mv) user (course battle.old out.old) }
+    ensures effect { course battle.new out.new ≡ played (status_effect (move_of (figures facts.entry) mv).effect (figures facts.entry) mv) user (course battle.old out.old) }
     ensures sound { IsSound battle.new }
     ensures whole { IsValid battle.old → StillStands battle.old battle.new → IsValid battle.new }
     ensures known { (moves : ℕ) → IsNamed moves mv → AreKnown moves battle.old → AreKnown moves battle.new }

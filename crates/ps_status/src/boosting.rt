@@ -1,7 +1,7 @@
 //! Stages, with a strike or without one.
 ghost use Rattle.std.specs.Prelude.{◌≡◌, ◌≤◌, ◌<◌, ◌+◌, ℕ, pos, negsuc, ◌≤ℤ◌, ◌-ℤ◌, unsigned_abs};
 ghost use Rattle.arrayvec.specs.ArrayVec.{array_vec_len};
-ghost use Rattle.ps_mon.specs.Facts.{AreFair};
+ghost use Rattle.ps_mon.specs.Facts.{AreFair, figures};
 ghost use Rattle.ps_mon.specs.Known.{AreKnown};
 ghost use Rattle.ps_mon.specs.Moves.{IsNamed, move_of};
 ghost use Rattle.ps_mon.specs.Keeping.{Keeps, StillStands};
@@ -236,10 +236,10 @@ fn strike_and_boost(
     out: &mut Events,
 )
     requires fit { IsFit duel.old }
-    requires fair { AreFair facts }
+    requires fair { AreFair (figures facts) }
     requires by { IsShift shift }
     requires room { array_vec_len out.old + 7 ≤ 160 }
-    ensures after { scene duel.new out.new ≡ (boost_by_strike shift chance facts.entry mv (scene duel.old out.old)).1 }
+    ensures after { scene duel.new out.new ≡ (boost_by_strike shift chance (figures facts.entry) mv (scene duel.old out.old)).1 }
     ensures fit { IsFit duel.new }
     ensures known { (moves : ℕ) → IsNamed moves mv → IsDuelKnown moves duel.old → IsDuelKnown moves duel.new }
     ensures room { array_vec_len out.new ≤ array_vec_len out.old + 7 }
@@ -276,10 +276,10 @@ fn try_alone(duel: &mut Duel, shift: Shift, out: &mut Events)
 #[tactic(auto, unfolding(crate::specs::Boosting::boost_alone))]
 fn boost_alone(duel: &mut Duel, shift: Shift, facts: Facts<'_>, mv: u16, out: &mut Events)
     requires fit { IsFit duel.old }
-    requires fair { AreFair facts }
+    requires fair { AreFair (figures facts) }
     requires by { IsShift shift }
     requires room { array_vec_len out.old + 2 ≤ 160 }
-    ensures after { scene duel.new out.new ≡ (boost_alone shift facts.entry mv (scene duel.old out.old)).1 }
+    ensures after { scene duel.new out.new ≡ (boost_alone shift (figures facts.entry) mv (scene duel.old out.old)).1 }
     ensures fit { IsFit duel.new }
     ensures known { (moves : ℕ) → IsDuelKnown moves duel.old → IsDuelKnown moves duel.new }
     ensures room { array_vec_len out.new ≤ array_vec_len out.old + 2 }
@@ -305,10 +305,10 @@ fn boost_duel(
     out: &mut Events,
 )
     requires fit { IsFit duel.old }
-    requires fair { AreFair facts }
+    requires fair { AreFair (figures facts) }
     requires by { IsShift shift }
     requires room { array_vec_len out.old + 7 ≤ 160 }
-    ensures after { scene duel.new out.new ≡ (boost_row shift chance facts.entry mv (scene duel.old out.old)).1 }
+    ensures after { scene duel.new out.new ≡ (boost_row shift chance (figures facts.entry) mv (scene duel.old out.old)).1 }
     ensures fit { IsFit duel.new }
     ensures known { (moves : ℕ) → IsNamed moves mv → IsDuelKnown moves duel.old → IsDuelKnown moves duel.new }
     ensures room { array_vec_len out.new ≤ array_vec_len out.old + 7 }
@@ -323,10 +323,10 @@ fn boost_duel(
 /// Changes stages of the user or of the foe: as the secondary of a strike or, with power 0, without one; then there is an accuracy test for the foe's alone. A move of another kind does nothing.
 pub fn boost(battle: &mut Battle, facts: Facts<'_>, user: u8, mv: u16, out: &mut Events)
     requires sound { IsSound battle.old }
-    requires fair { AreFair facts }
+    requires fair { AreFair (figures facts) }
     requires user { user < 2 }
     requires room { array_vec_len out.old + 20 ≤ 160 }
-    ensures effect { course battle.new out.new ≡ played (boost_effect (move_of facts.entry mv).effect facts.entry mv) user (course battle.old out.old) }
+    ensures effect { course battle.new out.new ≡ played (boost_effect (move_of (figures facts.entry) mv).effect (figures facts.entry) mv) user (course battle.old out.old) }
     ensures sound { IsSound battle.new }
     ensures whole { IsValid battle.old → StillStands battle.old battle.new → IsValid battle.new }
     ensures known { (moves : ℕ) → IsNamed moves mv → AreKnown moves battle.old → AreKnown moves battle.new }

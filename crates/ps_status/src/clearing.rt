@@ -1,7 +1,7 @@
 //! Haze, and the end of a status.
 ghost use Rattle.std.specs.Prelude.{◌≡◌, ◌≤◌, ◌<◌, ◌+◌, ℕ};
 ghost use Rattle.arrayvec.specs.ArrayVec.{array_vec_len};
-ghost use Rattle.ps_mon.specs.Facts.{AreFair};
+ghost use Rattle.ps_mon.specs.Facts.{AreFair, figures};
 ghost use Rattle.ps_mon.specs.Known.{AreKnown};
 ghost use Rattle.ps_mon.specs.Moves.{IsNamed, move_of};
 ghost use Rattle.ps_mon.specs.Keeping.{Keeps, StillStands};
@@ -103,7 +103,7 @@ fn haze_duel(duel: &mut Duel, out: &mut Events)
 /// Both members lose their stages, confusion, seed, screens, Mist, Focus Energy and disabled slot; the foe's status ends, and the user's bad poison becomes a plain one.
 pub fn haze(battle: &mut Battle, _facts: Facts<'_>, user: u8, mv: u16, out: &mut Events)
     requires sound { IsSound battle.old }
-    requires fair { AreFair _facts }
+    requires fair { AreFair (figures _facts) }
     requires user { user < 2 }
     requires room { array_vec_len out.old + 20 ≤ 160 }
     ensures effect { course battle.new out.new ≡ played haze_row user (course battle.old out.old) }

@@ -1,7 +1,7 @@
 //! Confusion, by a strike or without one, and a strike that makes the foe flinch.
 ghost use Rattle.std.specs.Prelude.{◌≡◌, ◌≤◌, ◌<◌, ◌+◌, ℕ};
 ghost use Rattle.arrayvec.specs.ArrayVec.{array_vec_len};
-ghost use Rattle.ps_mon.specs.Facts.{AreFair};
+ghost use Rattle.ps_mon.specs.Facts.{AreFair, figures};
 ghost use Rattle.ps_mon.specs.Known.{AreKnown};
 ghost use Rattle.ps_mon.specs.Moves.{IsNamed, move_of};
 ghost use Rattle.ps_mon.specs.Keeping.{Keeps, StillStands};
@@ -65,9 +65,9 @@ fn try_second(duel: &mut Duel, out: &mut Events)
 #[tactic(auto, unfolding(crate::specs::Confusing::confuse_by_strike))]
 fn strike_and_confuse(duel: &mut Duel, chance: u16, facts: Facts<'_>, mv: u16, out: &mut Events)
     requires fit { IsFit duel.old }
-    requires fair { AreFair facts }
+    requires fair { AreFair (figures facts) }
     requires room { array_vec_len out.old + 7 ≤ 160 }
-    ensures after { scene duel.new out.new ≡ (confuse_by_strike chance facts.entry mv (scene duel.old out.old)).1 }
+    ensures after { scene duel.new out.new ≡ (confuse_by_strike chance (figures facts.entry) mv (scene duel.old out.old)).1 }
     ensures fit { IsFit duel.new }
     ensures known { (moves : ℕ) → IsNamed moves mv → IsDuelKnown moves duel.old → IsDuelKnown moves duel.new }
     ensures room { array_vec_len out.new ≤ array_vec_len out.old + 7 }
@@ -85,9 +85,9 @@ fn strike_and_confuse(duel: &mut Duel, chance: u16, facts: Facts<'_>, mv: u16, o
 #[tactic(auto, unfolding(crate::specs::Confusing::confuse_alone))]
 fn confuse_alone(duel: &mut Duel, facts: Facts<'_>, mv: u16, out: &mut Events)
     requires fit { IsFit duel.old }
-    requires fair { AreFair facts }
+    requires fair { AreFair (figures facts) }
     requires room { array_vec_len out.old + 2 ≤ 160 }
-    ensures after { scene duel.new out.new ≡ (confuse_alone facts.entry mv (scene duel.old out.old)).1 }
+    ensures after { scene duel.new out.new ≡ (confuse_alone (figures facts.entry) mv (scene duel.old out.old)).1 }
     ensures fit { IsFit duel.new }
     ensures known { (moves : ℕ) → IsDuelKnown moves duel.old → IsDuelKnown moves duel.new }
     ensures room { array_vec_len out.new ≤ array_vec_len out.old + 2 }
@@ -107,9 +107,9 @@ fn confuse_alone(duel: &mut Duel, facts: Facts<'_>, mv: u16, out: &mut Events)
 #[tactic(auto, unfolding(crate::specs::Confusing::confuse_row))]
 fn confuse_duel(duel: &mut Duel, chance: u16, facts: Facts<'_>, mv: u16, out: &mut Events)
     requires fit { IsFit duel.old }
-    requires fair { AreFair facts }
+    requires fair { AreFair (figures facts) }
     requires room { array_vec_len out.old + 7 ≤ 160 }
-    ensures after { scene duel.new out.new ≡ (confuse_row chance facts.entry mv (scene duel.old out.old)).1 }
+    ensures after { scene duel.new out.new ≡ (confuse_row chance (figures facts.entry) mv (scene duel.old out.old)).1 }
     ensures fit { IsFit duel.new }
     ensures known { (moves : ℕ) → IsNamed moves mv → IsDuelKnown moves duel.old → IsDuelKnown moves duel.new }
     ensures room { array_vec_len out.new ≤ array_vec_len out.old + 7 }
@@ -124,10 +124,10 @@ fn confuse_duel(duel: &mut Duel, chance: u16, facts: Facts<'_>, mv: u16, out: &m
 /// Confuses the foe for 2 to 5 acts: as the secondary of a strike or, with power 0, after an accuracy test. A move of another kind does nothing.
 pub fn confuse(battle: &mut Battle, facts: Facts<'_>, user: u8, mv: u16, out: &mut Events)
     requires sound { IsSound battle.old }
-    requires fair { AreFair facts }
+    requires fair { AreFair (figures facts) }
     requires user { user < 2 }
     requires room { array_vec_len out.old + 20 ≤ 160 }
-    ensures effect { course battle.new out.new ≡ played (confuse_effect (move_of facts.entry mv).effect facts.entry mv) user (course battle.old out.old) }
+    ensures effect { course battle.new out.new ≡ played (confuse_effect (move_of (figures facts.entry) mv).effect (figures facts.entry) mv) user (course battle.old out.old) }
     ensures sound { IsSound battle.new }
     ensures whole { IsValid battle.old → StillStands battle.old battle.new → IsValid battle.new }
     ensures known { (moves : ℕ) → IsNamed moves mv → AreKnown moves battle.old → AreKnown moves battle.new }
@@ -144,9 +144,9 @@ pub fn confuse(battle: &mut Battle, facts: Facts<'_>, user: u8, mv: u16, out: &m
 #[tactic(auto, unfolding(crate::specs::Confusing::flinch_row))]
 fn flinch_duel(duel: &mut Duel, chance: u16, facts: Facts<'_>, mv: u16, out: &mut Events)
     requires fit { IsFit duel.old }
-    requires fair { AreFair facts }
+    requires fair { AreFair (figures facts) }
     requires room { array_vec_len out.old + 6 ≤ 160 }
-    ensures after { scene duel.new out.new ≡ (flinch_row chance facts.entry mv (scene duel.old out.old)).1 }
+    ensures after { scene duel.new out.new ≡ (flinch_row chance (figures facts.entry) mv (scene duel.old out.old)).1 }
     ensures fit { IsFit duel.new }
     ensures known { (moves : ℕ) → IsNamed moves mv → IsDuelKnown moves duel.old → IsDuelKnown moves duel.new }
     ensures room { array_vec_len out.new ≤ array_vec_len out.old + 6 }
@@ -164,10 +164,10 @@ fn flinch_duel(duel: &mut Duel, chance: u16, facts: Facts<'_>, mv: u16, out: &mu
 /// A strike; as its secondary the foe flinches. A move of another kind does nothing.
 pub fn flinch(battle: &mut Battle, facts: Facts<'_>, user: u8, mv: u16, out: &mut Events)
     requires sound { IsSound battle.old }
-    requires fair { AreFair facts }
+    requires fair { AreFair (figures facts) }
     requires user { user < 2 }
     requires room { array_vec_len out.old + 20 ≤ 160 }
-    ensures effect { course battle.new out.new ≡ played (flinch_effect (move_of facts.entry mv).effect facts.entry mv) user (course battle.old out.old) }
+    ensures effect { course battle.new out.new ≡ played (flinch_effect (move_of (figures facts.entry) mv).effect (figures facts.entry) mv) user (course battle.old out.old) }
     ensures sound { IsSound battle.new }
     ensures whole { IsValid battle.old → StillStands battle.old battle.new → IsValid battle.new }
     ensures known { (moves : ℕ) → IsNamed moves mv → AreKnown moves battle.old → AreKnown moves battle.new }

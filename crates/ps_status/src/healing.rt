@@ -1,7 +1,7 @@
 //! Health for the user, and sleep.
 ghost use Rattle.std.specs.Prelude.{◌≡◌, ◌≤◌, ◌<◌, ◌+◌, ℕ};
 ghost use Rattle.arrayvec.specs.ArrayVec.{array_vec_len};
-ghost use Rattle.ps_mon.specs.Facts.{AreFair};
+ghost use Rattle.ps_mon.specs.Facts.{AreFair, figures};
 ghost use Rattle.ps_mon.specs.Known.{AreKnown};
 ghost use Rattle.ps_mon.specs.Moves.{IsNamed, move_of};
 ghost use Rattle.ps_mon.specs.Keeping.{Keeps, StillStands};
@@ -41,7 +41,7 @@ fn heal_duel(duel: &mut Duel, out: &mut Events)
 /// The user gains half of its greatest health; at full health it fails.
 pub fn heal(battle: &mut Battle, _facts: Facts<'_>, user: u8, mv: u16, out: &mut Events)
     requires sound { IsSound battle.old }
-    requires fair { AreFair _facts }
+    requires fair { AreFair (figures _facts) }
     requires user { user < 2 }
     requires room { array_vec_len out.old + 20 ≤ 160 }
     ensures effect { course battle.new out.new ≡ played heal_row user (course battle.old out.old) }
@@ -85,7 +85,7 @@ fn rest_duel(duel: &mut Duel, out: &mut Events)
 /// The user sleeps for 2 acts, whatever status it had, and gains all of its health; at full health it fails.
 pub fn rest(battle: &mut Battle, _facts: Facts<'_>, user: u8, mv: u16, out: &mut Events)
     requires sound { IsSound battle.old }
-    requires fair { AreFair _facts }
+    requires fair { AreFair (figures _facts) }
     requires user { user < 2 }
     requires room { array_vec_len out.old + 20 ≤ 160 }
     ensures effect { course battle.new out.new ≡ played rest_row user (course battle.old out.old) }

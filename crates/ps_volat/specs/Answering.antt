@@ -2,7 +2,7 @@
 use Rattle.std.specs.Prelude.{ℕ, Bool, true, false, Option, Some, None, ◌*◌, ◌||◌}
 use Rattle.ps_event.specs.declared.event.Event.TheVariants as events
 use Rattle.ps_mon.specs.declared.duel.Fighter.{Fighter}
-use Rattle.ps_mon.specs.declared.facts.Facts.{Facts}
+use Rattle.ps_mon.specs.Facts.{Figures}
 use Rattle.ps_mon.specs.declared.record.Taken.{Taken}
 use Rattle.ps_mon.specs.Moves.{move_of}
 use Rattle.ps_hits.specs.Scenes.{Play, ◌>>=◌, ◌>>◌, give, look, tell, change, choose}
@@ -16,7 +16,7 @@ abbrev pub seeded : Fighter → Fighter
 seeded f = record f { vol = record f.vol { seeded = true } }
 
 -- leechseed: the accuracy test, then Fail where the foe is seeded or has the move's type, else it is seeded
-unfoldable pub leechseed_row : Facts → ℕ → Play (Unit {0})
+unfoldable pub leechseed_row : Figures → ℕ → Play (Unit {0})
 leechseed_row facts mv = do
   lands ← accuracy_test (move_of facts mv).accuracy
   d ← look
@@ -31,7 +31,7 @@ abbrev pub answer_to : Bool → ℕ → Option ℕ
 answer_to true damage = Some (2 * damage)
 answer_to false damage = None
 
-abbrev pub answered : Facts → Option Taken → Option ℕ
+abbrev pub answered : Figures → Option Taken → Option ℕ
 answered facts None = None
 answered facts (Some taken) = answer_to (move_of facts taken.mv).contact taken.damage
 
@@ -42,7 +42,7 @@ deal_answer mv None = do
 deal_answer mv (Some amount) = deal_alone mv amount
 
 -- counter: that is dealt, whatever the types, with no accuracy test; else Fail
-unfoldable pub counter_row : Facts → ℕ → Play (Unit {0})
+unfoldable pub counter_row : Figures → ℕ → Play (Unit {0})
 counter_row facts mv = do
   d ← look
   deal_answer mv (answered facts d.user.vol.taken)

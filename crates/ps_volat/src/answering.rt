@@ -1,7 +1,7 @@
 //! What the foe gets: a seed, or its blow back; and a move that does nothing.
 ghost use Rattle.std.specs.Prelude.{◌≡◌, ◌≤◌, ◌<◌, ◌+◌, ◌*◌, ℕ, IfSome};
 ghost use Rattle.arrayvec.specs.ArrayVec.{array_vec_len};
-ghost use Rattle.ps_mon.specs.Facts.{AreFair};
+ghost use Rattle.ps_mon.specs.Facts.{AreFair, figures};
 ghost use Rattle.ps_mon.specs.Known.{AreKnown};
 ghost use Rattle.ps_mon.specs.Moves.{IsNamed, move_of};
 ghost use Rattle.ps_mon.specs.Keeping.{Keeps, StillStands};
@@ -24,9 +24,9 @@ use ps_mon::record::{Battle, Taken};
 #[tactic(auto, unfolding(crate::specs::Answering::leechseed_row))]
 fn leechseed_duel(duel: &mut Duel, facts: Facts<'_>, mv: u16, out: &mut Events)
     requires fit { IsFit duel.old }
-    requires fair { AreFair facts }
+    requires fair { AreFair (figures facts) }
     requires room { array_vec_len out.old + 2 ≤ 160 }
-    ensures after { scene duel.new out.new ≡ (leechseed_row facts.entry mv (scene duel.old out.old)).1 }
+    ensures after { scene duel.new out.new ≡ (leechseed_row (figures facts.entry) mv (scene duel.old out.old)).1 }
     ensures fit { IsFit duel.new }
     ensures known { (moves : ℕ) → IsDuelKnown moves duel.old → IsDuelKnown moves duel.new }
     ensures room { array_vec_len out.new ≤ array_vec_len out.old + 2 }
@@ -52,10 +52,10 @@ fn leechseed_duel(duel: &mut Duel, facts: Facts<'_>, mv: u16, out: &mut Events)
 /// Seeds the foe, after an accuracy test; fails where it is seeded or has the move's type.
 pub fn leechseed(battle: &mut Battle, facts: Facts<'_>, user: u8, mv: u16, out: &mut Events)
     requires sound { IsSound battle.old }
-    requires fair { AreFair facts }
+    requires fair { AreFair (figures facts) }
     requires user { user < 2 }
     requires room { array_vec_len out.old + 20 ≤ 160 }
-    ensures effect { course battle.new out.new ≡ played (leechseed_row facts.entry mv) user (course battle.old out.old) }
+    ensures effect { course battle.new out.new ≡ played (leechseed_row (figures facts.entry) mv) user (course battle.old out.old) }
     ensures sound { IsSound battle.new }
     ensures whole { IsValid battle.old → StillStands battle.old battle.new → IsValid battle.new }
     ensures known { (moves : ℕ) → IsNamed moves mv → AreKnown moves battle.old → AreKnown moves battle.new }
@@ -68,9 +68,9 @@ pub fn leechseed(battle: &mut Battle, facts: Facts<'_>, user: u8, mv: u16, out: 
 }
 
 fn answer(facts: Facts<'_>, taken: Option<Taken>) -> Option<u16>
-    requires fair { AreFair facts }
+    requires fair { AreFair (figures facts) }
     requires taken { IfSome taken (λ t. t.damage ≤ 713) }
-    ensures { result ≡ answered facts.entry taken }
+    ensures { result ≡ answered (figures facts.entry) taken }
 {
     let taken = taken?;
     if move_data(facts, taken.mv).contact {
@@ -83,9 +83,9 @@ fn answer(facts: Facts<'_>, taken: Option<Taken>) -> Option<u16>
 #[tactic(auto, unfolding(crate::specs::Answering::counter_row))]
 fn counter_duel(duel: &mut Duel, facts: Facts<'_>, mv: u16, out: &mut Events)
     requires fit { IsFit duel.old }
-    requires fair { AreFair facts }
+    requires fair { AreFair (figures facts) }
     requires room { array_vec_len out.old + 3 ≤ 160 }
-    ensures after { scene duel.new out.new ≡ (counter_row facts.entry mv (scene duel.old out.old)).1 }
+    ensures after { scene duel.new out.new ≡ (counter_row (figures facts.entry) mv (scene duel.old out.old)).1 }
     ensures fit { IsFit duel.new }
     ensures known { (moves : ℕ) → IsNamed moves mv → IsDuelKnown moves duel.old → IsDuelKnown moves duel.new }
     ensures room { array_vec_len out.new ≤ array_vec_len out.old + 3 }
@@ -103,10 +103,10 @@ fn counter_duel(duel: &mut Duel, facts: Facts<'_>, mv: u16, out: &mut Events)
 /// Takes twice the damage that the user took last in this turn, where a move of type `normal` or `fighting` did it; else it fails.
 pub fn counter(battle: &mut Battle, facts: Facts<'_>, user: u8, mv: u16, out: &mut Events)
     requires sound { IsSound battle.old }
-    requires fair { AreFair facts }
+    requires fair { AreFair (figures facts) }
     requires user { user < 2 }
     requires room { array_vec_len out.old + 20 ≤ 160 }
-    ensures effect { course battle.new out.new ≡ played (counter_row facts.entry mv) user (course battle.old out.old) }
+    ensures effect { course battle.new out.new ≡ played (counter_row (figures facts.entry) mv) user (course battle.old out.old) }
     ensures sound { IsSound battle.new }
     ensures whole { IsValid battle.old → StillStands battle.old battle.new → IsValid battle.new }
     ensures known { (moves : ℕ) → IsNamed moves mv → AreKnown moves battle.old → AreKnown moves battle.new }
@@ -137,7 +137,7 @@ fn nothing_duel(duel: &mut Duel, mv: u16, out: &mut Events)
 /// Does nothing, and tells the name of the move.
 pub fn nothing(battle: &mut Battle, _facts: Facts<'_>, user: u8, mv: u16, out: &mut Events)
     requires sound { IsSound battle.old }
-    requires fair { AreFair _facts }
+    requires fair { AreFair (figures _facts) }
     requires user { user < 2 }
     requires room { array_vec_len out.old + 20 ≤ 160 }
     ensures effect { course battle.new out.new ≡ played (nothing_row mv) user (course battle.old out.old) }

@@ -1,7 +1,7 @@
 //! What the user puts before itself: a substitute, screens, Mist and Focus Energy.
 ghost use Rattle.std.specs.Prelude.{◌≡◌, ◌≤◌, ◌<◌, ◌+◌, ℕ, false};
 ghost use Rattle.arrayvec.specs.ArrayVec.{array_vec_len};
-ghost use Rattle.ps_mon.specs.Facts.{AreFair};
+ghost use Rattle.ps_mon.specs.Facts.{AreFair, figures};
 ghost use Rattle.ps_mon.specs.Known.{AreKnown};
 ghost use Rattle.ps_mon.specs.Moves.{IsNamed, move_of};
 ghost use Rattle.ps_mon.specs.Keeping.{Keeps, StillStands};
@@ -74,7 +74,7 @@ fn substitute_duel(duel: &mut Duel, out: &mut Events)
 /// A quarter of the user's greatest health, rounded down, becomes a substitute that has 1 more. It fails where the user has one, or has no more health than that.
 pub fn substitute(battle: &mut Battle, _facts: Facts<'_>, user: u8, mv: u16, out: &mut Events)
     requires sound { IsSound battle.old }
-    requires fair { AreFair _facts }
+    requires fair { AreFair (figures _facts) }
     requires user { user < 2 }
     requires room { array_vec_len out.old + 20 ≤ 160 }
     ensures effect { course battle.new out.new ≡ played substitute_row user (course battle.old out.old) }
@@ -147,10 +147,10 @@ fn screen_duel(duel: &mut Duel, which: ScreenKind, out: &mut Events)
 /// Puts up Reflect or Light Screen; fails where it is on. A move of another kind does nothing.
 pub fn screen(battle: &mut Battle, facts: Facts<'_>, user: u8, mv: u16, out: &mut Events)
     requires sound { IsSound battle.old }
-    requires fair { AreFair facts }
+    requires fair { AreFair (figures facts) }
     requires user { user < 2 }
     requires room { array_vec_len out.old + 20 ≤ 160 }
-    ensures effect { course battle.new out.new ≡ played (screen_effect (move_of facts.entry mv).effect) user (course battle.old out.old) }
+    ensures effect { course battle.new out.new ≡ played (screen_effect (move_of (figures facts.entry) mv).effect) user (course battle.old out.old) }
     ensures sound { IsSound battle.new }
     ensures whole { IsValid battle.old → StillStands battle.old battle.new → IsValid battle.new }
     ensures known { (moves : ℕ) → IsNamed moves mv → AreKnown moves battle.old → AreKnown moves battle.new }
@@ -190,7 +190,7 @@ fn mist_duel(duel: &mut Duel, out: &mut Events)
 /// Puts up Mist; fails where it is on.
 pub fn mist(battle: &mut Battle, _facts: Facts<'_>, user: u8, mv: u16, out: &mut Events)
     requires sound { IsSound battle.old }
-    requires fair { AreFair _facts }
+    requires fair { AreFair (figures _facts) }
     requires user { user < 2 }
     requires room { array_vec_len out.old + 20 ≤ 160 }
     ensures effect { course battle.new out.new ≡ played mist_row user (course battle.old out.old) }
@@ -231,7 +231,7 @@ fn focus_duel(duel: &mut Duel, out: &mut Events)
 /// Begins Focus Energy; fails where it is on.
 pub fn focus(battle: &mut Battle, _facts: Facts<'_>, user: u8, mv: u16, out: &mut Events)
     requires sound { IsSound battle.old }
-    requires fair { AreFair _facts }
+    requires fair { AreFair (figures _facts) }
     requires user { user < 2 }
     requires room { array_vec_len out.old + 20 ≤ 160 }
     ensures effect { course battle.new out.new ≡ played focus_row user (course battle.old out.old) }

@@ -1,7 +1,7 @@
 //! Battles for worked rows: two teams of two members, and turns of legal choices.
 ghost use Rattle.std.specs.Prelude.{◌≡◌, ◌<◌, ◌≤◌, ℕ, IfSome, IsTrue, false, slice_index};
 ghost use Rattle.ps_mon.specs.Choices.{IsChoiceOf};
-ghost use Rattle.ps_mon.specs.Facts.{AreFair};
+ghost use Rattle.ps_mon.specs.Facts.{AreFair, figures};
 ghost use Rattle.ps_mon.specs.Known.{AreKnown};
 ghost use Rattle.ps_mon.specs.Moves.{move_count};
 ghost use Rattle.ps_mon.specs.Reading.{member_at};
@@ -38,6 +38,25 @@ pub(crate) const BOB: Who = Who {
     side: Side::P2,
     member: 0,
 };
+
+/// The moves and species of `data/row/dex.json`, over the types that they have: Body Slam, Hyper Beam, Blizzard, Earthquake,
+/// Quick Attack, Tackle, Rest and Soft-Boiled are 0 to 7, and Tauros, Snorlax, Chansey and Jynx 0 to 3.
+pub(crate) const ROW_DEX: &str =
+    r#"{"types":[{"name":"Normal","special":false},{"name":"Ground","special":false},
+{"name":"Ghost","special":false},{"name":"Psychic","special":true},{"name":"Ice","special":true}],
+"factors":[["Ghost","Normal",0],["Normal","Ghost",0],["Ice","Ice",5]],"moves":[
+{"name":"Body Slam","type":"Normal","power":85,"accuracy":100,"pp":24,"priority":0,"effect":{"kind":"status","status":"par","chance":77}},
+{"name":"Hyper Beam","type":"Normal","power":150,"accuracy":90,"pp":8,"priority":0,"effect":{"kind":"recharge"}},
+{"name":"Blizzard","type":"Ice","power":120,"accuracy":90,"pp":8,"priority":0,"effect":{"kind":"status","status":"frz","chance":26}},
+{"name":"Earthquake","type":"Ground","power":100,"accuracy":100,"pp":16,"priority":0},
+{"name":"Quick Attack","type":"Normal","power":40,"accuracy":100,"pp":48,"priority":1},
+{"name":"Tackle","type":"Normal","power":35,"accuracy":95,"pp":56,"priority":0},
+{"name":"Rest","type":"Psychic","power":0,"accuracy":0,"pp":16,"priority":0,"effect":{"kind":"rest"}},
+{"name":"Soft-Boiled","type":"Normal","power":0,"accuracy":0,"pp":16,"priority":0,"effect":{"kind":"heal"}}],"species":[
+{"name":"Tauros","types":["Normal"],"stats":[75,100,95,70,110],"learns":["bodyslam","hyperbeam","blizzard","earthquake","quickattack","tackle"]},
+{"name":"Snorlax","types":["Normal"],"stats":[160,110,65,65,30],"learns":["bodyslam","rest","earthquake","hyperbeam"]},
+{"name":"Chansey","types":["Normal"],"stats":[250,5,5,105,50],"learns":["softboiled","blizzard"]},
+{"name":"Jynx","types":["Ice","Psychic"],"stats":[65,50,35,95,95],"learns":["blizzard","rest"]}]}"#;
 
 const TAUROS: Member = Member {
     species: 0,
@@ -94,11 +113,12 @@ const CLAUSES: u8 = 70;
 
 /// A battle of two members of one type, each with the same two moves, against two faster ones of the first type; None where the dex
 /// hasn't these moves.
+#[tactic(auto, unfolding(ps_mon::specs::Facts::figures))]
 fn begin(facts: Facts<'_>, kind: u8, own: [u16; 2], other: [u16; 2]) -> Option<Battle>
-    requires fair { AreFair facts }
+    requires fair { AreFair (figures facts) }
     requires kind { kind < 32 }
     ensures valid { IfSome result IsValid }
-    ensures known { IfSome result (AreKnown (move_count facts.entry)) }
+    ensures known { IfSome result (AreKnown (move_count (figures facts.entry))) }
 {
     let count = facts.moves.len();
     if own[0] as usize >= count {
@@ -226,10 +246,10 @@ pub(crate) type Turn = (Choice, Choice);
 /// The events of a turn; None where one of the choices can't be.
 pub(crate) fn next(battle: &mut Battle, facts: Facts<'_>, turn: Turn) -> Option<Events>
     requires valid { IsValid battle.old }
-    requires fair { AreFair facts }
-    requires known { AreKnown (move_count facts) battle.old }
+    requires fair { AreFair (figures facts) }
+    requires known { AreKnown (move_count (figures facts)) battle.old }
     ensures valid { IsValid battle.new }
-    ensures known { AreKnown (move_count facts.entry) battle.new }
+    ensures known { AreKnown (move_count (figures facts.entry)) battle.new }
 {
     let (own, other) = turn;
     if !can_choose(battle, 0, own) {
@@ -246,8 +266,8 @@ pub(crate) fn next(battle: &mut Battle, facts: Facts<'_>, turn: Turn) -> Option<
 /// The events of the last of some turns; None where there is no turn, or where a choice can't be.
 fn play_on(battle: &mut Battle, facts: Facts<'_>, turns: &[Turn]) -> Option<Events>
     requires valid { IsValid battle.old }
-    requires fair { AreFair facts }
-    requires known { AreKnown (move_count facts) battle.old }
+    requires fair { AreFair (figures facts) }
+    requires known { AreKnown (move_count (figures facts)) battle.old }
 {
     let (first, more) = turns.split_first()?;
     let out = next(battle, facts, *first)?;
@@ -265,7 +285,7 @@ fn play(
     other: [u16; 2],
     turns: &[Turn],
 ) -> Option<(Battle, Events)>
-    requires fair { AreFair facts }
+    requires fair { AreFair (figures facts) }
     requires kind { kind < 32 }
 {
     let mut battle = begin(facts, kind, own, other)?;
@@ -278,7 +298,7 @@ pub(crate) type Row = (u8, [u16; 2], [u16; 2], &'static [Turn], Event);
 
 /// The battle after a row, and the events of its last turn; None where a choice can't be.
 pub(crate) fn last_turn(facts: Facts<'_>, row: &Row) -> Option<(Battle, Events)>
-    requires { AreFair facts }
+    requires { AreFair (figures facts) }
 {
     let (kind, own, other, turns, _) = row;
     if *kind > 3 {
@@ -289,7 +309,7 @@ pub(crate) fn last_turn(facts: Facts<'_>, row: &Row) -> Option<(Battle, Events)>
 
 /// The first row, from 0, whose last turn doesn't have its event.
 fn first_without_event(facts: Facts<'_>, rows: &[Row]) -> Option<usize>
-    requires { AreFair facts }
+    requires { AreFair (figures facts) }
 {
     for (place, row) in rows.iter().enumerate() {
         let Some((_, out)) = last_turn(facts, row) else {

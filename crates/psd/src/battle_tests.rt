@@ -1,6 +1,6 @@
 //! Turns of a battle on worked rows.
 ghost use Rattle.std.specs.Prelude.{◌≡◌, ◌<◌, ℕ, []};
-ghost use Rattle.ps_mon.specs.Facts.{AreFair};
+ghost use Rattle.ps_mon.specs.Facts.{AreFair, figures};
 ghost use Rattle.ps_mon.specs.Reading.{slot_of};
 ghost use Rattle.ps_mon.specs.Valid.{IsValid};
 ghost use Rattle.ps_mon.specs.Teams.{IsFresh, IsFreshMember, IsTeamKnown};
@@ -77,8 +77,9 @@ fn alone(member: Member) -> BattleTeam
 
 /// The battle after Tauros and the foe used their first moves in turn 1, with the seed 0, and the events; None where the dex has no
 /// move.
+#[tactic(auto, unfolding(ps_mon::specs::Facts::figures))]
 fn first_turn(facts: Facts<'_>, foe: BattleTeam) -> Option<(Battle, Events)>
-    requires fair { AreFair facts }
+    requires fair { AreFair (figures facts) }
     requires fresh { IsFresh foe }
     requires known { (moves : ℕ) → 0 < moves → IsTeamKnown moves foe }
 {

@@ -195,14 +195,30 @@ fn told_rows(
     Ok(())
 }
 
+/// The dex and the configuration of these rows, as one value: two that live beside each other are slow to prove.
+#[derive(Drop)]
+struct Setup {
+    dex: Dex,
+    config: Config,
+}
+
+fn make_setup(rt: &impl Abort, alloc: Global) -> Setup {
+    let dex = Dex::read(alloc, DEX.as_bytes()).expect(rt, "a dex");
+    let config = Config::read(alloc, CONFIG.as_bytes(), &dex).expect(rt, "a configuration");
+    Setup { dex, config }
+}
+
+fn told_tables(rt: &impl Abort, alloc: Global, setup: &Setup, tables: &[Rows]) -> Result<(), Fail> {
+    for rows in tables {
+        told_rows(rt, alloc, &setup.dex, &setup.config, rows)?;
+    }
+    Ok(())
+}
+
 #[test]
 fn team_rules(rt: HostRuntime) -> Result<(), Fail> {
-    let alloc = rt.alloc();
-    let dex = Dex::read(alloc, DEX.as_bytes()).expect(&rt, "a dex");
-    let config = Config::read(alloc, CONFIG.as_bytes(), &dex).expect(&rt, "a configuration");
-    told_rows(&rt, alloc, &dex, &config, SETS)?;
-    told_rows(&rt, alloc, &dex, &config, MOVES)?;
-    told_rows(&rt, alloc, &dex, &config, PAIRS)
+    let setup = make_setup(&rt, rt.alloc());
+    told_tables(&rt, rt.alloc(), &setup, &[SETS, MOVES, PAIRS])
 }
 
 const NO_MOVE: MoveSlot = MoveSlot {
@@ -277,9 +293,8 @@ fn nicks_of(alloc: Global, legal: &Legal) -> Result<String, AllocError> {
 
 /// What a team is in the format that bars nothing.
 fn free_team(rt: &impl Abort, alloc: Global, text: &str) -> Result<Legal, TeamFault> {
-    let dex = Dex::read(alloc, DEX.as_bytes()).expect(rt, "a dex");
-    let config = Config::read(alloc, CONFIG.as_bytes(), &dex).expect(rt, "a configuration");
-    checked(rt, alloc, &dex, &config, "free", text)
+    let setup = make_setup(rt, alloc);
+    checked(rt, alloc, &setup.dex, &setup.config, "free", text)
 }
 
 const TWO: &str =

@@ -1,6 +1,6 @@
 //! Statuses, volatile effects and whether a member acts, on worked rows: what some turns of a battle come to.
 ghost use Rattle.std.specs.Prelude.{◌≡◌, ◌<◌};
-ghost use Rattle.ps_mon.specs.Facts.{AreFair};
+ghost use Rattle.ps_mon.specs.Facts.{AreFair, figures};
 
 use crate::arena::{ANN, ANN_2, BOB, Row, Turn, hold, last_turn};
 use ps_dex::dex::Dex;
@@ -228,7 +228,7 @@ const FOE_FAILS: Event = Event::Fail { who: BOB };
 
 /// Tauros's health and that of its substitute after a row.
 fn health_after(facts: Facts<'_>, row: &Row) -> Option<(u16, u16)>
-    requires { AreFair facts }
+    requires { AreFair (figures facts) }
 {
     let (battle, _) = last_turn(facts, row)?;
     let side = &battle.sides[0];
@@ -355,7 +355,7 @@ fn statuses_come_unless_they_are_barred(rt: HostRuntime) -> Result<(), Fail> {
 
 /// Whether a row's last turn has its event; None where a choice can't be.
 fn has_event(facts: Facts<'_>, row: &Row) -> Option<bool>
-    requires { AreFair facts }
+    requires { AreFair (figures facts) }
 {
     let (_, out) = last_turn(facts, row)?;
     Some(out.as_slice().contains(&row.4))

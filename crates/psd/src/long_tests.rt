@@ -1,6 +1,6 @@
 //! Long and copying moves on worked rows: the start, the middle and the end of each kind.
 ghost use Rattle.std.specs.Prelude.{◌≡◌, ◌<◌};
-ghost use Rattle.ps_mon.specs.Facts.{AreFair};
+ghost use Rattle.ps_mon.specs.Facts.{AreFair, figures};
 
 use crate::arena::{ANN, BOB, Row, Turn, hold, last_turn};
 use ps_dex::dex::Dex;
@@ -725,7 +725,7 @@ const CHAIN: Row = (
 
 /// The PP of the first slot after a row, of 24.
 fn pp_after(facts: Facts<'_>, row: &Row) -> Option<u8>
-    requires { AreFair facts }
+    requires { AreFair (figures facts) }
 {
     let (battle, _) = last_turn(facts, row)?;
     Some(battle.sides[0].members[0].slots[0].pp)

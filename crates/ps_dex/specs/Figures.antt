@@ -1,0 +1,23 @@
+-- The figures of a dex, as battles use them.
+use Rattle.std.specs.Prelude.{ℕ, zero, suc, List, [], ◌∷◌, ◌++◌, map}
+use Rattle.ps_mon.specs.Facts.{Figures}
+use Rattle.ps_dex.specs.declared.row.FactorRow.{FactorRow}
+use Rattle.ps_dex.specs.declared.row.Tables.{Tables}
+use Rattle.ps_dex.specs.Lookups.{factor_of, built_in}
+
+-- the first values of a function
+abbrev pub listed : {A : Type 0} → (ℕ → A) → ℕ → List A
+listed f zero = []
+listed f (suc n) = listed f n ++ f n ∷ []
+
+-- the factors of a type on each of 32 types
+unfoldable pub factor_row : List FactorRow → ℕ → List ℕ
+factor_row rows attack = listed (factor_of rows attack) 32
+
+-- the factors of each of 32 types
+unfoldable pub factor_table : List FactorRow → List (List ℕ)
+factor_table rows = listed (factor_row rows) 32
+
+-- the numbers of the moves, all factors, and Struggle
+unfoldable pub figures_of : Tables → Figures
+figures_of t = record { moves = map (λ m. m.numbers) t.moves; factors = factor_table t.factors; struggle = built_in t.types }
