@@ -1,6 +1,6 @@
 -- One entry: without an item it keeps records alike and gives the connection nothing; with one it keeps them alike and gives
 -- equal messages.
-use Rattle.std.proofs.Common.{◌≡◌, ◌⊎◌, ℕ, ◌==◌, Bool, true, false, ◌||◌, List, [], ◌∷◌, Option, Some, None, refl, ap, ◌∙◌, subst, inl, inr, arith}
+use Rattle.std.proofs.Common.{◌≡◌, ◌⊎◌, ℕ, ◌==◌, Bool, true, false, ◌||◌, List, [], ◌∷◌, Option, Some, None, refl, sym, ap, ◌∙◌, subst, inl, inr, arith}
 use Rattle.std.specs.List.{list_any}
 use Rattle.std.proofs.lemmas.Bool.Decides.{nat_tests}
 use Rattle.std.specs.Str.{bytes_eq}
@@ -13,7 +13,10 @@ use Rattle.ps_room.specs.Records.{Record}
 use Rattle.ps_room.specs.Rooms.{verdict, after, message}
 use Rattle.ps_room.specs.Unseen.{sees_notes, IsUnseen}
 use Rattle.ps_room.proofs.AnswerLemmas.{after_refused, silent_line}
-use Rattle.ps_room.proofs.UnseenLemmas.{note_unseen, choice_unseen, undo_unseen}
+use Rattle.ps_room.proofs.UnseenLemmas.{note_unseen}
+use Rattle.ps_room.proofs.ChatLemmas.{IsChat, choice_refused, undo_refused}
+use Rattle.ps_bout.specs.Fights.{Fight}
+use Rattle.ps_room.specs.declared.told.Logged.{Logged}
 use Rattle.ps_laws.specs.Hidden.{Hidden}
 use Rattle.ps_laws.specs.Low.{Item, whole, user_of, is_own, items_of, items_of_others, items_of_allowed, items_of_modnote}
 use Rattle.ps_laws.specs.Alike.{AreAlike}
@@ -21,7 +24,7 @@ use Rattle.ps_laws.specs.Alike.{AreAlike}
 -- ---- alike
 
 pub alike_self : (conn : ℕ) (places : Hidden) (r : Record) → AreAlike conn places r r
-alike_self conn places r = record { opening = refl; chat = refl; logged = refl }
+alike_self conn places r = record { opening = refl; chat = refl; logged = refl; battle = refl }
 
 pub alike_is : (conn : ℕ) (places : Hidden) (one two : Record) → one ≡ two → AreAlike conn places one two
 alike_is conn places one two same = subst (AreAlike conn places one) same (alike_self conn places one)
@@ -29,8 +32,11 @@ alike_is conn places one two same = subst (AreAlike conn places one) same (alike
 -- records of chat rooms that are alike are equal
 pub same_record : (conn : ℕ) (places : Hidden) (one two : Record) → AreAlike conn places one two → one ≡ two
 same_record conn places one two w =
-    let make : ChatOpening → ChatRecord → List (List ℕ) → Record = λ opening chat logged. record { opening = opening; chat = chat; logged = logged } in
-    ap (λ (x : ChatOpening). make x one.chat one.logged) w.opening ∙ ap (λ (x : ChatRecord). make two.opening x one.logged) w.chat ∙ ap (make two.opening two.chat) w.logged
+    let make : ChatOpening → ChatRecord → List Logged → Option Fight → Record = λ opening chat logged battle. record { opening = opening; chat = chat; logged = logged; battle = battle } in
+    ap (λ (x : ChatOpening). make x one.chat one.logged one.battle) w.opening
+    ∙ ap (λ (x : ChatRecord). make two.opening x one.logged one.battle) w.chat
+    ∙ ap (λ (x : List Logged). make two.opening two.chat x one.battle) w.logged
+    ∙ ap (make two.opening two.chat two.logged) w.battle
 
 -- ---- an entry without an item
 
@@ -56,18 +62,22 @@ of_modnote : (conn : ℕ) (r : Record) (e : Entry) (text : List ℕ) → (conn =
 of_modnote conn r e text other is v true sees = inl (rw sees refl)
 of_modnote conn r e text other is v false sees = inr (record { none = rw sees refl; unseen = note_unseen conn r e text other is v sees })
 
-of_allowed : (conn : ℕ) (r : Record) (e : Entry) (cmd : Command) → (conn == e.conn) ≡ false → e.cmd ≡ cmd → verdict r e ≡ None → IsEither conn r e (items_of_allowed conn r e cmd)
-of_allowed conn r e (Choose choice rqid) other is v = inr (record { none = refl; unseen = choice_unseen conn r e choice rqid other is v })
-of_allowed conn r e Undo other is v = inr (record { none = refl; unseen = undo_unseen conn r e other is v })
-of_allowed conn r e (Modnote text) other is v = of_modnote conn r e text other is v (sees_notes conn r) refl
-of_allowed conn r e rest other is v = inl refl
+-- a chat room allows no choice
+no_choice : (conn : ℕ) (r : Record) (e : Entry) (some : (why : Why) × (verdict r e ≡ Some why)) → verdict r e ≡ None → IsUnseen conn r e
+no_choice conn r e some v = absurd (let wrong : None ≡ Some some.0 = sym v ∙ some.1 in cc)
+
+of_allowed : (conn : ℕ) (r : Record) (e : Entry) (cmd : Command) → IsChat r → (conn == e.conn) ≡ false → e.cmd ≡ cmd → verdict r e ≡ None → IsEither conn r e (items_of_allowed conn r e cmd)
+of_allowed conn r e (Choose choice rqid) chat other is v = inr (record { none = refl; unseen = no_choice conn r e (choice_refused r e choice rqid chat is) v })
+of_allowed conn r e Undo chat other is v = inr (record { none = refl; unseen = no_choice conn r e (undo_refused r e chat is) v })
+of_allowed conn r e (Modnote text) chat other is v = of_modnote conn r e text other is v (sees_notes conn r) refl
+of_allowed conn r e rest chat other is v = inl refl
 
 refused_unseen : (conn : ℕ) (r : Record) (e : Entry) (why : Why) → (conn == e.conn) ≡ false → verdict r e ≡ Some why → IsUnseen conn r e
 refused_unseen conn r e why other v = record { unchanged = after_refused r e why v; silent = silent_line r e why conn v other }
 
-of_others : (conn : ℕ) (r : Record) (e : Entry) (v : Option Why) → (conn == e.conn) ≡ false → verdict r e ≡ v → IsEither conn r e (items_of_others conn r e v)
-of_others conn r e (Some why) other v = inr (record { none = refl; unseen = refused_unseen conn r e why other v })
-of_others conn r e None other v = of_allowed conn r e e.cmd other refl v
+of_others : (conn : ℕ) (r : Record) (e : Entry) (v : Option Why) → IsChat r → (conn == e.conn) ≡ false → verdict r e ≡ v → IsEither conn r e (items_of_others conn r e v)
+of_others conn r e (Some why) chat other v = inr (record { none = refl; unseen = refused_unseen conn r e why other v })
+of_others conn r e None chat other v = of_allowed conn r e e.cmd chat other refl v
 
 -- who isn't the connection by its own test isn't its number
 not_own : (conn sender : ℕ) (user : Bool) → (sender == conn || user) ≡ false → (conn == sender) ≡ false
@@ -80,17 +90,17 @@ hidden_of conn places ids r e own n = record {
   silent = n.unseen.silent;
 }
 
-by_test : (conn : ℕ) (places : Hidden) (ids : List (List ℕ)) (r : Record) (e : Entry) (own : Bool) → is_own conn ids r e ≡ own → IsShown conn ids r e ⊎ IsHidden conn places ids r e
-by_test conn places ids r e true own = inl (rw own refl)
-by_test conn places ids r e false own =
-    elim (of_others conn r e (verdict r e) (not_own conn e.conn (list_any (bytes_eq (user_of r e)) ids) own) refl) [
+by_test : (conn : ℕ) (places : Hidden) (ids : List (List ℕ)) (r : Record) (e : Entry) (own : Bool) → IsChat r → is_own conn ids r e ≡ own → IsShown conn ids r e ⊎ IsHidden conn places ids r e
+by_test conn places ids r e true chat own = inl (rw own refl)
+by_test conn places ids r e false chat own =
+    elim (of_others conn r e (verdict r e) chat (not_own conn e.conn (list_any (bytes_eq (user_of r e)) ids) own) refl) [
       | inl shown ↦ inl (rw own shown)
       | inr n ↦ inr (hidden_of conn places ids r e own n)
     ]
 
--- every entry is shown whole or hidden
-pub shown_or_hidden : (conn : ℕ) (places : Hidden) (ids : List (List ℕ)) (r : Record) (e : Entry) → IsShown conn ids r e ⊎ IsHidden conn places ids r e
-shown_or_hidden conn places ids r e = by_test conn places ids r e (is_own conn ids r e) refl
+-- every entry of a chat room is shown whole or hidden
+pub shown_or_hidden : (conn : ℕ) (places : Hidden) (ids : List (List ℕ)) (r : Record) (e : Entry) → IsChat r → IsShown conn ids r e ⊎ IsHidden conn places ids r e
+shown_or_hidden conn places ids r e chat = by_test conn places ids r e (is_own conn ids r e) chat refl
 
 -- ---- an item
 

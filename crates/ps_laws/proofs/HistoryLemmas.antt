@@ -1,9 +1,10 @@
 -- Histories: a view is the view of the low history, and from alike records equal low histories give equal views.
 use Rattle.std.proofs.Common.{◌≡◌, ℕ, List, [], ◌∷◌, ◌++◌, refl, sym, ap, ◌∙◌, inl, inr}
 use Rattle.ps_room.specs.declared.entry.Entry.{Entry}
-use Rattle.ps_room.specs.declared.opening.Opening.{Opening}
+use Rattle.ps_room.specs.Openings.{Opening}
 use Rattle.ps_room.specs.Records.{Record, opened}
 use Rattle.ps_room.specs.Rooms.{after, message, sent, view}
+use Rattle.ps_room.proofs.ChatLemmas.{IsChat, chat_opened, chat_after}
 use Rattle.ps_laws.specs.Stories.{Story, begun, view_of}
 use Rattle.ps_laws.specs.Hidden.{Hidden, hidden_in_both}
 use Rattle.ps_laws.specs.Low.{Item, users, low_from, low}
@@ -37,12 +38,12 @@ view_hidden conn places ids r e es h more =
     ∙ ap (λ (is : List Item). items_view conn r (is ++ low_from conn ids (after r e) es)) (sym h.none)
 
 -- a view is the view over the items of its history
-pub view_is : (conn : ℕ) (places : Hidden) (ids : List (List ℕ)) (r : Record) (es : List Entry) → view conn r es ≡ items_view conn r (low_from conn ids r es)
-view_is conn places ids r [] = refl
-view_is conn places ids r (e ∷ es) =
-    elim (shown_or_hidden conn places ids r e) [
-      | inl shown ↦ view_shown conn ids r e es shown (view_is conn places ids (after r e) es)
-      | inr hidden ↦ view_hidden conn places ids r e es hidden (view_is conn places ids (after r e) es)
+pub view_is : (conn : ℕ) (places : Hidden) (ids : List (List ℕ)) (r : Record) (es : List Entry) → IsChat r → view conn r es ≡ items_view conn r (low_from conn ids r es)
+view_is conn places ids r [] chat = refl
+view_is conn places ids r (e ∷ es) chat =
+    elim (shown_or_hidden conn places ids r e chat) [
+      | inl shown ↦ view_shown conn ids r e es shown (view_is conn places ids (after r e) es (chat_after r e chat))
+      | inr hidden ↦ view_hidden conn places ids r e es hidden (view_is conn places ids (after r e) es (chat_after r e chat))
     ]
 
 -- the records of two openings that are equal but for these places
@@ -53,7 +54,7 @@ opened_alike conn places one two w = alike_is conn places (opened one) (opened t
 pub views_are_equal : (conn : ℕ) (one two : Story) → AreSame conn one two → view_of conn one ≡ view_of conn two
 views_are_equal conn one two same =
     let places = hidden_in_both conn one two in
-    view_is conn places (users conn one) (begun one) one.history
+    view_is conn places (users conn one) (begun one) one.history (chat_opened one.opening same.first)
     ∙ ap (items_view conn (begun one)) same.histories
     ∙ views_alike conn places (begun one) (begun two) (low conn two) (opened_alike conn places one.opening two.opening same.openings)
-    ∙ sym (view_is conn places (users conn two) (begun two) two.history)
+    ∙ sym (view_is conn places (users conn two) (begun two) two.history (chat_opened two.opening same.second))

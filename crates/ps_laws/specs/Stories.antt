@@ -1,7 +1,7 @@
 -- A world of a room: what it was opened with, and its history.
 use Rattle.std.specs.Prelude.{ℕ, List}
 use Rattle.ps_room.specs.declared.entry.Entry.{Entry}
-use Rattle.ps_room.specs.declared.opening.Opening.{Opening}
+use Rattle.ps_room.specs.Openings.{Opening}
 use Rattle.ps_room.specs.Records.{Record, opened}
 use Rattle.ps_room.specs.Rooms.{view}
 

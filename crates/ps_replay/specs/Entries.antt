@@ -9,8 +9,8 @@ use Rattle.ps_lines.specs.declared.command.HallCmd.TheVariants as hall_commands
 use Rattle.ps_group.specs.Ranks.{rank_of}
 use Rattle.ps_group.specs.Defaults.{default_groups}
 use Rattle.ps_chat.specs.ById.{ById}
-use Rattle.ps_room.specs.declared.role.Role.{Role}
-use Rattle.ps_room.specs.declared.role.Role.TheVariants.{Outside, Spectator}
+use Rattle.ps_view.specs.declared.role.Role.{Role}
+use Rattle.ps_view.specs.declared.role.Role.TheVariants.{Outside, Spectator, Player}
 use Rattle.ps_room.specs.Records.{Record}
 use Rattle.ps_room.specs.Rooms.{role}
 use Rattle.ps_script.specs.declared.item.Item.{Item}
@@ -53,6 +53,7 @@ moment_after moment other = moment
 abbrev pub is_inside : Role → Bool
 is_inside Outside = false
 is_inside (Spectator rank) = true
+is_inside (Player side rank) = true
 
 -- whether a connection is a member of a room
 abbrev pub is_member : ℕ → Record → Bool

@@ -2,9 +2,10 @@
 use Rattle.std.specs.Prelude.{ℕ, List, [], ◌∷◌, map, slice_get, Option, Some, None, if◌then◌else◌}
 use Rattle.std.specs.Option.{option_map_or}
 use Rattle.std.specs.Str.{bytes_eq}
+use Rattle.ps_dex.specs.Lookups.{no_tables}
 use Rattle.ps_valid.specs.Rooms.{lobby as standard_room}
 use Rattle.ps_valid.specs.Standard.{standard}
-use Rattle.ps_room.specs.declared.opening.Opening.{Opening}
+use Rattle.ps_room.specs.Openings.{Opening}
 use Rattle.ps_room.specs.Records.{Record, opened}
 
 -- the rank of the last of the default groups, which everybody has whom no line ranks
@@ -13,7 +14,7 @@ lowest = 5
 
 -- the one room: the lobby of the standard configuration
 abbrev pub lobby : Opening
-lobby = record { no = 0; id = standard_room.id; title = standard_room.title; groups = standard.groups; staff = standard.staff }
+lobby = record { no = 0; id = standard_room.id; title = standard_room.title; config = standard; dex = no_tables; battle = None }
 
 -- the rooms by their numbers
 abbrev pub openings : List Opening

@@ -1,6 +1,6 @@
 -- Two worlds: a connection's block from a chat room is the same under every script whose world there is the same to it.
 use Rattle.std.specs.Prelude.{◌≡◌, ℕ, List, slice_get, IfSome}
-use Rattle.ps_room.specs.declared.opening.Opening.{Opening}
+use Rattle.ps_room.specs.Openings.{Opening}
 use Rattle.ps_laws.specs.Stories.{Story}
 use Rattle.ps_laws.specs.Same.{AreSame}
 use Rattle.ps_script.specs.declared.item.Item.{Item}

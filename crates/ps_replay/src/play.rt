@@ -1,5 +1,6 @@
 //! What an entry prints, to each connection in ascending number.
 ghost use Rattle.std.specs.Prelude.{◌≡◌, ◌++◌, ◌==◌, [], OnOk, map, string_bytes, slice_get, if◌then◌else◌};
+ghost use Rattle.ps_room.specs.Records.{cast_in};
 ghost use Rattle.ps_room.specs.Rooms.{role, message_of, message, after};
 ghost use Rattle.ps_room.specs.Logs.{seen_after};
 ghost use Rattle.ps_replay.specs.Worlds.{in_hall, in_room, rooms_after, room_message};
@@ -10,7 +11,8 @@ use crate::print;
 use ps_base::number::{ConnNo, RoomNo};
 use ps_base::text::Text;
 use ps_room::entry::Entry;
-use ps_room::room::{Room, joined_for};
+use ps_room::message::joined_for;
+use ps_room::room::Room;
 use ps_room::told::Told;
 use std::alloc::{AllocError, Global};
 
@@ -28,8 +30,9 @@ pub fn push_hall(out: &mut String, count: u32, to: ConnNo, lines: &[Text]) -> Re
     Ok(())
 }
 
-// Prints what an entry of a room gives to one connection.
-fn push_told(
+// Prints what an entry of a room gives to one connection, of which a message is made.
+fn push_made(
+    alloc: Global,
     out: &mut String,
     conn: ConnNo,
     no: RoomNo,
@@ -38,18 +41,39 @@ fn push_told(
     told: &Told,
 ) -> Result<(), AllocError>
     ensures { OnOk result (string_bytes out.new ≡ string_bytes out.old
-        ++ printed conn (with_place (in_room no) (message_of conn (role conn room.now.state) sender told.now room.now.state.logged))) }
+        ++ printed conn (with_place (in_room no) (message_of conn (role conn room.now.state) sender told.now (cast_in room.now.state.battle) room.now.state.logged))) }
+{
+    let lines = room.message(alloc, conn, sender, told)?;
+    print::push_room_message(out, conn, no, lines.as_slice())?;
+    Ok(())
+}
+
+// Prints what an entry of a room gives to one connection. Where that is lines alone, none is copied.
+#[tactic(auto, using(ps_room::proofs::QuietLemmas::plain_message))]
+fn push_told(
+    alloc: Global,
+    out: &mut String,
+    conn: ConnNo,
+    no: RoomNo,
+    room: &Room,
+    sender: ConnNo,
+    told: &Told,
+) -> Result<(), AllocError>
+    ensures { OnOk result (string_bytes out.new ≡ string_bytes out.old
+        ++ printed conn (with_place (in_room no) (message_of conn (role conn room.now.state) sender told.now (cast_in room.now.state.battle) room.now.state.logged))) }
 {
     match joined_for(conn, sender, told) {
-        None => print::push_seen(out, conn, no, room.role(conn), told.lines.as_slice()),
-        Some(joined) => {
-            print::push_init(out, conn, no, joined.head.as_slice(), room.backlog(joined))
-        }
+        Some(_) => push_made(alloc, out, conn, no, room, sender, told),
+        None => match told.events.as_slice() {
+            [] => print::push_seen(out, conn, no, room.role(conn), told.lines.as_slice()),
+            [_, ..] => push_made(alloc, out, conn, no, room, sender, told),
+        },
     }
 }
 
 // Prints what an entry of a room gives, to the connections from 1 to `count`.
 fn push_room(
+    alloc: Global,
     out: &mut String,
     count: u32,
     no: RoomNo,
@@ -58,10 +82,10 @@ fn push_room(
     told: &Told,
 ) -> Result<(), AllocError>
     ensures { OnOk result (string_bytes out.new ≡ string_bytes out.old
-        ++ each_to (λ conn. printed conn (with_place (in_room no) (message_of conn (role conn room.now.state) sender told.now room.now.state.logged))) count) }
+        ++ each_to (λ conn. printed conn (with_place (in_room no) (message_of conn (role conn room.now.state) sender told.now (cast_in room.now.state.battle) room.now.state.logged))) count) }
 {
     for i in 0..count {
-        push_told(out, ConnNo(i + 1), no, room, sender, told)?;
+        push_told(alloc, out, ConnNo(i + 1), no, room, sender, told)?;
     }
     Ok(())
 }
@@ -80,7 +104,7 @@ fn play_room(
         ++ each_to (λ conn. printed conn (with_place (in_room no) (message conn room.old.state entry.now))) count) }
 {
     let told = room.told(alloc, entry)?;
-    push_room(out, count, no, room, entry.conn, &told)?;
+    push_room(alloc, out, count, no, room, entry.conn, &told)?;
     room.keep(alloc, entry, told)
 }
 

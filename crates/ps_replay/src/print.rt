@@ -61,8 +61,8 @@ fn push_place(out: &mut String, conn: ConnNo, room: RoomNo) -> Result<(), AllocE
     writeln!(out, "{conn}< >{id}")
 }
 
-// Prints a message of a room to a connection, if it has lines.
-fn push_room_message(
+/// Prints a message of a room to a connection, if it has lines.
+pub fn push_room_message(
     out: &mut String,
     conn: ConnNo,
     room: RoomNo,
@@ -77,38 +77,6 @@ fn push_room_message(
             push_rest(out, conn, lines)
         }
     }
-}
-
-fn push_parts(
-    out: &mut String,
-    conn: ConnNo,
-    first: &[Text],
-    second: &[Text],
-) -> Result<(), AllocError>
-    ensures { OnOk result (string_bytes out.new ≡ string_bytes out.old ++ flat_map (further_line conn) (first.now ++ second.now)) }
-{
-    push_rest(out, conn, first)?;
-    push_rest(out, conn, second)?;
-    Ok(())
-}
-
-/// Prints what who joins a room is sent: the head, and then the backlog.
-pub fn push_init(
-    out: &mut String,
-    conn: ConnNo,
-    room: RoomNo,
-    head: &[Text],
-    backlog: &[Text],
-) -> Result<(), AllocError>
-    ensures { OnOk result (string_bytes out.new ≡ string_bytes out.old ++ printed conn (with_place (in_room room) (head.now ++ backlog.now))) }
-{
-    let count = head.len();
-    if count == 0 {
-        return push_room_message(out, conn, room, backlog);
-    }
-    push_place(out, conn, room)?;
-    push_parts(out, conn, head, backlog)?;
-    Ok(())
 }
 
 // Prints the lines that a connection in this role sees.

@@ -20,6 +20,7 @@ use ps_base::badge::Badge;
 use ps_base::number::{ConnNo, Moment, RoomNo};
 use ps_base::text::Text;
 use ps_chat::id_map::IdMap;
+use ps_dex::dex::Dex;
 use ps_group::groups::Groups;
 use ps_lines::command::{Command, HallCmd};
 use ps_room::entry::Entry;
@@ -27,11 +28,10 @@ use ps_room::opening::Opening;
 use ps_room::role::Role;
 use ps_room::room::Room;
 use ps_script::item::Item;
+use ps_valid::config::Config;
 use std::alloc::{AllocError, Global};
 use std::marker::Model;
-
-/// The lowest rank that sees staff notes, a place in the default groups: that of the drivers.
-pub const STAFF: u8 = 3;
+use std::sync::Arc;
 
 /// A replay's state: the moment, the hall, the rooms by their numbers, and how many texts each connection
 /// gave to each of them.
@@ -61,18 +61,14 @@ impl Model for Table {
 }
 
 // The lobby, with nobody in it.
-#[tactic(auto, unfolding(ps_group::specs::Defaults::default_groups))]
 fn lobby(alloc: Global) -> Result<Room, AllocError>
     ensures { IfOk result (λ r. r.state ≡ opened lobby) }
 {
-    let opening = Opening {
-        no: RoomNo(0),
-        id: Text::copy_of(alloc, "lobby")?,
-        title: Text::copy_of(alloc, "Lobby")?,
-        groups: Groups::standard(alloc)?,
-        staff: STAFF,
-    };
-    Room::new(alloc, opening)
+    let config = Arc::new(alloc, Config::standard(alloc)?)?;
+    let dex = Arc::new(alloc, Dex::empty(alloc))?;
+    let id = Text::copy_of(alloc, "lobby")?;
+    let title = Text::copy_of(alloc, "Lobby")?;
+    Room::new(alloc, Opening::new(RoomNo(0), id, title, config, dex, None))
 }
 
 // The Quit of a connection in one room.
@@ -102,6 +98,7 @@ fn is_member(room: &Room, conn: ConnNo) -> bool
     match room.role(conn) {
         Role::Outside => false,
         Role::Spectator { .. } => true,
+        Role::Player { .. } => true,
     }
 }
 

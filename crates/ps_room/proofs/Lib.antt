@@ -4,3 +4,5 @@ pub mod PullLemmas
 pub mod RoleLemmas
 pub mod SilenceLemmas
 pub mod UnseenLemmas
+pub mod QuietLemmas
+pub mod ChatLemmas

@@ -20,12 +20,14 @@ use Rattle.ps_chat.specs.Changes.{record_after, with_rank}
 use Rattle.ps_chat.specs.Rooms.{present, presents}
 use Rattle.ps_chat.specs.declared.present.Present.{Present}
 use Rattle.ps_room.specs.declared.entry.Entry.{Entry}
-use Rattle.ps_room.specs.declared.role.Role.{Role}
-use Rattle.ps_room.specs.Records.{Record}
+use Rattle.ps_view.specs.declared.role.Role.{Role}
+use Rattle.ps_bout.specs.Casts.{Cast}
+use Rattle.ps_room.specs.Records.{Record, cast_in}
 use Rattle.ps_room.specs.Roles.{role_of}
-use Rattle.ps_room.specs.Rooms.{verdict, after, role, role_in}
+use Rattle.ps_room.specs.Rooms.{verdict, sender_of, after, role, role_in}
 use Rattle.ps_room.specs.Logs.{conns_with, touched_by, touched, change_to, changed}
 use Rattle.ps_room.proofs.AnswerLemmas.{after_allowed, after_refused}
+use Rattle.ps_room.proofs.ChangeLemmas.{cast_after}
 
 -- whether a list of connections names one
 abbrev names : ℕ → List ℕ → Bool
@@ -141,7 +143,10 @@ unnamed o chat conn from badge moment Forfeit h = refl
 untouched_by : (conn : ℕ) (r : Record) (e : Entry) (v : Option Why) → verdict r e ≡ v → names conn (touched r e) ≡ false → role conn (after r e) ≡ role conn r
 unfolding role_in
 untouched_by conn r e (Some why) v h = ap (role conn) (after_refused r e why v)
-untouched_by conn r e None v h = ap (role conn) (after_allowed r e v) ∙ ap role_of (unnamed r.opening r.chat conn e.conn e.badge e.moment e.cmd (rw v at h))
+untouched_by conn r e None v h =
+    ap (role conn) (after_allowed r e v)
+    ∙ ap (λ (cast : Option Cast). role_of cast (member conn (presents r.opening (record_after r.opening.groups r.chat e.conn e.badge e.moment e.cmd)))) (cast_after r.battle (sender_of r e) e.cmd)
+    ∙ ap (role_of (cast_in r.battle)) (unnamed r.opening r.chat conn e.conn e.badge e.moment e.cmd (rw v at h))
 
 -- what the changes give is the role that they were given
 changed_by : (conn : ℕ) (r : Record) (old : Role) (cs : List ℕ) (b : Bool) → names conn cs ≡ b → changed conn (map (change_to r) cs) old ≡ cond b (role conn r) old

@@ -1,6 +1,7 @@
 -- Who is sent nothing, and whose connections the members have.
 use Rattle.std.proofs.Common.{◌≡◌, ℕ, ◌≤◌, ◌==◌, Bool, true, false, not, List, [], ◌∷◌, ◌++◌, map, codes, Option, Some, None, refl, sym, ap, ◌∙◌, subst, arith}
-use Rattle.std.specs.List.{filter}
+use Rattle.std.specs.List.{filter, filter_map}
+use Rattle.std.proofs.lemmas.List.Elements.{filter_map-append}
 use Rattle.std.specs.Str.{bytes_eq}
 use Rattle.ps_base.specs.Ids.{id_of}
 use Rattle.ps_base.specs.declared.badge.Badge.{Badge}
@@ -11,16 +12,27 @@ use Rattle.ps_lines.specs.declared.command.Command.{Command}
 use Rattle.ps_lines.specs.declared.command.Command.TheVariants.{Join, Leave, Quit, Say, Announce, Modnote, Warn, Mute, Unmute, Ban, Unban, Promote, Modchat, Choose, Undo, Forfeit}
 use Rattle.ps_chat.specs.Records.{Member, Record as ChatRecord}
 use Rattle.ps_chat.specs.Looks.{member, user, kept}
-use Rattle.ps_chat.specs.Lines.{line_of_leave, line_of_say, line_of_announce, line_of_modnote, line_to_member, line_to_id, line_of_promote, line_of_modchat}
+use Rattle.ps_chat.specs.Lines.{Line, line_of_leave, line_of_say, line_of_announce, line_of_modnote, line_to_member, line_to_id, line_of_promote, line_of_modchat}
 use Rattle.ps_chat.specs.Rooms.{present, room_of}
 use Rattle.ps_chat.specs.Told.{lines, joiner, told as chat_told}
 use Rattle.ps_chat.specs.Changes.{record_after, with_rank}
 use Rattle.ps_chat.specs.declared.present.Present.{Present}
 use Rattle.ps_chat.specs.declared.room.Room.{Room}
 use Rattle.ps_room.specs.declared.entry.Entry.{Entry}
-use Rattle.ps_room.specs.declared.role.Role.TheVariants.{Outside}
-use Rattle.ps_room.specs.Records.{Record, presents_of}
-use Rattle.ps_room.specs.Rooms.{verdict, told, after, role_in, message, seen_texts}
+use Rattle.ps_event.specs.declared.audience.Audience.{Audience}
+use Rattle.ps_event.specs.declared.audience.Audience.TheVariants as audiences
+use Rattle.ps_event.specs.declared.event.Event.{Event}
+use Rattle.ps_event.specs.declared.event.Event.TheVariants as events
+use Rattle.ps_event.specs.Table.{audience_of}
+use Rattle.ps_view.specs.declared.role.Role.TheVariants.{Outside}
+use Rattle.ps_view.specs.Roles.{has_role}
+use Rattle.ps_view.specs.Lines.{is_request, line_of}
+use Rattle.ps_bout.specs.declared.bout.Bout.{Bout}
+use Rattle.ps_bout.specs.Casts.{Cast, event_text, event_texts}
+use Rattle.ps_bout.specs.Fights.{Fight, request_at, requests}
+use Rattle.ps_bout.specs.Rounds.{Outcome}
+use Rattle.ps_room.specs.Records.{Record, presents_of, cast_in}
+use Rattle.ps_room.specs.Rooms.{verdict, sender_of, told, after, role_in, message, shown_events, seen_text, seen_texts, events_by, lines_by, outcome_by, chat_lines}
 use Rattle.ps_room.proofs.AnswerLemmas.{after_allowed, after_refused, silent_line}
 
 -- ---- who is no member sees no line of a row
@@ -78,10 +90,47 @@ module _ (conn : ℕ) (r : Room) where
   no_row me new moment Undo = refl
   no_row me new moment Forfeit = refl
 
+-- ---- who is no member is shown no event, and asked nothing
+
+unheard : (a : Audience) → has_role a Outside ≡ false
+unheard audiences.All = refl
+unheard (audiences.Split side) = refl
+unheard (audiences.Side side) = refl
+unheard (audiences.Rank lowest) = refl
+unheard (audiences.One other) = refl
+
+unshown : (c : Cast) (event : Event) → event_text c Outside event ≡ None
+unfolding line_of
+unshown c event = rw (unheard (audience_of event)) refl
+
+none_of : {X Y : Type 0} (f : X → Option Y) (xs : List X) → ((x : X) → f x ≡ None) → filter_map f xs ≡ []
+none_of f [] h = refl
+none_of f (x ∷ xs) h = rw (h x) (none_of f xs h)
+
+no_events : (cast : Option Cast) (told : List Event) → shown_events cast Outside told ≡ []
+no_events None told = refl
+no_events (Some c) told = none_of (event_text c Outside) told (unshown c)
+
+no_request_by : (conn : ℕ) (c : Cast) (b : Bout) (event : Event) (rest : List Event) (ask : Bool) → is_request event ≡ ask → seen_texts conn Outside (requests c b rest) ≡ [] → seen_texts conn Outside (requests c b (event ∷ rest)) ≡ []
+no_request_by conn c b (events.Request side) rest ask e more = more
+no_request_by conn c b event rest ask e more = more
+
+no_requests : (conn : ℕ) (c : Cast) (b : Bout) (told : List Event) → seen_texts conn Outside (requests c b told) ≡ []
+no_requests conn c b [] = refl
+no_requests conn c b (event ∷ rest) = no_request_by conn c b event rest (is_request event) refl (no_requests conn c b rest)
+
+no_lines : (conn : ℕ) (battle : Option Fight) (me : Option Present) (cmd : Command) (ls : List Line) → seen_texts conn Outside ls ≡ [] → seen_texts conn Outside (lines_by battle me cmd ls) ≡ []
+no_lines conn None me cmd ls none = none
+no_lines conn (Some f) me cmd ls none =
+    let after : Outcome = outcome_by f me cmd in
+    filter_map-append (seen_text conn Outside) ls (requests f.cast after.bout after.told) ∙ rw (none, no_requests conn f.cast after.bout after.told) refl
+
 outside_by : (conn : ℕ) (r : Record) (e : Entry) (v : Option Why) → verdict r e ≡ v → (conn == e.conn) ≡ false → member conn (presents_of r) ≡ None → message conn r e ≡ []
 unfolding told lines role_in
 outside_by conn r e (Some why) v other out = silent_line r e why conn v other
-outside_by conn r e None v other out = rw (v, other, out) (no_row conn (room_of r.opening r.chat) (member e.conn (presents_of r)) (joiner (room_of r.opening r.chat) e.conn e.badge) e.moment e.cmd)
+outside_by conn r e None v other out =
+    let row : seen_texts conn Outside (chat_lines r e) ≡ [] = no_row conn (room_of r.opening r.chat) (member e.conn (presents_of r)) (joiner (room_of r.opening r.chat) e.conn e.badge) e.moment e.cmd in
+    rw (v, other, out, no_events (cast_in r.battle) (events_by r.battle (sender_of r e) e.cmd), no_lines conn r.battle (sender_of r e) e.cmd (chat_lines r e) row) refl
 
 -- who is no member and isn't the sender is sent nothing
 pub outside_silent : (conn : ℕ) (r : Record) (e : Entry) → (conn == e.conn) ≡ false → member conn (presents_of r) ≡ None → message conn r e ≡ []

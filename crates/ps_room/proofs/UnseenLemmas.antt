@@ -1,7 +1,7 @@
 -- Who doesn't see a note or a choice of another is given nothing, and the record is as it was.
 use Rattle.std.proofs.Common.{◌≡◌, ℕ, ◌==◌, false, List, [], ◌++◌, Option, Some, None, refl, ◌∙◌}
 use Rattle.std.proofs.lemmas.List.{append-nil}
-use Rattle.ps_lines.specs.declared.command.Command.TheVariants.{Modnote, Choose, Undo}
+use Rattle.ps_lines.specs.declared.command.Command.TheVariants.{Modnote}
 use Rattle.ps_event.specs.declared.audience.Audience.TheVariants.{Rank}
 use Rattle.ps_chat.specs.Records.{Record as ChatRecord}
 use Rattle.ps_chat.specs.Looks.{member}
@@ -12,32 +12,40 @@ use Rattle.ps_chat.specs.Changes.{record_after}
 use Rattle.ps_chat.specs.declared.present.Present.{Present}
 use Rattle.ps_chat.specs.declared.room.Room.{Room}
 use Rattle.ps_room.specs.declared.entry.Entry.{Entry}
-use Rattle.ps_room.specs.declared.role.Role.{Role}
-use Rattle.ps_room.specs.Records.{Record, presents_of}
+use Rattle.ps_view.specs.declared.role.Role.{Role}
+use Rattle.ps_bout.specs.Casts.{Cast}
+use Rattle.ps_bout.specs.Fights.{Fight, is_of_battle}
+use Rattle.ps_event.specs.declared.event.Event.{Event}
+use Rattle.ps_room.specs.declared.told.Logged.{Logged}
+use Rattle.ps_room.specs.Records.{Record, presents_of, cast_in, logged_events}
 use Rattle.ps_room.specs.Roles.{sees}
-use Rattle.ps_room.specs.Rooms.{verdict, told, message, role, seen_texts, logged_texts, allowed_lines}
+use Rattle.ps_room.specs.Rooms.{verdict, sender_of, told, message, role, shown_events, seen_texts, logged_lines, logged_of, battle_after, chat_lines, lines_by, events_by, allowed_events, allowed_lines}
 use Rattle.ps_room.specs.Unseen.{sees_notes, IsUnseen, NotesAreUnseen}
 use Rattle.ps_room.proofs.AnswerLemmas.{after_allowed, other_is}
+use Rattle.ps_room.proofs.QuietLemmas.{quiet_events, quiet_lines, quiet_battle, shown_nothing}
 
 -- the lines of a command, of which a connection in a role sees none and none is logged
 pub record AreUnseen (conn : ℕ) (role : Role) (ls : List Line) : Type 0 where
   pub unseen : seen_texts conn role ls ≡ []
-  pub unlogged : logged_texts ls ≡ []
+  pub unlogged : logged_lines ls ≡ []
 
--- the record after such lines, where the chat is as it was
-kept : (r : Record) (chat : ChatRecord) (texts : List (List ℕ)) → chat ≡ r.chat → texts ≡ [] → record { opening = r.opening; chat = chat; logged = r.logged ++ texts } ≡ r
-kept r chat texts same none = rw (same, none, append-nil r.logged) refl
+-- the record after such lines, where the chat and the battle are as they were
+kept : (r : Record) (chat : ChatRecord) (more : List Logged) (battle : Option Fight) → chat ≡ r.chat → more ≡ [] → battle ≡ r.battle → record { opening = r.opening; chat = chat; logged = r.logged ++ more; battle = battle } ≡ r
+kept r chat more battle same none still = rw (same, none, still, append-nil r.logged) refl
 
-no_join : (conn : ℕ) (r : Record) (e : Entry) → verdict r e ≡ None → (conn == e.conn) ≡ false → message conn r e ≡ seen_texts conn (role conn r) (allowed_lines r e)
+no_join : (conn : ℕ) (r : Record) (e : Entry) → verdict r e ≡ None → (conn == e.conn) ≡ false → message conn r e ≡ shown_events (cast_in r.battle) (role conn r) (allowed_events r e) ++ seen_texts conn (role conn r) (allowed_lines r e)
 unfolding told
 no_join conn r e v other = rw (v, other) refl
 
--- an allowed entry with such lines
-pub unseen : (conn : ℕ) (r : Record) (e : Entry) → (conn == e.conn) ≡ false → verdict r e ≡ None → AreUnseen conn (role conn r) (allowed_lines r e) → record_after r.opening.groups r.chat e.conn e.badge e.moment e.cmd ≡ r.chat → IsUnseen conn r e
-unseen conn r e other v ls same = record {
-  unchanged = after_allowed r e v ∙ kept r (record_after r.opening.groups r.chat e.conn e.badge e.moment e.cmd) (logged_texts (allowed_lines r e)) same ls.unlogged;
-  silent = no_join conn r e v other ∙ ls.unseen;
-}
+-- an allowed entry with such lines, of which the battle knows nothing
+pub unseen : (conn : ℕ) (r : Record) (e : Entry) → (conn == e.conn) ≡ false → verdict r e ≡ None → is_of_battle e.cmd ≡ false → AreUnseen conn (role conn r) (chat_lines r e) → record_after r.opening.groups r.chat e.conn e.badge e.moment e.cmd ≡ r.chat → IsUnseen conn r e
+unseen conn r e other v quiet ls same =
+    let events : allowed_events r e ≡ [] = quiet_events r.battle (sender_of r e) e.cmd quiet in
+    let lines : allowed_lines r e ≡ chat_lines r e = quiet_lines r.battle (sender_of r e) e.cmd (chat_lines r e) quiet in
+    record {
+      unchanged = after_allowed r e v ∙ kept r (record_after r.opening.groups r.chat e.conn e.badge e.moment e.cmd) (logged_of (allowed_events r e) (allowed_lines r e)) (battle_after r.battle (sender_of r e) e.cmd) same (rw (events, lines) ls.unlogged) (quiet_battle r.battle (sender_of r e) e.cmd quiet);
+      silent = no_join conn r e v other ∙ rw (events, lines, shown_nothing (cast_in r.battle) (role conn r)) ls.unseen;
+    }
 
 -- ---- the rows
 
@@ -45,7 +53,7 @@ of_note : (conn : ℕ) (role : Role) (r : Room) (me : Option Present) (text : Li
 of_note conn role r None text out = record { unseen = refl; unlogged = refl }
 of_note conn role r (Some me) text out = record { unseen = rw out refl; unlogged = refl }
 
-note_lines : (conn : ℕ) (r : Record) (e : Entry) (text : List ℕ) → e.cmd ≡ Modnote text → sees_notes conn r ≡ false → AreUnseen conn (role conn r) (allowed_lines r e)
+note_lines : (conn : ℕ) (r : Record) (e : Entry) (text : List ℕ) → e.cmd ≡ Modnote text → sees_notes conn r ≡ false → AreUnseen conn (role conn r) (chat_lines r e)
 unfolding lines
 note_lines conn r e text is out = rw is (of_note conn (role conn r) (room_of r.opening r.chat) (member e.conn (presents_of r)) text out)
 
@@ -53,19 +61,7 @@ note_keeps : (r : Record) (e : Entry) (text : List ℕ) → e.cmd ≡ Modnote te
 note_keeps r e text is = rw is refl
 
 pub note_unseen : (conn : ℕ) (r : Record) (e : Entry) (text : List ℕ) → (conn == e.conn) ≡ false → e.cmd ≡ Modnote text → verdict r e ≡ None → sees_notes conn r ≡ false → IsUnseen conn r e
-note_unseen conn r e text other is v out = unseen conn r e other v (note_lines conn r e text is out) (note_keeps r e text is)
+note_unseen conn r e text other is v out = unseen conn r e other v (rw is refl) (note_lines conn r e text is out) (note_keeps r e text is)
 
 pub notes_are_unseen : NotesAreUnseen
 notes_are_unseen conn r e text apart is v out = note_unseen conn r e text (other_is conn e.conn apart) is v out
-
--- a choice that completes no round, or its undoing, tells nobody anything
-no_lines : (conn : ℕ) (role : Role) (ls : List Line) → ls ≡ [] → AreUnseen conn role ls
-no_lines conn role ls none = record { unseen = rw none refl; unlogged = rw none refl }
-
-pub choice_unseen : (conn : ℕ) (r : Record) (e : Entry) (choice : List ℕ) (rqid : Option ℕ) → (conn == e.conn) ≡ false → e.cmd ≡ Choose choice rqid → verdict r e ≡ None → IsUnseen conn r e
-unfolding lines
-choice_unseen conn r e choice rqid other is v = unseen conn r e other v (no_lines conn (role conn r) (allowed_lines r e) (rw is refl)) (rw is refl)
-
-pub undo_unseen : (conn : ℕ) (r : Record) (e : Entry) → (conn == e.conn) ≡ false → e.cmd ≡ Undo → verdict r e ≡ None → IsUnseen conn r e
-unfolding lines
-undo_unseen conn r e other is v = unseen conn r e other v (no_lines conn (role conn r) (allowed_lines r e) (rw is refl)) (rw is refl)

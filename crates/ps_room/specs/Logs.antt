@@ -10,16 +10,21 @@ use Rattle.ps_chat.specs.Records.{Opening as ChatOpening, Record as ChatRecord}
 use Rattle.ps_chat.specs.Looks.{has_id}
 use Rattle.ps_chat.specs.declared.present.Present.{Present}
 use Rattle.ps_room.specs.declared.entry.Entry.{Entry}
-use Rattle.ps_room.specs.declared.opening.Opening.{Opening}
-use Rattle.ps_room.specs.declared.role.Role.{Role}
-use Rattle.ps_room.specs.declared.role.Role.TheVariants.{Outside}
+use Rattle.ps_room.specs.Openings.{Opening}
+use Rattle.ps_view.specs.declared.role.Role.{Role}
+use Rattle.ps_view.specs.declared.role.Role.TheVariants.{Outside}
+use Rattle.ps_bout.specs.Casts.{Cast}
+use Rattle.ps_bout.specs.Fights.{Fight}
+use Rattle.ps_bout.specs.Rounds.{ended}
 use Rattle.ps_room.specs.declared.told.Change.{Change}
 use Rattle.ps_room.specs.declared.told.Kept.{Kept}
 use Rattle.ps_room.specs.declared.cursor.Cursor.{Cursor}
 use Rattle.ps_room.specs.declared.outcome.RoomOut.{RoomOut}
+use Rattle.ps_room.specs.declared.outcome.Ending.{Ending}
 use Rattle.ps_room.specs.declared.outcome.Verdict.TheVariants.{Applied, Refused}
-use Rattle.ps_room.specs.Records.{Record, opened, presents_of}
-use Rattle.ps_room.specs.Rooms.{verdict, told, after, role, role_in, message_of, sent, run_record, view}
+use Rattle.ps_room.specs.declared.told.Logged.{Logged}
+use Rattle.ps_room.specs.Records.{Record, opened, presents_of, cast_in}
+use Rattle.ps_room.specs.Rooms.{verdict, sender_of, outcome_by, told, after, role, role_in, message_of, sent, run_record, view}
 
 -- ---- what a room keeps
 
@@ -47,12 +52,12 @@ touched_if None r e = touched_by e.cmd (presents_of r) e.conn
 abbrev pub touched : Record → Entry → List ℕ
 touched r e = touched_if (verdict r e) r e
 
-abbrev pub change_in : ChatOpening → ChatRecord → ℕ → Change
-change_in o chat conn = record { conn = conn; role = role_in conn o chat }
+abbrev pub change_in : Option Cast → ChatOpening → ChatRecord → ℕ → Change
+change_in cast o chat conn = record { conn = conn; role = role_in conn cast o chat }
 
 -- the role that a connection has in a record
 abbrev pub change_to : Record → ℕ → Change
-change_to r conn = change_in r.opening r.chat conn
+change_to r conn = change_in (cast_in r.battle) r.opening r.chat conn
 
 abbrev pub changed_conn : Change → ℕ
 changed_conn c = c.conn
@@ -85,10 +90,22 @@ run_seen s (e ∷ es) = run_seen (seen_after s e) es
 abbrev pub entry_of : ℕ → Badge → ℕ → Command → Entry
 entry_of conn badge moment cmd = record { conn = conn; badge = badge; moment = moment; cmd = cmd }
 
--- whether the entry was applied; a chat room has no battle that could end
-abbrev pub out_of : Option Why → RoomOut
-out_of None = record { verdict = Applied; ended = None }
-out_of (Some why) = record { verdict = Refused why; ended = None }
+abbrev pub ending_of : ℕ → Option (Option ℕ) → Option Ending
+ending_of number None = None
+ending_of number (Some winner) = Some (record { number = number; winner = winner })
+
+-- how the battle ended at an entry that is applied
+abbrev pub ending_by : Option Fight → Option Present → Command → Option Ending
+ending_by None me cmd = None
+ending_by (Some f) me cmd = ending_of f.number (ended f.bout.battle.phase (outcome_by f me cmd).bout.battle.phase)
+
+abbrev pub out_by : Option Why → Record → Entry → RoomOut
+out_by (Some why) r e = record { verdict = Refused why; ended = None }
+out_by None r e = record { verdict = Applied; ended = ending_by r.battle (sender_of r e) e.cmd }
+
+-- whether the entry was applied, and the end of the battle where it ended it
+unfoldable pub out_of : Record → Entry → RoomOut
+out_of r e = out_by (verdict r e) r e
 
 -- ---- what is given to who looks
 
@@ -98,9 +115,9 @@ changed conn [] role = role
 changed conn (c ∷ cs) role = if c.conn == conn then c.role else changed conn cs role
 
 -- the messages of what was kept, to a connection in this role before
-abbrev pub pulled : ℕ → Role → List (List ℕ) → List Kept → List (List (List ℕ))
-pulled conn role logged [] = []
-pulled conn role logged (k ∷ ks) = sent (message_of conn role k.sender k.told logged) ++ pulled conn (changed conn k.changes role) logged ks
+abbrev pub pulled : ℕ → Role → Option Cast → List Logged → List Kept → List (List (List ℕ))
+pulled conn role cast logged [] = []
+pulled conn role cast logged (k ∷ ks) = sent (message_of conn role k.sender k.told cast logged) ++ pulled conn (changed conn k.changes role) cast logged ks
 
 -- the role after what was kept
 abbrev pub role_past : ℕ → Role → List Kept → Role
@@ -117,7 +134,7 @@ cursor_past c log = record { conn = c.conn; at = length log; role = role_past c.
 
 -- the messages past a cursor
 abbrev pub pulled_past : Cursor → Seen → List (List (List ℕ))
-pulled_past c s = pulled c.conn c.role s.state.logged (drop c.at s.log)
+pulled_past c s = pulled c.conn c.role (cast_in s.state.battle) s.state.logged (drop c.at s.log)
 
 abbrev pub msg_lines : Msg → List (List ℕ)
 msg_lines m = m.lines

@@ -1,27 +1,51 @@
--- What a room is opened with, and its record.
-use Rattle.std.specs.Prelude.{ℕ, Bool, false, List, [], length, nat_lt}
+-- The record of a room.
+use Rattle.std.specs.Prelude.{ℕ, List, [], Option, Some, None, is_some, option_map, if◌then◌else◌}
+use Rattle.std.specs.List.{filter_map}
+use Rattle.ps_event.specs.declared.event.Event.{Event}
+use Rattle.ps_event.specs.Table.{is_logged}
 use Rattle.ps_chat.specs.Records.{Opening as ChatOpening, Record as ChatRecord, nobody}
 use Rattle.ps_chat.specs.Rooms.{presents}
 use Rattle.ps_chat.specs.declared.present.Present.{Present}
-use Rattle.ps_room.specs.declared.opening.Opening.{Opening}
+use Rattle.ps_valid.specs.declared.start.Start.{Start}
+use Rattle.ps_bout.specs.Casts.{Cast}
+use Rattle.ps_bout.specs.Fights.{Fight}
+use Rattle.ps_room.specs.declared.told.Logged.{Logged}
+use Rattle.ps_room.specs.declared.told.Logged.TheVariants as logs
+use Rattle.ps_room.specs.Openings.{Opening, bout_with, fight_with}
+use Rattle.ps_valid.specs.declared.row.Settings.{Settings}
 
--- What the room was opened with; the members, room ranks, mutes, bans and level of its chat; and the logged lines.
+-- What the chat was opened with; the members, room ranks, mutes, bans and level of the chat; what was logged; and the battle,
+-- if it is a battle's room.
 pub record Record : Type 0 where
   pub opening : ChatOpening
   pub chat : ChatRecord
-  pub logged : List (List ℕ)
+  pub logged : List Logged
+  pub battle : Option Fight
 
 abbrev pub chat_opening : Opening → ChatOpening
-chat_opening o = record { title = o.title; battle = false; groups = o.groups; staff = o.staff }
+chat_opening o = record { title = o.title; battle = is_some o.battle; groups = o.config.groups; staff = o.config.staff }
 
--- the record of an opening: nobody is there
+abbrev pub logged_event : Event → Option Logged
+logged_event event = if is_logged event then Some (logs.Event event) else None
+
+-- events as they are logged: all but requests
+abbrev pub logged_events : List Event → List Logged
+logged_events events = filter_map logged_event events
+
+-- what the opening of a battle logs
+abbrev pub logged_with : Settings → Option Start → List Logged
+logged_with config None = []
+logged_with config (Some s) = logged_events (bout_with config s).told
+
+-- the record of an opening: nobody is there, and a battle is open
 abbrev pub opened : Opening → Record
-opened o = record { opening = chat_opening o; chat = nobody; logged = [] }
-
--- whether an opening can be a room's: its staff is a rank of its groups
-abbrev pub fit : Opening → Bool
-fit o = nat_lt o.staff (length o.groups)
+opened o = record { opening = chat_opening o; chat = nobody; logged = logged_with o.config o.battle; battle = option_map (fight_with o.config o.dex) o.battle }
 
 -- the members, each with its rank
 abbrev pub presents_of : Record → List Present
 presents_of r = presents r.opening r.chat
+
+-- what the lines of its battle name
+abbrev pub cast_in : Option Fight → Option Cast
+cast_in None = None
+cast_in (Some f) = Some f.cast

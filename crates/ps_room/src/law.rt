@@ -1,7 +1,7 @@
 //! Laws over the definitions.
 ghost use Rattle.std.specs.Prelude.{◌≡◌, ℕ, []};
 ghost use Rattle.ps_room.specs.declared.entry.Entry.{Entry};
-ghost use Rattle.ps_room.specs.declared.opening.Opening.{Opening};
+ghost use Rattle.ps_room.specs.Openings.{Opening};
 ghost use Rattle.ps_room.specs.Records.{Record};
 ghost use Rattle.ps_room.specs.Answers.{IsAnswered};
 ghost use Rattle.ps_room.specs.Logs.{PullsView, first_cursor, cursor_at};

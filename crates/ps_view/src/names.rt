@@ -30,7 +30,8 @@ impl Names {
         }
     }
 
-    fn nicks(&self, side: Side) -> &[Text]
+    /// The nicknames of the members of a side.
+    pub fn nicks(&self, side: Side) -> &[Text]
         ensures { result.now ≡ nicks_of self.now side }
     {
         match side {

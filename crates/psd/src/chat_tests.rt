@@ -6,14 +6,17 @@ use ps_base::number::{ConnNo, Moment, RoomNo};
 use ps_base::text::Text;
 use ps_chat::chat::Chat;
 use ps_chat::line::ChatLine;
+use ps_dex::dex::Dex;
 use ps_group::groups::Groups;
 use ps_lines::command::{Command, Parsed};
 use ps_lines::read::read_command;
 use ps_room::cursor::Cursor;
 use ps_room::opening::Opening;
 use ps_room::room::Room;
+use ps_valid::config::Config;
 use std::alloc::Global;
 use std::process::Abort;
+use std::sync::Arc;
 use std::test::Fail;
 
 /// The connections from 1 on: a name, and a rank of the standard groups. Eve's is past them.
@@ -189,19 +192,25 @@ fn badge_of(alloc: Global, conn: u32) -> Result<Badge, Fail> {
 }
 
 fn opened(rt: &impl Abort, alloc: Global) -> Result<Room, Fail> {
-    let opening = Opening {
-        no: RoomNo(0),
-        id: Text::copy_of(alloc, "lobby")?,
-        title: Text::copy_of(alloc, "Lobby")?,
-        groups: Groups::standard(alloc)?,
-        staff: 3,
-    };
+    let config = Arc::new(alloc, Config::standard(alloc)?)?;
+    let dex = Arc::new(alloc, Dex::empty(alloc))?;
+    let (id, title) = (
+        Text::copy_of(alloc, "lobby")?,
+        Text::copy_of(alloc, "Lobby")?,
+    );
+    let opening = Opening::new(RoomNo(0), id, title, config, dex, None);
     let fit = Room::fit(&opening);
     assert!(rt; fit);
     Ok(Room::new(alloc, opening)?)
 }
 
-fn enter(alloc: Global, room: &mut Room, conn: u32, moment: u64, text: &str) -> Result<(), Fail> {
+pub(crate) fn enter(
+    alloc: Global,
+    room: &mut Room,
+    conn: u32,
+    moment: u64,
+    text: &str,
+) -> Result<(), Fail> {
     let cmd = command(alloc, text)?;
     let badge = badge_of(alloc, conn)?;
     room.apply(alloc, ConnNo(conn), badge, Moment(moment), cmd)?;

@@ -20,6 +20,8 @@ mod chat_tests;
 #[cfg(test)]
 mod check_tests;
 #[cfg(test)]
+mod choice_tests;
+#[cfg(test)]
 mod config_tests;
 #[cfg(test)]
 mod dex_tests;
@@ -30,6 +32,10 @@ mod laws_tests;
 #[cfg(test)]
 mod long_tests;
 #[cfg(test)]
+mod request_tests;
+#[cfg(test)]
+mod room_tests;
+#[cfg(test)]
 mod rules_tests;
 #[cfg(test)]
 mod runs;
@@ -38,7 +44,11 @@ mod script_tests;
 #[cfg(test)]
 mod start_tests;
 #[cfg(test)]
+mod steps;
+#[cfg(test)]
 mod tests;
+#[cfg(test)]
+mod view_tests;
 
 const HELP: &str = "\
 psd, a battle server of the kind that Pokemon Showdown players connect to.

@@ -1,4 +1,5 @@
 use Rattle.std.proofs.Common.{◌≡◌, ◌++◌, string_bytes}
+use Rattle.ps_room.specs.Records.{cast_in}
 use Rattle.ps_room.specs.Rooms.{role, message_of}
 use Rattle.ps_replay.specs.Worlds.{in_room}
 use Rattle.ps_replay.specs.Transcript.{printed, with_place}
@@ -6,4 +7,4 @@ use Rattle.ps_replay.specs.Tables.{each_to}
 use Rattle.ps_replay.proofs.play.push_room.Given as goal
 
 abbrev pub invariant-loop-i : goal.invariant-loop-i
-invariant-loop-i l = string_bytes l.out ≡ string_bytes l.fn.out ++ each_to (λ conn. printed conn (with_place (in_room l.«no») (message_of conn (role conn l.room.state) l.sender l.told l.room.state.logged))) l.i
+invariant-loop-i l = string_bytes l.out ≡ string_bytes l.fn.out ++ each_to (λ conn. printed conn (with_place (in_room l.«no») (message_of conn (role conn l.room.state) l.sender l.told (cast_in l.room.state.battle) l.room.state.logged))) l.i

@@ -1,0 +1,3 @@
+mod WantLemmas
+mod ChoiceLemmas
+mod RequestLemmas

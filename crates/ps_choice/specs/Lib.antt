@@ -1,0 +1,4 @@
+pub mod Wants
+pub mod Resolved
+pub mod Shown
+pub mod Requests

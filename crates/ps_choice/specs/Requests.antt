@@ -1,0 +1,146 @@
+-- The JSON of a request. It looks at the phase, the dex and the own side alone, with that side's names. The members of each
+-- object stand in the order of their keys, as they are written.
+use Rattle.std.specs.Prelude.{ℕ, zero, suc, ◌==◌, Bool, true, List, [], ◌∷◌, map, take, codes, Option, Some, None, slice_index, if◌then◌else◌}
+use Rattle.serde_json.specs.Data.{Data, boolean, number, unsigned, string, array, object, no_items, item, no_members, member}
+use Rattle.serde_json.specs.View.{items_of}
+use Rattle.serde_json.specs.Written.{compact_text}
+use Rattle.ps_mon.specs.declared.record.Lock.{Lock}
+use Rattle.ps_mon.specs.declared.record.Phase.{Phase}
+use Rattle.ps_mon.specs.declared.record.Phase.TheVariants as phases
+use Rattle.ps_mon.specs.declared.record.SideState.{SideState}
+use Rattle.ps_mon.specs.declared.team.Member.{Member}
+use Rattle.ps_mon.specs.declared.team.MoveSlot.{MoveSlot}
+use Rattle.ps_mon.specs.Reading.{place_of, member_of}
+use Rattle.ps_mon.specs.Slots.{slot_count_now, slot_now, is_disabled, has_usable}
+use Rattle.ps_mon.specs.Valid.{replaces}
+use Rattle.ps_dex.specs.declared.row.MoveRow.{MoveRow}
+use Rattle.ps_dex.specs.declared.row.Tables.{Tables}
+use Rattle.ps_dex.specs.Lookups.{name_of_move}
+use Rattle.ps_choice.specs.Shown.{id_of_move, details, condition, side_id, nick_of, ident}
+
+abbrev pub text : List ℕ → Data
+text bytes = string bytes
+
+abbrev pub count : ℕ → Data
+count n = number (unsigned n)
+
+-- ---- the moves that can be chosen
+
+-- a slot in force, from 0
+unfoldable pub slot_data : List MoveRow → SideState → ℕ → Data
+slot_data moves side j = object
+    (member (codes "disabled") (boolean (is_disabled side.vol.disabled j))
+    (member (codes "id") (text (id_of_move (slot_now side j).mv moves))
+    (member (codes "maxpp") (count (slot_now side j).max_pp)
+    (member (codes "move") (text (name_of_move (slot_now side j).mv moves))
+    (member (codes "pp") (count (slot_now side j).pp)
+    no_members)))))
+
+-- so many slots, from this one on
+abbrev pub slots_from : List MoveRow → SideState → ℕ → ℕ → List Data
+slots_from moves side j zero = []
+slots_from moves side j (suc left) = slot_data moves side j ∷ slots_from moves side (suc j) left
+
+abbrev pub slots_data : List MoveRow → SideState → List Data
+slots_data moves side = slots_from moves side 0 (slot_count_now side)
+
+-- the one that there is
+abbrev pub only_move : List ℕ → List ℕ → List Data
+only_move id name = object (member (codes "id") (text id) (member (codes "move") (text name) no_members)) ∷ []
+
+abbrev pub unheld_moves : List MoveRow → SideState → List Data
+unheld_moves moves side = if has_usable side then slots_data moves side else only_move (codes "struggle") (codes "Struggle")
+
+-- under a lock its move
+abbrev pub moves_by : Option Lock → List MoveRow → SideState → List Data
+moves_by (Some lock) moves side = only_move (id_of_move lock.mv moves) (name_of_move lock.mv moves)
+moves_by None moves side = unheld_moves moves side
+
+unfoldable pub moves_data : List MoveRow → SideState → List Data
+moves_data moves side = if side.vol.recharge then only_move (codes "recharge") (codes "Recharge") else moves_by side.vol.lock moves side
+
+-- ---- the members
+
+-- attack, defense, the one Special twice, speed
+unfoldable pub stats_data : List ℕ → Data
+stats_data stats = object
+    (member (codes "atk") (count (slice_index stats 0))
+    (member (codes "def") (count (slice_index stats 1))
+    (member (codes "spa") (count (slice_index stats 2))
+    (member (codes "spd") (count (slice_index stats 2))
+    (member (codes "spe") (count (slice_index stats 3))
+    no_members)))))
+
+abbrev pub move_id_data : List MoveRow → MoveSlot → Data
+move_id_data moves slot = text (id_of_move slot.mv moves)
+
+-- the ids of its own moves
+abbrev pub own_moves : List MoveRow → Member → List Data
+own_moves moves m = map (move_id_data moves) (take m.slot_count m.slots)
+
+-- a member under its nickname
+unfoldable pub member_data : Tables → ℕ → Bool → List ℕ → Member → Data
+member_data dex s active nick m = object
+    (member (codes "active") (boolean active)
+    (member (codes "condition") (text (condition m))
+    (member (codes "details") (text (details dex.species m))
+    (member (codes "ident") (text (ident s nick))
+    (member (codes "moves") (array (items_of (own_moves dex.moves m)))
+    (member (codes "stats") (stats_data m.stats)
+    no_members))))))
+
+-- the member at a place of the team
+unfoldable pub member_at_data : Tables → List (List ℕ) → ℕ → SideState → ℕ → Data
+member_at_data dex nicks s side k = member_data dex s (k == place_of side) (nick_of nicks k) (member_of side k)
+
+-- all members, in their order now
+abbrev pub members_data : Tables → List (List ℕ) → ℕ → SideState → List Data
+members_data dex nicks s side = map (member_at_data dex nicks s side) (take side.count side.order)
+
+unfoldable pub side_data : Tables → List ℕ → List (List ℕ) → ℕ → SideState → Data
+side_data dex name nicks s side = object
+    (member (codes "id") (text (side_id s))
+    (member (codes "name") (text name)
+    (member (codes "pokemon") (array (items_of (members_data dex nicks s side)))
+    no_members)))
+
+-- ---- all of it
+
+-- a choice of a turn
+abbrev pub turn_data : List Data → ℕ → Data → Data
+turn_data moves round side = object
+    (member (codes "active") (array (item (object (member (codes "moves") (array (items_of moves)) no_members)) no_items))
+    (member (codes "rqid") (count round)
+    (member (codes "side") side
+    no_members)))
+
+-- a new member
+abbrev pub switch_data : ℕ → Data → Data
+switch_data round side = object
+    (member (codes "forceSwitch") (array (item (boolean true) no_items))
+    (member (codes "rqid") (count round)
+    (member (codes "side") side
+    no_members)))
+
+-- nothing
+abbrev pub wait_data : ℕ → Data → Data
+wait_data round side = object
+    (member (codes "rqid") (count round)
+    (member (codes "side") side
+    (member (codes "wait") (boolean true)
+    no_members)))
+
+abbrev pub switch_or_wait : Bool → ℕ → Data → Data
+switch_or_wait replaced round side = if replaced then switch_data round side else wait_data round side
+
+abbrev pub asked_data : Phase → ℕ → List Data → ℕ → Data → Data
+asked_data phases.Turn s moves round side = turn_data moves round side
+asked_data phase s moves round side = switch_or_wait (replaces phase s) round side
+
+-- the request of a side, with the number of the round that is open
+unfoldable pub request_data : Phase → Tables → List ℕ → List (List ℕ) → ℕ → SideState → ℕ → Data
+request_data phase dex name nicks s side round = asked_data phase s (moves_data dex.moves side) round (side_data dex name nicks s side)
+
+-- as it is written, without spaces
+abbrev pub request : Phase → Tables → List ℕ → List (List ℕ) → ℕ → SideState → ℕ → List ℕ
+request phase dex name nicks s side round = compact_text (request_data phase dex name nicks s side round)

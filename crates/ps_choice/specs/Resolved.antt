@@ -1,0 +1,114 @@
+-- The choice that a player's wish stands for. It looks at the phase, the dex and the own side alone.
+use Rattle.std.specs.Prelude.{ℕ, ◌+◌, Bool, false, not, ◌&&◌, ◌==◌, nat_lt, List, codes, take, drop, position, Option, Some, None, Result, Ok, Err, if◌then◌else◌}
+use Rattle.std.specs.Str.{bytes_eq}
+use Rattle.ps_base.specs.Ids.{id_of}
+use Rattle.ps_mon.specs.declared.record.Lock.{Lock}
+use Rattle.ps_mon.specs.declared.record.Phase.{Phase}
+use Rattle.ps_mon.specs.declared.record.Phase.TheVariants as phases
+use Rattle.ps_mon.specs.declared.record.SideState.{SideState}
+use Rattle.ps_mon.specs.declared.choice.Choice.{Choice}
+use Rattle.ps_mon.specs.declared.choice.Choice.TheVariants as choices
+use Rattle.ps_mon.specs.declared.choice.ChoiceFault.{ChoiceFault}
+use Rattle.ps_mon.specs.Reading.{member_of}
+use Rattle.ps_mon.specs.Slots.{slot_count_now, slot_now, is_usable, has_usable}
+use Rattle.ps_mon.specs.Choices.{is_held, fault_of}
+use Rattle.ps_dex.specs.declared.row.Tables.{Tables}
+use Rattle.ps_dex.specs.Lookups.{move_of}
+use Rattle.ps_choice.specs.Wants.{Want, Slot, Named, Position, Default}
+
+-- ---- slots, which count from 1
+
+-- which of four is the first, from 1; 0 where none is
+abbrev pub first_of : Bool → Bool → Bool → Bool → ℕ
+first_of a b c d = if a then 1 else (if b then 2 else (if c then 3 else (if d then 4 else 0)))
+
+-- the lowest usable slot; 0 where none is
+unfoldable pub lowest_usable : SideState → ℕ
+lowest_usable side = first_of (is_usable side 0) (is_usable side 1) (is_usable side 2) (is_usable side 3)
+
+-- whether a slot, from 0, is there and has a move
+unfoldable pub has_move_at : SideState → ℕ → ℕ → Bool
+has_move_at side mv j = nat_lt j (slot_count_now side) && (slot_now side j).mv == mv
+
+-- the lowest slot with a move; 0 where none has it
+unfoldable pub slot_with : SideState → ℕ → ℕ
+slot_with side mv = first_of (has_move_at side mv 0) (has_move_at side mv 1) (has_move_at side mv 2) (has_move_at side mv 3)
+
+-- ---- what comes first
+
+-- in a turn: to go on, then Struggle, then the lowest usable slot
+unfoldable pub first_act : SideState → Choice
+first_act side = if is_held side then choices.Continue else (if has_usable side then choices.Move (lowest_usable side) else choices.Struggle)
+
+-- the positions from 2, as places in the team
+abbrev pub bench : SideState → List ℕ
+bench side = drop 1 (take side.count side.order)
+
+-- the first of them whose member stands, from 0
+unfoldable pub first_standing : SideState → Option ℕ
+first_standing side = position (λ k. nat_lt 0 (member_of side k).hp) (bench side)
+
+-- a position that isn't there, where none of them stands
+abbrev pub replacement : Option ℕ → Choice
+replacement None = choices.Switch 0
+replacement (Some k) = choices.Switch (k + 2)
+
+abbrev pub by_default : Phase → SideState → Choice
+by_default (phases.Replace p1 p2) side = replacement (first_standing side)
+by_default other side = first_act side
+
+-- ---- a slot by its number
+
+-- `move 1` also goes on, and is Struggle where no slot is usable
+unfoldable pub numbered : SideState → ℕ → Choice
+numbered side n = if n == 1 && is_held side then choices.Continue else (if n == 1 && not (has_usable side) then choices.Struggle else choices.Move n)
+
+-- ---- a slot by its move
+
+abbrev pub is_number : Option ℕ → ℕ → Bool
+is_number None mv = false
+is_number (Some n) mv = n == mv
+
+abbrev pub is_lock_name : Tables → Option Lock → List ℕ → Bool
+is_lock_name dex None name = false
+is_lock_name dex (Some lock) name = is_number (move_of (id_of name) dex) lock.mv
+
+-- whether a text names what holds the member: `recharge`, or the long move by its id or an alias
+unfoldable pub is_hold_name : Tables → SideState → List ℕ → Bool
+is_hold_name dex side name = if side.vol.recharge then bytes_eq (id_of name) (codes "recharge") else is_lock_name dex side.vol.lock name
+
+-- a slot that isn't there, where the text isn't the hold's name
+abbrev pub going_on : Bool → Choice
+going_on named = if named then choices.Continue else choices.Move 0
+
+-- the lowest slot with the move; one that isn't there, where no slot has it or no move has the name
+abbrev pub slot_of_move : SideState → Option ℕ → Choice
+slot_of_move side None = choices.Move 0
+slot_of_move side (Some mv) = choices.Move (slot_with side mv)
+
+-- whether a text is Struggle's name where no slot is usable
+unfoldable pub is_struggle : SideState → List ℕ → Bool
+is_struggle side name = bytes_eq (id_of name) (codes "struggle") && not (has_usable side)
+
+unfoldable pub named : Tables → SideState → List ℕ → Choice
+named dex side name =
+    if is_held side then going_on (is_hold_name dex side name)
+    else (if is_struggle side name then choices.Struggle else slot_of_move side (move_of (id_of name) dex))
+
+-- ---- all wishes
+
+-- The choice that a wish stands for. Where there is none, it is one whose slot or position isn't there, so that it has the
+-- faults of the phase and of a lock first.
+abbrev pub meant : Phase → SideState → Tables → Want → Choice
+meant phase side dex (Slot n) = numbered side n
+meant phase side dex (Named name) = named dex side name
+meant phase side dex (Position n) = choices.Switch n
+meant phase side dex Default = by_default phase side
+
+abbrev pub judged : Choice → Option ChoiceFault → Result Choice ChoiceFault
+judged choice None = Ok choice
+judged choice (Some fault) = Err fault
+
+-- that choice where it is legal, else its first fault
+abbrev pub resolved : Phase → ℕ → SideState → Tables → Want → Result Choice ChoiceFault
+resolved phase s side dex want = judged (meant phase side dex want) (fault_of phase s side (meant phase side dex want))

@@ -1,0 +1,64 @@
+-- The texts of a request on the own members.
+use Rattle.std.specs.Prelude.{ℕ, ◌==◌, List, [], ◌++◌, codes, decimal, Option, Some, None, slice_get, zero, suc, if◌then◌else◌}
+use Rattle.ps_mon.specs.declared.status.Status.{Status}
+use Rattle.ps_mon.specs.declared.status.Status.TheVariants as statuses
+use Rattle.ps_mon.specs.declared.team.Member.{Member}
+use Rattle.ps_dex.specs.declared.row.MoveRow.{MoveRow}
+use Rattle.ps_dex.specs.declared.row.SpeciesRow.{SpeciesRow}
+
+abbrev pub id_or_struggle : Option MoveRow → List ℕ
+id_or_struggle None = codes "struggle"
+id_or_struggle (Some m) = m.id
+
+-- the id of a move; each number past the moves is Struggle's
+abbrev pub id_of_move : ℕ → List MoveRow → List ℕ
+id_of_move mv moves = id_or_struggle (slice_get moves mv)
+
+abbrev pub name_or_none : Option SpeciesRow → List ℕ
+name_or_none None = []
+name_or_none (Some s) = s.name
+
+-- the name of a species; empty for a number past the species
+abbrev pub name_of_species : ℕ → List SpeciesRow → List ℕ
+name_of_species number species = name_or_none (slice_get species number)
+
+abbrev pub level_part : ℕ → List ℕ
+level_part level = if level == 100 then [] else codes ", L" ++ decimal level
+
+-- the species, and the level where it isn't 100
+unfoldable pub details : List SpeciesRow → Member → List ℕ
+details species m = name_of_species m.species species ++ level_part m.level
+
+abbrev pub status_part : Status → List ℕ
+status_part statuses.Healthy = []
+status_part statuses.Slp = codes " slp"
+status_part statuses.Par = codes " par"
+status_part statuses.Brn = codes " brn"
+status_part statuses.Psn = codes " psn"
+status_part statuses.Tox = codes " tox"
+status_part statuses.Frz = codes " frz"
+
+abbrev pub most_part : ℕ → List ℕ
+most_part max = codes "/" ++ decimal max
+
+abbrev pub health_part : ℕ → ℕ → List ℕ
+health_part hp max = decimal hp ++ most_part max
+
+-- the exact health and the status
+unfoldable pub condition : Member → List ℕ
+condition m = if m.hp == 0 then codes "0 fnt" else health_part m.hp m.max ++ status_part m.status
+
+abbrev pub side_id : ℕ → List ℕ
+side_id zero = codes "p1"
+side_id (suc s) = codes "p2"
+
+abbrev pub text_or_none : Option (List ℕ) → List ℕ
+text_or_none None = []
+text_or_none (Some text) = text
+
+-- the nickname of the member at a place of the team
+abbrev pub nick_of : List (List ℕ) → ℕ → List ℕ
+nick_of nicks k = text_or_none (slice_get nicks k)
+
+abbrev pub ident : ℕ → List ℕ → List ℕ
+ident s nick = side_id s ++ codes ": " ++ nick

@@ -1,0 +1,67 @@
+-- What a player asks for, and the texts that say it.
+use Rattle.std.specs.Prelude.{◌≡◌, ◌≢◌, ℕ, ◌+◌, ◌-◌, ◌≤◌, ◌&&◌, nat_le, List, [], ◌∷◌, ◌++◌, codes, Option, Some, None, if◌then◌else◌}
+use Rattle.std.specs.Str.{bytes_eq}
+use Rattle.ps_base.specs.Cuts.{after_front}
+use Rattle.ps_choice.specs.declared.wanted.Wanted.{Wanted}
+use Rattle.ps_choice.specs.declared.wanted.Wanted.TheVariants as wanted
+
+-- what a player asks for: the move in a slot, the move of a name, the member at a position, or what comes first
+pub data Want : Type 0 where
+  Slot : ℕ → Want
+  Named : List ℕ → Want
+  Position : ℕ → Want
+  Default : Want
+
+-- ---- the texts
+
+-- the digit that a text is
+abbrev pub digit_in : List ℕ → Option ℕ
+digit_in [] = None
+digit_in (b ∷ []) = if nat_le 48 b && nat_le b 57 then Some (b - 48) else None
+digit_in (b ∷ c ∷ bytes) = None
+
+-- `move N`, `move NAME`, `switch N`, `default`. N is one digit, and NAME is neither empty nor one
+abbrev pub IsForm : Want → List ℕ → Type 0
+IsForm (Slot n) text = (n ≤ 9) × (text ≡ codes "move " ++ (48 + n) ∷ [])
+IsForm (Named name) text = (text ≡ codes "move " ++ name) × (name ≢ []) × (digit_in name ≡ None)
+IsForm (Position n) text = (n ≤ 9) × (text ≡ codes "switch " ++ (48 + n) ∷ [])
+IsForm Default text = text ≡ codes "default"
+
+-- ---- the same by reading
+
+abbrev pub slot_or_name : Option ℕ → List ℕ → Want
+slot_or_name (Some n) name = Slot n
+slot_or_name None name = Named name
+
+-- what stands behind `move `
+abbrev pub move_want : List ℕ → Option Want
+move_want [] = None
+move_want (b ∷ bytes) = Some (slot_or_name (digit_in (b ∷ bytes)) (b ∷ bytes))
+
+abbrev pub position_want : Option ℕ → Option Want
+position_want (Some n) = Some (Position n)
+position_want None = None
+
+-- what stands behind `switch `
+abbrev pub switch_want : List ℕ → Option Want
+switch_want text = position_want (digit_in text)
+
+abbrev pub behind_switch : Option (List ℕ) → Option Want
+behind_switch (Some rest) = switch_want rest
+behind_switch None = None
+
+abbrev pub behind_move : Option (List ℕ) → List ℕ → Option Want
+behind_move (Some rest) text = move_want rest
+behind_move None text = behind_switch (after_front (codes "switch ") text)
+
+-- what a text asks for
+unfoldable pub want_in : List ℕ → Option Want
+want_in text = if bytes_eq text (codes "default") then Some Default else behind_move (after_front (codes "move ") text) text
+
+-- ---- for the code: what was read, as contracts see it
+
+abbrev pub want_of : Wanted → Want
+want_of (wanted.Move n) = Slot n
+want_of (wanted.Named name) = Named name.now
+want_of (wanted.Switch n) = Position n
+want_of wanted.Default = Default

@@ -1,0 +1,529 @@
+//! What no clause says: the room of a battle, entry by entry.
+use crate::arena::ROW_DEX;
+use crate::chat_tests::enter;
+use ps_base::id::to_id;
+use ps_base::name::Name;
+use ps_base::number::{ConnNo, RoomNo};
+use ps_base::text::Text;
+use ps_dex::dex::Dex;
+use ps_packed::team::read_team;
+use ps_room::cursor::Cursor;
+use ps_room::opening::Opening;
+use ps_room::room::Room;
+use ps_rules::formats::resolve;
+use ps_valid::check::check_team;
+use ps_valid::config::Config;
+use ps_valid::start::{Legal, Start};
+use std::alloc::Global;
+use std::process::Abort;
+use std::sync::Arc;
+use std::test::Fail;
+
+const CONFIG: &str = r#"{"formats":[{"name":"[Gen 1] OU","rules":["speciesclause"]}],"seeds":[0]}"#;
+
+const TAUROS: &str = "Tauros||||bodyslam,hyperbeam,blizzard,earthquake|||||||";
+
+const SNORLAX: &str = "Snorlax||||bodyslam,rest|||||||";
+
+fn legal(
+    rt: &impl Abort,
+    alloc: Global,
+    dex: &Dex,
+    config: &Config,
+    text: &str,
+) -> Result<Legal, Fail> {
+    let team = read_team(alloc, text).expect(rt, "a team");
+    let format = to_id(alloc, "gen1ou")?;
+    let rules = resolve(alloc, config.formats(), &format).expect(rt, "rules");
+    Ok(check_team(alloc, dex, &rules, &team).expect(rt, "a legal team"))
+}
+
+fn start(rt: &impl Abort, alloc: Global, dex: &Dex, config: &Config) -> Result<Start, Fail> {
+    let players = [Name::new(alloc, "Ann")?, Name::new(alloc, "Bob")?];
+    let teams = [
+        legal(rt, alloc, dex, config, TAUROS)?,
+        legal(rt, alloc, dex, config, SNORLAX)?,
+    ];
+    Ok(Start {
+        number: 1,
+        format: to_id(alloc, "gen1ou")?,
+        players,
+        teams,
+        seed: 0,
+    })
+}
+
+fn opening(rt: &impl Abort, alloc: Global) -> Result<Opening, Fail> {
+    let dex = Dex::read(alloc, ROW_DEX.as_bytes()).expect(rt, "a dex");
+    let config = Config::read(alloc, CONFIG.as_bytes(), &dex).expect(rt, "a configuration");
+    let start = start(rt, alloc, &dex, &config)?;
+    let id = Text::copy_of(alloc, "battle-gen1ou-1")?;
+    let title = Text::copy_of(alloc, "Ann vs. Bob")?;
+    let config = Arc::new(alloc, config)?;
+    let dex = Arc::new(alloc, dex)?;
+    Ok(Opening::new(RoomNo(16), id, title, config, dex, Some(start)))
+}
+
+/// The room of Ann's Tauros and Bob's Snorlax.
+fn opened(rt: &impl Abort, alloc: Global) -> Result<Room, Fail> {
+    let opening = opening(rt, alloc)?;
+    let fit = Room::fit(&opening);
+    assert!(rt; fit);
+    Ok(Room::new(alloc, opening)?)
+}
+
+/// A connection and its text. 1 is Ann, 2 is Bob, and 3 is Cy, who plays no side.
+type Texts = &'static [(u32, &'static str)];
+
+fn enter_all(alloc: Global, room: &mut Room, texts: Texts) -> Result<(), Fail> {
+    for (conn, text) in texts {
+        enter(alloc, room, *conn, 0, text)?;
+    }
+    Ok(())
+}
+
+/// The last message to a connection, a line each.
+fn last_sent(alloc: Global, room: &Room, conn: u32) -> Result<String, Fail> {
+    let mut out = String::new(alloc);
+    let messages = room.pull(alloc, &mut Cursor::new(ConnNo(conn)))?;
+    if let Some(message) = messages.last() {
+        for line in message.lines.as_slice() {
+            out.push_str(line.as_str())?;
+            out.push_str("\n")?;
+        }
+    }
+    Ok(out)
+}
+
+/// The last message to a connection after these texts.
+fn sent_after(rt: &impl Abort, alloc: Global, texts: Texts, conn: u32) -> Result<String, Fail> {
+    let mut room = opened(rt, alloc)?;
+    enter_all(alloc, &mut room, texts)?;
+    last_sent(alloc, &room, conn)
+}
+
+type Rows = &'static [(Texts, u32, &'static str)];
+
+fn hold(rt: &impl Abort, alloc: Global, rows: Rows) -> Result<(), Fail> {
+    for (texts, conn, sent) in rows {
+        let given = sent_after(rt, alloc, texts, *conn)?;
+        assert_eq!(rt; given.as_str(), *sent);
+    }
+    Ok(())
+}
+
+/// Who joins is sent the battle so far, with its own side's health exactly, and its request.
+const JOINS: Rows = &[
+    (
+        &[(1, "/join b")],
+        1,
+        r#"|init|battle
+|title|Ann vs. Bob
+|users|1,%Ann
+|player|p1|Ann||
+|player|p2|Bob||
+|teamsize|p1|1
+|teamsize|p2|1
+|gametype|singles
+|gen|1
+|tier|[Gen 1] OU
+|rule|Species Clause
+|rule|HP Percentage Mod
+|start
+|switch|p1a: Tauros|Tauros|353/353
+|switch|p2a: Snorlax|Snorlax|100/100
+|turn|1
+|request|{"active":[{"moves":[{"disabled":false,"id":"bodyslam","maxpp":24,"move":"Body Slam","pp":24},{"disabled":false,"id":"hyperbeam","maxpp":8,"move":"Hyper Beam","pp":8},{"disabled":false,"id":"blizzard","maxpp":8,"move":"Blizzard","pp":8},{"disabled":false,"id":"earthquake","maxpp":16,"move":"Earthquake","pp":16}]}],"rqid":1,"side":{"id":"p1","name":"Ann","pokemon":[{"active":true,"condition":"353/353","details":"Tauros","ident":"p1: Tauros","moves":["bodyslam","hyperbeam","blizzard","earthquake"],"stats":{"atk":298,"def":288,"spa":238,"spd":238,"spe":318}}]}}
+"#,
+    ),
+    (
+        &[(1, "/join b"), (2, "/join b")],
+        2,
+        r#"|init|battle
+|title|Ann vs. Bob
+|users|2,%Ann, Bob
+|player|p1|Ann||
+|player|p2|Bob||
+|teamsize|p1|1
+|teamsize|p2|1
+|gametype|singles
+|gen|1
+|tier|[Gen 1] OU
+|rule|Species Clause
+|rule|HP Percentage Mod
+|start
+|switch|p1a: Tauros|Tauros|100/100
+|switch|p2a: Snorlax|Snorlax|523/523
+|turn|1
+|request|{"active":[{"moves":[{"disabled":false,"id":"bodyslam","maxpp":24,"move":"Body Slam","pp":24},{"disabled":false,"id":"rest","maxpp":16,"move":"Rest","pp":16}]}],"rqid":1,"side":{"id":"p2","name":"Bob","pokemon":[{"active":true,"condition":"523/523","details":"Snorlax","ident":"p2: Snorlax","moves":["bodyslam","rest"],"stats":{"atk":318,"def":228,"spa":228,"spd":228,"spe":158}}]}}
+"#,
+    ),
+    (
+        &[(1, "/join b"), (2, "/join b"), (3, "/join b")],
+        3,
+        r#"|init|battle
+|title|Ann vs. Bob
+|users|3,%Ann, Bob,@Cy
+|player|p1|Ann||
+|player|p2|Bob||
+|teamsize|p1|1
+|teamsize|p2|1
+|gametype|singles
+|gen|1
+|tier|[Gen 1] OU
+|rule|Species Clause
+|rule|HP Percentage Mod
+|start
+|switch|p1a: Tauros|Tauros|100/100
+|switch|p2a: Snorlax|Snorlax|100/100
+|turn|1
+"#,
+    ),
+];
+
+/// The round that Bob completes: both see their own side exactly, Cy neither.
+const TURNS: Rows = &[
+    (
+        &[
+            (1, "/join b"),
+            (2, "/join b"),
+            (1, "/choose move 1|1"),
+            (2, "/choose move rest|1"),
+        ],
+        1,
+        r#"|move|p1a: Tauros|Body Slam|p2a: Snorlax
+|-damage|p2a: Snorlax|78/100
+|move|p2a: Snorlax|Rest|p2a: Snorlax
+|-status|p2a: Snorlax|slp
+|-heal|p2a: Snorlax|100/100 slp
+|upkeep
+|turn|2
+|request|{"active":[{"moves":[{"disabled":false,"id":"bodyslam","maxpp":24,"move":"Body Slam","pp":23},{"disabled":false,"id":"hyperbeam","maxpp":8,"move":"Hyper Beam","pp":8},{"disabled":false,"id":"blizzard","maxpp":8,"move":"Blizzard","pp":8},{"disabled":false,"id":"earthquake","maxpp":16,"move":"Earthquake","pp":16}]}],"rqid":2,"side":{"id":"p1","name":"Ann","pokemon":[{"active":true,"condition":"353/353","details":"Tauros","ident":"p1: Tauros","moves":["bodyslam","hyperbeam","blizzard","earthquake"],"stats":{"atk":298,"def":288,"spa":238,"spd":238,"spe":318}}]}}
+"#,
+    ),
+    (
+        &[
+            (1, "/join b"),
+            (2, "/join b"),
+            (1, "/choose move 1|1"),
+            (2, "/choose move rest|1"),
+        ],
+        2,
+        r#"|move|p1a: Tauros|Body Slam|p2a: Snorlax
+|-damage|p2a: Snorlax|403/523
+|move|p2a: Snorlax|Rest|p2a: Snorlax
+|-status|p2a: Snorlax|slp
+|-heal|p2a: Snorlax|523/523 slp
+|upkeep
+|turn|2
+|request|{"active":[{"moves":[{"disabled":false,"id":"bodyslam","maxpp":24,"move":"Body Slam","pp":24},{"disabled":false,"id":"rest","maxpp":16,"move":"Rest","pp":15}]}],"rqid":2,"side":{"id":"p2","name":"Bob","pokemon":[{"active":true,"condition":"523/523 slp","details":"Snorlax","ident":"p2: Snorlax","moves":["bodyslam","rest"],"stats":{"atk":318,"def":228,"spa":228,"spd":228,"spe":158}}]}}
+"#,
+    ),
+    (
+        &[
+            (1, "/join b"),
+            (2, "/join b"),
+            (3, "/join b"),
+            (1, "/choose move 1|1"),
+            (2, "/choose move rest|1"),
+        ],
+        3,
+        r#"|move|p1a: Tauros|Body Slam|p2a: Snorlax
+|-damage|p2a: Snorlax|78/100
+|move|p2a: Snorlax|Rest|p2a: Snorlax
+|-status|p2a: Snorlax|slp
+|-heal|p2a: Snorlax|100/100 slp
+|upkeep
+|turn|2
+"#,
+    ),
+];
+
+/// A choice that completes no round and its undoing give nobody else a line.
+const CHOICES: Rows = &[
+    (
+        &[(1, "/join b"), (2, "/join b"), (1, "/choose move 1")],
+        2,
+        r#"|init|battle
+|title|Ann vs. Bob
+|users|2,%Ann, Bob
+|player|p1|Ann||
+|player|p2|Bob||
+|teamsize|p1|1
+|teamsize|p2|1
+|gametype|singles
+|gen|1
+|tier|[Gen 1] OU
+|rule|Species Clause
+|rule|HP Percentage Mod
+|start
+|switch|p1a: Tauros|Tauros|100/100
+|switch|p2a: Snorlax|Snorlax|523/523
+|turn|1
+|request|{"active":[{"moves":[{"disabled":false,"id":"bodyslam","maxpp":24,"move":"Body Slam","pp":24},{"disabled":false,"id":"rest","maxpp":16,"move":"Rest","pp":16}]}],"rqid":1,"side":{"id":"p2","name":"Bob","pokemon":[{"active":true,"condition":"523/523","details":"Snorlax","ident":"p2: Snorlax","moves":["bodyslam","rest"],"stats":{"atk":318,"def":228,"spa":228,"spd":228,"spe":158}}]}}
+"#,
+    ),
+    (
+        &[
+            (1, "/join b"),
+            (2, "/join b"),
+            (1, "/choose move 1"),
+            (1, "/undo"),
+        ],
+        1,
+        r#"|request|{"active":[{"moves":[{"disabled":false,"id":"bodyslam","maxpp":24,"move":"Body Slam","pp":24},{"disabled":false,"id":"hyperbeam","maxpp":8,"move":"Hyper Beam","pp":8},{"disabled":false,"id":"blizzard","maxpp":8,"move":"Blizzard","pp":8},{"disabled":false,"id":"earthquake","maxpp":16,"move":"Earthquake","pp":16}]}],"rqid":1,"side":{"id":"p1","name":"Ann","pokemon":[{"active":true,"condition":"353/353","details":"Tauros","ident":"p1: Tauros","moves":["bodyslam","hyperbeam","blizzard","earthquake"],"stats":{"atk":298,"def":288,"spa":238,"spd":238,"spe":318}}]}}
+"#,
+    ),
+    (
+        &[
+            (1, "/join b"),
+            (2, "/join b"),
+            (1, "/choose move 1"),
+            (1, "/undo"),
+            (1, "/choose move 2"),
+            (1, "/undo"),
+        ],
+        2,
+        r#"|init|battle
+|title|Ann vs. Bob
+|users|2,%Ann, Bob
+|player|p1|Ann||
+|player|p2|Bob||
+|teamsize|p1|1
+|teamsize|p2|1
+|gametype|singles
+|gen|1
+|tier|[Gen 1] OU
+|rule|Species Clause
+|rule|HP Percentage Mod
+|start
+|switch|p1a: Tauros|Tauros|100/100
+|switch|p2a: Snorlax|Snorlax|523/523
+|turn|1
+|request|{"active":[{"moves":[{"disabled":false,"id":"bodyslam","maxpp":24,"move":"Body Slam","pp":24},{"disabled":false,"id":"rest","maxpp":16,"move":"Rest","pp":16}]}],"rqid":1,"side":{"id":"p2","name":"Bob","pokemon":[{"active":true,"condition":"523/523","details":"Snorlax","ident":"p2: Snorlax","moves":["bodyslam","rest"],"stats":{"atk":318,"def":228,"spa":228,"spd":228,"spe":158}}]}}
+"#,
+    ),
+    (
+        &[(1, "/join b"), (2, "/join b"), (1, "/undo")],
+        1,
+        r#"|error|[NothingChosen]
+"#,
+    ),
+    (
+        &[
+            (1, "/join b"),
+            (2, "/join b"),
+            (1, "/choose move 1"),
+            (1, "/choose move 1"),
+        ],
+        1,
+        r#"|error|[AlreadyChosen]
+"#,
+    ),
+    (
+        &[
+            (1, "/join b"),
+            (2, "/join b"),
+            (1, "/choose move 1|1"),
+            (2, "/choose move rest|1"),
+            (1, "/choose move 1|1"),
+        ],
+        1,
+        r#"|error|[StaleRequest]
+"#,
+    ),
+    (
+        &[
+            (1, "/join b"),
+            (2, "/join b"),
+            (1, "/choose move 1|1"),
+            (2, "/choose move rest|1"),
+            (1, "/choose switch 1"),
+        ],
+        1,
+        r#"|error|[Invalid choice] AlreadyOut
+"#,
+    ),
+    (
+        &[
+            (1, "/join b"),
+            (2, "/join b"),
+            (1, "/choose move 1|1"),
+            (2, "/choose move rest|1"),
+            (1, "/choose jump"),
+        ],
+        1,
+        r#"|error|[BadChoice]
+"#,
+    ),
+    (
+        &[
+            (1, "/join b"),
+            (2, "/join b"),
+            (3, "/join b"),
+            (3, "/choose move 1"),
+        ],
+        3,
+        r#"|error|[NotPlayer]
+"#,
+    ),
+    (
+        &[(1, "/choose move 1")],
+        1,
+        r#"|error|[NotMember]
+"#,
+    ),
+];
+
+/// Who joins again is sent all that was logged by its role, and the open request once; none after the battle's end.
+const BACK: Rows = &[
+    (
+        &[
+            (1, "/join b"),
+            (2, "/join b"),
+            (1, "/choose move 1|1"),
+            (2, "/choose move rest|1"),
+            (2, "/leave"),
+            (2, "/join b"),
+        ],
+        2,
+        r#"|init|battle
+|title|Ann vs. Bob
+|users|2,%Ann, Bob
+|player|p1|Ann||
+|player|p2|Bob||
+|teamsize|p1|1
+|teamsize|p2|1
+|gametype|singles
+|gen|1
+|tier|[Gen 1] OU
+|rule|Species Clause
+|rule|HP Percentage Mod
+|start
+|switch|p1a: Tauros|Tauros|100/100
+|switch|p2a: Snorlax|Snorlax|523/523
+|turn|1
+|move|p1a: Tauros|Body Slam|p2a: Snorlax
+|-damage|p2a: Snorlax|403/523
+|move|p2a: Snorlax|Rest|p2a: Snorlax
+|-status|p2a: Snorlax|slp
+|-heal|p2a: Snorlax|523/523 slp
+|upkeep
+|turn|2
+|request|{"active":[{"moves":[{"disabled":false,"id":"bodyslam","maxpp":24,"move":"Body Slam","pp":24},{"disabled":false,"id":"rest","maxpp":16,"move":"Rest","pp":15}]}],"rqid":2,"side":{"id":"p2","name":"Bob","pokemon":[{"active":true,"condition":"523/523 slp","details":"Snorlax","ident":"p2: Snorlax","moves":["bodyslam","rest"],"stats":{"atk":318,"def":228,"spa":228,"spd":228,"spe":158}}]}}
+"#,
+    ),
+    (
+        &[
+            (1, "/join b"),
+            (2, "/join b"),
+            (1, "/choose move 1|1"),
+            (2, "/choose move rest|1"),
+            (3, "/join b"),
+        ],
+        3,
+        r#"|init|battle
+|title|Ann vs. Bob
+|users|3,%Ann, Bob,@Cy
+|player|p1|Ann||
+|player|p2|Bob||
+|teamsize|p1|1
+|teamsize|p2|1
+|gametype|singles
+|gen|1
+|tier|[Gen 1] OU
+|rule|Species Clause
+|rule|HP Percentage Mod
+|start
+|switch|p1a: Tauros|Tauros|100/100
+|switch|p2a: Snorlax|Snorlax|100/100
+|turn|1
+|move|p1a: Tauros|Body Slam|p2a: Snorlax
+|-damage|p2a: Snorlax|78/100
+|move|p2a: Snorlax|Rest|p2a: Snorlax
+|-status|p2a: Snorlax|slp
+|-heal|p2a: Snorlax|100/100 slp
+|upkeep
+|turn|2
+"#,
+    ),
+    (
+        &[(1, "/join b"), (2, "/join b"), (2, "/forfeit")],
+        1,
+        r#"|-message|Bob forfeited.
+|win|Ann
+"#,
+    ),
+    (
+        &[
+            (1, "/join b"),
+            (2, "/join b"),
+            (2, "/forfeit"),
+            (2, "/leave"),
+            (2, "/join b"),
+        ],
+        2,
+        r#"|init|battle
+|title|Ann vs. Bob
+|users|2,%Ann, Bob
+|player|p1|Ann||
+|player|p2|Bob||
+|teamsize|p1|1
+|teamsize|p2|1
+|gametype|singles
+|gen|1
+|tier|[Gen 1] OU
+|rule|Species Clause
+|rule|HP Percentage Mod
+|start
+|switch|p1a: Tauros|Tauros|100/100
+|switch|p2a: Snorlax|Snorlax|523/523
+|turn|1
+|-message|Bob forfeited.
+|win|Ann
+"#,
+    ),
+    (
+        &[
+            (1, "/join b"),
+            (2, "/join b"),
+            (1, "/choose move 1"),
+            (2, "/forfeit"),
+            (1, "/undo"),
+        ],
+        1,
+        r#"|error|[NothingChosen]
+"#,
+    ),
+    (
+        &[
+            (1, "/join b"),
+            (2, "/join b"),
+            (2, "/forfeit"),
+            (1, "/forfeit"),
+        ],
+        1,
+        r#"|error|[Invalid choice] NotYourTurn
+"#,
+    ),
+];
+
+#[test]
+fn who_joins_a_battle(rt: HostRuntime) -> Result<(), Fail> {
+    hold(&rt, rt.alloc(), JOINS)
+}
+
+#[test]
+fn a_round_for_each_role(rt: HostRuntime) -> Result<(), Fail> {
+    hold(&rt, rt.alloc(), TURNS)
+}
+
+#[test]
+fn choices_and_their_refusals(rt: HostRuntime) -> Result<(), Fail> {
+    hold(&rt, rt.alloc(), CHOICES)
+}
+
+#[test]
+fn who_comes_back_and_how_a_battle_ends(rt: HostRuntime) -> Result<(), Fail> {
+    hold(&rt, rt.alloc(), BACK)
+}
