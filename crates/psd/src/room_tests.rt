@@ -1,7 +1,7 @@
 //! What no clause says: the room of a battle, entry by entry.
 use crate::arena::ROW_DEX;
 use crate::chat_tests::enter;
-use ps_base::id::to_id;
+use ps_base::id::{Id, to_id};
 use ps_base::name::Name;
 use ps_base::number::{ConnNo, RoomNo};
 use ps_base::text::Text;
@@ -25,51 +25,73 @@ const TAUROS: &str = "Tauros||||bodyslam,hyperbeam,blizzard,earthquake|||||||";
 
 const SNORLAX: &str = "Snorlax||||bodyslam,rest|||||||";
 
-fn legal(
-    rt: &impl Abort,
-    alloc: Global,
-    dex: &Dex,
-    config: &Config,
-    text: &str,
-) -> Result<Legal, Fail> {
-    let team = read_team(alloc, text).expect(rt, "a team");
-    let format = to_id(alloc, "gen1ou")?;
-    let rules = resolve(alloc, config.formats(), &format).expect(rt, "rules");
-    Ok(check_team(alloc, dex, &rules, &team).expect(rt, "a legal team"))
+// Memory that is refused ends a test at once: what may return in between would be slow to prove.
+
+fn text(rt: &impl Abort, alloc: Global, text: &str) -> Text {
+    Text::copy_of(alloc, text).expect(rt, "memory")
 }
 
-fn start(rt: &impl Abort, alloc: Global, dex: &Dex, config: &Config) -> Result<Start, Fail> {
-    let players = [Name::new(alloc, "Ann")?, Name::new(alloc, "Bob")?];
-    let teams = [
-        legal(rt, alloc, dex, config, TAUROS)?,
-        legal(rt, alloc, dex, config, SNORLAX)?,
-    ];
-    Ok(Start {
+fn name(rt: &impl Abort, alloc: Global, text: &str) -> Name {
+    Name::new(alloc, text).expect(rt, "memory")
+}
+
+fn format(rt: &impl Abort, alloc: Global) -> Id {
+    to_id(alloc, "gen1ou").expect(rt, "memory")
+}
+
+fn legal(rt: &impl Abort, alloc: Global, dex: &Dex, config: &Config, text: &str) -> Legal {
+    let team = read_team(alloc, text).expect(rt, "a team");
+    let rules = resolve(alloc, config.formats(), &format(rt, alloc)).expect(rt, "rules");
+    check_team(alloc, dex, &rules, &team).expect(rt, "a legal team")
+}
+
+/// Tauros with its first move alone, which it can use once.
+fn tired(rt: &impl Abort, alloc: Global, dex: &Dex, config: &Config) -> Legal {
+    let mut legal = legal(rt, alloc, dex, config, TAUROS);
+    legal.team.members[0].slot_count = 1;
+    legal.team.members[0].slots[0].pp = 1;
+    legal
+}
+
+fn own(rt: &impl Abort, alloc: Global, dex: &Dex, config: &Config, is_tired: bool) -> Legal {
+    if is_tired {
+        tired(rt, alloc, dex, config)
+    } else {
+        legal(rt, alloc, dex, config, TAUROS)
+    }
+}
+
+fn start(rt: &impl Abort, alloc: Global, dex: &Dex, config: &Config, is_tired: bool) -> Start {
+    let players = [name(rt, alloc, "Ann"), name(rt, alloc, "Bob")];
+    let first = own(rt, alloc, dex, config, is_tired);
+    let second = legal(rt, alloc, dex, config, SNORLAX);
+    let teams = [first, second];
+    Start {
         number: 1,
-        format: to_id(alloc, "gen1ou")?,
+        format: format(rt, alloc),
         players,
         teams,
         seed: 0,
-    })
+    }
 }
 
-fn opening(rt: &impl Abort, alloc: Global) -> Result<Opening, Fail> {
+fn opening(rt: &impl Abort, alloc: Global, is_tired: bool) -> Opening {
     let dex = Dex::read(alloc, ROW_DEX.as_bytes()).expect(rt, "a dex");
     let config = Config::read(alloc, CONFIG.as_bytes(), &dex).expect(rt, "a configuration");
-    let start = start(rt, alloc, &dex, &config)?;
-    let id = Text::copy_of(alloc, "battle-gen1ou-1")?;
-    let title = Text::copy_of(alloc, "Ann vs. Bob")?;
-    let config = Arc::new(alloc, config)?;
-    let dex = Arc::new(alloc, dex)?;
-    Ok(Opening::new(RoomNo(16), id, title, config, dex, Some(start)))
+    let start = start(rt, alloc, &dex, &config, is_tired);
+    let config = Arc::new(alloc, config).expect(rt, "memory");
+    let dex = Arc::new(alloc, dex).expect(rt, "memory");
+    let id = text(rt, alloc, "battle-gen1ou-1");
+    let title = text(rt, alloc, "Ann vs. Bob");
+    Opening::new(RoomNo(16), id, title, config, dex, Some(start))
 }
 
 /// The room of Ann's Tauros and Bob's Snorlax.
-fn opened(rt: &impl Abort, alloc: Global) -> Result<Room, Fail> {
-    let opening = opening(rt, alloc)?;
+fn opened(rt: &impl Abort, alloc: Global, is_tired: bool) -> Room {
+    let opening = opening(rt, alloc, is_tired);
     let fit = Room::fit(&opening);
     assert!(rt; fit);
-    Ok(Room::new(alloc, opening)?)
+    Room::new(alloc, opening).expect(rt, "memory")
 }
 
 /// A connection and its text. 1 is Ann, 2 is Bob, and 3 is Cy, who plays no side.
@@ -96,17 +118,23 @@ fn last_sent(alloc: Global, room: &Room, conn: u32) -> Result<String, Fail> {
 }
 
 /// The last message to a connection after these texts.
-fn sent_after(rt: &impl Abort, alloc: Global, texts: Texts, conn: u32) -> Result<String, Fail> {
-    let mut room = opened(rt, alloc)?;
+fn sent_after(
+    rt: &impl Abort,
+    alloc: Global,
+    is_tired: bool,
+    texts: Texts,
+    conn: u32,
+) -> Result<String, Fail> {
+    let mut room = opened(rt, alloc, is_tired);
     enter_all(alloc, &mut room, texts)?;
     last_sent(alloc, &room, conn)
 }
 
 type Rows = &'static [(Texts, u32, &'static str)];
 
-fn hold(rt: &impl Abort, alloc: Global, rows: Rows) -> Result<(), Fail> {
+fn hold(rt: &impl Abort, alloc: Global, is_tired: bool, rows: Rows) -> Result<(), Fail> {
     for (texts, conn, sent) in rows {
-        let given = sent_after(rt, alloc, texts, *conn)?;
+        let given = sent_after(rt, alloc, is_tired, texts, *conn)?;
         assert_eq!(rt; given.as_str(), *sent);
     }
     Ok(())
@@ -510,20 +538,47 @@ const BACK: Rows = &[
 
 #[test]
 fn who_joins_a_battle(rt: HostRuntime) -> Result<(), Fail> {
-    hold(&rt, rt.alloc(), JOINS)
+    hold(&rt, rt.alloc(), false, JOINS)
 }
 
 #[test]
 fn a_round_for_each_role(rt: HostRuntime) -> Result<(), Fail> {
-    hold(&rt, rt.alloc(), TURNS)
+    hold(&rt, rt.alloc(), false, TURNS)
 }
 
 #[test]
 fn choices_and_their_refusals(rt: HostRuntime) -> Result<(), Fail> {
-    hold(&rt, rt.alloc(), CHOICES)
+    hold(&rt, rt.alloc(), false, CHOICES)
 }
 
 #[test]
 fn who_comes_back_and_how_a_battle_ends(rt: HostRuntime) -> Result<(), Fail> {
-    hold(&rt, rt.alloc(), BACK)
+    hold(&rt, rt.alloc(), false, BACK)
+}
+
+/// Without PP the default is Struggle, also after a first turn by default.
+const STRUGGLE: Rows = &[(
+    &[
+        (1, "/join b"),
+        (2, "/join b"),
+        (1, "/choose default"),
+        (2, "/choose move rest"),
+        (1, "/choose default"),
+        (2, "/choose move 1"),
+    ],
+    1,
+    r#"|move|p1a: Tauros|Struggle|p2a: Snorlax
+|-crit|p2a: Snorlax
+|-damage|p2a: Snorlax|70/100 slp
+|-damage|p1a: Tauros|275/353|[from] Recoil
+|cant|p2a: Snorlax|slp
+|upkeep
+|turn|3
+|request|{"active":[{"moves":[{"id":"struggle","move":"Struggle"}]}],"rqid":3,"side":{"id":"p1","name":"Ann","pokemon":[{"active":true,"condition":"275/353","details":"Tauros","ident":"p1: Tauros","moves":["bodyslam"],"stats":{"atk":298,"def":288,"spa":238,"spd":238,"spe":318}}]}}
+"#,
+)];
+
+#[test]
+fn default_without_pp_is_struggle(rt: HostRuntime) -> Result<(), Fail> {
+    hold(&rt, rt.alloc(), true, STRUGGLE)
 }
