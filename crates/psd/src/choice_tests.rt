@@ -427,17 +427,16 @@ fn fault(dex: &Dex, steps: Steps, choice: Choice) -> Option<ChoiceFault> {
     }
 }
 
+fn faults_hold(rt: &impl Abort, dex: &Dex, rows: &[LegalRow]) {
+    for (steps, choice, wanted) in rows {
+        assert_eq!(rt; fault(dex, *steps, *choice), *wanted, "{choice:?}");
+    }
+}
+
 #[test]
 fn faults_are_told_in_their_order(rt: HostRuntime) -> Result<(), Fail> {
     let dex = Dex::read(rt.alloc(), ROW_DEX.as_bytes()).expect(&rt, "a dex");
-    for rows in [SINGLE_FAULTS, SEVERAL_FAULTS] {
-        for (steps, choice, wanted) in rows {
-            assert_eq!(rt;
-                fault(&dex, *steps, *choice),
-                *wanted,
-                "{steps:?} {choice:?}"
-            );
-        }
-    }
+    faults_hold(&rt, &dex, SINGLE_FAULTS);
+    faults_hold(&rt, &dex, SEVERAL_FAULTS);
     Ok(())
 }
