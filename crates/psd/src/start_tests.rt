@@ -139,12 +139,10 @@ fn starts(rt: HostRuntime) -> Result<(), Fail> {
     Ok(())
 }
 
-/// Members with which no battle can start.
-const UNFIT: &[Member] = &[FAINTED, BURNT, SPENT, UNKNOWN_MOVE, UNKNOWN_SPECIES];
-
 #[test]
 fn members_that_do_not_fit(rt: HostRuntime) -> Result<(), Fail> {
-    for (place, member) in UNFIT.iter().enumerate() {
+    let unfit = [FAINTED, BURNT, SPENT, UNKNOWN_MOVE, UNKNOWN_SPECIES];
+    for (place, member) in unfit.iter().enumerate() {
         let fits = fits_with(&rt, rt.alloc(), ("gen1ou", "Bob"), *member, (1, 1))?;
         assert!(rt; !fits, "member {place}");
     }
