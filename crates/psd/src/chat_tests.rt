@@ -12,6 +12,7 @@ use ps_lines::command::{Command, Parsed};
 use ps_lines::read::read_command;
 use ps_room::cursor::Cursor;
 use ps_room::opening::Opening;
+use ps_room::outcome::RoomOut;
 use ps_room::room::Room;
 use ps_valid::config::Config;
 use std::alloc::Global;
@@ -204,6 +205,19 @@ fn opened(rt: &impl Abort, alloc: Global) -> Result<Room, Fail> {
     Ok(Room::new(alloc, opening)?)
 }
 
+/// Applies a connection's text.
+pub(crate) fn entered(
+    alloc: Global,
+    room: &mut Room,
+    conn: u32,
+    moment: u64,
+    text: &str,
+) -> Result<RoomOut, Fail> {
+    let cmd = command(alloc, text)?;
+    let badge = badge_of(alloc, conn)?;
+    Ok(room.apply(alloc, ConnNo(conn), badge, Moment(moment), cmd)?)
+}
+
 pub(crate) fn enter(
     alloc: Global,
     room: &mut Room,
@@ -211,9 +225,7 @@ pub(crate) fn enter(
     moment: u64,
     text: &str,
 ) -> Result<(), Fail> {
-    let cmd = command(alloc, text)?;
-    let badge = badge_of(alloc, conn)?;
-    room.apply(alloc, ConnNo(conn), badge, Moment(moment), cmd)?;
+    entered(alloc, room, conn, moment, text)?;
     Ok(())
 }
 

@@ -216,11 +216,20 @@ fn request_holds(
     Ok(())
 }
 
+fn requests_hold(
+    rt: &impl Abort,
+    alloc: Global,
+    dex: &Dex,
+    rows: &[(Steps, Parts)],
+) -> Result<(), Fail> {
+    for row in rows {
+        request_holds(rt, alloc, dex, row)?;
+    }
+    Ok(())
+}
+
 #[test]
 fn requests_tell_what_can_be_chosen(rt: HostRuntime) -> Result<(), Fail> {
     let dex = Dex::read(rt.alloc(), ROW_DEX.as_bytes()).expect(&rt, "a dex");
-    for row in REQUESTS {
-        request_holds(&rt, rt.alloc(), &dex, row)?;
-    }
-    Ok(())
+    requests_hold(&rt, rt.alloc(), &dex, REQUESTS)
 }

@@ -1,14 +1,18 @@
 //! What no clause says: the room of a battle, entry by entry.
 use crate::arena::ROW_DEX;
-use crate::chat_tests::enter;
+use crate::chat_tests::{enter, entered};
 use ps_base::id::{Id, to_id};
 use ps_base::name::Name;
 use ps_base::number::{ConnNo, RoomNo};
 use ps_base::text::Text;
+use ps_base::why::Why;
+use ps_bout::rounds::ended;
 use ps_dex::dex::Dex;
+use ps_mon::record::Phase;
 use ps_packed::team::read_team;
 use ps_room::cursor::Cursor;
 use ps_room::opening::Opening;
+use ps_room::outcome::{Ending, RoomOut, Verdict};
 use ps_room::room::Room;
 use ps_rules::formats::resolve;
 use ps_valid::check::check_team;
@@ -581,4 +585,119 @@ const STRUGGLE: Rows = &[(
 #[test]
 fn default_without_pp_is_struggle(rt: HostRuntime) -> Result<(), Fail> {
     hold(&rt, rt.alloc(), true, STRUGGLE)
+}
+
+/// How many messages a connection was sent in all: a choice that completes no round is none, and so is its undoing to the other
+/// side, and the round is one.
+const COUNTS: &[(Texts, u32, usize)] = &[
+    (
+        &[
+            (1, "/join b"),
+            (2, "/join b"),
+            (1, "/choose move 1"),
+            (1, "/undo"),
+            (1, "/choose move 2"),
+            (2, "/choose move rest"),
+        ],
+        2,
+        2,
+    ),
+    (
+        &[(1, "/join b"), (2, "/join b"), (1, "/choose move 1")],
+        1,
+        2,
+    ),
+];
+
+fn count_after(rt: &impl Abort, alloc: Global, texts: Texts, conn: u32) -> Result<usize, Fail> {
+    let mut room = opened(rt, alloc, false);
+    enter_all(alloc, &mut room, texts)?;
+    let messages = room.pull(alloc, &mut Cursor::new(ConnNo(conn)))?;
+    Ok(messages.len())
+}
+
+#[test]
+fn a_choice_is_told_nobody_until_the_round(rt: HostRuntime) -> Result<(), Fail> {
+    for (texts, conn, count) in COUNTS {
+        assert_eq!(rt; count_after(&rt, rt.alloc(), texts, *conn)?, *count);
+    }
+    Ok(())
+}
+
+/// What comes of the last text: whether it was applied, and the end of the battle.
+const ANSWERS: &[(Texts, Verdict, Option<Ending>)] = &[
+    (&[(1, "/join b")], Verdict::Applied, None),
+    (
+        &[(1, "/join b"), (1, "/join b")],
+        Verdict::Refused(Why::AlreadyMember),
+        None,
+    ),
+    (
+        &[(1, "/join b"), (1, "/choose move 1")],
+        Verdict::Applied,
+        None,
+    ),
+    (
+        &[(1, "/join b"), (2, "/join b"), (2, "/forfeit")],
+        Verdict::Applied,
+        Some(Ending {
+            number: 1,
+            winner: Some(0),
+        }),
+    ),
+    (
+        &[
+            (1, "/join b"),
+            (2, "/join b"),
+            (2, "/forfeit"),
+            (1, "/forfeit"),
+        ],
+        Verdict::Refused(Why::NotYourTurn),
+        None,
+    ),
+    (
+        &[
+            (1, "/join b"),
+            (2, "/join b"),
+            (2, "/forfeit"),
+            (1, "/leave"),
+        ],
+        Verdict::Applied,
+        None,
+    ),
+];
+
+fn answer(alloc: Global, room: &mut Room, texts: Texts) -> Result<RoomOut, Fail> {
+    let mut out = RoomOut {
+        verdict: Verdict::Applied,
+        ended: None,
+    };
+    for (conn, text) in texts {
+        out = entered(alloc, room, *conn, 0, text)?;
+    }
+    Ok(out)
+}
+
+fn answers_hold(rt: &impl Abort, alloc: Global, rows: &[(Texts, RoomOut)]) -> Result<(), Fail> {
+    for (texts, wanted) in rows {
+        let mut room = opened(rt, alloc, false);
+        let out = answer(alloc, &mut room, texts)?;
+        assert!(rt; out == *wanted);
+    }
+    Ok(())
+}
+
+#[test]
+fn what_comes_of_an_entry(rt: HostRuntime) -> Result<(), Fail> {
+    answers_hold(&rt, rt.alloc(), ANSWERS)
+}
+
+/// A battle ends once, with its winner or nobody.
+#[test]
+fn how_a_battle_ended(rt: HostRuntime) -> Result<(), Fail> {
+    assert_eq!(rt; ended(Phase::Turn, Phase::Won(1)), Some(Some(1)));
+    assert_eq!(rt; ended(Phase::Turn, Phase::Tied), Some(None));
+    assert_eq!(rt; ended(Phase::Turn, Phase::Turn), None);
+    assert_eq!(rt; ended(Phase::Tied, Phase::Tied), None);
+    Ok(())
 }
