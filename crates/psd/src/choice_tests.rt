@@ -382,7 +382,7 @@ fn choices_by_alias(rt: HostRuntime) -> Result<(), Fail> {
 type LegalRow = (Steps, Choice, Option<ChoiceFault>);
 
 /// Choices without a fault, and each fault where no other holds.
-const SINGLE_FAULTS: &[LegalRow] = &[
+const SINGLE_FAULTS: [LegalRow; 16] = [
     (FRESH, Choice::Move(3), None),
     (FRESH, Choice::Switch(3), None),
     (HELD, Choice::Continue, None),
@@ -402,7 +402,7 @@ const SINGLE_FAULTS: &[LegalRow] = &[
 ];
 
 /// Two faults hold, or more.
-const SEVERAL_FAULTS: &[LegalRow] = &[
+const SEVERAL_FAULTS: [LegalRow; 14] = [
     (WAITING, Choice::Pass, Some(NOT_YOUR_TURN)),
     (WAITING, Choice::Move(0), Some(NOT_YOUR_TURN)),
     (WON, Choice::Pass, Some(NOT_YOUR_TURN)),
@@ -436,7 +436,9 @@ fn faults_hold(rt: &impl Abort, dex: &Dex, rows: &[LegalRow]) {
 #[test]
 fn faults_are_told_in_their_order(rt: HostRuntime) -> Result<(), Fail> {
     let dex = Dex::read(rt.alloc(), ROW_DEX.as_bytes()).expect(&rt, "a dex");
-    faults_hold(&rt, &dex, SINGLE_FAULTS);
-    faults_hold(&rt, &dex, SEVERAL_FAULTS);
+    let single = SINGLE_FAULTS;
+    faults_hold(&rt, &dex, &single);
+    let several = SEVERAL_FAULTS;
+    faults_hold(&rt, &dex, &several);
     Ok(())
 }
