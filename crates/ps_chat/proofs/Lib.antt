@@ -1,4 +1,3 @@
-pub mod ByIdLemmas
 pub mod PlaceLemmas
 pub mod IndexLemmas
 pub mod StepLemmas

@@ -12,7 +12,7 @@ use Rattle.ps_group.specs.Ranks.{higher, rank_of}
 use Rattle.ps_group.specs.declared.group.Group.{Group}
 use Rattle.ps_lines.specs.declared.command.Command.{Command}
 use Rattle.ps_lines.specs.declared.command.Command.TheVariants.{Join, Leave, Quit, Say, Announce, Modnote, Warn, Mute, Unmute, Ban, Unban, Promote, Modchat, Choose, Undo, Forfeit}
-use Rattle.ps_chat.specs.ById.{ById}
+use Rattle.ps_roster.specs.ById.{ById}
 use Rattle.ps_chat.specs.Records.{Member}
 use Rattle.ps_chat.specs.Looks.{has_id, member}
 use Rattle.ps_chat.specs.Rooms.{present, bare, ranked, room_of, opening_of, record_of}

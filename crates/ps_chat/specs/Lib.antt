@@ -1,4 +1,3 @@
-pub mod ById
 pub mod Places
 pub mod Records
 pub mod Looks

@@ -3,7 +3,8 @@
 use Rattle.std.specs.Prelude.{ℕ, true, false, List, [], ◌∷◌, codes, Option, Some, None}
 use Rattle.ps_event.specs.declared.audience.Audience.TheVariants.{All, Rank}
 use Rattle.ps_event.specs.declared.line.ChatLine.{ChatLine}
-use Rattle.ps_chat.specs.Texts.{sname, moved, said, noted, done_to, done_because, promoted, level}
+use Rattle.ps_roster.specs.ShownNames.{sname}
+use Rattle.ps_chat.specs.Texts.{moved, said, noted, done_to, done_because, promoted, level}
 use Rattle.ps_chat.specs.declared.present.Present.{Present}
 use Rattle.ps_chat.specs.declared.room.Room.{Room}
 

@@ -1,13 +1,13 @@
 -- Looking into a room.
 use Rattle.std.specs.Prelude.{ℕ, ◌+◌, ◌-◌, Bool, false, List, length, find, Option, Some, None, unwrap_or, nat_lt, ◌==◌}
-use Rattle.std.specs.List.{list_all}
-use Rattle.std.specs.Str.{bytes_eq, chars}
+use Rattle.std.specs.Str.{bytes_eq}
 use Rattle.std.specs.FinMap.{get, contains_key}
 use Rattle.ps_base.specs.Ids.{id_of}
 use Rattle.ps_base.specs.declared.badge.Badge.{Badge}
 use Rattle.ps_group.specs.Ranks.{higher, is_below, in_force}
 use Rattle.ps_group.specs.declared.group.Group.{Group}
-use Rattle.ps_chat.specs.ById.{ById}
+use Rattle.ps_roster.specs.ById.{ById}
+use Rattle.ps_roster.specs.SentTexts.{is_long}
 use Rattle.ps_chat.specs.declared.present.Present.{Present}
 
 -- the member of a connection
@@ -53,14 +53,6 @@ is_banned bans id = contains_key bans id
 abbrev pub is_below_level : ℕ → Option ℕ → Bool
 is_below_level rank None = false
 is_below_level rank (Some level) = is_below rank level
-
--- a text of spaces alone
-abbrev pub is_blank : List ℕ → Bool
-is_blank text = list_all (λ b. b == 32) text
-
--- a text of more than 300 characters
-abbrev pub is_long : List ℕ → Bool
-is_long text = nat_lt 300 (length (chars text))
 
 abbrev pub is_long_reason : Option (List ℕ) → Bool
 is_long_reason None = false

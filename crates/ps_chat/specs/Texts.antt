@@ -2,12 +2,6 @@
 use Rattle.std.specs.Prelude.{ℕ, List, [], ◌++◌, codes, Option, Some, None}
 use Rattle.std.specs.Char.{encode_utf8}
 use Rattle.std.specs.Fmt.{decimal}
-use Rattle.ps_group.specs.Ranks.{symbol_of}
-use Rattle.ps_group.specs.declared.group.Group.{Group}
-
--- the symbol of a rank, and the name
-abbrev pub sname : List Group → ℕ → List ℕ → List ℕ
-sname groups rank name = encode_utf8 (symbol_of rank groups) ++ name
 
 -- who came or went, behind the front of its line
 abbrev pub moved : List ℕ → List ℕ → List ℕ

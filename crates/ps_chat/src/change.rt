@@ -52,7 +52,7 @@ pub(crate) fn after_mute(
     ensures ok { OnOk result (room.new ≡ room_after_mute room.old moment id.now) }
     ensures err { OnErr result (room.new ≡ room.old) }
 {
-    room.mutes.insert(alloc, id, moment)
+    room.mutes.insert(alloc, id.as_str(), moment)
 }
 
 pub(crate) fn after_unmute(room: &mut Room, id: &Id)
@@ -65,7 +65,7 @@ pub(crate) fn after_ban(alloc: Global, room: &mut Room, id: &Id) -> Result<(), A
     ensures ok { OnOk result (room.new ≡ room_after_ban room.old id.now) }
     ensures err { OnErr result (room.new ≡ room.old) }
 {
-    room.bans.insert(alloc, id, ())?;
+    room.bans.insert(alloc, id.as_str(), ())?;
     room.members.take_out(id.as_str());
     Ok(())
 }
@@ -88,7 +88,7 @@ pub(crate) fn after_promote(
     match room.groups.rank_of(symbol) {
         None => Ok(()),
         Some(rank) => {
-            room.ranks.insert(alloc, id, rank)?;
+            room.ranks.insert(alloc, id.as_str(), rank)?;
             room.members.set_rank(id.as_str(), rank);
             Ok(())
         }

@@ -9,7 +9,6 @@ ghost use Rattle.ps_chat.specs.Told.{lines, joiner};
 ghost use Rattle.ps_chat.specs.Changes.{record_after};
 
 use crate::change::change;
-use crate::id_map::IdMap;
 use crate::line::ChatLine;
 use crate::members::Members;
 use crate::present::Present;
@@ -22,6 +21,7 @@ use ps_base::text::Text;
 use ps_base::why::Why;
 use ps_group::groups::Groups;
 use ps_lines::command::Command;
+use ps_roster::id_map::IdMap;
 use std::alloc::{AllocError, Global};
 use std::marker::Model;
 
@@ -39,7 +39,7 @@ impl Model for Chat {
     ghost use Rattle.ps_chat.specs.RoomChanges.{Settled};
     ghost use Rattle.std.specs.Coded.{codes, coded_ℕ};
     ghost use base.Stored.{coded_unit};
-    ghost use Rattle.ps_chat.specs.ById.{by_id_code};
+    ghost use Rattle.ps_roster.specs.ById.{by_id_code};
 
     ghost Value = { Seen };
 

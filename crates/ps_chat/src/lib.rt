@@ -3,13 +3,12 @@
 
 mod change;
 pub mod chat;
-pub mod id_map;
 pub mod line;
 pub mod look;
 pub mod members;
 pub mod present;
 mod refusal;
 pub mod room;
-pub mod text;
+mod text;
 mod told;
 mod verdict;

@@ -1,7 +1,8 @@
 //! The rows of the room table: the lines of each command that is applied.
 ghost use Rattle.std.specs.Prelude.{◌≡◌, ◌∷◌, [], IfOk, codes, Some, None};
 ghost use Rattle.std.specs.Option.{option_copied};
-ghost use Rattle.ps_chat.specs.Texts.{sname, moved, said, noted, done_to, done_because, promoted, level};
+ghost use Rattle.ps_roster.specs.ShownNames.{sname};
+ghost use Rattle.ps_chat.specs.Texts.{moved, said, noted, done_to, done_because, promoted, level};
 ghost use Rattle.ps_chat.specs.Lines.{logged, passing, to_staff, sname_of, line_to_member, line_to_id};
 ghost use Rattle.ps_chat.specs.Lines.{line_of_join, line_of_leave, line_of_quit, line_of_say, line_of_announce, line_of_modnote, line_of_warn, line_of_mute, line_of_unmute};
 ghost use Rattle.ps_chat.specs.Lines.{line_of_ban, line_of_unban, line_of_promote, line_of_modchat};
@@ -12,6 +13,7 @@ use crate::text;
 use ps_base::number::Moment;
 use ps_base::text::Text;
 use ps_event::audience::Audience;
+use ps_roster::shown_name::sname;
 use std::alloc::{AllocError, Global};
 
 /// One line of an entry.
@@ -53,7 +55,7 @@ fn passing(alloc: Global, text: Text) -> Result<Vec<ChatLine>, AllocError>
 fn sname_of(alloc: Global, room: &Room, member: &Present) -> Result<Text, AllocError>
     ensures { IfOk result (λ t. t ≡ sname_of room.now member.now) }
 {
-    text::sname(alloc, &room.groups, member.rank, &member.badge.name)
+    sname(alloc, &room.groups, member.rank, &member.badge.name)
 }
 
 fn line_to_member(

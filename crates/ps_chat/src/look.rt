@@ -1,22 +1,19 @@
 //! Looking into a room.
 ghost use Rattle.std.specs.Prelude.{◌≡◌, length};
-ghost use Rattle.std.specs.Str.{chars};
 ghost use Rattle.ps_base.specs.Ids.{id_of};
-ghost use Rattle.ps_chat.specs.Looks.{has_id, lowest, room_rank, rank_with, is_muted, is_banned, is_below_level, is_blank, is_long, is_long_reason};
+ghost use Rattle.ps_chat.specs.Looks.{has_id, lowest, room_rank, rank_with, is_muted, is_banned, is_below_level, is_long_reason};
 
-use crate::id_map::IdMap;
 use crate::present::Present;
 use ps_base::badge::Badge;
 use ps_base::number::Moment;
 use ps_base::text::Text;
 use ps_group::groups::Groups;
 use ps_group::rank::{higher, is_below};
+use ps_roster::id_map::IdMap;
+use ps_roster::sent_text::is_long;
 
 /// How long a mute lasts, in seconds.
 const MUTE: u64 = 420;
-
-/// How many characters a text may have.
-const LONGEST: usize = 300;
 
 /// Whether a member has an id.
 pub fn has_id(member: &Present, id: &str) -> bool
@@ -72,31 +69,6 @@ pub(crate) fn is_below_level(rank: u8, level: Option<u8>) -> bool
         None => false,
         Some(level) => is_below(rank, level),
     }
-}
-
-/// Whether a text is of spaces alone.
-pub(crate) fn is_blank(text: &str) -> bool
-    ensures { result ≡ is_blank text.now }
-{
-    for b in text.as_bytes() {
-        if *b != b' ' {
-            return false;
-        }
-    }
-    true
-}
-
-fn count_of(text: &str) -> usize
-    ensures { result ≡ length (chars text.now) }
-{
-    text.chars().count()
-}
-
-/// Whether a text has more than 300 characters.
-pub(crate) fn is_long(text: &str) -> bool
-    ensures { result ≡ is_long text.now }
-{
-    count_of(text) > LONGEST
 }
 
 /// Whether there is a reason of more than 300 characters.

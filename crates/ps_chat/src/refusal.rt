@@ -18,6 +18,7 @@ use ps_base::text::Text;
 use ps_base::why::Why;
 use ps_group::group::Perm;
 use ps_group::rank::is_below;
+use ps_roster::sent_text::{is_blank, is_long};
 
 /// How many members a room may have.
 const MOST: usize = 256;
@@ -27,9 +28,9 @@ const MOST: usize = 256;
 fn of_text(text: &str) -> Option<Why>
     ensures { result ≡ of_text text.now None }
 {
-    if look::is_blank(text) {
+    if is_blank(text) {
         Some(Why::EmptyText)
-    } else if look::is_long(text) {
+    } else if is_long(text) {
         Some(Why::TooLong)
     } else {
         None
@@ -163,9 +164,9 @@ pub(crate) fn refusal_of_say(
     match me {
         None => Some(Why::NotMember),
         Some(me) => {
-            if look::is_blank(text) {
+            if is_blank(text) {
                 Some(Why::EmptyText)
-            } else if look::is_long(text) {
+            } else if is_long(text) {
                 Some(Why::TooLong)
             } else if look::is_muted(&room.mutes, moment, me.badge.name.id().as_str()) {
                 Some(Why::Muted)

@@ -1,20 +1,11 @@
 //! The texts of a room's lines.
 ghost use Rattle.std.specs.Prelude.{◌≡◌, IfOk};
-ghost use Rattle.ps_chat.specs.Texts.{sname, moved, said, noted, done_to, done_because, promoted, level};
+ghost use Rattle.ps_chat.specs.Texts.{moved, said, noted, done_to, done_because, promoted, level};
 
 use ps_base::name::Name;
 use ps_base::number::Moment;
 use ps_base::text::Text;
-use ps_group::groups::Groups;
 use std::alloc::{AllocError, Global};
-
-/// The symbol of a rank, and the name.
-pub fn sname(alloc: Global, groups: &Groups, rank: u8, name: &Name) -> Result<Text, AllocError>
-    ensures { IfOk result (λ t. t ≡ sname groups.now rank name.now) }
-{
-    let symbol = groups.symbol(rank);
-    Ok(Text::from_string(format!(in alloc; "{symbol}{name}")?))
-}
 
 /// Who came or went, behind the front of its line.
 pub(crate) fn moved(alloc: Global, front: &str, by: &Text) -> Result<Text, AllocError>

@@ -12,7 +12,7 @@ use Rattle.ps_base.specs.declared.badge.Badge.{Badge}
 use Rattle.ps_base.specs.declared.hall_why.HallWhy.{HallWhy}
 use Rattle.ps_lines.specs.declared.command.HallCmd.{HallCmd}
 use Rattle.ps_lines.specs.declared.command.HallCmd.TheVariants as hall_commands
-use Rattle.ps_chat.specs.ById.{ById}
+use Rattle.ps_roster.specs.ById.{ById}
 use Rattle.ps_room.specs.Records.{Record}
 use Rattle.ps_script.specs.declared.item.Item.{Item}
 use Rattle.ps_script.specs.declared.item.Item.TheVariants.{Nothing, Moment, Group, Open, Send, Close}

@@ -4,7 +4,7 @@ use Rattle.std.specs.List.{list_any}
 use Rattle.std.proofs.lemmas.List.{append-nil}
 use Rattle.std.proofs.lemmas.List.Elements.{filter_map-append}
 use Rattle.ps_base.specs.declared.hall_why.HallWhy.{HallWhy}
-use Rattle.ps_chat.specs.ById.{ById}
+use Rattle.ps_roster.specs.ById.{ById}
 use Rattle.ps_room.proofs.AnswerLemmas.{answered, same_is, other_is}
 use Rattle.ps_script.specs.declared.item.Item.{Item}
 use Rattle.ps_script.specs.declared.item.Item.TheVariants.{Send}

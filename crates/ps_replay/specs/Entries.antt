@@ -8,7 +8,7 @@ use Rattle.ps_lines.specs.declared.command.HallCmd.{HallCmd}
 use Rattle.ps_lines.specs.declared.command.HallCmd.TheVariants as hall_commands
 use Rattle.ps_group.specs.Ranks.{rank_of}
 use Rattle.ps_group.specs.Defaults.{default_groups}
-use Rattle.ps_chat.specs.ById.{ById}
+use Rattle.ps_roster.specs.ById.{ById}
 use Rattle.ps_view.specs.declared.role.Role.{Role}
 use Rattle.ps_view.specs.declared.role.Role.TheVariants.{Outside, Spectator, Player}
 use Rattle.ps_room.specs.Records.{Record}

@@ -18,8 +18,8 @@ use Rattle.ps_lines.specs.declared.command.HallCmd.{HallCmd}
 use Rattle.ps_lines.specs.declared.command.HallCmd.TheVariants.{Open, Quit, Bad, Name}
 use Rattle.ps_group.specs.Defaults.{default_groups}
 use Rattle.ps_group.specs.declared.group.Group.{Group}
-use Rattle.ps_chat.specs.ById.{ById}
-use Rattle.ps_chat.specs.Texts.{sname}
+use Rattle.ps_roster.specs.ById.{ById}
+use Rattle.ps_roster.specs.ShownNames.{sname}
 use Rattle.ps_room.specs.Rooms.{sent}
 use Rattle.ps_replay.specs.declared.place.HallEntry.{HallEntry}
 use Rattle.ps_replay.specs.declared.place.Seat.{Seat}

@@ -3,7 +3,7 @@
 use Rattle.std.specs.Prelude.{◌≡◌, ◌≢◌, ℕ, Bool, true, false, ◌==◌, List, [], ◌∷◌, ◌++◌, Some, None, slice_get}
 use Rattle.std.specs.List.{list_any}
 use Rattle.ps_base.specs.declared.hall_why.HallWhy.{HallWhy}
-use Rattle.ps_chat.specs.ById.{ById}
+use Rattle.ps_roster.specs.ById.{ById}
 use Rattle.ps_room.specs.Records.{Record}
 use Rattle.ps_room.specs.Answers.{IsAnswered}
 use Rattle.ps_script.specs.declared.item.Item.{Item}

@@ -1,7 +1,7 @@
 -- A replay's state, which its code keeps in the place of a history. No statement of the top call rests on this file.
 use Rattle.std.specs.Prelude.{ℕ, zero, suc, ◌+◌, List, [], ◌∷◌, ◌++◌, Option, Some, None, if◌then◌else◌}
 use Rattle.std.specs.List.{list_any}
-use Rattle.ps_chat.specs.ById.{ById}
+use Rattle.ps_roster.specs.ById.{ById}
 use Rattle.ps_room.specs.Records.{Record}
 use Rattle.ps_room.specs.Logs.{Seen}
 use Rattle.ps_script.specs.declared.item.Item.{Item}

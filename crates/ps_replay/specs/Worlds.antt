@@ -6,7 +6,7 @@ use Rattle.ps_lines.specs.declared.command.Command.{Command}
 use Rattle.ps_lines.specs.declared.command.Command.TheVariants as commands
 use Rattle.ps_lines.specs.declared.command.HallCmd.{HallCmd}
 use Rattle.ps_lines.specs.declared.command.HallCmd.TheVariants as hall_commands
-use Rattle.ps_chat.specs.ById.{ById}
+use Rattle.ps_roster.specs.ById.{ById}
 use Rattle.ps_room.specs.declared.entry.Entry.{Entry}
 use Rattle.ps_room.specs.Records.{Record}
 use Rattle.ps_room.specs.Rooms.{after, run_record, message, view}

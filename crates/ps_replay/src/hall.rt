@@ -10,10 +10,10 @@ use ps_base::id::Id;
 use ps_base::name::{Name, NameFault, read_name};
 use ps_base::number::ConnNo;
 use ps_base::text::Text;
-use ps_chat::id_map::IdMap;
-use ps_chat::text::sname;
 use ps_group::groups::Groups;
 use ps_lines::command::{BadWhy, HallCmd};
+use ps_roster::id_map::IdMap;
+use ps_roster::shown_name::sname;
 use std::alloc::{AllocError, Global};
 use std::marker::Model;
 
@@ -32,7 +32,7 @@ pub struct Hall {
 impl Model for Hall {
     ghost use Rattle.std.specs.Prelude.{◌≤◌, length};
     ghost use Rattle.std.specs.Coded.{codes, coded_ℕ};
-    ghost use Rattle.ps_chat.specs.ById.{by_id_code};
+    ghost use Rattle.ps_roster.specs.ById.{by_id_code};
     ghost use Rattle.ps_replay.specs.Halls.{HallRecord};
 
     ghost Value = { HallRecord };

@@ -3,8 +3,8 @@ ghost use Rattle.std.specs.Prelude.{◌≡◌, IfOk, OnOk};
 ghost use Rattle.ps_group.specs.Defaults.{default_groups};
 ghost use Rattle.ps_replay.specs.Entries.{with_ranking, ranks_of};
 
-use ps_chat::id_map::IdMap;
 use ps_group::groups::Groups;
+use ps_roster::id_map::IdMap;
 use ps_script::item::Item;
 use std::alloc::{AllocError, Global};
 
@@ -22,7 +22,11 @@ fn add_ranking(
 {
     match item {
         Item::Group(symbol, id) => {
-            ranks.insert(alloc, id, groups.rank_of(*symbol).unwrap_or(LOWEST))
+            ranks.insert(
+                alloc,
+                id.as_str(),
+                groups.rank_of(*symbol).unwrap_or(LOWEST),
+            )
         }
         _ => Ok(()),
     }

@@ -19,7 +19,6 @@ use crate::{play, print};
 use ps_base::badge::Badge;
 use ps_base::number::{ConnNo, Moment, RoomNo};
 use ps_base::text::Text;
-use ps_chat::id_map::IdMap;
 use ps_dex::dex::Dex;
 use ps_group::groups::Groups;
 use ps_lines::command::{Command, HallCmd};
@@ -27,6 +26,7 @@ use ps_room::entry::Entry;
 use ps_room::opening::Opening;
 use ps_room::role::Role;
 use ps_room::room::Room;
+use ps_roster::id_map::IdMap;
 use ps_script::item::Item;
 use ps_valid::config::Config;
 use std::alloc::{AllocError, Global};
@@ -47,7 +47,7 @@ impl Model for Table {
     ghost use Rattle.std.specs.Prelude.{map};
     ghost use Rattle.std.specs.Coded.{codes, coded_ℕ};
     ghost use base.Stored.{coded_unit};
-    ghost use Rattle.ps_chat.specs.ById.{by_id_code};
+    ghost use Rattle.ps_roster.specs.ById.{by_id_code};
     ghost use Rattle.ps_replay.specs.Tables.{State, state_of};
     ghost use Rattle.std.specs.Prelude.{◌≤◌, length};
 

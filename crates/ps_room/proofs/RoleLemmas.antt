@@ -13,7 +13,7 @@ use Rattle.ps_group.specs.Ranks.{rank_of}
 use Rattle.ps_group.specs.declared.group.Group.{Group}
 use Rattle.ps_lines.specs.declared.command.Command.{Command}
 use Rattle.ps_lines.specs.declared.command.Command.TheVariants.{Join, Leave, Quit, Say, Announce, Modnote, Warn, Mute, Unmute, Ban, Unban, Promote, Modchat, Choose, Undo, Forfeit}
-use Rattle.ps_chat.specs.ById.{ById}
+use Rattle.ps_roster.specs.ById.{ById}
 use Rattle.ps_chat.specs.Records.{Opening as ChatOpening, Record as ChatRecord, Member}
 use Rattle.ps_chat.specs.Looks.{has_id, member, kept}
 use Rattle.ps_chat.specs.Changes.{record_after, with_rank}

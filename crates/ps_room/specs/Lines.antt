@@ -3,7 +3,7 @@ use Rattle.std.specs.Prelude.{ℕ, Bool, true, false, List, ◌∷◌, ◌++◌,
 use Rattle.std.specs.List.{flat_map}
 use Rattle.std.specs.Fmt.{decimal}
 use Rattle.ps_group.specs.declared.group.Group.{Group}
-use Rattle.ps_chat.specs.Texts.{sname}
+use Rattle.ps_roster.specs.ShownNames.{sname}
 use Rattle.ps_chat.specs.declared.present.Present.{Present}
 
 abbrev pub kind_line : Bool → List ℕ

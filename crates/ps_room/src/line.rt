@@ -5,8 +5,8 @@ ghost use Rattle.ps_room.specs.Lines.{kind_line, title_line, users_line, users_p
 
 use ps_base::text::Text;
 use ps_chat::present::Present;
-use ps_chat::text::sname;
 use ps_group::groups::Groups;
+use ps_roster::shown_name::sname;
 use std::alloc::{AllocError, Global};
 
 /// `|init|chat`, or `|init|battle` in a battle's room.

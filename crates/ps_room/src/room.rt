@@ -56,7 +56,7 @@ impl Model for Room {
     ghost use Rattle.ps_room.specs.Logs.{Seen};
     ghost use Rattle.std.specs.Coded.{codes, coded_ℕ};
     ghost use base.Stored.{coded_unit};
-    ghost use Rattle.ps_chat.specs.ById.{by_id_code};
+    ghost use Rattle.ps_roster.specs.ById.{by_id_code};
 
     ghost Value = { Seen };
 
@@ -473,6 +473,13 @@ impl Room {
         }
     }
 
+    /// The room's id, which stands behind `>` in its messages.
+    pub fn id(&self) -> &str
+        ensures { result.now ≡ self.now.id }
+    {
+        self.id.as_str()
+    }
+
     /// What a connection is to the room. Takes no memory.
     pub fn role(&self, conn: ConnNo) -> Role
         ensures { result ≡ role conn self.now.state }
@@ -538,9 +545,9 @@ impl Room {
         }
     }
 
-    // Whether the entry is applied, and the end of the battle where it ends it.
+    /// Whether an entry is applied where it comes next, and the end of the battle where it ends it. Takes no memory.
     #[tactic(auto, unfolding(crate::specs::Logs::out_of))]
-    fn out_of(&self, entry: &Entry) -> RoomOut
+    pub fn out_of(&self, entry: &Entry) -> RoomOut
         ensures { result ≡ out_of self.now.state entry.now }
     {
         match self.verdict(entry) {

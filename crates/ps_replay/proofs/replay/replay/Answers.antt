@@ -1,6 +1,6 @@
 use Rattle.std.proofs.Common.{◌≡◌, ap, ◌∙◌}
 use Rattle.std.proofs.Common.{ℕ}
-use Rattle.ps_chat.specs.ById.{ById}
+use Rattle.ps_roster.specs.ById.{ById}
 use Rattle.ps_replay.specs.Transcript.{output}
 use Rattle.ps_replay.specs.Tables.{State, fresh, text_from}
 use Rattle.ps_replay.proofs.HistoryLemmas.{output_is}

@@ -1,7 +1,7 @@
 use Rattle.std.proofs.Common.{sym, ap, ◌∙◌}
 use Rattle.std.specs.FinMap.{get}
-use Rattle.ps_chat.proofs.ByIdLemmas.{get_by_id}
-use Rattle.ps_chat.proofs.id_map.IdMap.get.Goals as goal
+use Rattle.ps_roster.proofs.ByIdLemmas.{get_by_id}
+use Rattle.ps_roster.proofs.id_map.IdMap.get.Goals as goal
 
 pub returns : goal.returns
 returns g c =
