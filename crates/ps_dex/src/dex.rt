@@ -232,7 +232,9 @@ impl Dex {
 
     /// All species, by their numbers.
     pub fn all_species(&self) -> &[SpeciesRow]
-        ensures { result.now ≡ self.now.species }
+        ensures value { result.now ≡ self.now.species }
+        // All that a dex says is in its ranges.
+        ensures fit { AreFit self.now }
     {
         self.tables.species.as_slice()
     }

@@ -2,7 +2,8 @@
 ghost use Rattle.std.specs.Prelude.{◌≡◌, ◌↔◌, true, IsSome, IsTrue, length};
 ghost use Rattle.ps_base.specs.Ids.{id_of};
 ghost use Rattle.ps_rules.specs.Resolve.{format_of};
-ghost use Rattle.ps_start.specs.Fits.{IsFit, IsReady};
+ghost use Rattle.ps_valid.specs.Ready.{IsReady};
+ghost use Rattle.ps_start.specs.Fits.{IsFit};
 
 use crate::team::{are_moves_known, are_species_known, is_fresh};
 use ps_base::id::Id;

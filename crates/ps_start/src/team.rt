@@ -2,7 +2,7 @@
 ghost use Rattle.std.specs.Prelude.{◌≡◌, ◌<◌, ◌≤◌, ℕ, IsTrue, slice_index_or};
 ghost use Rattle.ps_mon.specs.Reading.{no_member};
 ghost use Rattle.ps_mon.specs.Teams.{IsFresh, IsFreshMember, IsTeamKnown};
-ghost use Rattle.ps_start.specs.Fits.{AreSpeciesKnown};
+ghost use Rattle.ps_valid.specs.Ready.{AreSpeciesKnown};
 
 use crate::member::{are_own_known, is_fresh_member};
 use ps_mon::team::{BattleTeam, Member};

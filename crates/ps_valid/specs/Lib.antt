@@ -10,3 +10,4 @@ pub mod MoveRows
 pub mod Members
 pub mod SetRows
 pub mod TeamRows
+pub mod Ready

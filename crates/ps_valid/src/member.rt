@@ -1,7 +1,9 @@
 //! The member that a set makes.
 ghost use Rattle.std.specs.Prelude.{◌≡◌, ◌<◌, ◌≤◌, All, length, slice_get, IfOk};
+ghost use Rattle.ps_mon.specs.Valid.{AreStats};
 ghost use Rattle.ps_packed.specs.Ranges.{HasRanges};
 ghost use Rattle.ps_valid.specs.Members.{stats_of, types_of, pp_of, blank_slot, slot_of, slot_at, slots_of, numbers_of, member_of, blank_member, member_at, team_of};
+ghost use Rattle.ps_valid.specs.Ready.{IsReadyMember};
 
 use ps_calc::stats::{dv, hp_dv, hp_stat, stat};
 use ps_dex::dex::Dex;
@@ -101,7 +103,10 @@ fn slots_of(moves: &[MoveRow], known: &[u16]) -> [MoveSlot; 4]
 #[tactic(auto, unfolding(crate::specs::Members::numbers_of))]
 fn numbers_of(base: [u8; 5], set: &Set) -> Numbers
     requires { HasRanges set.now }
-    ensures { result ≡ numbers_of base set.now }
+    ensures value { result ≡ numbers_of base set.now }
+    ensures stats { AreStats result.stats }
+    ensures low { 1 ≤ result.max }
+    ensures high { result.max ≤ 713 }
 {
     let level = set.level;
     let attack = dv(set.ivs[1]);
@@ -124,8 +129,12 @@ fn numbers_of(base: [u8; 5], set: &Set) -> Numbers
 #[tactic(auto, unfolding(crate::specs::Members::member_of))]
 pub(crate) fn member_of(dex: &Dex, species: u16, set: &Set, moves: &[u16]) -> Member
     requires ranges { HasRanges set.now }
+    requires within { species < length dex.now.species }
+    requires some { 0 < length moves.now }
     requires few { length moves.now ≤ 4 }
-    ensures { result ≡ member_of dex.now species set.now moves.now }
+    requires known { All (λ mv. mv < length dex.now.moves) moves.now }
+    ensures value { result ≡ member_of dex.now species set.now moves.now }
+    ensures ready { IsReadyMember dex.now result }
 {
     let base = stats_of(dex.all_species(), species);
     let types = types_of(dex.all_species(), species);

@@ -1,5 +1,5 @@
 //! The rules of one move of a set, in their order: one function for each.
-ghost use Rattle.std.specs.Prelude.{◌≡◌, ◌<◌, [], length, slice_get, IfOk, map};
+ghost use Rattle.std.specs.Prelude.{◌≡◌, ◌<◌, [], All, length, slice_get, IfOk, map};
 ghost use Rattle.ps_mon.specs.declared.facts.MoveData.{MoveData};
 ghost use Rattle.ps_valid.specs.Verdicts.{Finds, FindsBy};
 ghost use Rattle.ps_valid.specs.MoveRows.{is_number, is_banned_move, has_number, effect_of, is_ohko, raises_evasion, unknown_move, banned_move, not_learned, repeated_move, ohko_clause, evasion_clause, move_in, each_move};
@@ -78,7 +78,8 @@ fn raises_evasion(effect: Effect) -> bool
 
 #[tactic(auto, unfolding(crate::specs::MoveRows::unknown_move))]
 fn unknown_move(alloc: Global, dex: &Dex, set: u8, id: &Id) -> Result<u16, TeamFault>
-    ensures { Finds result (unknown_move dex.now set id.now) }
+    ensures finds { Finds result (unknown_move dex.now set id.now) }
+    ensures within { IfOk result (λ mv. mv < length dex.now.moves) }
 {
     known(
         alloc,
@@ -176,7 +177,8 @@ fn move_in(
     before: &[u16],
     id: &Id,
 ) -> Result<u16, TeamFault>
-    ensures { Finds result (move_in dex.now rules.now set species before.now id.now) }
+    ensures finds { Finds result (move_in dex.now rules.now set species before.now id.now) }
+    ensures within { IfOk result (λ mv. mv < length dex.now.moves) }
 {
     let mv = unknown_move(alloc, dex, set, id)?;
     banned_move(alloc, dex, rules, set, id, mv)?;
@@ -198,6 +200,7 @@ pub(crate) fn moves_of(
 ) -> Result<Vec<u16>, TeamFault>
     ensures finds { FindsBy (λ v. v.items) result (each_move dex.now rules.now set species [] ids.now) }
     ensures count { IfOk result (λ v. length v.items ≡ length ids.now) }
+    ensures known { IfOk result (λ v. All (λ mv. mv < length dex.now.moves) v.items) }
 {
     let mut moves = Vec::new(alloc);
     for id in ids {

@@ -4,6 +4,7 @@ ghost use Rattle.ps_base.specs.Ids.{id_of};
 ghost use Rattle.ps_packed.specs.Ranges.{HasRanges};
 ghost use Rattle.ps_dex.specs.Lookups.{species_of};
 ghost use Rattle.ps_valid.specs.Verdicts.{Finds};
+ghost use Rattle.ps_valid.specs.Ready.{IsReadyMember};
 ghost use Rattle.ps_valid.specs.SetRows.{is_banned_species, unknown_species, banned_species, level_too_low, level_too_high, no_moves, ev_too_high, member_in};
 
 use crate::member::member_of;
@@ -75,7 +76,8 @@ fn level_too_high(alloc: Global, rules: &RuleTable, number: u8, level: u8) -> Re
 
 #[tactic(auto, unfolding(crate::specs::SetRows::no_moves))]
 fn no_moves(alloc: Global, number: u8, id: &Id, moves: &[Id]) -> Result<(), TeamFault>
-    ensures { Finds result (no_moves number id.now moves.now) }
+    ensures finds { Finds result (no_moves number id.now moves.now) }
+    ensures some { IfOk result (λ _. 0 < length moves.now) }
 {
     let kept = !moves.is_empty();
     keeps(alloc, number, TeamRule::NoMoves, id.as_str(), kept)
@@ -104,7 +106,8 @@ pub(crate) fn member_in(
     set: &Set,
 ) -> Result<Member, TeamFault>
     requires { HasRanges set.now }
-    ensures { Finds result (member_in dex.now rules.now number set.now) }
+    ensures finds { Finds result (member_in dex.now rules.now number set.now) }
+    ensures ready { IfOk result (λ m. IsReadyMember dex.now m) }
 {
     let id = to_id(alloc, set.species.as_str())?;
     let species = unknown_species(alloc, dex, number, &id)?;

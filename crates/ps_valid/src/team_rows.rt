@@ -5,6 +5,7 @@ ghost use Rattle.ps_base.specs.Ids.{id_of};
 ghost use Rattle.ps_packed.specs.Ranges.{HasRanges};
 ghost use Rattle.ps_dex.specs.Lookups.{species_of};
 ghost use Rattle.ps_valid.specs.Verdicts.{Finds, FindsBy};
+ghost use Rattle.ps_valid.specs.Ready.{IsReadyMember};
 ghost use Rattle.ps_valid.specs.TeamRows.{too_few, too_many, species_number, is_same, has_species, has_nick, species_clause, nickname_clause, pair_in, each_later, each_member};
 
 use crate::set_rows::member_in;
@@ -43,6 +44,7 @@ pub(crate) fn each_member(
     requires ranges { All HasRanges sets.now }
     ensures finds { FindsBy (λ v. v.items) result (each_member dex.now rules.now [] sets.now) }
     ensures count { IfOk result (λ v. length v.items ≡ length sets.now) }
+    ensures ready { IfOk result (λ v. All (λ m. IsReadyMember dex.now m) v.items) }
 {
     let mut members = Vec::new(alloc);
     for i in 0..sets.len() {

@@ -1,5 +1,5 @@
 //! The first rule that a team breaks.
-ghost use Rattle.std.specs.Prelude.{◌≡◌, Some, IfOk, decimal};
+ghost use Rattle.std.specs.Prelude.{◌≡◌, true, Some, IfOk, decimal};
 ghost use Rattle.ps_valid.specs.declared.verdict.TeamFault.TheVariants.{NoMemory};
 ghost use Rattle.ps_valid.specs.Verdicts.{Finds, keeps, known};
 
@@ -52,7 +52,8 @@ pub(crate) fn keeps(
     subject: &str,
     kept: bool,
 ) -> Result<(), TeamFault>
-    ensures { Finds result (keeps set rule subject.now kept) }
+    ensures finds { Finds result (keeps set rule subject.now kept) }
+    ensures kept { IfOk result (λ _. kept ≡ true) }
 {
     if kept {
         return Ok(());

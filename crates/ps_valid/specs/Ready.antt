@@ -1,0 +1,26 @@
+-- Which teams can open a battle.
+use Rattle.std.specs.Prelude.{◌≡◌, ℕ, ◌<◌, length, slice_index_or}
+use Rattle.ps_mon.specs.declared.team.BattleTeam.{BattleTeam}
+use Rattle.ps_mon.specs.declared.team.Member.{Member}
+use Rattle.ps_mon.specs.Known.{AreOwnKnown}
+use Rattle.ps_mon.specs.Reading.{no_member}
+use Rattle.ps_mon.specs.Teams.{IsFresh, IsFreshMember, IsTeamKnown}
+use Rattle.ps_dex.specs.declared.row.Tables.{Tables}
+use Rattle.ps_valid.specs.declared.start.Legal.{Legal}
+
+-- the species of a team are among so many
+abbrev pub AreSpeciesKnown : ℕ → BattleTeam → Type 0
+AreSpeciesKnown species t = (k : ℕ) → k < t.count → (slice_index_or t.members k no_member).species < species
+
+-- a team that can open a battle over the dex
+pub record IsReady (dex : Tables) (l : Legal) : Type 0 where
+  pub fresh : IsFresh l.team
+  pub moves : IsTeamKnown (length dex.moves) l.team
+  pub species : AreSpeciesKnown (length dex.species) l.team
+  pub nicks : length l.nicks ≡ l.team.count
+
+-- a member of such a team
+pub record IsReadyMember (dex : Tables) (m : Member) : Type 0 where
+  pub fresh : IsFreshMember m
+  pub moves : AreOwnKnown (length dex.moves) m
+  pub species : m.species < length dex.species
