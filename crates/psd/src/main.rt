@@ -28,9 +28,13 @@ mod dex_tests;
 #[cfg(test)]
 mod effects_tests;
 #[cfg(test)]
+mod ladder_tests;
+#[cfg(test)]
 mod laws_tests;
 #[cfg(test)]
 mod long_tests;
+#[cfg(test)]
+mod pms_tests;
 #[cfg(test)]
 mod request_tests;
 #[cfg(test)]
@@ -42,11 +46,15 @@ mod runs;
 #[cfg(test)]
 mod script_tests;
 #[cfg(test)]
+mod session_tests;
+#[cfg(test)]
 mod start_tests;
 #[cfg(test)]
 mod steps;
 #[cfg(test)]
 mod tests;
+#[cfg(test)]
+mod users_tests;
 #[cfg(test)]
 mod view_tests;
 

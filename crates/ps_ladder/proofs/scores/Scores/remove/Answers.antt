@@ -1,0 +1,7 @@
+use Rattle.std.proofs.Common.{ap, ◌∙◌}
+use Rattle.std.specs.FinMap.{remove}
+use Rattle.ps_roster.proofs.ByIdLemmas.{removed}
+use Rattle.ps_ladder.proofs.scores.Scores.remove.Goals as goal
+
+pub returns : goal.returns
+returns c = removed c.args.user.now c.self.inside.tree c.remove.new.self c.remove.ensures.updates ∙ ap (λ m. remove m c.args.user.now) c.self.view_is

@@ -1,0 +1,7 @@
+//! Ratings of rated battles, and the searches for them.
+#![tactic(auto)]
+
+pub mod gain;
+pub mod ladder;
+pub mod scores;
+pub mod searches;

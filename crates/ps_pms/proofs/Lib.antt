@@ -1,0 +1,2 @@
+mod MapLemmas
+pub mod BlockLemmas

@@ -1,0 +1,4 @@
+pub mod Records
+pub mod Looks
+pub mod Refusals
+pub mod Changes

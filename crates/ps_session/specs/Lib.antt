@@ -1,0 +1,5 @@
+pub mod Counts
+pub mod Kept
+pub mod Routes
+pub mod Sessions
+pub mod Texts

@@ -1,0 +1,151 @@
+//! How many texts were given to each room.
+ghost use Rattle.std.specs.Prelude.{◌≡◌, ◌<◌, ◌+◌, ◌^◌, None, Some, OnOk, OnErr};
+ghost use Rattle.std.specs.FinMap.{get};
+ghost use Rattle.ps_session.specs.Counts.{no_counts, count_in, raised, held_with, held_left, without_last};
+ghost use Rattle.ps_session.specs.Kept.{with_risen, held_without};
+
+use ps_base::text::Text;
+use ps_roster::id_map::IdMap;
+use std::alloc::{AllocError, Global};
+use std::marker::Model;
+
+/// A count that rose by one: the room's id, and the count since then.
+#[derive(Drop)]
+pub(crate) struct Risen {
+    pub(crate) id: Text,
+    pub(crate) count: u32,
+}
+
+/// How many texts were given to each room, of which the last can be taken back without memory: its count isn't
+/// in the map yet.
+#[derive(Drop)]
+pub(crate) struct RoomCounts {
+    settled: IdMap<u32>,
+    held: u32,
+    last: Option<Risen>,
+}
+
+impl Model for RoomCounts {
+    ghost use Rattle.std.specs.Coded.{codes, coded_ℕ};
+    ghost use Rattle.ps_roster.specs.ById.{by_id_code};
+    ghost use Rattle.ps_session.specs.Counts.{Counts};
+    ghost use Rattle.ps_session.specs.Kept.{counts_of, IsLast, HasNoZero};
+
+    ghost Value = { Counts };
+
+    ghost coded = { Prim.hlevel (codes, by_id_code coded_ℕ) };
+
+    ghost view = { λ c. counts_of c.settled c.held c.last };
+
+    ghost invariant = { λ c. HasNoZero c.settled × IsLast c.settled c.last };
+}
+
+/// Puts the count that rose last into the map. Where memory fails nothing changes.
+fn settle(alloc: Global, settled: &mut IdMap<u32>, last: &Option<Risen>) -> Result<(), AllocError>
+    ensures ok { OnOk result (settled.new ≡ with_risen last.now settled.old) }
+    ensures err { OnErr result (settled.new ≡ settled.old) }
+{
+    match last {
+        None => Ok(()),
+        Some(risen) => settled.insert(alloc, risen.id.as_str(), risen.count),
+    }
+}
+
+fn held_with(so_far: Option<u32>, held: u32) -> u32
+    requires { so_far ≡ None → held + 1 < 2 ^ 32 }
+    ensures { result ≡ held_with so_far held }
+{
+    match so_far {
+        None => held + 1,
+        Some(_) => held,
+    }
+}
+
+fn held_left(count: u32, held: u32) -> u32
+    ensures { result ≡ held_left count held }
+{
+    if count == 0 {
+        held.saturating_sub(1)
+    } else {
+        held
+    }
+}
+
+// How many rooms have a text once the last is taken back.
+fn held_without(last: &Option<Risen>, held: u32) -> u32
+    ensures { result ≡ held_without last.now held }
+{
+    match last {
+        None => held,
+        Some(risen) => held_left(risen.count.saturating_sub(1), held),
+    }
+}
+
+impl RoomCounts {
+    /// No texts. Takes no memory.
+    pub(crate) fn new(alloc: Global) -> RoomCounts
+        ensures { result ≡ no_counts }
+    {
+        RoomCounts {
+            settled: IdMap::new(alloc),
+            held: 0,
+            last: None,
+        }
+    }
+
+    /// How many texts were given to a room; `None` where it is none of the rooms.
+    pub(crate) fn get(&self, id: &str) -> Option<u32>
+        ensures { result ≡ get self.now.rooms id.now }
+    {
+        match &self.last {
+            None => self.settled.get(id),
+            Some(risen) => {
+                if risen.id.as_str() == id {
+                    return Some(risen.count);
+                }
+                self.settled.get(id)
+            }
+        }
+    }
+
+    /// How many rooms have a text.
+    pub(crate) fn held(&self) -> u32
+        ensures { result ≡ self.now.held }
+    {
+        self.held
+    }
+
+    /// Counts a text to a room. Where memory fails nothing changes.
+    pub(crate) fn count(&mut self, alloc: Global, id: Text) -> Result<(), AllocError>
+        requires few { count_in id self.old.rooms + 1 < 2 ^ 32 }
+        requires fit { get self.old.rooms id ≡ None → self.old.held + 1 < 2 ^ 32 }
+        ensures ok { OnOk result (self.new ≡ record { rooms = raised id self.old.rooms; held = held_with (get self.old.rooms id) self.old.held; last = Some id }) }
+        ensures err { OnErr result (self.new ≡ self.old) }
+    {
+        let so_far = self.get(id.as_str());
+        let count = so_far.unwrap_or(0) + 1;
+        let held = held_with(so_far, self.held);
+        settle(alloc, &mut self.settled, &self.last)?;
+        self.last = Some(Risen { id, count });
+        self.held = held;
+        Ok(())
+    }
+
+    /// Takes back the text that was counted last.
+    pub(crate) fn uncount(&mut self)
+        ensures { self.new ≡ without_last self.old.last self.old }
+    {
+        self.held = held_without(&self.last, self.held);
+        self.last = None;
+    }
+
+    /// The text that was counted last can't be taken back any more. Where memory fails nothing changes.
+    pub(crate) fn keep(&mut self, alloc: Global) -> Result<(), AllocError>
+        ensures ok { OnOk result (self.new ≡ record { rooms = self.old.rooms; held = self.old.held; last = None }) }
+        ensures err { OnErr result (self.new ≡ self.old) }
+    {
+        settle(alloc, &mut self.settled, &self.last)?;
+        self.last = None;
+        Ok(())
+    }
+}

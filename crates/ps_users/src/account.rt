@@ -1,0 +1,11 @@
+//! Registered names.
+use ps_base::text::Text;
+
+/// What is known of a registered name.
+#[derive(Debug, Drop)]
+pub struct Account {
+    /// The text that its user has to know. It may be empty.
+    pub secret: Text,
+    /// The place of its group in the list of groups.
+    pub rank: u8,
+}
