@@ -75,6 +75,20 @@ fn settle(
     Ok((higher, lower))
 }
 
+// The two new ratings, winner's first, before they are settled.
+fn preview(scores: &Scores, winner: &Id, loser: &Id) -> (i32, i32)
+    requires winner { IsNear 65535 (rating scores.now winner.now) }
+    requires loser { IsNear 65535 (rating scores.now loser.now) }
+    requires apart { bytes_eq winner.now loser.now ≡ false }
+    ensures winner { result.0 ≡ rating (settled scores.now winner.now loser.now) winner.now }
+    ensures loser { result.1 ≡ rating (settled scores.now winner.now loser.now) loser.now }
+{
+    let higher = scores.rating(winner.as_str());
+    let lower = scores.rating(loser.as_str());
+    let (higher, lower) = new_ratings(higher, lower);
+    (higher, lower)
+}
+
 impl Ladder {
     /// Nobody was rated. Takes no memory.
     pub fn new(alloc: Global) -> Ladder
@@ -102,6 +116,16 @@ impl Ladder {
         ensures sum { IsBalanced self.now.ratings }
     {
         self.scores.rating(user.as_str())
+    }
+
+    /// The two new ratings that a rated battle will give, the winner's first, before it is settled. Takes no memory.
+    pub fn preview(&self, winner: &Id, loser: &Id) -> (i32, i32)
+        requires apart { bytes_eq winner.now loser.now ≡ false }
+        requires few { self.now.count < 65536 }
+        ensures winner { result.0 ≡ rating (standing_after self.now winner.now loser.now).ratings winner.now }
+        ensures loser { result.1 ≡ rating (standing_after self.now winner.now loser.now).ratings loser.now }
+    {
+        preview(&self.scores, winner, loser)
     }
 
     /// Settles a rated battle that was won: the gain goes from loser to winner. It gives the two new ratings,

@@ -1,6 +1,7 @@
 //! Who waits for a rated battle.
 ghost use Rattle.std.specs.Prelude.{◌≡◌, OnOk, OnErr, IfOk, IfErr, IfNone, IfSome, None, Some, true, false, [], not};
 ghost use Rattle.std.specs.List.{list_any, filter};
+ghost use Rattle.std.specs.Option.{option_copied};
 ghost use Rattle.ps_ladder.specs.Waiting.{has_user, is_for, suits, waits, found, added, answer, cancelled, IsPlace, IsAddFault};
 ghost use Rattle.ps_ladder.specs.declared.searches.AddFault.TheVariants.{NoMemory};
 
@@ -106,6 +107,23 @@ fn has_any(list: &[Search], user: &Id) -> bool
     false
 }
 
+// The search that has waited longest of those that suit.
+fn longest_waiting<'a>(
+    list: &'a [Search],
+    user: &Id,
+    format: &Id,
+    rating: i32,
+) -> Option<&'a Search>
+    ensures { option_copied result ≡ found list.now user.now format.now rating }
+{
+    for entry in list {
+        if suits(entry, user, format, rating) {
+            return Some(entry);
+        }
+    }
+    None
+}
+
 // The place of the search that has waited longest of those that suit.
 fn place_of(list: &[Search], user: &Id, format: &Id, rating: i32) -> Option<usize>
     ensures none { IfNone result (found list.now user.now format.now rating ≡ None) }
@@ -192,6 +210,21 @@ impl Searches {
         ensures { result ≡ waits self.now user.now format.now }
     {
         waits(self.list.as_slice(), user, format)
+    }
+
+    /// Whether a user waits for any format. Takes no memory.
+    pub fn has(&self, user: &Id) -> bool
+        ensures { result ≡ list_any (has_user user.now) self.now }
+    {
+        has_any(self.list.as_slice(), user)
+    }
+
+    /// The search that a user at a rating would be matched with: the one that has waited longest of those of others for the
+    /// format at a rating that is at most 300 points away. `None` exactly where there is none. Takes no memory.
+    pub fn find(&self, user: &Id, format: &Id, rating: i32) -> Option<&Search>
+        ensures { option_copied result ≡ found self.now user.now format.now rating }
+    {
+        longest_waiting(self.list.as_slice(), user, format, rating)
     }
 
     /// A user at a rating searches for a battle of a format.

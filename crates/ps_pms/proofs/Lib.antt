@@ -1,2 +1,2 @@
-mod MapLemmas
+pub mod MapLemmas
 pub mod BlockLemmas

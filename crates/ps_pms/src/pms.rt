@@ -112,7 +112,8 @@ impl Pms {
         self.refusal_of_asking(actor, user)
     }
 
-    fn refusal_of_cancel(&self, actor: &Id) -> Option<HallWhy>
+    /// Why the actor can't take its challenge back: NoChallenge where it made none. Takes no memory.
+    pub fn refusal_of_cancel(&self, actor: &Id) -> Option<HallWhy>
         ensures { result ≡ refusal_of_cancel self.now actor.now }
     {
         if !self.asked_by(actor).is_some() {
@@ -130,7 +131,8 @@ impl Pms {
         None
     }
 
-    fn refusal_of_whisper(&self, actor: &Id, user: &Id) -> Option<HallWhy>
+    /// Why the actor can't whisper to this user: Blocked. Takes no memory.
+    pub fn refusal_of_whisper(&self, actor: &Id, user: &Id) -> Option<HallWhy>
         ensures { result ≡ refusal_of_whisper self.now actor.now user.now }
     {
         if self.blocks(user.as_str(), actor.as_str()) {
@@ -139,7 +141,8 @@ impl Pms {
         None
     }
 
-    fn refusal_of_block(&self, actor: &Id, user: &Id) -> Option<HallWhy>
+    /// Why the actor can't block this user: SelfTarget, then AlreadyBlocked. Takes no memory.
+    pub fn refusal_of_block(&self, actor: &Id, user: &Id) -> Option<HallWhy>
         ensures { result ≡ refusal_of_block self.now actor.now user.now }
     {
         if user.as_str() == actor.as_str() {
@@ -151,7 +154,8 @@ impl Pms {
         None
     }
 
-    fn refusal_of_unblock(&self, actor: &Id, user: &Id) -> Option<HallWhy>
+    /// Why the actor can't end its block of this user: NotBlocked where there is none. Takes no memory.
+    pub fn refusal_of_unblock(&self, actor: &Id, user: &Id) -> Option<HallWhy>
         ensures { result ≡ refusal_of_unblock self.now actor.now user.now }
     {
         if !self.blocks(actor.as_str(), user.as_str()) {

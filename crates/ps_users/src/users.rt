@@ -225,7 +225,8 @@ impl Users {
         self.seating.open(conn)
     }
 
-    fn close(&mut self, conn: ConnNo)
+    /// A connection ends: it and its id are taken away. Takes no memory.
+    pub fn close(&mut self, conn: ConnNo)
         ensures { self.new ≡ after self.old conn Quit }
     {
         self.seating.close(conn);

@@ -1,0 +1,43 @@
+-- The lists of the hall after a start, and the ratings after a report.
+use Rattle.std.proofs.Common.{◌≡◌, ℕ, List, [], ◌∷◌, ◌++◌, Option, Some, None, refl, sym, ap, ◌∙◌, append-nil, option_to_list}
+use Rattle.std.specs.Prelude.{ℤ, unwrap_or}
+use Rattle.std.specs.FinMap.{get}
+use Rattle.ps_roster.specs.ById.{ById}
+use Rattle.ps_pms.proofs.MapLemmas.{get_inserted}
+use Rattle.ps_ladder.specs.Ratings.{Standing, standing_of, rating}
+use Rattle.ps_hall.specs.declared.game.Game.{Game}
+use Rattle.ps_hall.specs.Records.{Record}
+use Rattle.ps_hall.specs.Looks.{ladder_in}
+use Rattle.ps_hall.specs.Starts.{with_game}
+use Rattle.ps_hall.specs.Steps.{standing_with, with_settled}
+
+pub games_then : (h : Record) (g : Option Game) → (with_game h g).games ≡ h.games ++ option_to_list g
+games_then h None = sym (append-nil h.games)
+games_then h (Some g) = refl
+
+pub searches_then : (h : Record) (g : Option Game) → (with_game h g).searches ≡ h.searches
+searches_then h None = refl
+searches_then h (Some g) = refl
+
+pub pms_then : (h : Record) (g : Option Game) → (with_game h g).pms ≡ h.pms
+pms_then h None = refl
+pms_then h (Some g) = refl
+
+pub ruleset starts = (games_then, searches_then, pms_then)
+
+-- nobody was rated in a format without a ladder
+pub of_missing : (ladders : ById Standing) (format : List ℕ) → get ladders format ≡ None → standing_of [] ≡ ladder_in ladders format
+of_missing ladders format missing = ap (λ (o : Option Standing). unwrap_or o (standing_of [])) (sym missing)
+
+-- the ladder of a format after a result
+pub settled_in : (ladders : ById Standing) (format winner loser : List ℕ) → ladder_in (with_settled ladders format winner loser) format ≡ standing_with (ladder_in ladders format) winner loser
+settled_in ladders format winner loser = ap (λ (o : Option Standing). unwrap_or o (standing_of [])) (get_inserted ladders format (standing_with (ladder_in ladders format) winner loser))
+
+-- the rating of somebody after a result, told of equal ids
+pub rating_then : (ladders : ById Standing) (format w l u winner loser user : List ℕ) (z : ℤ) → w ≡ winner → l ≡ loser → u ≡ user → z ≡ rating (standing_with (ladder_in ladders format) w l).ratings u → z ≡ rating (ladder_in (with_settled ladders format winner loser) format).ratings user
+rating_then ladders format w l u winner loser user z p q r e =
+    e
+    ∙ ap (λ (x : List ℕ). rating (standing_with (ladder_in ladders format) x l).ratings u) p
+    ∙ ap (λ (x : List ℕ). rating (standing_with (ladder_in ladders format) winner x).ratings u) q
+    ∙ ap (λ (x : List ℕ). rating (standing_with (ladder_in ladders format) winner loser).ratings x) r
+    ∙ sym (ap (λ (s : Standing). rating s.ratings user) (settled_in ladders format winner loser))

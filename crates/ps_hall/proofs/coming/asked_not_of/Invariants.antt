@@ -1,0 +1,6 @@
+use Rattle.std.proofs.Common.{◌≡◌, not, map, take, filter}
+use Rattle.ps_pms.specs.Looks.{is_of}
+use Rattle.ps_hall.proofs.coming.asked_not_of.Given as goal
+
+abbrev pub invariant-loop-asked : goal.invariant-loop-asked
+invariant-loop-asked l = map (λ x. x.now) l.found.items ≡ filter (λ a. not (is_of l.by l.to a)) (take l.asked-index l.list)

@@ -1,0 +1,19 @@
+use Rattle.std.proofs.Common.{rules, ◌≡◌, Option, IfSome}
+use Rattle.std.specs.Option.{option_copied}
+use Rattle.ps_base.specs.Ids.{id_of}
+use Rattle.ps_start.specs.Fits.{IsFit}
+use Rattle.ps_valid.specs.declared.start.Legal.{Legal}
+use Rattle.ps_valid.specs.declared.start.Start.{Start}
+use Rattle.ps_hall.specs.declared.kept.KeptTeam.{KeptTeam}
+use Rattle.ps_hall.specs.Records.{Record}
+use Rattle.ps_hall.specs.Looks.{kept_team, legal_team}
+use Rattle.ps_hall.specs.States.{record_of}
+use Rattle.ps_hall.proofs.StartLemmas.{if_ok, fit_challenge}
+use Rattle.ps_hall.proofs.start.start_of_challenge.Goals as goal
+
+pub returns-clause-fit : goal.returns-clause-fit
+returns-clause-fit c =
+    let h : Record = record_of c.args.state.now in
+    let k : option_copied c.find_kept-kept.result ≡ kept_team c.args.asked.now.by (id_of c.args.name.now) h.challenge_teams = search rules in
+    let l : c.in_ok-legal.legal ≡ legal_team h (id_of c.args.name.now) c.args.asked.now.format = search rules in
+    if_ok (λ (s : Start). IsFit s h.config h.dex) _ c.start_if.result c.start_if.ensures (fit_challenge h c.args.name.now c.args.user.now c.args.asked.now _ _ c.requires.ready c.requires.asked k l c.in_ok-legal.ensures.ready)

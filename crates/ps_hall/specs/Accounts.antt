@@ -1,0 +1,17 @@
+-- The registered names of a configuration, by their ids.
+use Rattle.std.specs.Prelude.{List, [], ◌∷◌}
+use Rattle.std.specs.FinMap.{insert, empty}
+use Rattle.ps_valid.specs.declared.row.Registered.{Registered}
+use Rattle.ps_roster.specs.ById.{ById}
+use Rattle.ps_users.specs.declared.account.Account.{Account}
+
+abbrev pub account_of : Registered → Account
+account_of u = record { secret = u.secret; rank = u.rank }
+
+abbrev pub accounts_from : ById Account → List Registered → ById Account
+accounts_from accounts [] = accounts
+accounts_from accounts (u ∷ us) = accounts_from (insert accounts u.id (account_of u)) us
+
+-- no two registered names have one id
+abbrev pub accounts_of : List Registered → ById Account
+accounts_of users = accounts_from empty users

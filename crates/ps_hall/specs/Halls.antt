@@ -1,0 +1,133 @@
+-- What an entry does to the hall, and what each connection is sent at it.
+use Rattle.std.specs.Prelude.{◌≡◌, ℕ, List, [], ◌∷◌, ◌++◌, ◌==◌, ◌-◌, length, drop, slice_get, unwrap_or, Option, Some, None, if◌then◌else◌}
+use Rattle.std.specs.List.{flat_map}
+use Rattle.ps_base.specs.declared.badge.Badge.{Badge}
+use Rattle.ps_base.specs.declared.hall_why.HallWhy.{HallWhy}
+use Rattle.ps_base.specs.declared.msg.Msg.{Msg}
+use Rattle.ps_lines.specs.declared.command.HallCmd.{HallCmd}
+use Rattle.ps_valid.specs.declared.start.Start.{Start}
+use Rattle.ps_users.specs.Steps.{granted}
+use Rattle.ps_hall.specs.declared.entry.HallEntry.{HallEntry}
+use Rattle.ps_hall.specs.declared.notice.Notice.{Notice}
+use Rattle.ps_hall.specs.declared.outcome.HallOut.{HallOut}
+use Rattle.ps_hall.specs.declared.outcome.HallVerdict.TheVariants.{Applied, Refused}
+use Rattle.ps_hall.specs.declared.cursor.Cursor.{Cursor}
+use Rattle.ps_hall.specs.Records.{Record}
+use Rattle.ps_hall.specs.Refusals.{refusal}
+use Rattle.ps_hall.specs.Steps.{applied, start_of}
+use Rattle.ps_hall.specs.Lines.{refused_line}
+use Rattle.ps_hall.specs.Told.{notice, told}
+
+-- why an entry is refused; None where it is allowed
+abbrev pub verdict : Record → HallEntry → Option HallWhy
+verdict h e = refusal h e.conn e.cmd
+
+-- ---- the step
+
+abbrev pub after_by : Option HallWhy → Record → ℕ → HallCmd → Record
+after_by (Some why) h conn cmd = h
+after_by None h conn cmd = applied h conn cmd
+
+-- the record after an entry; a refused one leaves it as it was
+abbrev pub after : Record → HallEntry → Record
+after h e = after_by (verdict h e) h e.conn e.cmd
+
+-- the record after a history
+abbrev pub run_record : Record → List HallEntry → Record
+run_record h [] = h
+run_record h (e ∷ es) = run_record (after h e) es
+
+-- ---- the answer of the call
+
+abbrev pub out_by : Option HallWhy → Record → ℕ → HallCmd → HallOut
+out_by (Some why) h conn cmd = record { verdict = Refused why; badge = None; start = None }
+out_by None h conn cmd = record { verdict = Applied; badge = granted h.users cmd; start = start_of h conn cmd }
+
+-- whether an entry was applied, the badge that its sender has from it on, and the battle that it starts
+abbrev pub out_of : Record → HallEntry → HallOut
+out_of h e = out_by (verdict h e) h e.conn e.cmd
+
+-- ---- what is told
+
+-- a refused entry gives its sender the one line of its reason
+abbrev pub notices_by : Option HallWhy → Record → ℕ → HallCmd → List Notice
+notices_by (Some why) h conn cmd = notice conn (refused_line why cmd ∷ []) ∷ []
+notices_by None h conn cmd = told h (applied h conn cmd) conn cmd
+
+-- all that an entry tells
+abbrev pub notices : Record → HallEntry → List Notice
+notices h e = notices_by (verdict h e) h e.conn e.cmd
+
+abbrev pub lines_for : ℕ → Notice → List (List ℕ)
+lines_for conn n = if n.conn == conn then n.lines else []
+
+-- what a connection is told by these notices
+abbrev pub message_of : ℕ → List Notice → List (List ℕ)
+message_of conn ns = flat_map (lines_for conn) ns
+
+-- what a connection is sent at an entry
+abbrev pub message : ℕ → Record → HallEntry → List (List ℕ)
+message conn h e = message_of conn (notices h e)
+
+-- a message, where it has lines
+abbrev pub sent : List (List ℕ) → List (List (List ℕ))
+sent [] = []
+sent (line ∷ lines) = (line ∷ lines) ∷ []
+
+-- all that a connection is sent over a history, message by message
+abbrev pub view : ℕ → Record → List HallEntry → List (List (List ℕ))
+view conn h [] = []
+view conn h (e ∷ es) = sent (message conn h e) ++ view conn (after h e) es
+
+-- ---- what the hall keeps for those who look later
+
+-- the record, and what each entry told
+pub record Seen : Type 0 where
+  pub state : Record
+  pub log : List (List Notice)
+
+abbrev pub seen_opened : Record → Seen
+seen_opened h = record { state = h; log = [] }
+
+-- the hall after an entry
+abbrev pub seen_after : Seen → HallEntry → Seen
+seen_after s e = record { state = after s.state e; log = s.log ++ notices s.state e ∷ [] }
+
+-- the hall after a history
+abbrev pub run_seen : Seen → List HallEntry → Seen
+run_seen s [] = s
+run_seen s (e ∷ es) = run_seen (seen_after s e) es
+
+-- the messages of what was kept, to a connection
+abbrev pub pulled : ℕ → List (List Notice) → List (List (List ℕ))
+pulled conn [] = []
+pulled conn (ns ∷ log) = sent (message_of conn ns) ++ pulled conn log
+
+-- the messages past a cursor
+abbrev pub pulled_past : Cursor → Seen → List (List (List ℕ))
+pulled_past c s = pulled c.conn (drop c.at s.log)
+
+-- before the first entry
+abbrev pub first_cursor : ℕ → Cursor
+first_cursor conn = record { conn = conn; at = 0 }
+
+-- at the end of what is kept
+abbrev pub cursor_past : Cursor → Seen → Cursor
+cursor_past c s = record { conn = c.conn; at = length s.log }
+
+abbrev pub msg_lines : Msg → List (List ℕ)
+msg_lines m = m.lines
+
+-- What who has passed the history `before` is given of a hall whose history goes on with `later`: the part of its view past
+-- that place, and the cursor stands at the end.
+pub record IsPastView (conn : ℕ) (h : Record) (before later : List HallEntry) (s : Seen) (c : Cursor) : Type 0 where
+  pub messages : pulled_past c s ≡ view conn (run_record h before) later
+  pub end : cursor_past c s ≡ record { conn = conn; at = length (before ++ later) }
+
+abbrev pub PullsView : Type 0
+PullsView = (conn : ℕ) (h : Record) (before later : List HallEntry) → IsPastView conn h before later (run_seen (seen_opened h) (before ++ later)) (record { conn = conn; at = length before })
+
+-- ---- for the code: what the last entry told
+
+abbrev pub last_told : List (List Notice) → List Notice
+last_told log = unwrap_or (slice_get log (length log - 1)) []

@@ -1,0 +1,12 @@
+pub mod Accounts
+pub mod Records
+pub mod Packs
+pub mod Looks
+pub mod Refusals
+pub mod Starts
+pub mod Steps
+pub mod Lines
+pub mod Told
+pub mod Halls
+pub mod States
+pub mod Places

@@ -1,0 +1,71 @@
+//! Battles that have started.
+ghost use Rattle.std.specs.Prelude.{◌≡◌, [], IfOk, slice_index_or};
+ghost use Rattle.ps_hall.specs.Looks.{player_id, plays, battle_id, battle_title};
+
+use ps_base::id::Id;
+use ps_base::name::Name;
+use ps_base::text::Text;
+use std::alloc::{AllocError, Global};
+
+/// A battle that has started and wasn't reported yet.
+#[derive(Debug, Drop)]
+pub struct Game {
+    /// The number of the battle, from 1.
+    pub number: u32,
+    /// The id of its format.
+    pub format: Id,
+    /// The names of player 1 and player 2.
+    pub players: [Name; 2],
+    /// Whether it counts for ratings.
+    pub rated: bool,
+}
+
+impl Game {
+    /// The id of player 1.
+    pub fn first_id(&self) -> &Id
+        ensures { result.now ≡ player_id self.now 0 }
+    {
+        let [one, _] = &self.players;
+        one.id()
+    }
+
+    /// The id of player 2.
+    pub fn second_id(&self) -> &Id
+        ensures { result.now ≡ player_id self.now 1 }
+    {
+        let [_, two] = &self.players;
+        two.id()
+    }
+
+    /// The title of its room: the names of both players.
+    pub fn title(&self, alloc: Global) -> Result<Text, AllocError>
+        ensures { IfOk result (λ t. t ≡ battle_title (slice_index_or self.now.players 0 []) (slice_index_or self.now.players 1 [])) }
+    {
+        let [one, two] = &self.players;
+        battle_title(alloc, one, two)
+    }
+}
+
+/// Whether an id is that of one of the players. Takes no memory.
+pub fn plays(id: &str, game: &Game) -> bool
+    ensures { result ≡ plays id.now game.now }
+{
+    if game.first_id().as_str() == id {
+        return true;
+    }
+    game.second_id().as_str() == id
+}
+
+/// The id of a battle's room: `battle-FORMAT-N` of PROTOCOL.md.
+pub fn battle_id(alloc: Global, format: &Id, number: u32) -> Result<Text, AllocError>
+    ensures { IfOk result (λ t. t ≡ battle_id format.now number) }
+{
+    Ok(Text::from_string(format!(in alloc; "battle-{format}-{number}")?))
+}
+
+/// The title of a battle: the names of both players.
+pub fn battle_title(alloc: Global, one: &Name, two: &Name) -> Result<Text, AllocError>
+    ensures { IfOk result (λ t. t ≡ battle_title one.now two.now) }
+{
+    Ok(Text::from_string(format!(in alloc; "{one} vs. {two}")?))
+}

@@ -1,0 +1,129 @@
+//! Teams that are kept with a challenge or a search.
+ghost use Rattle.std.specs.Prelude.{◌≡◌, ◌++◌, ◌∷◌, [], IfOk, IfNone, IfSome, None};
+ghost use Rattle.std.specs.Option.{option_copied};
+ghost use Rattle.ps_hall.specs.Looks.{is_kept, is_kept_of, is_kept_with, kept_team, without_kept, without_user, without_either};
+ghost use Rattle.ps_hall.specs.Places.{IsKeptPlace};
+
+use ps_base::id::Id;
+use ps_base::list::List;
+use ps_base::name::Name;
+use ps_base::text::Text;
+use ps_valid::start::Legal;
+use std::alloc::{AllocError, Global};
+
+/// A team as it was when its user challenged somebody or began to search.
+#[derive(Debug, Drop)]
+pub struct KeptTeam {
+    /// The user's name.
+    pub name: Name,
+    /// The id of who is challenged, or of the format that is searched.
+    pub with_id: Id,
+    /// The team.
+    pub team: Legal,
+}
+
+fn nicks_copy(alloc: Global, nicks: &[Text]) -> Result<Vec<Text>, AllocError>
+    ensures { IfOk result (λ v. v.items ≡ nicks.now) }
+{
+    let mut copies = Vec::new(alloc);
+    for nick in nicks {
+        copies.push(nick.copy(alloc)?)?;
+    }
+    Ok(copies)
+}
+
+/// The same team.
+pub(crate) fn legal_copy(alloc: Global, legal: &Legal) -> Result<Legal, AllocError>
+    ensures { IfOk result (λ l. l ≡ legal.now) }
+{
+    let nicks = nicks_copy(alloc, legal.nicks.as_slice())?;
+    Ok(Legal {
+        team: legal.team,
+        nicks: List::from_vec(nicks),
+    })
+}
+
+/// A team to keep.
+pub(crate) fn new_kept(
+    alloc: Global,
+    name: &Name,
+    with_id: &Id,
+    team: Legal,
+) -> Result<KeptTeam, AllocError>
+    ensures { IfOk result (λ k. k ≡ record { name = name.now; with_id = with_id.now; team = team }) }
+{
+    Ok(KeptTeam {
+        name: name.copy(alloc)?,
+        with_id: with_id.copy(alloc)?,
+        team,
+    })
+}
+
+fn is_kept(kept: &KeptTeam, user: &Id, with_id: &Id) -> bool
+    ensures { result ≡ is_kept user.now with_id.now kept.now }
+{
+    kept.name.id().as_str() == user.as_str() && kept.with_id.as_str() == with_id.as_str()
+}
+
+fn is_kept_of(kept: &KeptTeam, user: &Id) -> bool
+    ensures { result ≡ is_kept_of user.now kept.now }
+{
+    kept.name.id().as_str() == user.as_str()
+}
+
+fn is_kept_with(kept: &KeptTeam, user: &Id) -> bool
+    ensures { result ≡ is_kept_with user.now kept.now }
+{
+    is_kept_of(kept, user) || kept.with_id.as_str() == user.as_str()
+}
+
+/// The first team of a user that was kept with an id.
+pub(crate) fn find_kept<'a>(list: &'a [KeptTeam], user: &Id, with_id: &Id) -> Option<&'a KeptTeam>
+    ensures { option_copied result ≡ kept_team user.now with_id.now list.now }
+{
+    for kept in list {
+        if is_kept(kept, user, with_id) {
+            return Some(kept);
+        }
+    }
+    None
+}
+
+// The place of the first team of a user that was kept with an id.
+fn place_of(list: &[KeptTeam], user: &Id, with_id: &Id) -> Option<usize>
+    ensures none { IfNone result (without_kept user.now with_id.now list.now ≡ list.now) }
+    ensures some { IfSome result (IsKeptPlace list.now user.now with_id.now) }
+{
+    for i in 0..list.len() {
+        if is_kept(&list[i], user, with_id) {
+            return Some(i);
+        }
+    }
+    None
+}
+
+/// Drops the first team of a user that was kept with an id.
+pub(crate) fn drop_kept(list: &mut Vec<KeptTeam>, user: &Id, with_id: &Id)
+    ensures { list.new.items ≡ without_kept user.now with_id.now list.old.items }
+{
+    match place_of(list.as_slice(), user, with_id) {
+        None => {}
+        Some(place) => {
+            let _ = list.remove(place);
+        }
+    }
+}
+
+/// Drops the teams of a user.
+pub(crate) fn drop_user(list: &mut Vec<KeptTeam>, user: &Id)
+    ensures { list.new.items ≡ without_user user.now list.old.items }
+{
+    list.retain(|kept| !is_kept_of(kept, user));
+}
+
+/// Drops the teams of a user, and those that were kept with its id.
+pub(crate) fn drop_either(list: &mut Vec<KeptTeam>, user: &Id)
+    ensures { list.new.items ≡ without_either user.now list.old.items }
+{
+    list.retain(|kept| !is_kept_with(kept, user));
+}

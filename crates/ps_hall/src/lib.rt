@@ -1,0 +1,26 @@
+//! The hall: users, whispers, challenges, searches, ratings, and the battles that start.
+#![tactic(auto)]
+
+mod account;
+mod answer;
+mod apply;
+mod coming;
+pub mod cursor;
+mod enter;
+pub mod entry;
+pub mod game;
+pub mod hall;
+pub mod kept;
+pub mod law;
+pub mod line;
+mod log;
+mod look;
+pub mod notice;
+pub mod outcome;
+pub mod pack;
+mod refusal;
+mod report;
+mod start;
+mod state;
+mod step;
+pub mod told;

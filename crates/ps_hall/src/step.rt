@@ -1,0 +1,386 @@
+//! The rows of the hall table: what each command changes, where it is applied. All memory is taken before
+//! anything changes.
+ghost use Rattle.std.specs.Prelude.{◌≡◌, ◌<◌, ◌++◌, ◌∷◌, [], OnOk, OnErr, IfOk, IfSome, IfNone, None, Some, true};
+ghost use Rattle.ps_lines.specs.declared.command.HallCmd.TheVariants.{Quit, Challenge, CancelChallenge, Reject, Accept};
+ghost use Rattle.ps_users.specs.Refusals.{refusal as refusal_of_user};
+ghost use Rattle.ps_users.specs.Steps.{granted};
+ghost use Rattle.std.specs.Option.{option_copied, option_map};
+ghost use Rattle.std.specs.FinMap.{insert, remove};
+ghost use Rattle.ps_base.specs.Ids.{id_of};
+ghost use Rattle.ps_start.specs.Fits.{IsFit};
+ghost use Rattle.ps_ladder.specs.Waiting.{added};
+ghost use Rattle.ps_hall.specs.States.{record_of};
+ghost use Rattle.ps_hall.specs.Looks.{opponent, rating_in};
+ghost use Rattle.ps_hall.specs.Places.{AreReady, IsLegalReady};
+ghost use Rattle.ps_hall.specs.Starts.{start_of_search, start_of_accept, game_of, with_game};
+ghost use Rattle.ps_hall.specs.Steps.{with_users, with_pms, forgotten_by, forgotten_if, after_quit, after_team, with_team, kept_by, with_search, after_search, after_accept, after_challenge, after_cancel_search, after_cancel_challenge, after_reject};
+
+use crate::game::Game;
+use crate::kept::{KeptTeam, drop_either, drop_kept, drop_user, new_kept};
+use crate::look;
+use crate::pack::read_pack;
+use crate::start::{game_of, legal_team, start_of_accept, start_of_search};
+use crate::state::State;
+use ps_base::badge::Badge;
+use ps_base::id::Id;
+use ps_base::name::Name;
+use ps_base::number::ConnNo;
+use ps_base::text::Text;
+use ps_ladder::searches::Searches;
+use ps_lines::command::HallCmd;
+use ps_packed::team::Team;
+use ps_valid::start::{Legal, Start};
+use std::alloc::{AllocError, Global};
+
+/// Open, Quit and Name, as far as users go: the badge that a Name gives.
+pub(crate) fn with_users(
+    alloc: Global,
+    state: &mut State,
+    conn: ConnNo,
+    cmd: &HallCmd,
+) -> Result<Option<Badge>, AllocError>
+    requires { refusal_of_user (record_of state.old).users conn cmd.now ≡ None }
+    ensures badge { IfOk result (λ o. o ≡ granted (record_of state.old).users cmd.now) }
+    ensures ok { OnOk result (record_of state.new ≡ with_users (record_of state.old) conn cmd.now) }
+    ensures err { OnErr result (record_of state.new ≡ record_of state.old) }
+{
+    state.users.apply(alloc, conn, cmd)
+}
+
+/// Blocks and challenges after a command.
+pub(crate) fn with_pms(
+    alloc: Global,
+    state: &mut State,
+    me: &Id,
+    cmd: &HallCmd,
+) -> Result<(), AllocError>
+    ensures ok { OnOk result (record_of state.new ≡ with_pms (record_of state.old) me.now cmd.now) }
+    ensures err { OnErr result (record_of state.new ≡ record_of state.old) }
+{
+    state.pms.apply(alloc, me, cmd)
+}
+
+/// CancelSearch.
+pub(crate) fn after_cancel_search(state: &mut State, me: &Id)
+    ensures { record_of state.new ≡ after_cancel_search (record_of state.old) me.now }
+{
+    let _ = state.searches.cancel(me);
+    drop_user(&mut state.search_teams, me);
+}
+
+/// CancelChallenge.
+pub(crate) fn after_cancel_challenge(
+    alloc: Global,
+    state: &mut State,
+    me: &Id,
+    cmd: &HallCmd,
+) -> Result<(), AllocError>
+    requires { cmd.now ≡ CancelChallenge }
+    ensures ok { OnOk result (record_of state.new ≡ after_cancel_challenge (record_of state.old) me.now) }
+    ensures err { OnErr result (record_of state.new ≡ record_of state.old) }
+{
+    with_pms(alloc, state, me, cmd)?;
+    drop_user(&mut state.challenge_teams, me);
+    Ok(())
+}
+
+/// Reject.
+pub(crate) fn after_reject(
+    alloc: Global,
+    state: &mut State,
+    me: &Id,
+    user: &Id,
+    cmd: &HallCmd,
+) -> Result<(), AllocError>
+    requires { cmd.now ≡ Reject user.now }
+    ensures ok { OnOk result (record_of state.new ≡ after_reject (record_of state.old) me.now user.now) }
+    ensures err { OnErr result (record_of state.new ≡ record_of state.old) }
+{
+    with_pms(alloc, state, me, cmd)?;
+    drop_kept(&mut state.challenge_teams, user, me);
+    Ok(())
+}
+
+// The team, searches and challenges of who leaves end.
+fn forget(alloc: Global, state: &mut State, me: &Id, cmd: &HallCmd) -> Result<(), AllocError>
+    requires { cmd.now ≡ Quit }
+    ensures ok { OnOk result (record_of state.new ≡ forgotten_by (record_of state.old) me.now) }
+    ensures err { OnErr result (record_of state.new ≡ record_of state.old) }
+{
+    with_pms(alloc, state, me, cmd)?;
+    state.teams.remove(me.as_str());
+    drop_either(&mut state.challenge_teams, me);
+    drop_user(&mut state.search_teams, me);
+    let _ = state.searches.cancel(me);
+    Ok(())
+}
+
+fn forget_of(
+    alloc: Global,
+    state: &mut State,
+    me: Option<&Id>,
+    cmd: &HallCmd,
+) -> Result<(), AllocError>
+    requires { cmd.now ≡ Quit }
+    ensures ok { OnOk result (record_of state.new ≡ forgotten_if (record_of state.old) (option_copied me.entry)) }
+    ensures err { OnErr result (record_of state.new ≡ record_of state.old) }
+{
+    match me {
+        None => Ok(()),
+        Some(me) => forget(alloc, state, me, cmd),
+    }
+}
+
+fn id_of_badge(alloc: Global, badge: Option<&Badge>) -> Result<Option<Id>, AllocError>
+    ensures { IfOk result (λ o. o ≡ option_map (λ b. id_of b.name) (option_copied badge.entry)) }
+{
+    match badge {
+        None => Ok(None),
+        Some(badge) => Ok(Some(badge.name.id().copy(alloc)?)),
+    }
+}
+
+/// Keeps a user's team.
+fn put_team(alloc: Global, state: &mut State, me: &Id, team: Team) -> Result<(), AllocError>
+    ensures ok { OnOk result (record_of state.new ≡ with_team (record_of state.old) me.now team) }
+    ensures err { OnErr result (record_of state.new ≡ record_of state.old) }
+{
+    state.teams.insert(alloc, me.as_str(), team)
+}
+
+/// Team. A text that is no packed team is refused before.
+pub(crate) fn after_team(
+    alloc: Global,
+    state: &mut State,
+    me: &Id,
+    pack: Option<&Text>,
+) -> Result<(), AllocError>
+    ensures ok { OnOk result (record_of state.new ≡ after_team (record_of state.old) me.now (option_copied pack.entry)) }
+    ensures err { OnErr result (record_of state.new ≡ record_of state.old) }
+{
+    match pack {
+        None => {
+            state.teams.remove(me.as_str());
+            Ok(())
+        }
+        Some(text) => match read_pack(alloc, text.as_str())? {
+            Err(_) => Err(AllocError),
+            Ok(team) => put_team(alloc, state, me, team),
+        },
+    }
+}
+
+// A team to keep, if there is one.
+fn kept_by(
+    alloc: Global,
+    name: &Name,
+    with_id: &Id,
+    team: Option<Legal>,
+) -> Result<Option<KeptTeam>, AllocError>
+    ensures { IfOk result (λ o. o ≡ kept_by name.now with_id.now team) }
+{
+    match team {
+        None => Ok(None),
+        Some(team) => {
+            let kept = new_kept(alloc, name, with_id, team)?;
+            Ok(Some(kept))
+        }
+    }
+}
+
+/// Challenge.
+pub(crate) fn after_challenge(
+    alloc: Global,
+    state: &mut State,
+    name: &Name,
+    user: &Id,
+    format: &Id,
+    cmd: &HallCmd,
+) -> Result<(), AllocError>
+    requires { cmd.now ≡ Challenge user.now format.now }
+    ensures ok { OnOk result (record_of state.new ≡ after_challenge (record_of state.old) name.now user.now format.now) }
+    ensures legal { OnOk result (IsLegalReady (record_of state.old) (id_of name.now) format.now) }
+    ensures err { OnErr result (record_of state.new ≡ record_of state.old) }
+{
+    let team = legal_team(alloc, state, name.id(), format)?;
+    let kept = kept_by(alloc, name, user, team)?;
+    state.challenge_teams.reserve(1)?;
+    state.pms.apply(alloc, name.id(), cmd)?;
+    match kept {
+        None => Ok(()),
+        Some(kept) => {
+            state.challenge_teams.push(kept).unwrap();
+            Ok(())
+        }
+    }
+}
+
+/// Quit.
+pub(crate) fn after_quit(
+    alloc: Global,
+    state: &mut State,
+    conn: ConnNo,
+    cmd: &HallCmd,
+) -> Result<(), AllocError>
+    requires { cmd.now ≡ Quit }
+    ensures ok { OnOk result (record_of state.new ≡ after_quit (record_of state.old) conn) }
+    ensures err { OnErr result (record_of state.new ≡ record_of state.old) }
+{
+    let me = id_of_badge(alloc, state.users.badge(conn))?;
+    forget_of(alloc, state, me.as_ref(), cmd)?;
+    state.users.close(conn);
+    Ok(())
+}
+
+// A user who doesn't wait for a format searches it.
+fn add_search(
+    alloc: Global,
+    searches: &mut Searches,
+    me: &Id,
+    format: &Id,
+    rating: i32,
+) -> Result<(), AllocError>
+    ensures ok { OnOk result (searches.new ≡ added searches.old me.now format.now rating) }
+    ensures err { OnErr result (searches.new ≡ searches.old) }
+{
+    match searches.add(alloc, me, format, rating) {
+        Err(_) => Err(AllocError),
+        Ok(_) => Ok(()),
+    }
+}
+
+// Who is matched with nobody waits, with the team of this moment.
+fn wait(
+    alloc: Global,
+    state: &mut State,
+    name: &Name,
+    format: &Id,
+    rating: i32,
+) -> Result<(), AllocError>
+    requires alone { opponent (record_of state.old) (id_of name.now) format.now ≡ None }
+    requires rating { rating ≡ rating_in (record_of state.old) format.now (id_of name.now) }
+    ensures ok { OnOk result (record_of state.new ≡ with_search (record_of state.old) name.now format.now) }
+    ensures legal { OnOk result (IsLegalReady (record_of state.old) (id_of name.now) format.now) }
+    ensures games { state.new.games ≡ state.old.games }
+    ensures err { OnErr result (record_of state.new ≡ record_of state.old) }
+{
+    let team = legal_team(alloc, state, name.id(), format)?;
+    let kept = kept_by(alloc, name, format, team)?;
+    state.search_teams.reserve(1)?;
+    add_search(alloc, &mut state.searches, name.id(), format, rating)?;
+    match kept {
+        None => Ok(()),
+        Some(kept) => {
+            state.search_teams.push(kept).unwrap();
+            Ok(())
+        }
+    }
+}
+
+// Who is matched takes the other's search.
+fn take_search(
+    alloc: Global,
+    state: &mut State,
+    name: &Name,
+    format: &Id,
+    rating: i32,
+    user: &Id,
+) -> Result<(), AllocError>
+    requires matched { option_map (λ s. s.user) (opponent (record_of state.old) (id_of name.now) format.now) ≡ Some user.now }
+    requires rating { rating ≡ rating_in (record_of state.old) format.now (id_of name.now) }
+    ensures ok { OnOk result (record_of state.new ≡ with_search (record_of state.old) name.now format.now) }
+    ensures games { state.new.games ≡ state.old.games }
+    ensures err { OnErr result (record_of state.new ≡ record_of state.old) }
+{
+    add_search(alloc, &mut state.searches, name.id(), format, rating)?;
+    drop_kept(&mut state.search_teams, user, format);
+    Ok(())
+}
+
+fn with_search(alloc: Global, state: &mut State, name: &Name, format: &Id) -> Result<(), AllocError>
+    ensures ok { OnOk result (record_of state.new ≡ with_search (record_of state.old) name.now format.now) }
+    ensures legal { OnOk result (IfNone (opponent (record_of state.old) (id_of name.now) format.now) (IsLegalReady (record_of state.old) (id_of name.now) format.now)) }
+    ensures games { state.new.games ≡ state.old.games }
+    ensures err { OnErr result (record_of state.new ≡ record_of state.old) }
+{
+    let rating = look::rating_in(&state.ladders, format, name.id());
+    match look::opponent(&state.searches, &state.ladders, name.id(), format) {
+        None => wait(alloc, state, name, format, rating),
+        Some(other) => {
+            let user = other.user.copy(alloc)?;
+            take_search(alloc, state, name, format, rating, &user)
+        }
+    }
+}
+
+fn game_if(alloc: Global, rated: bool, start: Option<&Start>) -> Result<Option<Game>, AllocError>
+    ensures { IfOk result (λ o. o ≡ option_map (game_of rated) (option_copied start.entry)) }
+{
+    match start {
+        None => Ok(None),
+        Some(start) => {
+            let game = game_of(alloc, rated, start)?;
+            Ok(Some(game))
+        }
+    }
+}
+
+/// Search: the battle that it starts, which is rated.
+pub(crate) fn after_search(
+    alloc: Global,
+    state: &mut State,
+    name: &Name,
+    format: &Id,
+) -> Result<Option<Start>, AllocError>
+    requires few { (record_of state.old).started < 65536 }
+    requires ready { AreReady (record_of state.old) }
+    ensures value { IfOk result (λ o. o ≡ start_of_search (record_of state.old) name.now format.now) }
+    ensures fit { IfOk result (λ o. IfSome o (λ s. IsFit s (record_of state.old).config (record_of state.old).dex)) }
+    ensures ok { OnOk result (record_of state.new ≡ after_search (record_of state.old) name.now format.now) }
+    ensures legal { OnOk result (IfNone (opponent (record_of state.old) (id_of name.now) format.now) (IsLegalReady (record_of state.old) (id_of name.now) format.now)) }
+    ensures err { OnErr result (record_of state.new ≡ record_of state.old) }
+{
+    let start = start_of_search(alloc, state, name, format)?;
+    let game = game_if(alloc, true, start.as_ref())?;
+    state.games.reserve(1)?;
+    with_search(alloc, state, name, format)?;
+    match game {
+        None => Ok(start),
+        Some(game) => {
+            state.games.push(game).unwrap();
+            state.started += 1;
+            Ok(start)
+        }
+    }
+}
+
+/// Accept: the battle that it starts, which isn't rated.
+pub(crate) fn after_accept(
+    alloc: Global,
+    state: &mut State,
+    name: &Name,
+    user: &Id,
+    cmd: &HallCmd,
+) -> Result<Option<Start>, AllocError>
+    requires cmd { cmd.now ≡ Accept user.now }
+    requires few { (record_of state.old).started < 65536 }
+    requires ready { AreReady (record_of state.old) }
+    ensures value { IfOk result (λ o. o ≡ start_of_accept (record_of state.old) name.now user.now) }
+    ensures fit { IfOk result (λ o. IfSome o (λ s. IsFit s (record_of state.old).config (record_of state.old).dex)) }
+    ensures ok { OnOk result (record_of state.new ≡ after_accept (record_of state.old) name.now user.now) }
+    ensures err { OnErr result (record_of state.new ≡ record_of state.old) }
+{
+    let start = start_of_accept(alloc, state, name, user)?;
+    let game = game_if(alloc, false, start.as_ref())?;
+    state.games.reserve(1)?;
+    state.pms.apply(alloc, name.id(), cmd)?;
+    drop_kept(&mut state.challenge_teams, user, name.id());
+    match game {
+        None => Ok(start),
+        Some(game) => {
+            state.games.push(game).unwrap();
+            state.started += 1;
+            Ok(start)
+        }
+    }
+}
