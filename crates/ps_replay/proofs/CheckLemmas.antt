@@ -11,10 +11,11 @@ use Rattle.ps_dex.specs.declared.row.Tables.{Tables}
 use Rattle.ps_rules.specs.declared.row.RuleTable.{RuleTable}
 use Rattle.ps_valid.specs.TeamRows.{legal_in}
 use Rattle.ps_replay.specs.declared.status.Status.{Status}
-use Rattle.ps_replay.specs.declared.status.Status.TheVariants.{Done, Usage, FileMissing, FileFault, FileLong, BadDex, BadConfig, BadScript, ScriptLong, ReadFault, WriteFault, BadTeam, NoMemory, UnknownFormat, BadPack, NotBuilt}
+use Rattle.ps_replay.specs.declared.status.Status.TheVariants.{Done, Usage, FileMissing, FileFault, FileLong, BadDex, BadConfig, BadScript, ScriptLong, ReadFault, WriteFault, BadTeam, NoMemory, UnknownFormat, BadPack}
 use Rattle.ps_replay.specs.Outcomes.{IsSettled}
 use Rattle.ps_replay.specs.Words.{Checked}
-use Rattle.ps_replay.specs.Checks.{dex_in, config_in, text_in, rules_in, IsLegal, IsBroken, IsUnpacked, TextEnds, IsFaultOf, Then, TeamEnds, FormatEnds, ConfigEnds, CheckEnds, Told, IsNamed, CheckCause, SettlesCheck}
+use Rattle.ps_replay.specs.Steps.{IsFaultOf, dex_in, config_in}
+use Rattle.ps_replay.specs.Checks.{text_in, rules_in, IsLegal, IsBroken, IsUnpacked, TextEnds, Then, TeamEnds, FormatEnds, ConfigEnds, CheckEnds, Told, IsNamed, CheckCause, SettlesCheck}
 
 -- ---- a legal team has no other end
 
@@ -35,7 +36,6 @@ Harmless ReadFault = ⊥
 Harmless (BadTeam set rule subject) = ⊥
 Harmless (UnknownFormat id) = ⊥
 Harmless (BadPack at kind) = ⊥
-Harmless (NotBuilt line) = ⊥
 
 no_fault : (named : Option (List ℕ)) → IsFaultOf named Done → ⊥
 no_fault None fault = fault
@@ -81,7 +81,6 @@ only_text dex rules text (BadScript line kind) legal h = absurd h
 only_text dex rules text (ScriptLong count) legal h = absurd h
 only_text dex rules text ReadFault legal h = absurd h
 only_text dex rules text (UnknownFormat id) legal h = absurd h
-only_text dex rules text (NotBuilt line) legal h = absurd h
 
 only_end : (look : List ℕ → Option (List ℕ)) (words : Checked) (status : Status) → CheckEnds look words Done → CheckEnds look words status → Harmless status
 only_end look words status =
@@ -107,7 +106,6 @@ harmless_settles one old new write_fault ReadFault cause wrote files sink h = ab
 harmless_settles one old new write_fault (BadTeam set rule subject) cause wrote files sink h = absurd h
 harmless_settles one old new write_fault (UnknownFormat id) cause wrote files sink h = absurd h
 harmless_settles one old new write_fault (BadPack at kind) cause wrote files sink h = absurd h
-harmless_settles one old new write_fault (NotBuilt line) cause wrote files sink h = absurd h
 
 -- completeness of a check
 pub check_settles : (held : Option (List ℕ → Option (List ℕ))) (words : Checked) (old new : FileCounts) (write_fault : Type 0) (status : Status) → Told held (λ look. CheckEnds look words) status → CheckCause (IsNamed words) old new status → (status ≡ WriteFault → write_fault) → SettlesCheck held (Rose old.faults new.faults) write_fault words status

@@ -5,8 +5,9 @@ use Rattle.std.proofs.KnownBytes.{Appends-trans, Appends-nil}
 use Rattle.std.proofs.lemmas.List.{append-nil}
 use Rattle.ps_outside.specs.Sinks.{AppendsFront}
 use Rattle.ps_script.specs.declared.item.Item.{Item}
+use Rattle.ps_world.specs.Entries.{State}
+use Rattle.ps_world.specs.Tables.{item_text, item_after, text_from}
 use Rattle.ps_replay.specs.Flow.{MovesFront}
-use Rattle.ps_replay.specs.Tables.{State, item_text, item_after, text_from}
 
 pub record Came (old new : Option (List ℕ)) (all pending : List ℕ) (s : State) (rest : List Item) : Type 0 where
   pub front : List ℕ

@@ -1,13 +1,5 @@
-pub mod BlockLemmas
 pub mod CheckLemmas
-pub mod EntryLemmas
 pub mod FlowLemmas
-pub mod HistoryLemmas
 pub mod OutcomeLemmas
-pub mod OverLemmas
-pub mod PlayLemmas
-pub mod PrintLemmas
-pub mod RouteLemmas
+pub mod SetupLemmas
 pub mod SymbolLemmas
-pub mod TextLemmas
-pub mod TwoWorldLemmas

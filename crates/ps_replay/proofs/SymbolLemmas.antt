@@ -1,27 +1,24 @@
--- Scripts and the default groups have one table of symbols.
-use Rattle.std.proofs.Common.{◌≡◌, ℕ, ◌==◌, Bool, true, false, [], ◌∷◌, Some, None, refl, arith}
-use Rattle.std.specs.Prelude.{if◌then◌else◌}
-use Rattle.std.specs.List.{position}
-use Rattle.std.proofs.lemmas.Bool.Decides.{nat_tests}
-use Rattle.ps_group.specs.Defaults.{default_groups}
-use Rattle.ps_group.specs.Ranks.{rank_of}
-use Rattle.ps_script.specs.Groups.{rank_of as rank_in_scripts}
+-- The symbols of groups, one by one.
+use Rattle.std.proofs.Common.{◌≡◌, ℕ, ◌+◌, ◌<◌, List, [], ◌∷◌, ◌++◌, length, take, get_or, Option, refl, sym, ap, ◌∙◌, arith}
+use Rattle.std.specs.Prelude.{unwrap_or}
+use Rattle.std.proofs.lemmas.List.{take_more, length-map}
+use Rattle.std.proofs.lemmas.Option.{slice_get-map, unwrap_or-slice_get}
+use Rattle.std.proofs.lemmas.Bool.{lt-ltb}
+use Rattle.ps_group.specs.declared.group.Group.{Group}
+use Rattle.ps_group.specs.Ranks.{in_force, symbol_of}
+use Rattle.ps_replay.specs.Outcomes.{symbols_of}
 
--- the place of the first of six tests that holds
-first_of : (a b c d e f : Bool) → (if a then Some 0 else (if b then Some 1 else (if c then Some 2 else (if d then Some 3 else (if e then Some 4 else (if f then Some 5 else None)))))) ≡ position (λ (t : Bool). t) (a ∷ b ∷ c ∷ d ∷ e ∷ f ∷ [])
-first_of true b c d e f = refl
-first_of false true c d e f = refl
-first_of false false true d e f = refl
-first_of false false false true e f = refl
-first_of false false false false true f = refl
-first_of false false false false false true = refl
-first_of false false false false false false = refl
+-- a rank below the count is in force
+own_rank : (groups : List Group) (rank : ℕ) → rank < length groups → in_force rank groups ≡ rank
+own_rank groups rank within = rw (lt-ltb rank (length groups) within) refl
 
-turned : (a b : ℕ) → (a == b) ≡ (b == a)
-turned a b = grind (arith, nat_tests)
+-- and its symbol is that group's own
+own_symbol : (groups : List Group) (rank : ℕ) → rank < length groups → symbol_of rank groups ≡ get_or (symbols_of groups) rank 32
+own_symbol groups rank within =
+    rw (own_rank groups rank within)
+    (ap (λ (o : Option ℕ). unwrap_or o 32) (sym (slice_get-map (λ (g : Group). g.symbol) groups rank)) ∙ unwrap_or-slice_get (symbols_of groups) rank 32)
 
-pub one_table : (symbol : ℕ) → rank_in_scripts symbol ≡ rank_of symbol default_groups
-unfolding default_groups
-one_table symbol =
-    rw (turned symbol 126, turned symbol 35, turned symbol 64, turned symbol 37, turned symbol 43, turned symbol 32)
-    (first_of (126 == symbol) (35 == symbol) (64 == symbol) (37 == symbol) (43 == symbol) (32 == symbol))
+pub next_symbol : (groups : List Group) (rank : ℕ) → rank < length groups → take (rank + 1) (symbols_of groups) ≡ take rank (symbols_of groups) ++ symbol_of rank groups ∷ []
+next_symbol groups rank within =
+    take_more (symbols_of groups) rank 32 (omega (arith, length-map groups (λ (g : Group). g.symbol)))
+    ∙ ap (λ (s : ℕ). take rank (symbols_of groups) ++ s ∷ []) (sym (own_symbol groups rank within))

@@ -28,51 +28,13 @@ use Rattle.ps_valid.specs.Reading.{config_of}
 use Rattle.ps_valid.specs.Standard.{standard}
 use Rattle.ps_valid.specs.TeamRows.{legal_in}
 use Rattle.ps_replay.specs.declared.status.Status.{Status}
-use Rattle.ps_replay.specs.declared.status.Status.TheVariants.{Done, Usage, FileMissing, FileFault, FileLong, BadDex, BadConfig, BadScript, ScriptLong, ReadFault, WriteFault, BadTeam, NoMemory, UnknownFormat, BadPack, NotBuilt}
+use Rattle.ps_replay.specs.declared.status.Status.TheVariants.{Done, Usage, FileMissing, FileFault, FileLong, BadDex, BadConfig, BadScript, ScriptLong, ReadFault, WriteFault, BadTeam, NoMemory, UnknownFormat, BadPack}
 use Rattle.ps_replay.specs.Words.{Checked, Asked, Replays, Checks}
-use Rattle.ps_replay.specs.Outcomes.{most_dex, WritesPrefix, IsSettled}
-
--- ---- each file, where what is under each name is told by `look`
-
-abbrev pub most_config : ℕ
-most_config = 1048576
+use Rattle.ps_replay.specs.Steps.{IsFaultOf, within, from_file, dex_in, config_in}
+use Rattle.ps_replay.specs.Outcomes.{WritesPrefix, IsSettled}
 
 abbrev pub most_team : ℕ
 most_team = 8192
-
--- the bytes of a file, or why it has none within its limit
-abbrev pub within : ℕ → List ℕ → Option (List ℕ) → Result (List ℕ) Status
-within limit name None = Err (FileMissing name)
-within limit name (Some bytes) = if nat_le (length bytes) limit then Ok bytes else Err (FileLong name)
-
--- what is read of the bytes of a file, if it has them
-abbrev pub from_file : {A : Type 0} → (List ℕ → Result A Status) → Result (List ℕ) Status → Result A Status
-from_file read (Ok bytes) = read bytes
-from_file read (Err status) = Err status
-
-abbrev pub dex_read : Result Tables Fault → Result Tables Status
-dex_read (Ok dex) = Ok dex
-dex_read (Err fault) = Err (BadDex (path_text fault.path) fault.kind)
-
-abbrev pub dex_of : List ℕ → Result Tables Status
-dex_of bytes = dex_read (tables_of bytes)
-
--- the dex: nothing is said in it where no file is named
-abbrev pub dex_in : (List ℕ → Option (List ℕ)) → Option (List ℕ) → Result Tables Status
-dex_in look None = Ok no_tables
-dex_in look (Some name) = from_file dex_of (within most_dex name (look name))
-
-abbrev pub config_read : Result Settings Fault → Result Settings Status
-config_read (Ok settings) = Ok settings
-config_read (Err fault) = Err (BadConfig (path_text fault.path) fault.kind)
-
-abbrev pub settings_of : Tables → List ℕ → Result Settings Status
-settings_of dex bytes = config_read (config_of dex bytes)
-
--- the configuration over a dex: the standard one where no file is named
-abbrev pub config_in : (List ℕ → Option (List ℕ)) → Tables → Option (List ℕ) → Result Settings Status
-config_in look dex None = Ok standard
-config_in look dex (Some name) = from_file (settings_of dex) (within most_config name (look name))
 
 -- the text of a team: one newline at the file's end is dropped
 abbrev pub text_of : List ℕ → Result (List ℕ) Status
@@ -129,12 +91,6 @@ TextEnds dex rules text (ScriptLong count) = ⊥
 TextEnds dex rules text ReadFault = ⊥
 TextEnds dex rules text NoMemory = ⊥
 TextEnds dex rules text (UnknownFormat id) = ⊥
-TextEnds dex rules text (NotBuilt line) = ⊥
-
--- the file that is read fails
-abbrev pub IsFaultOf : Option (List ℕ) → Status → Type 0
-IsFaultOf None status = ⊥
-IsFaultOf (Some name) status = status ≡ FileFault name
 
 -- a step that tells a status ends the check, and else what follows on its value does
 abbrev pub Then : {A : Type 0} → Result A Status → (A → Status → Type 0) → Status → Type 0
@@ -182,7 +138,6 @@ CheckCause named old new (BadTeam set rule subject) = Unit {0}
 CheckCause named old new NoMemory = Unit {0}
 CheckCause named old new (UnknownFormat id) = Unit {0}
 CheckCause named old new (BadPack at kind) = Unit {0}
-CheckCause named old new (NotBuilt line) = ⊥
 
 -- ---- what was written
 
@@ -207,13 +162,12 @@ WritesLegal old new (BadTeam set rule subject) = Keeps old new
 WritesLegal old new NoMemory = Keeps old new
 WritesLegal old new (UnknownFormat id) = Keeps old new
 WritesLegal old new (BadPack at kind) = Keeps old new
-WritesLegal old new (NotBuilt line) = Keeps old new
 
 -- what was written at a status other than Done of a replay, by what the words ask for
-abbrev pub Writes : Result Asked ℕ → Option (List ℕ) → Option (List ℕ) → Option (List ℕ) → Status → Type 0
-Writes (Ok (Replays dex)) left old new status = WritesPrefix left old new status
-Writes (Ok (Checks words)) left old new status = WritesLegal old new status
-Writes (Err at) left old new status = Keeps old new
+abbrev pub Writes : Result Asked ℕ → Option (List ℕ → Option (List ℕ)) → Option (List ℕ) → Option (List ℕ) → Option (List ℕ) → Status → Type 0
+Writes (Ok (Replays options)) held left old new status = WritesPrefix held options left old new status
+Writes (Ok (Checks words)) held left old new status = WritesLegal old new status
+Writes (Err at) held left old new status = Keeps old new
 
 -- the files are told, and the team of the check is legal
 abbrev pub HasLegal : Option (List ℕ → Option (List ℕ)) → Checked → Type 0

@@ -4,12 +4,13 @@ use Rattle.std.specs.Option.{IsSomeAnd}
 use Rattle.ps_outside.specs.Causes.{Rose}
 use Rattle.ps_outside.specs.Files.{FileCounts}
 use Rattle.ps_replay.specs.declared.status.Status.{Status}
-use Rattle.ps_replay.specs.declared.status.Status.TheVariants.{Done, Usage, FileMissing, FileFault, FileLong, BadDex, BadConfig, BadScript, ScriptLong, ReadFault, WriteFault, BadTeam, NoMemory, UnknownFormat, BadPack, NotBuilt}
+use Rattle.ps_replay.specs.declared.status.Status.TheVariants.{Done, Usage, FileMissing, FileFault, FileLong, BadDex, BadConfig, BadScript, ScriptLong, ReadFault, WriteFault, BadTeam, NoMemory, UnknownFormat, BadPack}
 use Rattle.ps_packed.specs.declared.fault.PackFault.{PackFault}
 use Rattle.ps_packed.specs.declared.fault.PackFault.TheVariants as pack_faults
 use Rattle.ps_valid.specs.declared.verdict.Verdict.{Verdict}
 use Rattle.ps_valid.specs.declared.start.Legal.{Legal}
-use Rattle.ps_replay.specs.Checks.{IsFaultOf, IsUnpacked}
+use Rattle.ps_replay.specs.Steps.{IsFaultOf}
+use Rattle.ps_replay.specs.Checks.{IsUnpacked}
 
 -- why a file of a name wasn't read
 abbrev pub NoFile : List ℕ → ℕ → Option (List ℕ → Option (List ℕ)) → FileCounts → FileCounts → Status → Type 0
@@ -28,7 +29,6 @@ NoFile name limit held old new WriteFault = ⊥
 NoFile name limit held old new (BadTeam set rule subject) = ⊥
 NoFile name limit held old new (UnknownFormat id) = ⊥
 NoFile name limit held old new (BadPack at kind) = ⊥
-NoFile name limit held old new (NotBuilt line) = ⊥
 
 -- the statuses by which a step ends a check; that of a file names the step's file, and its count rose
 abbrev pub StepCause : Option (List ℕ) → FileCounts → FileCounts → Status → Type 0
@@ -37,7 +37,6 @@ StepCause named old new (FileFault name) = (named ≡ Some name) × Rose old.fau
 StepCause named old new (FileLong name) = (named ≡ Some name) × Rose old.long new.long
 StepCause named old new (BadDex path kind) = Unit {0}
 StepCause named old new (BadConfig path kind) = Unit {0}
-StepCause named old new (UnknownFormat id) = Unit {0}
 StepCause named old new NoMemory = Unit {0}
 StepCause named old new Done = ⊥
 StepCause named old new (Usage word) = ⊥
@@ -46,8 +45,26 @@ StepCause named old new (ScriptLong count) = ⊥
 StepCause named old new ReadFault = ⊥
 StepCause named old new WriteFault = ⊥
 StepCause named old new (BadTeam set rule subject) = ⊥
+StepCause named old new (UnknownFormat id) = ⊥
 StepCause named old new (BadPack at kind) = ⊥
-StepCause named old new (NotBuilt line) = ⊥
+
+-- the statuses by which the look-up of a format ends a check
+abbrev pub FormatCause : Status → Type 0
+FormatCause (UnknownFormat id) = Unit {0}
+FormatCause NoMemory = Unit {0}
+FormatCause Done = ⊥
+FormatCause (Usage word) = ⊥
+FormatCause (FileMissing name) = ⊥
+FormatCause (FileFault name) = ⊥
+FormatCause (FileLong name) = ⊥
+FormatCause (BadDex path kind) = ⊥
+FormatCause (BadConfig path kind) = ⊥
+FormatCause (BadScript line kind) = ⊥
+FormatCause (ScriptLong count) = ⊥
+FormatCause ReadFault = ⊥
+FormatCause WriteFault = ⊥
+FormatCause (BadTeam set rule subject) = ⊥
+FormatCause (BadPack at kind) = ⊥
 
 -- a step gave this value, where the files are told
 abbrev pub Gave : {A : Type 0} → Option (List ℕ → Option (List ℕ)) → ((List ℕ → Option (List ℕ)) → Result A Status) → A → Type 0
@@ -74,7 +91,6 @@ IsOfText (BadScript line kind) = ⊥
 IsOfText (ScriptLong count) = ⊥
 IsOfText ReadFault = ⊥
 IsOfText (UnknownFormat id) = ⊥
-IsOfText (NotBuilt line) = ⊥
 
 -- why the bytes of a text have no team; want of memory may come in its place
 abbrev pub Unpacks : List ℕ → PackFault → Type 0
@@ -98,4 +114,3 @@ RulesEnd found (BadScript line kind) = ⊥
 RulesEnd found (ScriptLong count) = ⊥
 RulesEnd found ReadFault = ⊥
 RulesEnd found (UnknownFormat id) = ⊥
-RulesEnd found (NotBuilt line) = ⊥

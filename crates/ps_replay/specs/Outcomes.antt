@@ -1,28 +1,29 @@
 -- What a status says.
-use Rattle.std.specs.Prelude.{◌≡◌, ◌⊎◌, ℕ, ◌<◌, ◌≤◌, List, length, Option, Some, None, IfSome, Result, Ok, Err}
+use Rattle.std.specs.Prelude.{◌≡◌, ◌⊎◌, ℕ, List, map, Option, Some, None, IfSome, Result, Ok, Err}
 use Rattle.std.specs.Option.{IsSomeAnd}
 use Rattle.std.specs.Io.KnownBytes.{Appends, Keeps}
+use Rattle.ps_group.specs.declared.group.Group.{Group}
 use Rattle.ps_outside.specs.Causes.{Rose}
 use Rattle.ps_outside.specs.Files.{FileCounts}
 use Rattle.ps_outside.specs.declared.files.FileEnd.{FileEnd}
 use Rattle.ps_outside.specs.declared.files.FileEnd.TheVariants as file_ends
 use Rattle.ps_outside.specs.Sinks.{AppendsFront}
-use Rattle.ps_data.specs.Paths.{path_text}
-use Rattle.ps_data.specs.declared.fault.Fault.{Fault}
-use Rattle.ps_data.specs.declared.fault.DataKind.{DataKind}
 use Rattle.ps_dex.specs.declared.row.Tables.{Tables}
-use Rattle.ps_dex.specs.Tables.{tables_of}
+use Rattle.ps_valid.specs.declared.row.Settings.{Settings}
 use Rattle.ps_script.specs.declared.item.Item.{Item}
 use Rattle.ps_script.specs.declared.script.ScriptKind.{ScriptKind}
 use Rattle.ps_script.specs.Scripts.{IsScript, IsFirstFault}
 use Rattle.ps_script.specs.Limits.{long_of}
 use Rattle.ps_replay.specs.declared.status.Status.{Status}
-use Rattle.ps_replay.specs.declared.status.Status.TheVariants.{Done, Usage, FileMissing, FileFault, FileLong, BadDex, BadConfig, BadScript, ScriptLong, ReadFault, WriteFault, BadTeam, NoMemory, UnknownFormat, BadPack, NotBuilt}
-use Rattle.ps_replay.specs.Worlds.{Place, world_view}
-use Rattle.ps_replay.specs.Entries.{ranks_of, entries, unbuilt_line}
-use Rattle.ps_replay.specs.Transcript.{messages, output, block}
-use Rattle.ps_replay.specs.OneEntry.{HasOneEntryEach}
-use Rattle.ps_replay.specs.Words.{Asked, Replays, words_in}
+use Rattle.ps_replay.specs.declared.status.Status.TheVariants.{Done, Usage, FileMissing, FileFault, FileLong, BadDex, BadConfig, BadScript, ScriptLong, ReadFault, WriteFault, BadTeam, NoMemory, UnknownFormat, BadPack}
+use Rattle.ps_world.specs.Setup.{Setup, setup_of}
+use Rattle.ps_world.specs.Worlds.{Place, world_view}
+use Rattle.ps_world.specs.Entries.{world_of}
+use Rattle.ps_world.specs.Transcript.{messages, output, block}
+use Rattle.ps_world.specs.OneEntry.{HasOneEntryEach, AreHistories}
+use Rattle.ps_world.specs.TwoWorlds.{HasEqualBlocks}
+use Rattle.ps_replay.specs.Words.{Options, Asked, Replays, words_in}
+use Rattle.ps_replay.specs.Steps.{IsFaultOf, dex_in, config_in}
 
 -- ---- the words
 
@@ -50,51 +51,59 @@ usage_told (BadTeam set rule subject) = None
 usage_told NoMemory = None
 usage_told (UnknownFormat id) = None
 usage_told (BadPack at kind) = None
-usage_told (NotBuilt line) = None
 
--- ---- the dex file
+-- ---- what a replay stands on
 
-abbrev pub most_dex : ℕ
-most_dex = 16777216
+-- A step has this value: where it names no file, whatever files there are, and else where they are told.
+abbrev pub Stands : {A : Type 0} → Option (List ℕ → Option (List ℕ)) → Option (List ℕ) → ((List ℕ → Option (List ℕ)) → Result A Status) → A → Type 0
+Stands held None step x = (look : List ℕ → Option (List ℕ)) → step look ≡ Ok x
+Stands held (Some name) step x = IfSome held (λ look. step look ≡ Ok x)
 
--- the bytes are a dex file, within its limit
-pub record IsDexFile (bytes : List ℕ) : Type 0 where
-  pub within : length bytes ≤ most_dex
-  pub tables : Tables
-  pub dex : tables_of bytes ≡ Ok tables
+-- this dex, and this configuration over it
+pub record IsSetUp (held : Option (List ℕ → Option (List ℕ))) (options : Options) (config : Settings) (dex : Tables) : Type 0 where
+  pub dex_is : Stands held options.dex (λ look. dex_in look options.dex) dex
+  pub config_is : Stands held options.config (λ look. config_in look dex options.config) config
 
--- the bytes are none: the path of the first fault, and its kind
-pub record IsBadDex (path : List ℕ) (kind : DataKind) (bytes : List ℕ) : Type 0 where
-  pub within : length bytes ≤ most_dex
-  pub fault : Fault
-  pub none : tables_of bytes ≡ Err fault
-  pub path_is : path ≡ path_text fault.path
-  pub kind_is : kind ≡ fault.kind
+-- of a configuration and a dex that the words and the files give
+abbrev pub HasSetup : Option (List ℕ → Option (List ℕ)) → Options → (Settings → Tables → Type 0) → Type 0
+HasSetup held options says = (config : Settings) × (dex : Tables) × IsSetUp held options config dex × says config dex
 
--- where the files are told, the one that the words name is a dex file
-abbrev pub HasDex : Option (List ℕ) → Option (List ℕ → Option (List ℕ)) → Type 0
-HasDex named held = IfSome named (λ name. IfSome held (λ look. IsSomeAnd (look name) IsDexFile))
+-- a file stopped the run before the input was read: where the files are told, this is the status of the dex, or of the
+-- configuration over it
+abbrev pub IsStopOf : {A : Type 0} → Option (List ℕ) → Result A Status → Status → Type 0
+IsStopOf named step status = IsFaultOf named status ⊎ (step ≡ Err status)
 
--- why there is no dex, and at every later status that there is one
-abbrev pub FilesCause : Option (List ℕ) → Option (List ℕ → Option (List ℕ)) → FileCounts → FileCounts → Status → Type 0
-FilesCause named held old new (FileMissing name) = (named ≡ Some name) × IfSome held (λ look. look name ≡ None) × Rose old.missing new.missing
-FilesCause named held old new (FileFault name) = (named ≡ Some name) × Rose old.faults new.faults
-FilesCause named held old new (FileLong name) = (named ≡ Some name) × IfSome held (λ look. IsSomeAnd (look name) (λ bytes. most_dex < length bytes)) × Rose old.long new.long
-FilesCause named held old new (BadDex path kind) = IsSomeAnd named (λ name. IfSome held (λ look. IsSomeAnd (look name) (IsBadDex path kind)))
-FilesCause named held old new (BadConfig path kind) = ⊥
-FilesCause named held old new (Usage word) = Unit {0}
-FilesCause named held old new NoMemory = Unit {0}
-FilesCause named held old new (UnknownFormat id) = ⊥
-FilesCause named held old new (BadPack at kind) = ⊥
-FilesCause named held old new Done = HasDex named held
-FilesCause named held old new (BadScript line kind) = HasDex named held
-FilesCause named held old new (ScriptLong count) = HasDex named held
-FilesCause named held old new ReadFault = HasDex named held
-FilesCause named held old new WriteFault = HasDex named held
-FilesCause named held old new (BadTeam set rule subject) = ⊥
-FilesCause named held old new (NotBuilt line) = HasDex named held
+pub record StopsAtConfig (options : Options) (look : List ℕ → Option (List ℕ)) (status : Status) : Type 0 where
+  pub dex : Tables
+  pub dex_is : dex_in look options.dex ≡ Ok dex
+  pub stop : IsStopOf options.config (config_in look dex options.config) status
 
--- what is left of the input stays where the words or the dex file ended the run
+abbrev pub Stops : Option (List ℕ → Option (List ℕ)) → Options → Status → Type 0
+Stops held options status = IfSome held (λ look. IsStopOf options.dex (dex_in look options.dex) status ⊎ StopsAtConfig options look status)
+
+-- the words name the file
+abbrev pub IsOption : Options → List ℕ → Type 0
+IsOption options name = (options.dex ≡ Some name) ⊎ (options.config ≡ Some name)
+
+-- ---- the input
+
+-- the symbols that the `G` lines of a script may have
+abbrev pub symbols_of : List Group → List ℕ
+symbols_of groups = map (λ g. g.symbol) groups
+
+-- the input is within its limits, and some script
+pub record IsReadable (groups : List Group) (bytes : List ℕ) : Type 0 where
+  pub within : long_of bytes ≡ None
+  pub items : List Item
+  pub script : IsScript (symbols_of groups) bytes items
+
+-- no script: the first line that can't stand in one, counted from 1, and what is wrong with it
+pub record IsBadScript (groups : List Group) (line : ℕ) (kind : ScriptKind) (bytes : List ℕ) : Type 0 where
+  pub within : long_of bytes ≡ None
+  pub none : (items : List Item) → IsScript (symbols_of groups) bytes items → ⊥
+  pub fault : IsFirstFault (symbols_of groups) bytes line kind
+
+-- what is left of the input stays where the words or the files ended the run
 abbrev pub KeepsInput : Option (List ℕ) → Option (List ℕ) → Status → Type 0
 KeepsInput old new (Usage word) = new ≡ old
 KeepsInput old new (FileMissing name) = new ≡ old
@@ -111,21 +120,119 @@ KeepsInput old new (BadTeam set rule subject) = new ≡ old
 KeepsInput old new NoMemory = Unit {0}
 KeepsInput old new (UnknownFormat id) = new ≡ old
 KeepsInput old new (BadPack at kind) = new ≡ old
-KeepsInput old new (NotBuilt line) = Unit {0}
 
--- ---- the input
+-- ---- what was written
 
--- the input spells these lines, within its limits, and none of them makes an entry that isn't built
-pub record IsBuiltScript (bytes : List ℕ) (items : List Item) : Type 0 where
-  pub within : long_of bytes ≡ None
-  pub script : IsScript bytes items
-  pub built : unbuilt_line items ≡ None
-
--- the input is within its limits, and some script
-pub record IsReadable (bytes : List ℕ) : Type 0 where
+-- all of the transcript of the one script, and nothing else; each connection's block from a place is its view there
+pub record IsTranscript (config : Settings) (dex : Tables) (old new : Option (List ℕ)) (bytes : List ℕ) : Type 0 where
   pub within : long_of bytes ≡ None
   pub items : List Item
-  pub script : IsScript bytes items
+  pub script : IsScript (symbols_of config.groups) bytes items
+  pub wrote : Appends old new (output (setup_of config dex items) items)
+  pub blocks : (conn : ℕ) (place : Place) → block conn place (messages (setup_of config dex items) items) ≡ world_view conn place (world_of (setup_of config dex items) items)
+
+-- each text of the script is one entry
+abbrev pub HasOneEntryEachText : Settings → Tables → List ℕ → Type 0
+HasOneEntryEachText config dex bytes = (items : List Item) → IsScript (symbols_of config.groups) bytes items → HasOneEntryEach (setup_of config dex items) items
+
+-- and these entries, in order, are the history of each place
+abbrev pub HasHistories : Settings → Tables → List ℕ → Type 0
+HasHistories config dex bytes = (items : List Item) → IsScript (symbols_of config.groups) bytes items → AreHistories (setup_of config dex items) items
+
+-- a connection's block from a chat room is the same for every script whose world there is the same to it
+abbrev pub HasEqualWorlds : Settings → Tables → List ℕ → Type 0
+HasEqualWorlds config dex bytes = (items : List Item) → IsScript (symbols_of config.groups) bytes items → HasEqualBlocks config dex items
+
+-- a front of the transcript
+pub record WritesFront (config : Settings) (dex : Tables) (old new : Option (List ℕ)) (bytes : List ℕ) : Type 0 where
+  pub within : long_of bytes ≡ None
+  pub items : List Item
+  pub script : IsScript (symbols_of config.groups) bytes items
+  pub front : AppendsFront old new (output (setup_of config dex items) items)
+
+-- what was written at a status other than Done, where the input is told: nothing before the whole script was read,
+-- and then a front
+abbrev pub FrontOf : Settings → Tables → Option (List ℕ) → Option (List ℕ) → Option (List ℕ) → Type 0
+FrontOf config dex left old new = IfSome left (WritesFront config dex old new)
+
+abbrev pub WritesPrefix : Option (List ℕ → Option (List ℕ)) → Options → Option (List ℕ) → Option (List ℕ) → Option (List ℕ) → Status → Type 0
+WritesPrefix held o left old new Done = Unit {0}
+WritesPrefix held o left old new (Usage word) = Keeps old new
+WritesPrefix held o left old new (FileMissing name) = Keeps old new
+WritesPrefix held o left old new (FileFault name) = Keeps old new
+WritesPrefix held o left old new (FileLong name) = Keeps old new
+WritesPrefix held o left old new (BadDex path kind) = Keeps old new
+WritesPrefix held o left old new (BadConfig path kind) = Keeps old new
+WritesPrefix held o left old new (BadScript line kind) = Keeps old new
+WritesPrefix held o left old new (ScriptLong count) = Keeps old new
+WritesPrefix held o left old new ReadFault = Keeps old new
+WritesPrefix held o left old new WriteFault = HasSetup held o (λ config dex. FrontOf config dex left old new)
+WritesPrefix held o left old new (BadTeam set rule subject) = Keeps old new
+WritesPrefix held o left old new NoMemory = Keeps old new ⊎ HasSetup held o (λ config dex. FrontOf config dex left old new)
+WritesPrefix held o left old new (UnknownFormat id) = Keeps old new
+WritesPrefix held o left old new (BadPack at kind) = Keeps old new
+
+-- ---- the cause of a status of a replay
+
+abbrev pub IsGood : Settings → Tables → Type 0
+IsGood config dex = Unit {0}
+
+-- what has shown each. A status of a file names one of the files of the words, and its count rose.
+abbrev pub ReplayCause : Option (List ℕ → Option (List ℕ)) → Options → Option (List ℕ) → FileCounts → FileCounts → Status → Type 0
+ReplayCause held o left old new Done = HasSetup held o IsGood
+ReplayCause held o left old new (Usage word) = ⊥
+ReplayCause held o left old new (FileMissing name) = Stops held o (FileMissing name) × IsOption o name × Rose old.missing new.missing
+ReplayCause held o left old new (FileFault name) = Stops held o (FileFault name) × IsOption o name × Rose old.faults new.faults
+ReplayCause held o left old new (FileLong name) = Stops held o (FileLong name) × IsOption o name × Rose old.long new.long
+ReplayCause held o left old new (BadDex path kind) = Stops held o (BadDex path kind)
+ReplayCause held o left old new (BadConfig path kind) = Stops held o (BadConfig path kind)
+ReplayCause held o left old new (BadScript line kind) = HasSetup held o (λ config dex. IfSome left (IsBadScript config.groups line kind))
+ReplayCause held o left old new (ScriptLong count) = HasSetup held o IsGood × IfSome left (λ bytes. long_of bytes ≡ Some count)
+ReplayCause held o left old new ReadFault = HasSetup held o IsGood
+ReplayCause held o left old new WriteFault = HasSetup held o IsGood
+ReplayCause held o left old new (BadTeam set rule subject) = ⊥
+ReplayCause held o left old new NoMemory = Unit {0}
+ReplayCause held o left old new (UnknownFormat id) = ⊥
+ReplayCause held o left old new (BadPack at kind) = ⊥
+
+-- ---- completeness
+
+-- Done or NoMemory
+abbrev pub IsSettled : Status → Type 0
+IsSettled Done = Unit {0}
+IsSettled (Usage word) = ⊥
+IsSettled (FileMissing name) = ⊥
+IsSettled (FileFault name) = ⊥
+IsSettled (FileLong name) = ⊥
+IsSettled (BadDex path kind) = ⊥
+IsSettled (BadConfig path kind) = ⊥
+IsSettled (BadScript line kind) = ⊥
+IsSettled (ScriptLong count) = ⊥
+IsSettled ReadFault = ⊥
+IsSettled WriteFault = ⊥
+IsSettled (BadTeam set rule subject) = ⊥
+IsSettled NoMemory = Unit {0}
+IsSettled (UnknownFormat id) = ⊥
+IsSettled (BadPack at kind) = ⊥
+
+-- a step has this value, where it names no file, or the files are told
+abbrev pub IsKnown : {A : Type 0} → Option (List ℕ → Option (List ℕ)) → Option (List ℕ) → ((List ℕ → Option (List ℕ)) → Result A Status) → A → Type 0
+IsKnown held None step x = (look : List ℕ → Option (List ℕ)) → step look ≡ Ok x
+IsKnown held (Some name) step x = IsSomeAnd held (λ look. step look ≡ Ok x)
+
+-- the words' files are told and good, and the input is told, within its limits and a script
+pub record IsReadied (held : Option (List ℕ → Option (List ℕ))) (options : Options) (left : Option (List ℕ)) : Type 0 where
+  pub dex : Tables
+  pub dex_is : IsKnown held options.dex (λ look. dex_in look options.dex) dex
+  pub config : Settings
+  pub config_is : IsKnown held options.config (λ look. config_in look dex options.config) config
+  pub script : IsSomeAnd left (IsReadable config.groups)
+
+-- that, with no fault of the files, the source or the sink, settles a run
+abbrev pub Settles : Option (List ℕ → Option (List ℕ)) → Options → Option (List ℕ) → Type 0 → Type 0 → Type 0 → Status → Type 0
+Settles held options left file_fault read_fault write_fault status = IsReadied held options left → (file_fault → ⊥) → (read_fault → ⊥) → (write_fault → ⊥) → IsSettled status
+
+-- ---- for the code alone
 
 -- a status that the words and the files have no part in
 abbrev pub IsOfInput : Status → Type 0
@@ -144,139 +251,35 @@ IsOfInput (BadTeam set rule subject) = ⊥
 IsOfInput NoMemory = Unit {0}
 IsOfInput (UnknownFormat id) = ⊥
 IsOfInput (BadPack at kind) = ⊥
-IsOfInput (NotBuilt line) = Unit {0}
 
--- ---- what was written
+-- what has shown a status of the input, where it is told
+abbrev pub InputCause : List Group → Option (List ℕ) → Status → Type 0
+InputCause groups left (BadScript line kind) = IfSome left (IsBadScript groups line kind)
+InputCause groups left (ScriptLong count) = IfSome left (λ bytes. long_of bytes ≡ Some count)
+InputCause groups left Done = Unit {0}
+InputCause groups left (Usage word) = Unit {0}
+InputCause groups left (FileMissing name) = Unit {0}
+InputCause groups left (FileFault name) = Unit {0}
+InputCause groups left (FileLong name) = Unit {0}
+InputCause groups left (BadDex path kind) = Unit {0}
+InputCause groups left (BadConfig path kind) = Unit {0}
+InputCause groups left ReadFault = Unit {0}
+InputCause groups left WriteFault = Unit {0}
+InputCause groups left (BadTeam set rule subject) = Unit {0}
+InputCause groups left NoMemory = Unit {0}
+InputCause groups left (UnknownFormat id) = Unit {0}
+InputCause groups left (BadPack at kind) = Unit {0}
 
--- all of the transcript of the one script, and nothing else; each connection's block from a place is its view there
-pub record IsTranscript (old new : Option (List ℕ)) (bytes : List ℕ) : Type 0 where
-  pub items : List Item
-  pub script : IsBuiltScript bytes items
-  pub wrote : Appends old new (output items)
-  pub blocks : (conn : ℕ) (place : Place) → block conn place (messages items) ≡ world_view conn place (ranks_of items) (entries items)
+-- what was written at a status of the input
+abbrev pub WritesOfInput : Settings → Tables → Option (List ℕ) → Option (List ℕ) → Option (List ℕ) → Status → Type 0
+WritesOfInput config dex left old new WriteFault = FrontOf config dex left old new
+WritesOfInput config dex left old new NoMemory = Keeps old new ⊎ FrontOf config dex left old new
+WritesOfInput config dex left old new Done = Unit {0}
+WritesOfInput config dex left old new other = Keeps old new
 
--- each text of the script is one entry
-abbrev pub HasOneEntryEachText : List ℕ → Type 0
-HasOneEntryEachText bytes = (items : List Item) → IsScript bytes items → HasOneEntryEach items
-
--- a front of the transcript
-pub record WritesFront (old new : Option (List ℕ)) (bytes : List ℕ) : Type 0 where
-  pub items : List Item
-  pub script : IsBuiltScript bytes items
-  pub front : AppendsFront old new (output items)
-
--- what was written at a status other than Done, where the input is told: nothing before the whole script was read,
--- and then a front
-abbrev pub WritesPrefix : Option (List ℕ) → Option (List ℕ) → Option (List ℕ) → Status → Type 0
-WritesPrefix left old new Done = Unit {0}
-WritesPrefix left old new (Usage word) = Keeps old new
-WritesPrefix left old new (FileMissing name) = Keeps old new
-WritesPrefix left old new (FileFault name) = Keeps old new
-WritesPrefix left old new (FileLong name) = Keeps old new
-WritesPrefix left old new (BadDex path kind) = Keeps old new
-WritesPrefix left old new (BadConfig path kind) = Keeps old new
-WritesPrefix left old new (BadScript line kind) = Keeps old new
-WritesPrefix left old new (ScriptLong count) = Keeps old new
-WritesPrefix left old new ReadFault = Keeps old new
-WritesPrefix left old new WriteFault = IfSome left (WritesFront old new)
-WritesPrefix left old new (BadTeam set rule subject) = Keeps old new
-WritesPrefix left old new NoMemory = Keeps old new ⊎ IfSome left (WritesFront old new)
-WritesPrefix left old new (UnknownFormat id) = Keeps old new
-WritesPrefix left old new (BadPack at kind) = Keeps old new
-WritesPrefix left old new (NotBuilt line) = Keeps old new
-
--- ---- the cause of a status
-
--- no script: the first line that can't stand in one, counted from 1, and what is wrong with it
-pub record IsBadScript (line : ℕ) (kind : ScriptKind) (bytes : List ℕ) : Type 0 where
-  pub within : long_of bytes ≡ None
-  pub none : (items : List Item) → IsScript bytes items → ⊥
-  pub fault : IsFirstFault bytes line kind
-
--- a script, of which this line is the first that makes an entry of the hall that isn't built
-pub record IsUnbuilt (line : ℕ) (bytes : List ℕ) : Type 0 where
-  pub within : long_of bytes ≡ None
-  pub items : List Item
-  pub script : IsScript bytes items
-  pub first : unbuilt_line items ≡ Some line
-
--- why an input was not replayed, where it is told
-abbrev pub InputCause : Option (List ℕ) → Status → Type 0
-InputCause left Done = Unit {0}
-InputCause left (Usage word) = Unit {0}
-InputCause left (FileMissing name) = Unit {0}
-InputCause left (FileFault name) = Unit {0}
-InputCause left (FileLong name) = Unit {0}
-InputCause left (BadDex path kind) = Unit {0}
-InputCause left (BadConfig path kind) = Unit {0}
-InputCause left (BadScript line kind) = IfSome left (IsBadScript line kind)
-InputCause left (ScriptLong count) = IfSome left (λ bytes. long_of bytes ≡ Some count)
-InputCause left ReadFault = Unit {0}
-InputCause left WriteFault = Unit {0}
-InputCause left (BadTeam set rule subject) = Unit {0}
-InputCause left NoMemory = Unit {0}
-InputCause left (UnknownFormat id) = Unit {0}
-InputCause left (BadPack at kind) = Unit {0}
-InputCause left (NotBuilt line) = IfSome left (IsUnbuilt line)
-
--- ---- completeness
-
--- Done, NotBuilt or NoMemory
-abbrev pub IsSettled : Status → Type 0
-IsSettled Done = Unit {0}
-IsSettled (Usage word) = ⊥
-IsSettled (FileMissing name) = ⊥
-IsSettled (FileFault name) = ⊥
-IsSettled (FileLong name) = ⊥
-IsSettled (BadDex path kind) = ⊥
-IsSettled (BadConfig path kind) = ⊥
-IsSettled (BadScript line kind) = ⊥
-IsSettled (ScriptLong count) = ⊥
-IsSettled ReadFault = ⊥
-IsSettled WriteFault = ⊥
-IsSettled (BadTeam set rule subject) = ⊥
-IsSettled NoMemory = Unit {0}
-IsSettled (UnknownFormat id) = ⊥
-IsSettled (BadPack at kind) = ⊥
-IsSettled (NotBuilt line) = Unit {0}
-
--- no file is named, or the files are told, and the named one is a dex file
-abbrev pub KnowsDex : Option (List ℕ) → Option (List ℕ → Option (List ℕ)) → Type 0
-KnowsDex None held = Unit {0}
-KnowsDex (Some name) held = IsSomeAnd held (λ look. IsSomeAnd (look name) IsDexFile)
-
--- a script that is told, with no fault of the source or the sink, settles a run
-abbrev pub Settles : Option (List ℕ) → Type 0 → Type 0 → Status → Type 0
-Settles left read_fault write_fault status = IsSomeAnd left IsReadable → (read_fault → ⊥) → (write_fault → ⊥) → IsSettled status
-
--- and so it does with faultless words, and the dex file they name told and good, with no fault of the files
-abbrev pub IsComplete : List (List ℕ) → Option (List ℕ → Option (List ℕ)) → Option (List ℕ) → Type 0 → Type 0 → Type 0 → Status → Type 0
-IsComplete words held left file_fault read_fault write_fault status = (named : Option (List ℕ)) → words_in words ≡ Ok (Replays named) → KnowsDex named held → (file_fault → ⊥) → Settles left read_fault write_fault status
-
--- ---- for the code alone
-
--- a status that only the files and memory have a part in
-abbrev pub IsOfFiles : Status → Type 0
-IsOfFiles Done = ⊥
-IsOfFiles (Usage word) = ⊥
-IsOfFiles (FileMissing name) = Unit {0}
-IsOfFiles (FileFault name) = Unit {0}
-IsOfFiles (FileLong name) = Unit {0}
-IsOfFiles (BadDex path kind) = Unit {0}
-IsOfFiles (BadConfig path kind) = ⊥
-IsOfFiles (BadScript line kind) = ⊥
-IsOfFiles (ScriptLong count) = ⊥
-IsOfFiles ReadFault = ⊥
-IsOfFiles WriteFault = ⊥
-IsOfFiles (BadTeam set rule subject) = ⊥
-IsOfFiles NoMemory = Unit {0}
-IsOfFiles (UnknownFormat id) = ⊥
-IsOfFiles (BadPack at kind) = ⊥
-IsOfFiles (NotBuilt line) = ⊥
-
--- why there is no dex of this name
-abbrev pub NoDex : List ℕ → Option (List ℕ → Option (List ℕ)) → FileCounts → FileCounts → Status → Type 0
-NoDex name held old new status = IsOfFiles status × FilesCause (Some name) held old new status
+-- completeness, from the input on
+abbrev pub SettlesInput : List Group → Option (List ℕ) → Type 0 → Type 0 → Status → Type 0
+SettlesInput groups left read_fault write_fault status = IsSomeAnd left (IsReadable groups) → (read_fault → ⊥) → (write_fault → ⊥) → IsSettled status
 
 -- the status of a file that was not read, or want of memory
 abbrev pub IsFileStatus : List ℕ → FileEnd → Status → Type 0

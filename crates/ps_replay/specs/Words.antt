@@ -3,8 +3,14 @@ use Rattle.std.specs.Prelude.{ℕ, ◌+◌, Bool, false, not, List, [], ◌∷�
 use Rattle.std.specs.Option.{option_copied}
 use Rattle.std.specs.Str.{bytes_eq}
 use Rattle.ps_replay.specs.declared.words.CheckWords.{CheckWords}
+use Rattle.ps_replay.specs.declared.words.OptionWords.{OptionWords}
 use Rattle.ps_replay.specs.declared.words.Command.{Command}
 use Rattle.ps_replay.specs.declared.words.Command.TheVariants as commands
+
+-- the files that options name
+pub record Options : Type 0 where
+  pub dex : Option (List ℕ)
+  pub config : Option (List ℕ)
 
 -- what a check is asked for
 pub record Checked : Type 0 where
@@ -15,7 +21,7 @@ pub record Checked : Type 0 where
 
 -- what the words ask for
 pub data Asked : Type 0 where
-  Replays : Option (List ℕ) → Asked
+  Replays : Options → Asked
   Checks : Checked → Asked
 
 -- a word that names something: it isn't empty and doesn't begin with `-`
@@ -37,45 +43,50 @@ abbrev pub last_option : List ℕ → ℕ → List (List ℕ) → Result (Option
 last_option option at [] = Ok None
 last_option option at (word ∷ words) = if bytes_eq word option then last_name (at + 1) words else Err at
 
+-- ---- the options, each at most once, in either order
+
+abbrev pub with_config : Option (List ℕ) → Result (Option (List ℕ)) ℕ → Result Options ℕ
+with_config dex (Ok config) = Ok (record { dex = dex; config = config })
+with_config dex (Err at) = Err at
+
+abbrev pub with_dex : Option (List ℕ) → Result (Option (List ℕ)) ℕ → Result Options ℕ
+with_dex config (Ok dex) = Ok (record { dex = dex; config = config })
+with_dex config (Err at) = Err at
+
+-- behind `--dex`: its name, and then `--config` with its own, or nothing
+abbrev pub dex_first : ℕ → List (List ℕ) → Result Options ℕ
+dex_first at [] = Err at
+dex_first at (name ∷ words) = if is_name name then with_config (Some name) (last_option (codes "--config") (at + 1) words) else Err at
+
+-- behind `--config`: its name, and then `--dex` with its own, or nothing
+abbrev pub config_first : ℕ → List (List ℕ) → Result Options ℕ
+config_first at [] = Err at
+config_first at (name ∷ words) = if is_name name then with_dex (Some name) (last_option (codes "--dex") (at + 1) words) else Err at
+
+abbrev pub options_in : ℕ → List (List ℕ) → Result Options ℕ
+options_in at [] = Ok (record { dex = None; config = None })
+options_in at (word ∷ words) = if bytes_eq word (codes "--dex") then dex_first (at + 1) words else (if bytes_eq word (codes "--config") then config_first (at + 1) words else Err at)
+
 -- ---- replay
 
-abbrev pub replays : Result (Option (List ℕ)) ℕ → Result Asked ℕ
-replays (Ok dex) = Ok (Replays dex)
+abbrev pub replays : Result Options ℕ → Result Asked ℕ
+replays (Ok options) = Ok (Replays options)
 replays (Err at) = Err at
 
--- behind `replay`: `--dex` with its name, or nothing
+-- behind `replay`: the options
 abbrev pub replay_in : List (List ℕ) → Result Asked ℕ
-replay_in words = replays (last_option (codes "--dex") 1 words)
+replay_in words = replays (options_in 1 words)
 
 -- ---- check
 
-abbrev pub with_config : List ℕ → List ℕ → Option (List ℕ) → Result (Option (List ℕ)) ℕ → Result Asked ℕ
-with_config format team dex (Ok config) = Ok (Checks (record { format = format; team = team; dex = dex; config = config }))
-with_config format team dex (Err at) = Err at
-
-abbrev pub with_dex : List ℕ → List ℕ → Option (List ℕ) → Result (Option (List ℕ)) ℕ → Result Asked ℕ
-with_dex format team config (Ok dex) = Ok (Checks (record { format = format; team = team; dex = dex; config = config }))
-with_dex format team config (Err at) = Err at
-
--- behind `--dex`: its name, and then `--config` with its own, or nothing
-abbrev pub dex_first : List ℕ → List ℕ → List (List ℕ) → Result Asked ℕ
-dex_first format team [] = Err 4
-dex_first format team (name ∷ words) = if is_name name then with_config format team (Some name) (last_option (codes "--config") 5 words) else Err 4
-
--- behind `--config`: its name, and then `--dex` with its own, or nothing
-abbrev pub config_first : List ℕ → List ℕ → List (List ℕ) → Result Asked ℕ
-config_first format team [] = Err 4
-config_first format team (name ∷ words) = if is_name name then with_dex format team (Some name) (last_option (codes "--dex") 5 words) else Err 4
-
--- behind the team's file: the options, each at most once, in either order
-abbrev pub check_options : List ℕ → List ℕ → List (List ℕ) → Result Asked ℕ
-check_options format team [] = Ok (Checks (record { format = format; team = team; dex = None; config = None }))
-check_options format team (word ∷ words) = if bytes_eq word (codes "--dex") then dex_first format team words else (if bytes_eq word (codes "--config") then config_first format team words else Err 3)
+abbrev pub checks : List ℕ → List ℕ → Result Options ℕ → Result Asked ℕ
+checks format team (Ok options) = Ok (Checks (record { format = format; team = team; dex = options.dex; config = options.config }))
+checks format team (Err at) = Err at
 
 -- behind the format: the team's file
 abbrev pub team_in : List ℕ → List (List ℕ) → Result Asked ℕ
 team_in format [] = Err 2
-team_in format (team ∷ words) = if is_name team then check_options format team words else Err 2
+team_in format (team ∷ words) = if is_name team then checks format team (options_in 3 words) else Err 2
 
 -- behind `check`: the format
 abbrev pub check_in : List (List ℕ) → Result Asked ℕ
@@ -90,21 +101,24 @@ words_in (word ∷ words) = if bytes_eq word (codes "replay") then replay_in wor
 
 -- ---- what holds where the words ask for the one or the other
 
-abbrev pub IfReplay : Result Asked ℕ → (Option (List ℕ) → Type 0) → Type 0
-IfReplay (Ok (Replays dex)) holds = holds dex
+abbrev pub IfReplay : Result Asked ℕ → (Options → Type 0) → Type 0
+IfReplay (Ok (Replays options)) holds = holds options
 IfReplay (Ok (Checks words)) holds = Unit {0}
 IfReplay (Err at) holds = Unit {0}
 
 abbrev pub IfCheck : Result Asked ℕ → (Checked → Type 0) → Type 0
-IfCheck (Ok (Replays dex)) holds = Unit {0}
+IfCheck (Ok (Replays options)) holds = Unit {0}
 IfCheck (Ok (Checks words)) holds = holds words
 IfCheck (Err at) holds = Unit {0}
 
 -- ---- for the code: what was read, as contracts see it
 
+abbrev pub options_of : OptionWords → Options
+options_of o = record { dex = option_copied o.dex; config = option_copied o.config }
+
 abbrev pub checked_of : CheckWords → Checked
 checked_of w = record { format = w.format.now; team = w.team.now; dex = option_copied w.dex; config = option_copied w.config }
 
 abbrev pub asked_of : Command → Asked
-asked_of (commands.Replay dex) = Replays (option_copied dex)
+asked_of (commands.Replay options) = Replays (options_of options)
 asked_of (commands.Check words) = Checks (checked_of words)

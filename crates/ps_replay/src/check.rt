@@ -3,12 +3,11 @@ ghost use Rattle.std.specs.Prelude.{◌≡◌, ◌⊎◌, Ok, Err, Some, None, I
 ghost use Rattle.std.specs.Str.{IsUtf8, chars};
 ghost use Rattle.std.specs.Io.BufRead.{strip_last};
 ghost use Rattle.ps_outside.specs.Causes.{Rose};
-ghost use Rattle.ps_outside.specs.Files.{FileCounts};
 ghost use Rattle.ps_packed.specs.Packed.{IsTeam};
 ghost use Rattle.ps_valid.specs.TeamRows.{legal_in};
 ghost use Rattle.ps_replay.specs.Words.{checked_of};
 ghost use Rattle.ps_replay.specs.Checks.{text_in, rules_in, TextEnds, TeamEnds, FormatEnds, ConfigEnds, CheckEnds, Told, IsNamed, CheckCause, WritesLegal, SettlesCheck};
-ghost use Rattle.ps_replay.specs.Files.{Gave, Ended, StepCause, IsOfText, Unpacks, RulesEnd};
+ghost use Rattle.ps_replay.specs.Files.{Gave, Ended, StepCause, FormatCause, IsOfText, Unpacks, RulesEnd};
 
 use crate::config::config_or_standard;
 use crate::dex::dex_or_none;
@@ -151,7 +150,7 @@ fn check_file<F: Files, K: Sink>(
 fn rules_of<'a>(alloc: Global, config: &'a Config, format: &str) -> Result<&'a RuleTable, Status>
     ensures value { IfOk result (λ t. rules_in config.now format.now ≡ Ok t.now) }
     ensures ended { IfErr result (λ s. (s ≡ Status.NoMemory) ⊎ (rules_in config.now format.now ≡ Err s)) }
-    ensures cause { (counts : FileCounts) → IfErr result (StepCause None counts counts) }
+    ensures cause { IfErr result FormatCause }
 {
     let id = match to_id(alloc, format) {
         Err(_) => return Err(Status::NoMemory),

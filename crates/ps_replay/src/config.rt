@@ -1,7 +1,8 @@
 //! Reads the configuration that the words name.
-ghost use Rattle.std.specs.Prelude.{◌≡◌, Some, IfOk, IfErr};
+ghost use Rattle.std.specs.Prelude.{◌≡◌, ◌≤◌, length, Some, None, IfOk, IfErr};
 ghost use Rattle.std.specs.Option.{option_copied};
-ghost use Rattle.ps_replay.specs.Checks.{config_in};
+ghost use Rattle.ps_replay.specs.Steps.{config_in};
+ghost use Rattle.ps_replay.specs.Outcomes.{Stands};
 ghost use Rattle.ps_replay.specs.Files.{Gave, Ended, StepCause};
 
 use crate::file::read_file;
@@ -23,6 +24,7 @@ fn read_config<F: Files>(
 ) -> Result<Config, Status>
     ensures same { F.held files.new ≡ F.held files.old }
     ensures value { IfOk result (Gave (F.held files.old) (λ look. config_in look dex.now (Some name.now))) }
+    ensures few { IfOk result (λ c. length c.rooms ≤ 16) }
     ensures counts { IfOk result (λ _. F.counts files.new ≡ F.counts files.old) }
     ensures ended { IfErr result (Ended (F.held files.old) (Some name.now) (λ look. config_in look dex.now (Some name.now))) }
     ensures cause { IfErr result (StepCause (Some name.now) (F.counts files.old) (F.counts files.new)) }
@@ -48,8 +50,11 @@ pub fn config_or_standard<F: Files>(
 ) -> Result<Config, Status>
     ensures same { F.held files.new ≡ F.held files.old }
     ensures value { IfOk result (Gave (F.held files.old) (λ look. config_in look dex.now (option_copied named.entry))) }
+    ensures stands { IfOk result (Stands (F.held files.old) (option_copied named.entry) (λ look. config_in look dex.now (option_copied named.entry))) }
+    ensures few { IfOk result (λ c. length c.rooms ≤ 16) }
     ensures counts { IfOk result (λ _. F.counts files.new ≡ F.counts files.old) }
     ensures ended { IfErr result (Ended (F.held files.old) (option_copied named.entry) (λ look. config_in look dex.now (option_copied named.entry))) }
+    ensures alone { IfErr result (λ s. option_copied named.entry ≡ None → s ≡ Status.NoMemory) }
     ensures cause { IfErr result (StepCause (option_copied named.entry) (F.counts files.old) (F.counts files.new)) }
 {
     match named {

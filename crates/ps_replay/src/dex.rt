@@ -1,8 +1,8 @@
 //! Reads the dex file that the words name.
-ghost use Rattle.std.specs.Prelude.{◌≡◌, Some, IfOk, IfErr};
+ghost use Rattle.std.specs.Prelude.{◌≡◌, Some, None, IfOk, IfErr};
 ghost use Rattle.std.specs.Option.{option_copied};
-ghost use Rattle.ps_replay.specs.Outcomes.{HasDex, NoDex};
-ghost use Rattle.ps_replay.specs.Checks.{dex_in};
+ghost use Rattle.ps_replay.specs.Steps.{dex_in};
+ghost use Rattle.ps_replay.specs.Outcomes.{Stands};
 ghost use Rattle.ps_replay.specs.Files.{Gave, Ended, StepCause};
 
 use crate::file::read_file;
@@ -16,9 +16,7 @@ use std::alloc::Global;
 pub const MOST_DEX: u32 = 16_777_216;
 
 /// The dex of the file of this name, or the status that says why there is none.
-pub fn read_dex<F: Files>(alloc: Global, files: &mut F, name: &str) -> Result<Dex, Status>
-    ensures dex { IfOk result (λ _. HasDex (Some name.now) (F.held files.old)) }
-    ensures none { IfErr result (NoDex name.now (F.held files.old) (F.counts files.old) (F.counts files.new)) }
+fn read_dex<F: Files>(alloc: Global, files: &mut F, name: &str) -> Result<Dex, Status>
     ensures same { F.held files.new ≡ F.held files.old }
     ensures value { IfOk result (Gave (F.held files.old) (λ look. dex_in look (Some name.now))) }
     ensures counts { IfOk result (λ _. F.counts files.new ≡ F.counts files.old) }
@@ -44,8 +42,10 @@ pub fn dex_or_none<F: Files>(
 ) -> Result<Dex, Status>
     ensures same { F.held files.new ≡ F.held files.old }
     ensures value { IfOk result (Gave (F.held files.old) (λ look. dex_in look (option_copied named.entry))) }
+    ensures stands { IfOk result (Stands (F.held files.old) (option_copied named.entry) (λ look. dex_in look (option_copied named.entry))) }
     ensures counts { IfOk result (λ _. F.counts files.new ≡ F.counts files.old) }
     ensures ended { IfErr result (Ended (F.held files.old) (option_copied named.entry) (λ look. dex_in look (option_copied named.entry))) }
+    ensures alone { IfErr result (λ s. option_copied named.entry ≡ None → s ≡ Status.NoMemory) }
     ensures cause { IfErr result (StepCause (option_copied named.entry) (F.counts files.old) (F.counts files.new)) }
 {
     match named {

@@ -3,16 +3,21 @@ ghost use Rattle.std.specs.Prelude.{◌≡◌, ◌++◌, ◌≤◌, [], OnOk, On
 ghost use Rattle.std.specs.Io.KnownBytes.{Appends};
 ghost use Rattle.ps_outside.specs.Causes.{Rose, HasCause};
 ghost use Rattle.ps_outside.specs.Sinks.{AppendsFront};
-ghost use Rattle.ps_replay.specs.Transcript.{output};
-ghost use Rattle.ps_replay.specs.Tables.{item_text, item_after, text_from};
+ghost use Rattle.std.specs.Arc.{arc_value};
+ghost use Rattle.ps_world.specs.Setup.{setup_of};
+ghost use Rattle.ps_world.specs.Transcript.{output};
+ghost use Rattle.ps_world.specs.Tables.{item_text, item_after, text_from};
 ghost use Rattle.ps_replay.specs.Flow.{MovesFront};
 
-use crate::ranks::ranks_of;
-use crate::table::Table;
+use ps_dex::dex::Dex;
 use ps_outside::Failed;
 use ps_outside::sink::{self, Sink};
 use ps_script::item::Item;
+use ps_valid::config::Config;
+use ps_world::ranks::ranks_of;
+use ps_world::table::Table;
 use std::alloc::{AllocError, Global};
+use std::sync::Arc;
 
 /// Where this many bytes wait to be written, they are.
 const FULL: usize = 65_536;
@@ -103,19 +108,25 @@ fn replay_from<K: Sink>(
     }
 }
 
-/// Writes the transcript of the lines of a script. Where memory or the sink fails a front of it was
-/// written.
-pub fn replay<K: Sink>(alloc: Global, items: &[Item], out: &mut K) -> Result<(), ReplayEnd>
-    ensures wrote { OnOk result (Appends (K.written out.old) (K.written out.new) (output items.now)) }
-    ensures err { OnErr result (AppendsFront (K.written out.old) (K.written out.new) (output items.now)) }
+/// Writes the transcript of the lines of a script under a configuration and a dex. Where memory or the sink fails a
+/// front of it was written.
+pub fn replay<K: Sink>(
+    alloc: Global,
+    config: Arc<Config>,
+    dex: Arc<Dex>,
+    items: &[Item],
+    out: &mut K,
+) -> Result<(), ReplayEnd>
+    ensures wrote { OnOk result (Appends (K.written out.old) (K.written out.new) (output (setup_of (arc_value config) (arc_value dex) items.now) items.now)) }
+    ensures err { OnErr result (AppendsFront (K.written out.old) (K.written out.new) (output (setup_of (arc_value config) (arc_value dex) items.now) items.now)) }
     ensures later { K.faults out.old ≤ K.faults out.new }
     ensures fault { result ≡ Err ReplayEnd.WriteFault → Rose (K.faults out.old) (K.faults out.new) }
 {
-    let ranks = match ranks_of(alloc, items) {
+    let ranks = match ranks_of(alloc, config.groups(), items) {
         Err(_) => return Err(ReplayEnd::NoMemory),
         Ok(ranks) => ranks,
     };
-    match Table::new(alloc, ranks) {
+    match Table::new(alloc, config, dex, ranks) {
         Err(_) => Err(ReplayEnd::NoMemory),
         Ok(table) => replay_from(alloc, table, items, out),
     }

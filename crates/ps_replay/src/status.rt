@@ -77,11 +77,6 @@ pub enum Status {
         at: u32,
         kind: PackKind,
     },
-    /// The input is a script that isn't replayed so far: the first line, counted from 1, that makes an entry
-    /// of the hall other than a name or a text that is no command.
-    NotBuilt {
-        line: u32,
-    },
 }
 
 impl Status {
@@ -105,7 +100,6 @@ impl Status {
             Status::NoMemory => 13,
             Status::UnknownFormat { .. } => 15,
             Status::BadPack { .. } => 16,
-            Status::NotBuilt { .. } => 17,
         }
     }
 }
@@ -130,7 +124,6 @@ impl fmt::Display for Status {
             Status::NoMemory => write!(f, "NoMemory"),
             Status::UnknownFormat { id } => write!(f, "UnknownFormat id={id}"),
             Status::BadPack { at, kind } => write!(f, "BadPack at={at} kind={kind:?}"),
-            Status::NotBuilt { line } => write!(f, "NotBuilt line={line}"),
         }
     }
 }

@@ -1,7 +1,16 @@
 //! The words of a command.
 ghost use Rattle.std.specs.Prelude.{◌≡◌, ◌<◌, Ok, Err, map, string_bytes, MatchResult};
 ghost use Rattle.std.specs.Option.{option_copied};
-ghost use Rattle.ps_replay.specs.Words.{is_name, last_name, last_option, replay_in, dex_first, config_first, check_options, team_in, check_in, words_in, asked_of};
+ghost use Rattle.ps_replay.specs.Words.{is_name, last_name, last_option, dex_first, config_first, options_in, replay_in, checks, team_in, check_in, words_in, options_of, asked_of};
+
+/// The files that options name.
+#[derive(Clone, Copy, Debug)]
+pub struct OptionWords<'a> {
+    /// The name of the dex file, if one is named.
+    pub dex: Option<&'a str>,
+    /// The name of the configuration's file, if one is named.
+    pub config: Option<&'a str>,
+}
 
 /// What `check` is asked for.
 #[derive(Clone, Copy, Debug)]
@@ -19,8 +28,8 @@ pub struct CheckWords<'a> {
 /// What the words ask for.
 #[derive(Clone, Copy, Debug)]
 pub enum Command<'a> {
-    /// To replay a script, with the dex file of this name if one is named.
-    Replay(Option<&'a str>),
+    /// To replay a script, with the files of these names.
+    Replay(OptionWords<'a>),
     /// To check a team.
     Check(CheckWords<'a>),
 }
@@ -75,84 +84,93 @@ fn last_option<'a>(option: &str, at: u32, words: &'a [String]) -> Result<Option<
     }
 }
 
-fn replay_in(words: &[String]) -> Result<Command<'_>, u32>
-    ensures { MatchResult result (λ c. replay_in (map string_bytes words.now) ≡ Ok (asked_of c)) (λ n. replay_in (map string_bytes words.now) ≡ Err n) }
-{
-    match last_option("--dex", 1, words) {
-        Err(at) => Err(at),
-        Ok(dex) => Ok(Command::Replay(dex)),
-    }
-}
-
-fn dex_first<'a>(format: &'a str, team: &'a str, words: &'a [String]) -> Result<Command<'a>, u32>
-    ensures { MatchResult result (λ c. dex_first format.now team.now (map string_bytes words.now) ≡ Ok (asked_of c)) (λ n. dex_first format.now team.now (map string_bytes words.now) ≡ Err n) }
+// Behind `--dex`, where the words begin at a place.
+fn dex_first(at: u32, words: &[String]) -> Result<OptionWords<'_>, u32>
+    requires { at < 98 }
+    ensures { MatchResult result (λ o. dex_first at (map string_bytes words.now) ≡ Ok (options_of o)) (λ n. dex_first at (map string_bytes words.now) ≡ Err n) }
 {
     match words {
-        [] => Err(4),
+        [] => Err(at),
         [name, rest @ ..] => {
             let dex = name.as_str();
             if !is_name(dex) {
-                return Err(4);
+                return Err(at);
             }
-            match last_option("--config", 5, rest) {
-                Err(at) => Err(at),
-                Ok(config) => Ok(Command::Check(CheckWords {
-                    format,
-                    team,
+            match last_option("--config", at + 1, rest) {
+                Err(place) => Err(place),
+                Ok(config) => Ok(OptionWords {
                     dex: Some(dex),
                     config,
-                })),
+                }),
             }
         }
     }
 }
 
-fn config_first<'a>(format: &'a str, team: &'a str, words: &'a [String]) -> Result<Command<'a>, u32>
-    ensures { MatchResult result (λ c. config_first format.now team.now (map string_bytes words.now) ≡ Ok (asked_of c)) (λ n. config_first format.now team.now (map string_bytes words.now) ≡ Err n) }
+// Behind `--config`, where the words begin at a place.
+fn config_first(at: u32, words: &[String]) -> Result<OptionWords<'_>, u32>
+    requires { at < 98 }
+    ensures { MatchResult result (λ o. config_first at (map string_bytes words.now) ≡ Ok (options_of o)) (λ n. config_first at (map string_bytes words.now) ≡ Err n) }
 {
     match words {
-        [] => Err(4),
+        [] => Err(at),
         [name, rest @ ..] => {
             let config = name.as_str();
             if !is_name(config) {
-                return Err(4);
+                return Err(at);
             }
-            match last_option("--dex", 5, rest) {
-                Err(at) => Err(at),
-                Ok(dex) => Ok(Command::Check(CheckWords {
-                    format,
-                    team,
+            match last_option("--dex", at + 1, rest) {
+                Err(place) => Err(place),
+                Ok(dex) => Ok(OptionWords {
                     dex,
                     config: Some(config),
-                })),
+                }),
             }
         }
     }
 }
 
-fn check_options<'a>(
-    format: &'a str,
-    team: &'a str,
-    words: &'a [String],
-) -> Result<Command<'a>, u32>
-    ensures { MatchResult result (λ c. check_options format.now team.now (map string_bytes words.now) ≡ Ok (asked_of c)) (λ n. check_options format.now team.now (map string_bytes words.now) ≡ Err n) }
+fn options_in(at: u32, words: &[String]) -> Result<OptionWords<'_>, u32>
+    requires { at < 97 }
+    ensures { MatchResult result (λ o. options_in at (map string_bytes words.now) ≡ Ok (options_of o)) (λ n. options_in at (map string_bytes words.now) ≡ Err n) }
 {
     match words {
-        [] => Ok(Command::Check(CheckWords {
-            format,
-            team,
+        [] => Ok(OptionWords {
             dex: None,
             config: None,
-        })),
+        }),
         [word, rest @ ..] => {
             if word.as_str() == "--dex" {
-                return dex_first(format, team, rest);
+                return dex_first(at + 1, rest);
             }
             if word.as_str() == "--config" {
-                return config_first(format, team, rest);
+                return config_first(at + 1, rest);
             }
-            Err(3)
+            Err(at)
         }
+    }
+}
+
+fn replay_in(words: &[String]) -> Result<Command<'_>, u32>
+    ensures { MatchResult result (λ c. replay_in (map string_bytes words.now) ≡ Ok (asked_of c)) (λ n. replay_in (map string_bytes words.now) ≡ Err n) }
+{
+    match options_in(1, words) {
+        Err(at) => Err(at),
+        Ok(options) => Ok(Command::Replay(options)),
+    }
+}
+
+fn checks<'a>(format: &'a str, team: &'a str, words: &'a [String]) -> Result<Command<'a>, u32>
+    ensures { MatchResult result (λ c. checks format.now team.now (options_in 3 (map string_bytes words.now)) ≡ Ok (asked_of c)) (λ n. checks format.now team.now (options_in 3 (map string_bytes words.now)) ≡ Err n) }
+{
+    match options_in(3, words) {
+        Err(at) => Err(at),
+        Ok(options) => Ok(Command::Check(CheckWords {
+            format,
+            team,
+            dex: options.dex,
+            config: options.config,
+        })),
     }
 }
 
@@ -163,7 +181,7 @@ fn team_in<'a>(format: &'a str, words: &'a [String]) -> Result<Command<'a>, u32>
         [] => Err(2),
         [team, rest @ ..] => {
             if is_name(team.as_str()) {
-                check_options(format, team.as_str(), rest)
+                checks(format, team.as_str(), rest)
             } else {
                 Err(2)
             }
@@ -186,8 +204,8 @@ fn check_in(words: &[String]) -> Result<Command<'_>, u32>
     }
 }
 
-/// Reads the words of a command: `replay`, and then `--dex NAME` or nothing; or `check FORMAT TEAMFILE`,
-/// and then `--dex NAME` and `--config NAME`, each at most once, in either order. A name, format or
+/// Reads the words of a command: `replay`, or `check FORMAT TEAMFILE`, and then `--dex NAME` and
+/// `--config NAME`, each at most once, in either order. A name, format or
 /// file is a word that isn't empty and doesn't begin with `-`. The error is the place of the first word
 /// that can't stand, counted from 0, or how many there are where one is missing.
 pub fn read_words(words: &[String]) -> Result<Command<'_>, u32>

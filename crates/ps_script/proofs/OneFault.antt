@@ -82,7 +82,7 @@ same_fault s (x ∷ xs) (y ∷ ys) (i ∷ is) (j ∷ js) t u ts us k l p q f g e
     let rest = same_fault (next s i) xs ys is js t u ts us k l p.2 more f bad tails in
     (cc (rest.0), rest.1)
 
-pub one_fault : (bytes : List ℕ) (line other_line : ℕ) (kind other_kind : ScriptKind) → IsFirstFault bytes line kind → IsFirstFault bytes other_line other_kind → (line ≡ other_line) × (kind ≡ other_kind)
-one_fault bytes line other_line kind other_kind f g =
-    let r = same_fault start f.before g.before f.items g.items f.text g.text f.after g.after kind other_kind f.good g.good f.bad g.bad (sym f.parts ∙ g.parts) in
+pub one_fault : (symbols bytes : List ℕ) (line other_line : ℕ) (kind other_kind : ScriptKind) → IsFirstFault symbols bytes line kind → IsFirstFault symbols bytes other_line other_kind → (line ≡ other_line) × (kind ≡ other_kind)
+one_fault symbols bytes line other_line kind other_kind f g =
+    let r = same_fault (start symbols) f.before g.before f.items g.items f.text g.text f.after g.after kind other_kind f.good g.good f.bad g.bad (sym f.parts ∙ g.parts) in
     (omega (arith, f.place, g.place, r.0), r.1)

@@ -109,11 +109,11 @@ no_items s (l ∷ before) (i ∷ items) line after kind (x ∷ xs) good all bad 
     let same : x ≡ i = one_item l x i all.0.item good.0.item in
     no_items (next s i) before items line after kind xs good.2 (subst (λ j. AreItems (next s j) (before ++ line ∷ after) xs) same all.2) bad
 
-pub no_script : (bytes : List ℕ) (items : List Item) (line : ℕ) (kind : ScriptKind) → IsFirstFault bytes line kind → IsScript bytes items → ⊥
-no_script bytes items line kind f s = no_items start f.before f.items f.text f.after kind items f.good (subst (λ (ls : List (List ℕ)). AreItems start ls items) f.parts s) f.bad
+pub no_script : (symbols bytes : List ℕ) (items : List Item) (line : ℕ) (kind : ScriptKind) → IsFirstFault symbols bytes line kind → IsScript symbols bytes items → ⊥
+no_script symbols bytes items line kind f s = no_items (start symbols) f.before f.items f.text f.after kind items f.good (subst (λ (ls : List (List ℕ)). AreItems (start symbols) ls items) f.parts s) f.bad
 
-pub one_script : (bytes : List ℕ) (items others : List Item) → IsScript bytes items → IsScript bytes others → items ≡ others
-one_script bytes items others p q = one_list start _ items others p q
+pub one_script : (symbols bytes : List ℕ) (items others : List Item) → IsScript symbols bytes items → IsScript symbols bytes others → items ≡ others
+one_script symbols bytes items others p q = one_list (start symbols) _ items others p q
 
 pub law_of_scripts : LawOfScripts
 law_of_scripts = record { one = one_script; fault = no_script }

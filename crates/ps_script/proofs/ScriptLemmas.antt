@@ -17,22 +17,22 @@ AreItems-more s (x ∷ before) [] line i h l f = absurd h
 AreItems-more s (x ∷ before) (j ∷ items) line i h l f = (h.0, h.1, AreItems-more (next s j) before items line i h.2 l f)
 
 -- the lines so far, and those to come
-pub record Reads (bytes rest : List ℕ) (items : List Item) (count : ℕ) : Type 0 where
+pub record Reads (symbols bytes rest : List ℕ) (items : List Item) (count : ℕ) : Type 0 where
   pub before : List (List ℕ)
   pub parts : lines bytes ≡ before ++ lines rest
-  pub good : AreItems start before items
+  pub good : AreItems (start symbols) before items
   pub place : count ≡ length before
 
-pub Reads-more : (bytes rest line after : List ℕ) (items : List Item) (i : Item) (count : ℕ) → Reads bytes rest items count → lines rest ≡ line ∷ lines after → IsLine line i → fault_of (seen_after start items) i ≡ None → Reads bytes after (items ++ i ∷ []) (count + 1)
-Reads-more bytes rest line after items i count r e l f = record {
+pub Reads-more : (symbols bytes rest line after : List ℕ) (items : List Item) (i : Item) (count : ℕ) → Reads symbols bytes rest items count → lines rest ≡ line ∷ lines after → IsLine line i → fault_of (seen_after (start symbols) items) i ≡ None → Reads symbols bytes after (items ++ i ∷ []) (count + 1)
+Reads-more symbols bytes rest line after items i count r e l f = record {
   before = r.before ++ line ∷ [];
   parts = r.parts ∙ ap (λ (x : List (List ℕ)). r.before ++ x) e ∙ sym (append_assoc r.before (line ∷ []) (lines after));
-  good = AreItems-more start r.before items line i r.good l f;
+  good = AreItems-more (start symbols) r.before items line i r.good l f;
   place = omega (arith, r.place, length-append r.before (line ∷ []));
 }
 
-pub Reads-fault : (bytes rest line after : List ℕ) (items : List Item) (kind : ScriptKind) (count : ℕ) → Reads bytes rest items count → lines rest ≡ line ∷ lines after → IsFault (seen_after start items) line kind → IsFirstFault bytes (count + 1) kind
-Reads-fault bytes rest line after items kind count r e f = record {
+pub Reads-fault : (symbols bytes rest line after : List ℕ) (items : List Item) (kind : ScriptKind) (count : ℕ) → Reads symbols bytes rest items count → lines rest ≡ line ∷ lines after → IsFault (seen_after (start symbols) items) line kind → IsFirstFault symbols bytes (count + 1) kind
+Reads-fault symbols bytes rest line after items kind count r e f = record {
   items = items;
   before = r.before;
   text = line;
@@ -43,7 +43,7 @@ Reads-fault bytes rest line after items kind count r e f = record {
   bad = f;
 }
 
-pub Reads-all : (bytes rest : List ℕ) (items : List Item) (count : ℕ) → Reads bytes rest items count → rest ≡ [] → IsScript bytes items
-Reads-all bytes rest items count r e =
+pub Reads-all : (symbols bytes rest : List ℕ) (items : List Item) (count : ℕ) → Reads symbols bytes rest items count → rest ≡ [] → IsScript symbols bytes items
+Reads-all symbols bytes rest items count r e =
     let all : lines bytes ≡ r.before = r.parts ∙ ap (λ (x : List ℕ). r.before ++ lines x) e ∙ append-nil r.before in
-    subst (λ (x : List (List ℕ)). AreItems start x items) (sym all) r.good
+    subst (λ (x : List (List ℕ)). AreItems (start symbols) x items) (sym all) r.good

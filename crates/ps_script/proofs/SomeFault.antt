@@ -1,6 +1,6 @@
 -- Every text is a script or has a first fault.
 use Rattle.std.proofs.Common.{◌≡◌, ◌≢◌, ◌⊎◌, ℕ, zero, suc, ◌+◌, ◌^◌, ◌<◌, ◌==◌, true, false, List, [], ◌∷◌, ◌++◌, length, get_or, codes, Some, None, refl, sym, ap, ◌∙◌, arith, inl, inr}
-use Rattle.std.specs.Prelude.{nat_lt, nat_le, is_none}
+use Rattle.std.specs.Prelude.{nat_lt, nat_le}
 use Rattle.std.specs.Fmt.{decimal}
 use Rattle.std.specs.Str.{IsUtf8, is_utf8, bytes_eq}
 use Rattle.std.specs.Str.Lines.{lines}
@@ -17,9 +17,8 @@ use Rattle.ps_script.specs.declared.item.Item.TheVariants.{Nothing, Moment, Grou
 use Rattle.ps_script.specs.declared.script.ScriptKind.{ScriptKind}
 use Rattle.ps_script.specs.declared.script.ScriptKind.TheVariants as kinds
 use Rattle.ps_script.specs.Controls.{has_control}
-use Rattle.ps_script.specs.Groups.{rank_of}
 use Rattle.ps_script.specs.Items.{IsItem, IsIdle, IsNumber, IsSend, IsGroup, IsCharFirst}
-use Rattle.ps_script.specs.Scripts.{Seen, start, IsLine, AreItems, is_open, next, fault_of, seen_after, IsFault, IsFirstFault, IsScript}
+use Rattle.ps_script.specs.Scripts.{Seen, start, IsLine, AreItems, has_symbol, is_open, next, fault_of, seen_after, IsFault, IsFirstFault, IsScript}
 use Rattle.ps_script.proofs.ItemLemmas.{NoSpace, no_number, no_space, no_send, no_char, group_parts, no_group_space, no_group_id}
 
 abbrev Known : Type 0 → Type 0
@@ -188,7 +187,7 @@ placed s line (Moment n) l =
 placed s line (Group symbol id) l =
     elim (cases_Bool (nat_lt 0 (length s.opened))) [
       | inl e ↦ inr (kinds.Order, (Group symbol id, l, rw e refl))
-      | inr e ↦ elim (cases_Bool (is_none (rank_of symbol))) [ inl f ↦ inr (kinds.Group, (Group symbol id, l, rw (e, f) refl)) | inr f ↦ inl (rw (e, f) refl) ]
+      | inr e ↦ elim (cases_Bool (has_symbol s.symbols symbol)) [ inl f ↦ inl (rw (e, f) refl) | inr f ↦ inr (kinds.Group, (Group symbol id, l, rw (e, f) refl)) ]
     ]
 placed s line (Open n) l =
     elim (cases_Bool (n == length s.opened + 1)) [
@@ -246,9 +245,9 @@ lines_in s (l ∷ ls) =
       | inr b ↦ inr (record { kind = b.0; items = []; before = []; text = l; after = ls; parts = refl; good = tt; bad = b.1 })
     ]
 
-pub some_fault : (bytes : List ℕ) → ((items : List Item) × IsScript bytes items) ⊎ ((line : ℕ) × (kind : ScriptKind) × IsFirstFault bytes line kind)
-some_fault bytes =
-    elim (lines_in start (lines bytes)) [
+pub some_fault : (symbols bytes : List ℕ) → ((items : List Item) × IsScript symbols bytes items) ⊎ ((line : ℕ) × (kind : ScriptKind) × IsFirstFault symbols bytes line kind)
+some_fault symbols bytes =
+    elim (lines_in (start symbols) (lines bytes)) [
       | inl h ↦ inl h
       | inr f ↦ inr (length f.before + 1, f.kind, record { items = f.items; before = f.before; text = f.text; after = f.after; parts = f.parts; place = refl; good = f.good; bad = f.bad })
     ]

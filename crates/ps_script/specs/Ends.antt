@@ -11,11 +11,11 @@ abbrev pub EndsLine : Seen → List ℕ → LineEnd → Type 0
 EndsLine s line (line_ends.Bad kind) = IsFault s line kind
 EndsLine s line line_ends.NoMemory = Unit {0}
 
-abbrev pub EndsScript : List ℕ → ScriptEnd → Type 0
-EndsScript bytes (script_ends.Bad line kind) = IsFirstFault bytes line kind
-EndsScript bytes script_ends.NoMemory = Unit {0}
+abbrev pub EndsScript : List ℕ → List ℕ → ScriptEnd → Type 0
+EndsScript symbols bytes (script_ends.Bad line kind) = IsFirstFault symbols bytes line kind
+EndsScript symbols bytes script_ends.NoMemory = Unit {0}
 
 -- a text that has a fault is no script
-abbrev pub IsNoScript : List ℕ → ScriptEnd → Type 0
-IsNoScript bytes (script_ends.Bad line kind) = (items : List Item) → IsScript bytes items → ⊥
-IsNoScript bytes script_ends.NoMemory = Unit {0}
+abbrev pub IsNoScript : List ℕ → List ℕ → ScriptEnd → Type 0
+IsNoScript symbols bytes (script_ends.Bad line kind) = (items : List Item) → IsScript symbols bytes items → ⊥
+IsNoScript symbols bytes script_ends.NoMemory = Unit {0}

@@ -1,6 +1,5 @@
 pub mod Controls
 pub mod Ends
-pub mod Groups
 pub mod Items
 pub mod Laws
 pub mod Limits

@@ -1,5 +1,6 @@
 -- A script: its lines, in order.
-use Rattle.std.specs.Prelude.{◌≡◌, ℕ, zero, suc, ◌+◌, ◌-◌, Bool, true, false, ◌==◌, nat_lt, nat_le, List, [], ◌∷◌, ◌++◌, length, slice_get, slice_set, Option, Some, None, unwrap_or, is_none, if◌then◌else◌}
+use Rattle.std.specs.Prelude.{◌≡◌, ℕ, zero, suc, ◌+◌, ◌-◌, Bool, true, false, ◌==◌, nat_lt, nat_le, List, [], ◌∷◌, ◌++◌, length, slice_get, slice_set, Option, Some, None, unwrap_or, if◌then◌else◌}
+use Rattle.std.specs.List.{list_any}
 use Rattle.std.specs.Str.{IsUtf8}
 use Rattle.std.specs.Str.Lines.{lines}
 use Rattle.ps_script.specs.declared.item.Item.{Item}
@@ -7,7 +8,6 @@ use Rattle.ps_script.specs.declared.item.Item.TheVariants.{Nothing, Moment, Grou
 use Rattle.ps_script.specs.declared.script.ScriptKind.{ScriptKind}
 use Rattle.ps_script.specs.declared.script.ScriptKind.TheVariants as kinds
 use Rattle.ps_script.specs.Controls.{has_control}
-use Rattle.ps_script.specs.Groups.{rank_of}
 use Rattle.ps_script.specs.Items.{IsItem}
 
 pub record IsLine (line : List ℕ) (i : Item) : Type 0 where
@@ -15,13 +15,18 @@ pub record IsLine (line : List ℕ) (i : Item) : Type 0 where
   pub no_control : has_control line ≡ false
   pub item : IsItem line i
 
--- the moment, and of each connection that opened, in order from 1, whether it is open still
+-- the symbols that groups have, the moment, and of each connection that opened, in order from 1, whether it is open still.
+-- No line changes the symbols
 pub record Seen : Type 0 where
+  pub symbols : List ℕ
   pub moment : ℕ
   pub opened : List Bool
 
-abbrev pub start : Seen
-start = record { moment = 0; opened = [] }
+abbrev pub start : List ℕ → Seen
+start symbols = record { symbols = symbols; moment = 0; opened = [] }
+
+abbrev pub has_symbol : List ℕ → ℕ → Bool
+has_symbol symbols symbol = list_any (λ s. s == symbol) symbols
 
 abbrev pub is_open : List Bool → ℕ → Bool
 is_open opened zero = false
@@ -34,7 +39,7 @@ closed_in opened n = slice_set opened (n - 1) false
 abbrev pub fault_of : Seen → Item → Option ScriptKind
 fault_of s Nothing = None
 fault_of s (Moment n) = if nat_lt n s.moment then Some kinds.Order else None
-fault_of s (Group symbol id) = if nat_lt 0 (length s.opened) then Some kinds.Order else (if is_none (rank_of symbol) then Some kinds.Group else None)
+fault_of s (Group symbol id) = if nat_lt 0 (length s.opened) then Some kinds.Order else (if has_symbol s.symbols symbol then None else Some kinds.Group)
 fault_of s (Open n) = if n == length s.opened + 1 then (if nat_le n 1024 then None else Some kinds.Many) else Some kinds.Order
 fault_of s (Send n text) = if is_open s.opened n then (if nat_le (length text) 8192 then None else Some kinds.Long) else Some kinds.Order
 fault_of s (Close n) = if is_open s.opened n then None else Some kinds.Order
@@ -58,8 +63,9 @@ AreItems s [] (i ∷ is) = ⊥
 AreItems s (line ∷ ls) [] = ⊥
 AreItems s (line ∷ ls) (i ∷ is) = IsLine line i × (fault_of s i ≡ None) × AreItems (next s i) ls is
 
-abbrev pub IsScript : List ℕ → List Item → Type 0
-IsScript bytes items = AreItems start (lines bytes) items
+-- where groups have these symbols, the lines of these bytes say these items
+abbrev pub IsScript : List ℕ → List ℕ → List Item → Type 0
+IsScript symbols bytes items = AreItems (start symbols) (lines bytes) items
 
 -- an item whose line is out of order, by the kind
 abbrev pub Misplaced : Seen → List ℕ → ScriptKind → Type 0
@@ -75,13 +81,13 @@ IsFault s line kinds.Group = Misplaced s line kinds.Group
 IsFault s line kinds.Many = Misplaced s line kinds.Many
 IsFault s line kinds.Long = Misplaced s line kinds.Long
 
--- the lines before this one, counted from 1, are a script, and with it they aren't
-pub record IsFirstFault (bytes : List ℕ) (line : ℕ) (kind : ScriptKind) : Type 0 where
+-- where groups have these symbols: the lines before this one, counted from 1, are a script, and with it they aren't
+pub record IsFirstFault (symbols bytes : List ℕ) (line : ℕ) (kind : ScriptKind) : Type 0 where
   pub items : List Item
   pub before : List (List ℕ)
   pub text : List ℕ
   pub after : List (List ℕ)
   pub parts : lines bytes ≡ before ++ text ∷ after
   pub place : line ≡ length before + 1
-  pub good : AreItems start before items
-  pub bad : IsFault (seen_after start items) text kind
+  pub good : AreItems (start symbols) before items
+  pub bad : IsFault (seen_after (start symbols) items) text kind

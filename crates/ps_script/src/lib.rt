@@ -1,7 +1,6 @@
 //! Recorded scripts of connections: how one is read, line by line.
 #![tactic(auto)]
 
-pub mod group;
 pub mod input;
 pub mod item;
 pub mod law;

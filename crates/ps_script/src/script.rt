@@ -2,11 +2,10 @@
 ghost use Rattle.std.specs.Prelude.{◌≡◌, ◌≢◌, ◌∷◌, ◌<◌, ◌≤◌, ◌^◌, ℕ, List, length, IfOk, IfErr, OnOk, OnErr, None, slice_index};
 ghost use Rattle.std.specs.Str.Lines.{lines, strip_carriage_return};
 ghost use Rattle.ps_script.specs.Controls.{has_control};
-ghost use Rattle.ps_script.specs.Scripts.{is_open, closed_in, fault_of, IsLine, IsScript};
+ghost use Rattle.ps_script.specs.Scripts.{has_symbol, is_open, closed_in, fault_of, IsLine, IsScript};
 ghost use Rattle.ps_script.specs.Ends.{EndsLine, EndsScript, IsNoScript};
 ghost use Rattle.ps_script.specs.declared.item.Item.{Item};
 
-use crate::group;
 use crate::item::{self, Item};
 use ps_base::number::{ConnNo, Moment};
 use std::alloc::{AllocError, AllocFailed, Global};
@@ -38,19 +37,20 @@ pub enum ScriptKind {
     Long,
 }
 
-/// What the lines so far say.
+/// The symbols that groups have, and what the lines so far say.
 #[derive(Drop)]
-pub struct Seen {
+pub struct Seen<'a> {
+    symbols: &'a [char],
     moment: Moment,
     opened: Vec<bool>,
 }
 
-impl Model for Seen {
+impl<'a> Model for Seen<'a> {
     ghost use Rattle.ps_script.specs.Scripts.{Seen as Counts};
 
     ghost Value = { Counts };
 
-    ghost view = { λ s. record { moment = s.moment; opened = s.opened.items } };
+    ghost view = { λ s. record { symbols = s.symbols.now; moment = s.moment; opened = s.opened.items } };
 }
 
 fn has_control(line: &[u8]) -> bool
@@ -58,6 +58,18 @@ fn has_control(line: &[u8]) -> bool
 {
     for b in line {
         if *b < 0x20 || *b == 0x7f {
+            return true;
+        }
+    }
+    false
+}
+
+// Whether this is one of the symbols.
+fn has_symbol(symbols: &[char], symbol: char) -> bool
+    ensures { result ≡ has_symbol symbols.now symbol }
+{
+    for s in symbols {
+        if *s == symbol {
             return true;
         }
     }
@@ -83,14 +95,15 @@ fn close(opened: &mut [bool], n: ConnNo)
     }
 }
 
-impl Seen {
+impl<'a> Seen<'a> {
     ghost use Rattle.ps_script.specs.Scripts.{start, fault_of, next};
 
-    /// Before the first line. Takes no memory.
-    pub fn new(alloc: Global) -> Seen
-        ensures { result ≡ start }
+    /// Before the first line, where groups have these symbols. Takes no memory.
+    pub fn new(alloc: Global, symbols: &'a [char]) -> Seen<'a>
+        ensures { result ≡ start symbols.now }
     {
         Seen {
+            symbols,
             moment: Moment(0),
             opened: Vec::new(alloc),
         }
@@ -112,10 +125,10 @@ impl Seen {
             Item::Group(symbol, _) => {
                 if !self.opened.is_empty() {
                     Some(ScriptKind::Order)
-                } else if group::rank_of(*symbol).is_none() {
-                    Some(ScriptKind::Group)
-                } else {
+                } else if has_symbol(self.symbols, *symbol) {
                     None
+                } else {
+                    Some(ScriptKind::Group)
                 }
             }
             Item::Open(n) => {
@@ -256,7 +269,7 @@ impl<T: Drop> From<AllocFailed<T>> for ScriptEnd {
 }
 
 /// Reads a line after others.
-fn read_line(alloc: Global, seen: &Seen, line: &[u8]) -> Result<Item, LineEnd>
+fn read_line(alloc: Global, seen: &Seen<'_>, line: &[u8]) -> Result<Item, LineEnd>
     ensures found { IfOk result (λ i. IsLine line.now i × (fault_of seen.now i ≡ None)) }
     ensures bad { IfErr result (EndsLine seen.now line.now) }
 {
@@ -278,15 +291,15 @@ fn read_line(alloc: Global, seen: &Seen, line: &[u8]) -> Result<Item, LineEnd>
 }
 
 // Reads the lines of a script.
-fn read_lines(alloc: Global, bytes: &[u8]) -> Result<Vec<Item>, ScriptEnd>
+fn read_lines(alloc: Global, bytes: &[u8], symbols: &[char]) -> Result<Vec<Item>, ScriptEnd>
     requires { length bytes.now < 2 ^ 32 }
-    ensures found { IfOk result (λ v. IsScript bytes.now v.items) }
+    ensures found { IfOk result (λ v. IsScript symbols.now bytes.now v.items) }
     ensures few { IfOk result (λ v. length v.items ≤ length bytes.now) }
-    ensures bad { IfErr result (EndsScript bytes.now) }
+    ensures bad { IfErr result (EndsScript symbols.now bytes.now) }
 {
     let mut rest = bytes;
     let mut items = Vec::new(alloc);
-    let mut seen = Seen::new(alloc);
+    let mut seen = Seen::new(alloc, symbols);
     let mut count = 0u32;
     while !rest.is_empty() {
         let (line, after) = first_line(rest);
@@ -304,17 +317,18 @@ fn read_lines(alloc: Global, bytes: &[u8]) -> Result<Vec<Item>, ScriptEnd>
     Ok(items)
 }
 
-/// Reads a script. A text is one script at most; `Bad` comes exactly where it is none, with the number
-/// of the first line that no script has there, counted from 1, and what is wrong with it.
-pub fn read_script(alloc: Global, bytes: &[u8]) -> Result<Vec<Item>, ScriptEnd>
+/// Reads a script where groups have these symbols. A text is one script at most; `Bad` comes exactly
+/// where it is none, with the number of the first line that no script has there, counted from 1, and
+/// what is wrong with it.
+pub fn read_script(alloc: Global, bytes: &[u8], symbols: &[char]) -> Result<Vec<Item>, ScriptEnd>
     requires { length bytes.now < 2 ^ 32 }
-    ensures found { IfOk result (λ v. IsScript bytes.now v.items) }
-    ensures one { IfOk result (λ v. (items : List Item) → IsScript bytes.now items → items ≡ v.items) }
+    ensures found { IfOk result (λ v. IsScript symbols.now bytes.now v.items) }
+    ensures one { IfOk result (λ v. (items : List Item) → IsScript symbols.now bytes.now items → items ≡ v.items) }
     ensures few { IfOk result (λ v. length v.items ≤ length bytes.now) }
-    ensures bad { IfErr result (EndsScript bytes.now) }
-    ensures none { IfErr result (IsNoScript bytes.now) }
+    ensures bad { IfErr result (EndsScript symbols.now bytes.now) }
+    ensures none { IfErr result (IsNoScript symbols.now bytes.now) }
 {
-    match read_lines(alloc, bytes) {
+    match read_lines(alloc, bytes, symbols) {
         Err(ScriptEnd::Bad(line, kind)) => Err(ScriptEnd::Bad(line, kind)),
         Err(ScriptEnd::NoMemory) => Err(ScriptEnd::NoMemory),
         Ok(items) => Ok(items),

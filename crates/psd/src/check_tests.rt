@@ -418,7 +418,6 @@ fn words_of_check(rt: HostRuntime) -> Result<(), Fail> {
         ("check ou t --config c --config c", "Usage word=5:"),
         ("check ou t --dex d --config", "Usage word=6:"),
         ("check ou t --config c --dex d x", "Usage word=7:"),
-        ("replay --config c", "Usage word=1:"),
     ];
     for (words, wanted) in rows {
         let told = run_of(alloc, words, Vec::new(alloc), &[], &[])?;

@@ -62,7 +62,7 @@ const HELP: &str = "\
 psd, a battle server of the kind that Pokemon Showdown players connect to.
 
 Usage:
-  psd replay [--dex NAME]
+  psd replay [--dex NAME] [--config NAME]
       reads a recorded script of connections from standard input, and writes what
       each connection is sent to standard output
   psd check FORMAT TEAMFILE [--dex NAME] [--config NAME]

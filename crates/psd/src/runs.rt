@@ -23,10 +23,17 @@ pub(crate) fn told(alloc: Global, status: &Status) -> Result<String, AllocError>
     format!(in alloc; "{status}")
 }
 
-/// What is written for a script, without a dex file.
+pub(crate) fn words_of(alloc: Global, words: &[&str]) -> Result<Vec<String>, AllocError> {
+    let mut list = Vec::new(alloc);
+    for word in words {
+        list.push(String::from_str(alloc, word)?)?;
+    }
+    Ok(list)
+}
+
+/// What is written for a script, without a dex file and a configuration.
 pub(crate) fn replayed(alloc: Global, script: String) -> Result<Vec<u8>, AllocError> {
-    let mut words = Vec::new(alloc);
-    words.push(String::from_str(alloc, "replay")?)?;
+    let words = words_of(alloc, &["replay"])?;
     let mut files = SureFiles::new(Vec::new(alloc));
     let mut source = SureSource::new(script.into_bytes());
     let mut sink = MemSink::new(alloc, Vec::new(alloc));

@@ -7,7 +7,7 @@ use ps_base::number::ConnNo;
 use ps_base::text::Text;
 use ps_lines::command::{BadWhy, HallCmd};
 use ps_lines::order::Order;
-use ps_session::session::{MOST_TEXTS, Session, TakeFault};
+use ps_session::session::{MOST_ROOMS, MOST_TEXTS, Session, TakeFault};
 use std::alloc::{AllocError, Global};
 use std::process::Abort;
 use std::test::Fail;
@@ -87,6 +87,21 @@ fn limit_of_a_room(rt: HostRuntime) -> Result<(), Fail> {
     assert_eq!(rt; told.as_str(), "limit");
     let told = taken(&rt, alloc, &mut session, b"den|hi");
     assert_eq!(rt; told.as_str(), "den");
+    Ok(())
+}
+
+#[test]
+fn most_rooms(rt: HostRuntime) -> Result<(), Fail> {
+    let alloc = rt.alloc();
+    let mut session = session(&rt, alloc, true);
+    for i in 0..MOST_ROOMS {
+        let text = format!(in alloc; "r{i}|hi").expect(&rt, "memory");
+        let _ = session.take(alloc, text.as_bytes());
+    }
+    let told = taken(&rt, alloc, &mut session, b"den|hi");
+    assert_eq!(rt; told.as_str(), "RoomLimit");
+    let told = taken(&rt, alloc, &mut session, b"r255|hi");
+    assert_eq!(rt; told.as_str(), "r255");
     Ok(())
 }
 

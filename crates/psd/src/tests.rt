@@ -1,7 +1,7 @@
 //! Rows that show what the program does, worked out by hand.
 ghost use Rattle.std.specs.Prelude.{◌≤◌};
 
-use crate::runs::{end_of, lines_of, told};
+use crate::runs::{end_of, lines_of, told, words_of};
 use ps_base::decimal::read_u32;
 use ps_base::id::{read_id, to_id};
 use ps_base::list::List;
@@ -20,14 +20,6 @@ const QUIET_LOBBY: &str =
 
 const LOBBY_OF_BOB: &str =
     "2< |challstr|0-2\n2. |updateuser| Guest 2|0|0|{}\n2. |formats|\n2< |updateuser| Bob|1|0|{}\n2< >lobby\n2. |init|chat\n2. |title|Lobby\n2. |users|2,%Ann, Bob\n2< >lobby\n2. |c:|0| Bob|hi\n";
-
-fn words_of(alloc: Global, words: &[&str]) -> Result<Vec<String>, AllocError> {
-    let mut list = Vec::new(alloc);
-    for word in words {
-        list.push(String::from_str(alloc, word)?)?;
-    }
-    Ok(list)
-}
 
 fn replay_into(
     alloc: Global,
@@ -107,7 +99,20 @@ fn words_that_are_no_command(rt: HostRuntime) -> Result<(), Fail> {
         (&["replay", "--dex", ""], "Usage word=2"),
         (&["replay", "--dex", "-"], "Usage word=2"),
         (&["replay", "--dex", "a", "b"], "Usage word=3"),
+        (&["replay", "--dex=a"], "Usage word=1"),
+        (&["replay", "--config"], "Usage word=2"),
+        (&["replay", "--config", "a", "b"], "Usage word=3"),
+        (&["replay", "--dex", "a", "--dex", "b"], "Usage word=3"),
+        (&["replay", "--config", "a", "--dex"], "Usage word=4"),
+        (
+            &["replay", "--dex", "a", "--config", "b", "c"],
+            "Usage word=5",
+        ),
         (&["replay", "--dex", "a"], "FileMissing name=a"),
+        (
+            &["replay", "--config", "a", "--dex", "b"],
+            "FileMissing name=b",
+        ),
     ];
     for (words, status) in rows {
         assert_eq!(rt; ended(alloc, words)?.as_str(), *status);
@@ -122,8 +127,7 @@ fn scripts_by_their_status(rt: HostRuntime) -> Result<(), Fail> {
         ("", "Done"),
         ("; a comment\r\n\r\n", "Done"),
         (LOBBY, "Done"),
-        ("+1\n>1 |/pm a, b\n", "NotBuilt line=2"),
-        ("+1\n>1 hi\n>1 |/utm null\n-1\n", "NotBuilt line=3"),
+        ("+1\n>1 |/pm a, b\n>1 |/utm null\n-1\n", "Done"),
         ("+1\n>1 lobby|hi\n-1", "Done"),
         ("T 5\nT 4\n", "BadScript line=2 kind=Order"),
         ("\n\n\n\n\n\n\u{0}\n", "BadScript line=7 kind=Control"),

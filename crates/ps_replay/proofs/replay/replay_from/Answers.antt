@@ -1,8 +1,8 @@
 use Rattle.std.proofs.Common.{◌≡◌, ◌+◌, ◌∷◌, [], drop, string_bytes, arith, ap, sym, ◌∙◌}
 use Rattle.std.proofs.lemmas.List.{drop_more, drop_all}
 use Rattle.ps_script.specs.declared.item.Item.{Item}
-use Rattle.ps_replay.specs.Tables.{text_from}
-use Rattle.ps_replay.proofs.FlowLemmas.{Came-more, Came-stopped, Came-last}
+use Rattle.ps_world.specs.Tables.{text_from}
+use Rattle.ps_replay.proofs.FlowLemmas.{Came-more, Came-stopped, Came-last, Came-all}
 use Rattle.ps_replay.proofs.replay.replay_from.Goals as goal
 
 pub returns-in-Err-clause-err : goal.returns-in-Err-clause-err
@@ -25,3 +25,9 @@ returns-in-Err-flush-clause-err g c =
     let none : drop c.loop-item.item-index c.args.items.now ≡ [] = drop_all c.loop-item.item-index c.args.items.now (omega arith) in
     Came-last (g.K.Sink.written c.args.out.now) (g.K.Sink.written c.loop-item.out) (g.K.Sink.written c.flush.new.out) (text_from c.args.table c.args.items.now) (string_bytes c.loop-item.pending) c.loop-item.table
     (rw none at c.loop-item.invariant.came) c.in-Err-flush.ensures.err
+
+pub returns-clause-wrote : goal.returns-clause-wrote
+returns-clause-wrote g c =
+    let none : drop c.loop-item.item-index c.args.items.now ≡ [] = drop_all c.loop-item.item-index c.args.items.now (omega arith) in
+    Came-all (g.K.Sink.written c.args.out.now) (g.K.Sink.written c.loop-item.out) (g.K.Sink.written c.flush.new.out) (text_from c.args.table c.args.items.now) (string_bytes c.loop-item.pending) (string_bytes c.flush.new.pending) c.loop-item.table
+    (rw none at c.loop-item.invariant.came) c.in-Ok-flush.ensures.ok c.in-Ok-flush.ensures.empty

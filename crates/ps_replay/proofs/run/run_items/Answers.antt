@@ -1,20 +1,29 @@
-use Rattle.std.proofs.Common.{sym, ◌∙◌, subst}
-use Rattle.ps_replay.specs.OneEntry.{HasOneEntryEach}
-use Rattle.ps_replay.proofs.EntryLemmas.{blocks_of}
-use Rattle.ps_replay.proofs.TextLemmas.{one_entry_each}
-use Rattle.ps_replay.proofs.TwoWorldLemmas.{equal_worlds}
+use Rattle.std.specs.Arc.{arc_value}
+use Rattle.ps_world.specs.Setup.{setup_of}
+use Rattle.ps_world.proofs.BlockLemmas.{blocks_of}
+use Rattle.ps_world.proofs.OneEntryLemmas.{one_entry_each}
+use Rattle.ps_world.proofs.PlaceLemmas.{are_histories}
+use Rattle.ps_world.proofs.TwoWorldLemmas.{equal_blocks}
+use Rattle.ps_replay.specs.Outcomes.{symbols_of}
 use Rattle.ps_replay.proofs.run.run_items.Goals as goal
 
 pub returns-in-Ok-clause-transcript : goal.returns-in-Ok-clause-transcript
 returns-in-Ok-clause-transcript g c = λ _. record {
+  within = c.requires.within;
   items = c.args.items.now;
-  script = record { within = c.requires.within; script = c.requires.script; built = sym c.in-Ok-None.ensures ∙ c.in-Ok-None.field-0-is };
+  script = c.requires.script;
   wrote = c.in-Ok.ensures.wrote;
-  blocks = blocks_of c.args.bytes.now c.args.items.now c.requires.script;
+  blocks = blocks_of (setup_of (arc_value c.args.config) (arc_value c.args.dex) c.args.items.now) (symbols_of (arc_value c.args.config).groups) c.args.bytes.now c.args.items.now c.requires.script;
 }
 
 pub returns-in-Ok-clause-one_entry : goal.returns-in-Ok-clause-one_entry
-returns-in-Ok-clause-one_entry g c = λ _ items script. subst HasOneEntryEach (sym (c.requires.one items script)) (one_entry_each c.args.bytes.now c.args.items.now c.requires.script)
+returns-in-Ok-clause-one_entry g c = λ _ items script.
+    one_entry_each (setup_of (arc_value c.args.config) (arc_value c.args.dex) items) (symbols_of (arc_value c.args.config).groups) c.args.bytes.now items c.requires.few script
+
+pub returns-in-Ok-clause-histories : goal.returns-in-Ok-clause-histories
+returns-in-Ok-clause-histories g c = λ _ items script.
+    are_histories (setup_of (arc_value c.args.config) (arc_value c.args.dex) items) items c.requires.few
 
 pub returns-in-Ok-clause-two_worlds : goal.returns-in-Ok-clause-two_worlds
-returns-in-Ok-clause-two_worlds g c = λ _. equal_worlds c.args.bytes.now
+returns-in-Ok-clause-two_worlds g c = λ _ items script.
+    equal_blocks (arc_value c.args.config) (arc_value c.args.dex) (symbols_of (arc_value c.args.config).groups) c.args.bytes.now items script

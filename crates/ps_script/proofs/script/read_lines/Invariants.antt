@@ -5,8 +5,8 @@ use Rattle.ps_script.proofs.script.read_lines.Given as goal
 
 abbrev pub invariant-loop-rest : goal.invariant-loop-rest
 invariant-loop-rest l = record {
-  reads : Reads l.bytes l.rest l.items.items l.count;
-  seen : l.seen ≡ seen_after start l.items.items;
+  reads : Reads l.symbols l.bytes l.rest l.items.items l.count;
+  seen : l.seen ≡ seen_after (start l.symbols) l.items.items;
   few : length l.items.items ≡ l.count;
   room : l.count + length l.rest ≤ length l.bytes;
 }

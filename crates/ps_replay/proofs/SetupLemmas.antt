@@ -1,0 +1,74 @@
+-- What the files of a replay give.
+use Rattle.std.proofs.Common.{◌≡◌, ℕ, List, Option, Some, None, Result, refl, sym, subst, inl, inr}
+use Rattle.std.specs.Option.{IsSomeAnd}
+use Rattle.ps_outside.specs.Causes.{Rose}
+use Rattle.ps_outside.specs.Files.{FileCounts}
+use Rattle.ps_dex.specs.declared.row.Tables.{Tables}
+use Rattle.ps_valid.specs.declared.row.Settings.{Settings}
+use Rattle.ps_replay.specs.declared.status.Status.{Status}
+use Rattle.ps_replay.specs.declared.status.Status.TheVariants.{Done, Usage, FileMissing, FileFault, FileLong, BadDex, BadConfig, BadScript, ScriptLong, ReadFault, WriteFault, BadTeam, NoMemory, UnknownFormat, BadPack}
+use Rattle.ps_replay.specs.Words.{Options}
+use Rattle.ps_replay.specs.Steps.{dex_in, config_in}
+use Rattle.ps_replay.specs.Outcomes.{Stands, IsSetUp, IsReadable, ReplayCause, IsSettled, IsKnown, IsReadied, Settles, IsOfInput, InputCause, SettlesInput}
+use Rattle.ps_replay.specs.Files.{StepCause, Ended}
+
+-- ---- a step has one value
+
+nowhere : List ℕ → Option (List ℕ)
+nowhere name = None
+
+one_value : {A : Type 0} (held : Option (List ℕ → Option (List ℕ))) (named : Option (List ℕ)) (step : (List ℕ → Option (List ℕ)) → Result A Status) (x y : A) → Stands held named step x → IsKnown held named step y → x ≡ y
+one_value held None step x y s k = let e = s nowhere in let f = k nowhere in cc
+one_value None (Some name) step x y s k = absurd k
+one_value (Some look) (Some name) step x y s k = cc
+
+one_dex : (held : Option (List ℕ → Option (List ℕ))) (o : Options) (left : Option (List ℕ)) (dex : Tables) → Stands held o.dex (λ look. dex_in look o.dex) dex → (r : IsReadied held o left) → dex ≡ r.dex
+one_dex held o left dex s r = one_value held o.dex (λ (look : List ℕ → Option (List ℕ)). dex_in look o.dex) dex r.dex s r.dex_is
+
+-- the configuration of the words, over this dex
+known_config : (held : Option (List ℕ → Option (List ℕ))) (o : Options) (left : Option (List ℕ)) (dex : Tables) → Stands held o.dex (λ look. dex_in look o.dex) dex → (r : IsReadied held o left) → IsKnown held o.config (λ look. config_in look dex o.config) r.config
+known_config held o left dex s r = subst (λ (t : Tables). IsKnown held o.config (λ (look : List ℕ → Option (List ℕ)). config_in look t o.config) r.config) (sym (one_dex held o left dex s r)) r.config_is
+
+one_config : (held : Option (List ℕ → Option (List ℕ))) (o : Options) (left : Option (List ℕ)) (config : Settings) (dex : Tables) → IsSetUp held o config dex → (r : IsReadied held o left) → config ≡ r.config
+one_config held o left config dex s r = one_value held o.config (λ (look : List ℕ → Option (List ℕ)). config_in look dex o.config) config r.config s.config_is (known_config held o left dex s.dex_is r)
+
+-- ---- a step that has a value is ended by memory or a fault of the files alone
+
+fault_rose : (name : List ℕ) (old new : FileCounts) (status : Status) → status ≡ FileFault name → StepCause (Some name) old new status → Rose old.faults new.faults
+fault_rose name old new status is cause = (subst (λ (s : Status). StepCause (Some name) old new s) is cause).1
+
+step_settles : {A : Type 0} (held : Option (List ℕ → Option (List ℕ))) (named : Option (List ℕ)) (step : (List ℕ → Option (List ℕ)) → Result A Status) (x : A) (old new : FileCounts) (status : Status) → IsKnown held named step x → (named ≡ None → status ≡ NoMemory) → Ended held named step status → StepCause named old new status → (Rose old.faults new.faults → ⊥) → IsSettled status
+step_settles held None step x old new status known alone ended cause files = subst IsSettled (sym (alone refl)) tt
+step_settles None (Some name) step x old new status known alone ended cause files = absurd known
+step_settles (Some look) (Some name) step x old new status known alone (inl e) cause files = subst IsSettled (sym e) tt
+step_settles (Some look) (Some name) step x old new status known alone (inr (inl e)) cause files = absurd (files (fault_rose name old new status e cause))
+step_settles (Some look) (Some name) step x old new status known alone (inr (inr e)) cause files = absurd cc
+
+pub config_settles : (held : Option (List ℕ → Option (List ℕ))) (o : Options) (left : Option (List ℕ)) (dex : Tables) (old new : FileCounts) (read_fault write_fault : Type 0) (status : Status) → Stands held o.dex (λ look. dex_in look o.dex) dex → (o.config ≡ None → status ≡ NoMemory) → Ended held o.config (λ look. config_in look dex o.config) status → StepCause o.config old new status → Settles held o left (Rose old.faults new.faults) read_fault write_fault status
+config_settles held o left dex old new read_fault write_fault status s alone ended cause = λ r files _ _. step_settles held o.config (λ (look : List ℕ → Option (List ℕ)). config_in look dex o.config) r.config old new status (known_config held o left dex s r) alone ended cause files
+
+pub input_settles : (held : Option (List ℕ → Option (List ℕ))) (o : Options) (left : Option (List ℕ)) (config : Settings) (dex : Tables) (file_fault read_fault write_fault : Type 0) (status : Status) → IsSetUp held o config dex → SettlesInput config.groups left read_fault write_fault status → Settles held o left file_fault read_fault write_fault status
+input_settles held o left config dex file_fault read_fault write_fault status s settles =
+    λ r _ read write. settles (subst (λ (c : Settings). IsSomeAnd left (IsReadable c.groups)) (sym (one_config held o left config dex s r)) r.script) read write
+
+-- ---- under a configuration and a dex
+
+pub set_up : (held : Option (List ℕ → Option (List ℕ))) (o : Options) (config shared_config : Settings) (dex shared_dex : Tables) → shared_config ≡ config → shared_dex ≡ dex → Stands held o.dex (λ look. dex_in look o.dex) dex → Stands held o.config (λ look. config_in look dex o.config) config → IsSetUp held o shared_config shared_dex
+set_up held o config shared_config dex shared_dex e f d s = rw (e, f) (record { dex_is = d; config_is = s })
+
+pub input_cause : (held : Option (List ℕ → Option (List ℕ))) (o : Options) (left : Option (List ℕ)) (config : Settings) (dex : Tables) (old new : FileCounts) (status : Status) → IsSetUp held o config dex → IsOfInput status → InputCause config.groups left status → ReplayCause held o left old new status
+input_cause held o left config dex old new Done s of cause = (config, dex, s, tt)
+input_cause held o left config dex old new (BadScript line kind) s of cause = (config, dex, s, cause)
+input_cause held o left config dex old new (ScriptLong count) s of cause = ((config, dex, s, tt), cause)
+input_cause held o left config dex old new ReadFault s of cause = (config, dex, s, tt)
+input_cause held o left config dex old new WriteFault s of cause = (config, dex, s, tt)
+input_cause held o left config dex old new NoMemory s of cause = tt
+input_cause held o left config dex old new (Usage word) s of cause = absurd of
+input_cause held o left config dex old new (FileMissing name) s of cause = absurd of
+input_cause held o left config dex old new (FileFault name) s of cause = absurd of
+input_cause held o left config dex old new (FileLong name) s of cause = absurd of
+input_cause held o left config dex old new (BadDex path kind) s of cause = absurd of
+input_cause held o left config dex old new (BadConfig path kind) s of cause = absurd of
+input_cause held o left config dex old new (BadTeam set rule subject) s of cause = absurd of
+input_cause held o left config dex old new (UnknownFormat id) s of cause = absurd of
+input_cause held o left config dex old new (BadPack at kind) s of cause = absurd of

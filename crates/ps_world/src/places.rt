@@ -1,0 +1,364 @@
+//! The hall and the rooms.
+ghost use Rattle.std.specs.Prelude.{◌≡◌, ◌++◌, ◌∷◌, [], ◌+◌, ◌≤◌, ◌<◌, IfOk, IfSome, OnOk, map, string_bytes, length, Some, None};
+ghost use Rattle.std.specs.FinMap as maps;
+ghost use Rattle.std.specs.Option.{option_copied, option_map};
+ghost use Rattle.std.specs.Arc.{arc_value};
+ghost use Rattle.ps_start.specs.Fits.{IsFit};
+ghost use Rattle.ps_hall.specs.Halls as halls;
+ghost use Rattle.ps_hall.specs.Looks.{badge_of};
+ghost use Rattle.ps_world.specs.declared.place.Placed.TheVariants as placed;
+ghost use Rattle.ps_world.specs.Setup.{chat_opening, chats_from, battle_opening};
+ghost use Rattle.ps_world.specs.Worlds.{with_number, numbers_from, started_by};
+ghost use Rattle.ps_world.specs.Nows.{Now, standing, opened_standing, begin, now_opening, now_after, record_at};
+ghost use Rattle.ps_world.specs.Entries.{is_member, quit_of, quit_in, room_quits, named_quits, quits, hall_entry, is_open, ending_at};
+ghost use Rattle.ps_world.specs.Tables.{entry_text};
+
+use crate::place::Placed;
+use crate::play;
+use ps_base::badge::Badge;
+use ps_base::number::{ConnNo, Moment, RoomNo};
+use ps_base::text::Text;
+use ps_dex::dex::Dex;
+use ps_hall::entry::HallEntry;
+use ps_hall::game::{battle_id, battle_title};
+use ps_hall::hall::Hall;
+use ps_hall::outcome::HallOut;
+use ps_lines::command::{Command, HallCmd};
+use ps_room::entry::Entry;
+use ps_room::opening::Opening;
+use ps_room::outcome::Ending;
+use ps_room::role::Role;
+use ps_room::room::Room;
+use ps_roster::id_map::IdMap;
+use ps_valid::config::Config;
+use ps_valid::row::ChatRoom;
+use ps_valid::start::Start;
+use std::alloc::{AllocError, Global};
+use std::marker::Model;
+use std::sync::Arc;
+
+/// The number of the first battle's room.
+const FIRST_BATTLE: u32 = 16;
+
+/// As many battles as may start. The hall starts no more; past them memory is said to be wanting.
+const MOST_BATTLES: usize = 65_536;
+
+/// The hall, the chat rooms by their numbers, the rooms of battles in the order in which these started, and the number of
+/// each room by its id.
+#[derive(Drop)]
+pub struct Places {
+    hall: Hall,
+    chats: Vec<Room>,
+    battles: Vec<Room>,
+    numbers: IdMap<u32>,
+}
+
+impl Model for Places {
+    ghost use Rattle.std.specs.Prelude.{◌≤◌, map, length};
+    ghost use Rattle.std.specs.Coded.{codes, coded_ℕ, coded_ℤ};
+    ghost use base.Stored.{coded_unit};
+    ghost use Rattle.ps_roster.specs.ById.{by_id_code};
+    ghost use Rattle.ps_users.specs.ByConn.{by_conn_code};
+    ghost use Rattle.ps_world.specs.Nows.{Now, standing};
+
+    ghost Value = { Now };
+
+    ghost coded = { Prim.hlevel (codes, by_id_code, by_conn_code, coded_ℕ, coded_ℤ, coded_unit) };
+
+    ghost view = { λ p. record { hall = p.hall.state; chats = map standing p.chats.items; battles = map standing p.battles.items; numbers = p.numbers } };
+
+    ghost invariant = { λ p. (length p.chats.items ≤ 16) × (length p.battles.items ≤ 65536) };
+}
+
+// ---- opening rooms
+
+fn open_chat(
+    alloc: Global,
+    config: &Arc<Config>,
+    dex: &Arc<Dex>,
+    no: u32,
+    room: &ChatRoom,
+) -> Result<Room, AllocError>
+    ensures { IfOk result (λ r. standing r ≡ opened_standing (chat_opening (arc_value config.now) (arc_value dex.now) no room.now)) }
+{
+    let id = Text::copy_of(alloc, room.id.as_str())?;
+    let title = room.title.copy(alloc)?;
+    Room::new(
+        alloc,
+        Opening::new(RoomNo(no), id, title, config.clone()?, dex.clone()?, None),
+    )
+}
+
+// Opens the chat rooms, of which the first has the number `no`, and notes their numbers.
+fn open_chats(
+    alloc: Global,
+    chats: &mut Vec<Room>,
+    numbers: &mut IdMap<u32>,
+    config: &Arc<Config>,
+    dex: &Arc<Dex>,
+    no: u32,
+    rooms: &[ChatRoom],
+) -> Result<(), AllocError>
+    requires { no + length rooms.now ≤ 16 }
+    ensures chats { OnOk result (map standing chats.new.items ≡ map standing chats.old.items ++ map opened_standing (chats_from (arc_value config.now) (arc_value dex.now) no rooms.now)) }
+    ensures count { OnOk result (length chats.new.items ≡ length chats.old.items + length rooms.now) }
+    ensures numbers { OnOk result (numbers.new ≡ numbers_from numbers.old (chats_from (arc_value config.now) (arc_value dex.now) no rooms.now)) }
+{
+    match rooms {
+        [] => Ok(()),
+        [room, rest @ ..] => {
+            chats.push(open_chat(alloc, config, dex, no, room)?)?;
+            numbers.insert(alloc, room.id.as_str(), no)?;
+            open_chats(alloc, chats, numbers, config, dex, no + 1, rest)
+        }
+    }
+}
+
+// The room of a battle.
+fn battle_opening(
+    alloc: Global,
+    config: Arc<Config>,
+    dex: Arc<Dex>,
+    start: Start,
+) -> Result<Opening, AllocError>
+    requires { start.number ≤ 65536 }
+    ensures { IfOk result (λ o. o ≡ battle_opening (arc_value config) (arc_value dex) start) }
+{
+    let no = RoomNo(15 + start.number);
+    let id = battle_id(alloc, &start.format, start.number)?;
+    let title = battle_title(alloc, &start.players[0], &start.players[1])?;
+    Ok(Opening::new(no, id, title, config, dex, Some(start)))
+}
+
+// Opens the room of a battle that starts.
+fn begin(
+    alloc: Global,
+    battles: &mut Vec<Room>,
+    numbers: &mut IdMap<u32>,
+    config: Arc<Config>,
+    dex: Arc<Dex>,
+    start: Start,
+) -> Result<(), AllocError>
+    requires few { length battles.old.items ≤ 65536 }
+    requires fit { IsFit start (arc_value config) (arc_value dex) }
+    ensures battles { OnOk result (map standing battles.new.items ≡ map standing battles.old.items ++ opened_standing (battle_opening (arc_value config) (arc_value dex) start) ∷ []) }
+    ensures count { length battles.new.items ≤ 65536 }
+    ensures numbers { OnOk result (numbers.new ≡ with_number numbers.old (battle_opening (arc_value config) (arc_value dex) start)) }
+{
+    if battles.len() >= MOST_BATTLES || start.number > 65_536 {
+        return Err(AllocError);
+    }
+    let no = 15 + start.number;
+    let opening = battle_opening(alloc, config, dex, start)?;
+    let room = Room::new(alloc, opening)?;
+    numbers.insert(alloc, room.id(), no)?;
+    battles.push(room)?;
+    Ok(())
+}
+
+// ---- the end of a session
+
+// The Quit of a connection in one room.
+fn quit_of(
+    alloc: Global,
+    moment: Moment,
+    conn: ConnNo,
+    badge: &Badge,
+    no: u32,
+) -> Result<Placed, AllocError>
+    ensures { IfOk result (λ p. p ≡ quit_of moment conn badge.now no) }
+{
+    Ok(Placed::Room(
+        RoomNo(no),
+        Entry {
+            conn,
+            badge: badge.copy(alloc)?,
+            moment,
+            cmd: Command::Quit,
+        },
+    ))
+}
+
+fn is_member(room: &Room, conn: ConnNo) -> bool
+    ensures { result ≡ is_member conn room.now.state }
+{
+    match room.role(conn) {
+        Role::Outside => false,
+        Role::Spectator { .. } => true,
+        Role::Player { .. } => true,
+    }
+}
+
+fn push_quit(
+    alloc: Global,
+    quits: &mut Vec<Placed>,
+    moment: Moment,
+    conn: ConnNo,
+    badge: &Badge,
+    no: u32,
+    room: &Room,
+) -> Result<(), AllocError>
+    ensures { OnOk result (quits.new.items ≡ quits.old.items ++ quit_in moment conn badge.now no (standing room.now)) }
+{
+    if is_member(room, conn) {
+        quits.push(quit_of(alloc, moment, conn, badge, no)?)?;
+    }
+    Ok(())
+}
+
+// The Quits of a connection in these rooms, whose first has the number `no`.
+fn push_quits(
+    alloc: Global,
+    quits: &mut Vec<Placed>,
+    moment: Moment,
+    conn: ConnNo,
+    badge: &Badge,
+    no: u32,
+    rooms: &[Room],
+) -> Result<(), AllocError>
+    requires { no + length rooms.now ≤ 65552 }
+    ensures { OnOk result (quits.new.items ≡ quits.old.items ++ room_quits moment conn badge.now no (map standing rooms.now)) }
+{
+    match rooms {
+        [] => Ok(()),
+        [room, rest @ ..] => {
+            push_quit(alloc, quits, moment, conn, badge, no, room)?;
+            push_quits(alloc, quits, moment, conn, badge, no + 1, rest)
+        }
+    }
+}
+
+fn hall_entry(moment: Moment, conn: ConnNo, cmd: HallCmd) -> HallEntry
+    ensures { placed.Hall result ≡ hall_entry moment conn cmd }
+{
+    HallEntry { conn, moment, cmd }
+}
+
+impl Places {
+    /// Before the first entry, with the ranks that the script gives.
+    pub fn new(
+        alloc: Global,
+        config: Arc<Config>,
+        dex: Arc<Dex>,
+        ranks: IdMap<u8>,
+    ) -> Result<Places, AllocError>
+        ensures { IfOk result (λ p. p ≡ now_opening (record { config = arc_value config; dex = arc_value dex; ranks = ranks })) }
+    {
+        let mut chats = Vec::new(alloc);
+        let mut numbers = IdMap::new(alloc);
+        open_chats(
+            alloc,
+            &mut chats,
+            &mut numbers,
+            &config,
+            &dex,
+            0,
+            config.rooms(),
+        )?;
+        let hall = Hall::new(alloc, config, dex, ranks)?;
+        Ok(Places {
+            hall,
+            chats,
+            battles: Vec::new(alloc),
+            numbers,
+        })
+    }
+
+    /// Whether a connection is open.
+    pub fn is_open(&self, conn: ConnNo) -> bool
+        ensures { result ≡ is_open conn self.now }
+    {
+        self.hall.is_open(conn)
+    }
+
+    /// The number of the room with an id, compared as the whole text.
+    pub fn number(&self, id: &str) -> Option<u32>
+        ensures { result ≡ maps.get self.now.numbers id.now }
+    {
+        self.numbers.get(id)
+    }
+
+    /// A Quit in each room of which the connection is a member, in ascending number, and then in the hall.
+    pub fn quits(
+        &self,
+        alloc: Global,
+        moment: Moment,
+        conn: ConnNo,
+    ) -> Result<Vec<Placed>, AllocError>
+        ensures { IfOk result (λ v. v.items ≡ quits moment self.now conn) }
+    {
+        let mut quits = Vec::new(alloc);
+        match self.hall.badge(conn) {
+            None => {}
+            Some(badge) => {
+                push_quits(alloc, &mut quits, moment, conn, badge, 0, &self.chats)?;
+                push_quits(
+                    alloc,
+                    &mut quits,
+                    moment,
+                    conn,
+                    badge,
+                    FIRST_BATTLE,
+                    &self.battles,
+                )?;
+            }
+        }
+        quits.push(Placed::Hall(hall_entry(moment, conn, HallCmd::Quit)))?;
+        Ok(quits)
+    }
+
+    /// Prints an entry of the hall to the connections from 1 to `count`, and applies it. Gives the badge that its
+    /// sender has from it on.
+    pub fn push_hall(
+        &mut self,
+        alloc: Global,
+        count: u32,
+        entry: &HallEntry,
+        out: &mut String,
+    ) -> Result<Option<Badge>, AllocError>
+        ensures state { OnOk result (self.new ≡ now_after self.old (placed.Hall entry.now)) }
+        ensures text { OnOk result (string_bytes out.new ≡ string_bytes out.old ++ entry_text count self.old (placed.Hall entry.now)) }
+        ensures badge { IfOk result (λ b. b ≡ (halls.out_of self.old.hall entry.now).badge) }
+    {
+        let config = self.hall.config().clone()?;
+        let dex = self.hall.dex().clone()?;
+        let HallOut { badge, start, .. } = self.hall.apply(alloc, entry)?;
+        play::push_hall(out, count, self.hall.told())?;
+        match start {
+            None => {}
+            Some(start) => {
+                begin(
+                    alloc,
+                    &mut self.battles,
+                    &mut self.numbers,
+                    config,
+                    dex,
+                    start,
+                )?;
+            }
+        }
+        Ok(badge)
+    }
+
+    /// Prints an entry of a room to the connections from 1 to `count`, and applies it. Gives the end of its battle,
+    /// where the entry ended it.
+    pub fn push_room(
+        &mut self,
+        alloc: Global,
+        count: u32,
+        no: RoomNo,
+        entry: &Entry,
+        out: &mut String,
+    ) -> Result<Option<Ending>, AllocError>
+        ensures state { OnOk result (self.new ≡ now_after self.old (placed.Room no entry.now)) }
+        ensures text { OnOk result (string_bytes out.new ≡ string_bytes out.old ++ entry_text count self.old (placed.Room no entry.now)) }
+        ensures ended { IfOk result (λ o. o ≡ ending_at (record_at no self.old) entry.now) }
+    {
+        if no.0 < FIRST_BATTLE {
+            play::play_rooms(alloc, out, count, &mut self.chats, no.0 as usize, entry)
+        } else {
+            let place = (no.0 - FIRST_BATTLE) as usize;
+            play::play_rooms(alloc, out, count, &mut self.battles, place, entry)
+        }
+    }
+}
