@@ -28,6 +28,8 @@ mod dex_tests;
 #[cfg(test)]
 mod effects_tests;
 #[cfg(test)]
+mod hall_tests;
+#[cfg(test)]
 mod ladder_tests;
 #[cfg(test)]
 mod laws_tests;
@@ -57,6 +59,8 @@ mod tests;
 mod users_tests;
 #[cfg(test)]
 mod view_tests;
+#[cfg(test)]
+mod world_tests;
 
 const HELP: &str = "\
 psd, a battle server of the kind that Pokemon Showdown players connect to.

@@ -1,5 +1,7 @@
 //! Runs of the program, for rows.
-use ps_outside::files::{Files, SureFiles};
+use ps_base::list::List;
+use ps_base::text::Text;
+use ps_outside::files::{Files, NamedFile, SureFiles};
 use ps_outside::sink::{MemSink, Sink};
 use ps_outside::source::{Source, SureSource};
 use ps_replay::run::run;
@@ -41,12 +43,60 @@ pub(crate) fn replayed(alloc: Global, script: String) -> Result<Vec<u8>, AllocEr
     sink.bytes().to_vec(alloc)
 }
 
+fn named_file(alloc: Global, name: &str, text: &str) -> Result<NamedFile, AllocError> {
+    Ok(NamedFile {
+        name: Text::copy_of(alloc, name)?,
+        bytes: List::from_vec(text.as_bytes().to_vec(alloc)?),
+    })
+}
+
+/// The files with the names `dex` and `config`.
+pub(crate) fn two_files(
+    alloc: Global,
+    dex: &str,
+    config: &str,
+) -> Result<Vec<NamedFile>, AllocError> {
+    let mut files = Vec::new(alloc);
+    files.push(named_file(alloc, "dex", dex)?)?;
+    files.push(named_file(alloc, "config", config)?)?;
+    Ok(files)
+}
+
+/// How a replay by these words ends over the files `dex` and `config`, and what is written.
+pub(crate) fn replayed_by(
+    alloc: Global,
+    words: &[&str],
+    dex: &str,
+    config: &str,
+    script: String,
+) -> Result<(String, Vec<u8>), AllocError> {
+    let words = words_of(alloc, words)?;
+    let mut files = SureFiles::new(two_files(alloc, dex, config)?);
+    let mut source = SureSource::new(script.into_bytes());
+    let mut sink = MemSink::new(alloc, Vec::new(alloc));
+    let status = end_of(alloc, &words, &mut files, &mut source, &mut sink);
+    Ok((told(alloc, &status)?, sink.bytes().to_vec(alloc)?))
+}
+
 /// The lines of a connection, by the digit that they begin with.
 pub(crate) fn lines_of(alloc: Global, bytes: &[u8], conn: char) -> Result<String, AllocError> {
     let mut lines = String::new(alloc);
     let text = std::str::from_utf8(bytes).unwrap_or("");
     for line in text.lines() {
         if line.starts_with(conn) {
+            lines.push_str(line)?;
+            lines.push_str("\n")?;
+        }
+    }
+    Ok(lines)
+}
+
+/// The lines that tell a refusal, to whomever.
+pub(crate) fn refusals_in(alloc: Global, bytes: &[u8]) -> Result<String, AllocError> {
+    let mut lines = String::new(alloc);
+    let text = std::str::from_utf8(bytes).unwrap_or("");
+    for line in text.lines() {
+        if line.contains("|popup|[") || line.contains("|error|[") {
             lines.push_str(line)?;
             lines.push_str("\n")?;
         }

@@ -1,0 +1,248 @@
+//! The hall: what each command tells, and what it starts.
+use ps_base::number::{ConnNo, Moment};
+use ps_dex::dex::Dex;
+use ps_hall::cursor::Cursor;
+use ps_hall::entry::HallEntry;
+use ps_hall::hall::Hall;
+use ps_hall::notice::Notice;
+use ps_hall::outcome::HallOut;
+use ps_lines::command::{HallCmd, Parsed};
+use ps_lines::read::read_command;
+use ps_roster::id_map::IdMap;
+use ps_valid::config::Config;
+use std::alloc::{AllocError, Global};
+use std::process::Abort;
+use std::sync::Arc;
+use std::test::Fail;
+
+/// A dex of one move and one species.
+const DEX: &str = r#"{"types":[{"name":"Normal","special":false}],
+"moves":[{"name":"Body Slam","type":"Normal","power":85,"accuracy":100,"pp":24,"priority":0}],
+"species":[{"name":"Tauros","types":["Normal"],"stats":[75,100,95,70,110],"learns":["bodyslam"]}]}"#;
+
+const CONFIG: &str =
+    r#"{"formats":[{"name":"[Gen 1] OU"},{"name":"fun","rated":false}],"seeds":[0]}"#;
+
+/// A connection, what it does, and what is told: of each notice the connection, and its lines. `+` opens, `-` closes,
+/// `=0` and `=1` report that a player won battle 1, and `=2` a tie.
+type Rows = &'static [(u32, &'static str, &'static str)];
+
+const NAMED: Rows = &[
+    (
+        1,
+        "+",
+        "1< |challstr|0-1 . |updateuser| Guest 1|0|0|{} . |formats|[Gen 1] OU|fun",
+    ),
+    (
+        2,
+        "+",
+        "2< |challstr|0-2 . |updateuser| Guest 2|0|0|{} . |formats|[Gen 1] OU|fun",
+    ),
+    (1, "/search gen1ou", "1< |popup|[NotNamed]"),
+    (1, "/trn Ann,0,", "1< |updateuser| Ann|1|0|{}"),
+    (2, "/trn a.n.n,0,", "2< |nametaken|a.n.n|[NameTaken]"),
+    (2, "/trn Bob,0,", "2< |updateuser| Bob|1|0|{}"),
+];
+
+const TEAMS: Rows = &[
+    (
+        1,
+        "/utm Tauros||||bodyslam||||||",
+        "1< |popup|[BadPack] 24 Bars",
+    ),
+    (1, "/utm Tauros||||rest|||||||", ""),
+    (
+        1,
+        "/search gen1ou",
+        "1< |popup|[BadTeam] 1 UnknownMove rest",
+    ),
+    (1, "/utm Tauros||||bodyslam|||||||", ""),
+    (2, "/utm Tauros||||bodyslam|||||||", ""),
+];
+
+const CHALLENGES: Rows = &[
+    (1, "/challenge Cy, gen1ou", "1< |popup|[NoSuchUser]"),
+    (1, "/challenge Ann, gen1ou", "1< |popup|[SelfTarget]"),
+    (1, "/challenge Bob, ubers", "1< |popup|[UnknownFormat]"),
+    (2, "/accept Ann", "2< |popup|[NoChallenge]"),
+    (
+        1,
+        "/challenge Bob, gen1ou",
+        r#"1< |updatechallenges|{"challengeTo":{"format":"gen1ou","to":"bob"},"challengesFrom":{}} 2< |updatechallenges|{"challengeTo":null,"challengesFrom":{"ann":"gen1ou"}}"#,
+    ),
+    (1, "/challenge Bob, gen1ou", "1< |popup|[AlreadyChallenged]"),
+    (
+        2,
+        "/accept Ann",
+        r#"2< |updatechallenges|{"challengeTo":null,"challengesFrom":{}} . |updatesearch|{"games":{"battle-gen1ou-1":"Ann vs. Bob"},"searching":[]} 1< |updatechallenges|{"challengeTo":null,"challengesFrom":{}} . |updatesearch|{"games":{"battle-gen1ou-1":"Ann vs. Bob"},"searching":[]} start 1 gen1ou Ann Bob 0"#,
+    ),
+    (
+        1,
+        "=0",
+        r#"1< |updatesearch|{"games":null,"searching":[]} 2< |updatesearch|{"games":null,"searching":[]}"#,
+    ),
+    (1, "=0", "1< |popup|[NoBattle]"),
+    (1, "/rank Ann, gen1ou", "1< |popup|ann gen1ou 1000"),
+];
+
+const LADDER: Rows = &[
+    (1, "/search fun", "1< |popup|[NotRated]"),
+    (1, "/cancelsearch", "1< |popup|[NotSearching]"),
+    (
+        2,
+        "/search gen1ou",
+        r#"2< |updatesearch|{"games":null,"searching":["gen1ou"]}"#,
+    ),
+    (2, "/search gen1ou", "2< |popup|[AlreadySearching]"),
+    (
+        1,
+        "/search gen1ou",
+        r#"1< |updatesearch|{"games":{"battle-gen1ou-1":"Bob vs. Ann"},"searching":[]} 2< |updatesearch|{"games":{"battle-gen1ou-1":"Bob vs. Ann"},"searching":[]} start 1 gen1ou Bob Ann 0"#,
+    ),
+    (
+        1,
+        "=1",
+        r#"2< |updatesearch|{"games":null,"searching":[]} . |popup|bob gen1ou 984 1< |updatesearch|{"games":null,"searching":[]} . |popup|ann gen1ou 1016"#,
+    ),
+    (2, "/rank Ann, gen1ou", "2< |popup|ann gen1ou 1016"),
+    (2, "/rank Ann, fun", "2< |popup|ann fun 1000"),
+];
+
+const WHISPERS: Rows = &[
+    (1, "/pm Bob, hi", "1< |pm| Ann| Bob|hi 2< |pm| Ann| Bob|hi"),
+    (1, "/pm Ann, hi", "1< |pm| Ann| Ann|hi"),
+    (1, "/pm Cy, hi", "1< |popup|[NoSuchUser]"),
+    (1, "/pm Bob,   ", "1< |popup|[EmptyText]"),
+    (1, "/block Bob", ""),
+    (1, "/block Bob", "1< |popup|[AlreadyBlocked]"),
+    (2, "/pm Ann, x", "2< |popup|[Blocked]"),
+    (2, "/challenge Ann, gen1ou", "2< |popup|[Blocked]"),
+    (
+        1,
+        "/challenge Bob, gen1ou",
+        r#"1< |updatechallenges|{"challengeTo":{"format":"gen1ou","to":"bob"},"challengesFrom":{}} 2< |updatechallenges|{"challengeTo":null,"challengesFrom":{"ann":"gen1ou"}}"#,
+    ),
+    (
+        1,
+        "-",
+        r#"2< |updatechallenges|{"challengeTo":null,"challengesFrom":{}}"#,
+    ),
+    (2, "/pm Ann, x", "2< |popup|[NoSuchUser]"),
+];
+
+fn report(winner: Option<u8>) -> HallCmd {
+    HallCmd::Report { number: 1, winner }
+}
+
+fn command_of(rt: &impl Abort, alloc: Global, text: &str) -> HallCmd {
+    match text {
+        "+" => HallCmd::Open,
+        "-" => HallCmd::Quit,
+        "=0" => report(Some(0)),
+        "=1" => report(Some(1)),
+        "=2" => report(None),
+        _ => match read_command(alloc, text).expect(rt, "a command") {
+            Parsed::Hall(cmd) => cmd,
+            Parsed::Room(_) => HallCmd::Open,
+        },
+    }
+}
+
+fn push_notice(out: &mut String, notice: &Notice) -> Result<(), AllocError> {
+    let front = if out.as_str().is_empty() { "" } else { " " };
+    let conn = notice.conn;
+    out.push_str(front)?;
+    write!(out, "{conn}<")?;
+    let mut between = " ";
+    for line in notice.lines.as_slice() {
+        write!(out, "{between}{line}")?;
+        between = " . ";
+    }
+    Ok(())
+}
+
+fn push_start(out: &mut String, done: &HallOut) -> Result<(), AllocError> {
+    match &done.start {
+        None => Ok(()),
+        Some(start) => {
+            let [one, two] = &start.players;
+            write!(
+                out,
+                " start {} {} {one} {two} {}",
+                start.number, start.format, start.seed
+            )
+        }
+    }
+}
+
+fn answer(rt: &impl Abort, alloc: Global, hall: &mut Hall, conn: u32, text: &str) -> String {
+    let entry = HallEntry {
+        conn: ConnNo(conn),
+        moment: Moment(0),
+        cmd: command_of(rt, alloc, text),
+    };
+    let done = hall.apply(alloc, &entry).expect(rt, "memory");
+    let mut out = String::new(alloc);
+    for notice in hall.told() {
+        push_notice(&mut out, notice).expect(rt, "memory");
+    }
+    push_start(&mut out, &done).expect(rt, "memory");
+    out
+}
+
+fn hall(rt: &impl Abort, alloc: Global) -> Hall {
+    let dex = Dex::read(alloc, DEX.as_bytes()).expect(rt, "a dex");
+    let config = Config::read(alloc, CONFIG.as_bytes(), &dex).expect(rt, "a configuration");
+    let config = Arc::new(alloc, config).expect(rt, "memory");
+    let dex = Arc::new(alloc, dex).expect(rt, "memory");
+    Hall::new(alloc, config, dex, IdMap::new(alloc)).expect(rt, "memory")
+}
+
+fn play(rt: &impl Abort, alloc: Global, hall: &mut Hall, rows: Rows) -> Result<(), Fail> {
+    for (conn, text, wanted) in rows {
+        let told = answer(rt, alloc, hall, *conn, text);
+        assert_eq!(rt; told.as_str(), *wanted);
+    }
+    Ok(())
+}
+
+#[test]
+fn a_challenge(rt: HostRuntime) -> Result<(), Fail> {
+    let alloc = rt.alloc();
+    let mut hall = hall(&rt, alloc);
+    play(&rt, alloc, &mut hall, NAMED)?;
+    play(&rt, alloc, &mut hall, TEAMS)?;
+    play(&rt, alloc, &mut hall, CHALLENGES)
+}
+
+#[test]
+fn a_ladder_battle(rt: HostRuntime) -> Result<(), Fail> {
+    let alloc = rt.alloc();
+    let mut hall = hall(&rt, alloc);
+    play(&rt, alloc, &mut hall, NAMED)?;
+    play(&rt, alloc, &mut hall, TEAMS)?;
+    play(&rt, alloc, &mut hall, LADDER)
+}
+
+#[test]
+fn whispers_and_blocks(rt: HostRuntime) -> Result<(), Fail> {
+    let alloc = rt.alloc();
+    let mut hall = hall(&rt, alloc);
+    play(&rt, alloc, &mut hall, NAMED)?;
+    play(&rt, alloc, &mut hall, TEAMS)?;
+    play(&rt, alloc, &mut hall, WHISPERS)
+}
+
+/// A connection that looks late is given its messages alone, and then nothing.
+#[test]
+fn a_late_look(rt: HostRuntime) -> Result<(), Fail> {
+    let alloc = rt.alloc();
+    let mut hall = hall(&rt, alloc);
+    play(&rt, alloc, &mut hall, NAMED)?;
+    let mut cursor = Cursor::new(ConnNo(2));
+    let pulled = hall.pull(alloc, &mut cursor).expect(&rt, "memory");
+    assert_eq!(rt; pulled.len(), 3);
+    let pulled = hall.pull(alloc, &mut cursor).expect(&rt, "memory");
+    assert_eq!(rt; pulled.len(), 0);
+    Ok(())
+}
