@@ -1,60 +1,177 @@
--- Histories: a view is the view of the low history, and from alike records equal low histories give equal views.
-use Rattle.std.proofs.Common.{◌≡◌, ℕ, List, [], ◌∷◌, ◌++◌, refl, sym, ap, ◌∙◌, inl, inr}
+-- Histories of one world: a view is the view over the items of its history, which are fine and tell the connection's users.
+use Rattle.std.proofs.Common.{◌≡◌, ℕ, Bool, true, false, ◌||◌, List, [], ◌∷◌, ◌++◌, Option, Some, None, option_to_list, append_assoc, refl, ap, ◌∙◌, sym, subst, arith}
+use Rattle.std.proofs.lemmas.Bool.Decides.{nat_tests}
+use Rattle.std.specs.Prelude.{◌==◌}
+use Rattle.ps_base.specs.Ids.{id_of}
+use Rattle.ps_base.specs.declared.why.Why.{Why}
+use Rattle.ps_lines.specs.declared.command.Command.{Command}
+use Rattle.ps_lines.specs.declared.command.Command.TheVariants.{Join}
+use Rattle.ps_bout.specs.Fights.{Fight}
+use Rattle.ps_alike.specs.Places.{Hidden}
+use Rattle.ps_chat.specs.declared.present.Present.{Present}
+use Rattle.ps_chat.specs.Records.{Record as ChatRecord, Opening as ChatOpening}
 use Rattle.ps_room.specs.declared.entry.Entry.{Entry}
-use Rattle.ps_room.specs.Openings.{Opening}
-use Rattle.ps_room.specs.Records.{Record, opened}
-use Rattle.ps_room.specs.Rooms.{after, message, sent, view}
-use Rattle.ps_room.proofs.ChatLemmas.{IsChat, chat_opened, chat_after}
-use Rattle.ps_laws.specs.Stories.{Story, begun, view_of}
-use Rattle.ps_laws.specs.Hidden.{Hidden, hidden_in_both}
-use Rattle.ps_laws.specs.Low.{Item, users, low_from, low}
-use Rattle.ps_laws.specs.Same.{AreSame, AreOpenedAlike}
-use Rattle.ps_laws.specs.Alike.{AreAlike}
-use Rattle.ps_laws.proofs.EntryLemmas.{IsShown, IsHidden, shown_or_hidden, item_after, item_message, item_alike, alike_is}
+use Rattle.ps_room.specs.Records.{Record}
+use Rattle.ps_room.specs.Rooms.{sender_of, verdict, after, battle_after, view, message, sent, is_join, joiner_of}
+use Rattle.ps_room.proofs.AnswerLemmas.{after_allowed, after_refused}
+use Rattle.ps_laws.specs.Alike.{own_fight, own_part}
+use Rattle.ps_laws.specs.Users.{user_of, users_from}
+use Rattle.ps_laws.specs.Rounds.{Round, round_of, rounds_from}
+use Rattle.ps_laws.specs.Low.{Item, items_of, is_own, low_from}
+use Rattle.ps_laws.proofs.PartLemmas.{PlaysOwn, is_choice, verdict_free}
+use Rattle.ps_laws.proofs.ItemLemmas.{item_after, items_after, items_view, item_message}
+use Rattle.ps_laws.proofs.UserLemmas.{OwnsOf, is_user, own_of_member, own_of_sender, plays_own}
+use Rattle.ps_laws.proofs.HomeLemmas.{AreHome, home_after, is_home, join_user}
+use Rattle.ps_laws.proofs.WaitLemmas.{WaitsIn, waits_after_entry}
+use Rattle.ps_laws.proofs.ShownLemmas.{AreUnshown}
+use Rattle.ps_laws.proofs.FineLemmas.{AreFine, fine_more}
+use Rattle.ps_laws.proofs.TwinLemmas.{IsEntryGood}
+use Rattle.ps_laws.proofs.StepLemmas.{StandFor, own_entry}
+use Rattle.ps_laws.proofs.OtherLemmas.{PlaysOther, other_entry}
+use Rattle.ps_laws.proofs.ChatLemmas.{chat_over, user_if, items_users, users_more, own_users, others_users, items_chat, opening_after}
 
--- what a connection is sent over items
-abbrev pub items_view : ℕ → Record → List Item → List (List (List ℕ))
-items_view conn r [] = []
-items_view conn r (i ∷ is) = sent (item_message conn r i) ++ items_view conn (item_after r i) is
+-- ---- what holds of a world at any time
 
--- from alike records equal items give equal views
-pub views_alike : (conn : ℕ) (places : Hidden) (one two : Record) (is : List Item) → AreAlike conn places one two → items_view conn one is ≡ items_view conn two is
-views_alike conn places one two [] w = refl
-views_alike conn places one two (i ∷ is) w =
-    let step = item_alike conn places one two i w in
-    ap (λ (m : List (List ℕ)). sent m ++ items_view conn (item_after one i) is) step.equal
-    ∙ ap (λ (ms : List (List (List ℕ))). sent (item_message conn two i) ++ ms) (views_alike conn places (item_after one i) (item_after two i) is step.alike)
+-- the own sides are those of the users, each member of the connection is one of them, and what waits may be committed
+pub record IsSettled (conn : ℕ) (ids : List (List ℕ)) (own : ℕ → Bool) (r : Record) : Type 0 where
+  pub owns : OwnsOf ids own r.battle
+  pub home : AreHome conn ids r.chat.members
+  pub waits : WaitsIn r.battle
 
-view_shown : (conn : ℕ) (ids : List (List ℕ)) (r : Record) (e : Entry) (es : List Entry) → IsShown conn ids r e → view conn (after r e) es ≡ items_view conn (after r e) (low_from conn ids (after r e) es) → view conn r (e ∷ es) ≡ items_view conn r (low_from conn ids r (e ∷ es))
-view_shown conn ids r e es shown more =
-    ap (λ (ms : List (List (List ℕ))). sent (message conn r e) ++ ms) more
-    ∙ ap (λ (is : List Item). items_view conn r (is ++ low_from conn ids (after r e) es)) (sym shown)
+pub battle_owns : (ids : List (List ℕ)) (own : ℕ → Bool) (fo : Option Fight) (me : Option Present) (cmd : Command) → OwnsOf ids own fo → OwnsOf ids own (battle_after fo me cmd)
+battle_owns ids own None me cmd h = tt
+battle_owns ids own (Some f) me cmd h = h
 
-view_hidden : (conn : ℕ) (places : Hidden) (ids : List (List ℕ)) (r : Record) (e : Entry) (es : List Entry) → IsHidden conn places ids r e → view conn (after r e) es ≡ items_view conn (after r e) (low_from conn ids (after r e) es) → view conn r (e ∷ es) ≡ items_view conn r (low_from conn ids r (e ∷ es))
-view_hidden conn places ids r e es h more =
-    ap (λ (m : List (List ℕ)). sent m ++ view conn (after r e) es) h.silent
-    ∙ more
-    ∙ views_alike conn places (after r e) r (low_from conn ids (after r e) es) h.alike
-    ∙ ap (λ (is : List Item). items_view conn r (is ++ low_from conn ids (after r e) es)) (sym h.none)
+owns_by : (ids : List (List ℕ)) (own : ℕ → Bool) (r : Record) (e : Entry) (v : Option Why) → verdict r e ≡ v → OwnsOf ids own r.battle → OwnsOf ids own (after r e).battle
+owns_by ids own r e (Some why) v h = subst (λ (x : Record). OwnsOf ids own x.battle) (sym (after_refused r e why v)) h
+owns_by ids own r e None v h = subst (λ (x : Record). OwnsOf ids own x.battle) (sym (after_allowed r e v)) (battle_owns ids own r.battle (sender_of r e) e.cmd h)
+
+pub settled_after : (conn : ℕ) (ids : List (List ℕ)) (own : ℕ → Bool) (r : Record) (e : Entry) → IsSettled conn ids own r → ((e.conn == conn) ≡ true → is_user ids (user_of r e) ≡ true) → IsSettled conn ids own (after r e)
+settled_after conn ids own r e h user = record {
+  owns = owns_by ids own r e (verdict r e) refl h.owns;
+  home = home_after conn ids r e h.home user;
+  waits = waits_after_entry r e h.waits;
+}
+
+-- ---- one entry
+
+plays_of : (ids : List (List ℕ)) (own : ℕ → Bool) (r : Record) (e : Entry) (fo : Option Fight) → OwnsOf ids own fo → is_user ids (user_of r e) ≡ true → PlaysOwn own fo (sender_of r e)
+plays_of ids own r e None owns user = tt
+plays_of ids own r e (Some f) owns user = λ s side. own_of_sender ids own f r e s owns side ∙ user
+
+plays_other_of : (ids : List (List ℕ)) (own : ℕ → Bool) (r : Record) (e : Entry) (fo : Option Fight) → OwnsOf ids own fo → is_user ids (user_of r e) ≡ false → PlaysOther own fo (sender_of r e)
+plays_other_of ids own r e None owns user = tt
+plays_other_of ids own r e (Some f) owns user = λ s side. own_of_sender ids own f r e s owns side ∙ user
+
+part_plays : (own : ℕ → Bool) (fo : Option Fight) (me : Option Present) → PlaysOwn own fo me → PlaysOwn own (own_fight own fo) me
+part_plays own None me h = tt
+part_plays own (Some f) me h = h
+
+joins_room : (cmd : Command) → is_join cmd ≡ true → (room : List ℕ) × (cmd ≡ Join room)
+joins_room (Join room) e = (room, refl)
+joins_room other e = absurd cc
+
+joiner_plays : (ids : List (List ℕ)) (own : ℕ → Bool) (r : Record) (e : Entry) (fo : Option Fight) → OwnsOf ids own fo → is_user ids (id_of e.badge.name) ≡ true → PlaysOwn own fo (Some (joiner_of r e))
+joiner_plays ids own r e None owns user = tt
+joiner_plays ids own r e (Some f) owns user = λ s side. own_of_member ids own f (joiner_of r e) s owns side ∙ user
+
+join_free : (cmd : Command) → is_join cmd ≡ true → is_choice cmd ≡ false
+join_free (Join room) e = refl
+join_free other e = absurd cc
+
+own_good : (conn : ℕ) (ids : List (List ℕ)) (own : ℕ → Bool) (r : Record) (e : Entry) → OwnsOf ids own r.battle → is_user ids (user_of r e) ≡ true → IsEntryGood conn own (own_part own r) e
+own_good conn ids own r e owns user = record {
+  chooses = λ chooses. part_plays own r.battle (sender_of r e) (plays_of ids own r e r.battle owns user);
+  joins = λ v mine joins.
+      (let room = joins_room e.cmd joins in
+      let allowed : verdict r e ≡ None = sym (verdict_free own r e (join_free e.cmd joins)) ∙ v in
+      part_plays own r.battle (Some (joiner_of r e)) (joiner_plays ids own r e r.battle owns (sym (ap (is_user ids) (join_user r e room.0 room.1 allowed)) ∙ user)));
+}
+
+either_user : (mine user : Bool) → (mine || user) ≡ true → (mine ≡ true → user ≡ true) → user ≡ true
+either_user true user e h = h refl
+either_user false user e h = e
+
+neither_own : (mine user : Bool) → (mine || user) ≡ false → (mine ≡ false) × (user ≡ false)
+neither_own false user e = (refl, e)
+neither_own true user e = absurd cc
+
+not_same : (a b : ℕ) → (a == b) ≡ false → (b == a) ≡ false
+not_same a b e = grind (arith, nat_tests)
+
+entry_by : (conn : ℕ) (ids : List (List ℕ)) (own : ℕ → Bool) (r : Record) (e : Entry) (mine : Bool) → is_own conn ids r e ≡ mine → IsSettled conn ids own r → ((e.conn == conn) ≡ true → is_user ids (user_of r e) ≡ true) → StandFor conn own r e (items_of conn ids r e)
+entry_by conn ids own r e true is h user =
+    let known : is_user ids (user_of r e) ≡ true = either_user (e.conn == conn) _ is user in
+    rw is (own_entry conn own r e (plays_of ids own r e r.battle h.owns known) (own_good conn ids own r e h.owns known))
+entry_by conn ids own r e false is h user =
+    let n = neither_own (e.conn == conn) (is_user ids (user_of r e)) is in
+    rw is (other_entry conn own r e (not_same e.conn conn n.0) (plays_other_of ids own r e r.battle h.owns n.1) (λ s lt other. plays_own conn ids own r s h.owns (is_home conn ids r h.home) lt other))
+
+-- the items of an entry stand for it
+pub entry_stands : (conn : ℕ) (ids : List (List ℕ)) (own : ℕ → Bool) (r : Record) (e : Entry) → IsSettled conn ids own r → ((e.conn == conn) ≡ true → is_user ids (user_of r e) ≡ true) → StandFor conn own r e (items_of conn ids r e)
+entry_stands conn ids own r e h user = entry_by conn ids own r e (is_own conn ids r e) refl h user
+
+-- ---- histories
+
+-- they are users
+abbrev pub AreUsers : List (List ℕ) → List (List ℕ) → Type 0
+AreUsers ids [] = Unit {0}
+AreUsers ids (id ∷ more) = (is_user ids id ≡ true) × AreUsers ids more
+
+pub users_split : (ids : List (List ℕ)) (mine : Bool) (id : List ℕ) (more : List (List ℕ)) → AreUsers ids (user_if mine id ++ more) → (mine ≡ true → is_user ids id ≡ true) × AreUsers ids more
+users_split ids true id more h = (λ e. h.0, h.1)
+users_split ids false id more h = (λ e. absurd cc, h)
+
+items_view_more : (conn : ℕ) (r : Record) (is js : List Item) → items_view conn r (is ++ js) ≡ items_view conn r is ++ items_view conn (items_after r is) js
+items_view_more conn r [] js = refl
+items_view_more conn r (i ∷ is) js =
+    ap (λ (ms : List (List (List ℕ))). sent (item_message conn r i) ++ ms) (items_view_more conn (item_after r i) is js)
+    ∙ sym (append_assoc (sent (item_message conn r i)) (items_view conn (item_after r i) is) _)
 
 -- a view is the view over the items of its history
-pub view_is : (conn : ℕ) (places : Hidden) (ids : List (List ℕ)) (r : Record) (es : List Entry) → IsChat r → view conn r es ≡ items_view conn r (low_from conn ids r es)
-view_is conn places ids r [] chat = refl
-view_is conn places ids r (e ∷ es) chat =
-    elim (shown_or_hidden conn places ids r e chat) [
-      | inl shown ↦ view_shown conn ids r e es shown (view_is conn places ids (after r e) es (chat_after r e chat))
-      | inr hidden ↦ view_hidden conn places ids r e es hidden (view_is conn places ids (after r e) es (chat_after r e chat))
-    ]
+pub view_is : (conn : ℕ) (ids : List (List ℕ)) (own : ℕ → Bool) (r : Record) (es : List Entry) → IsSettled conn ids own r → AreUsers ids (users_from conn r es) → view conn r es ≡ items_view conn (own_part own r) (low_from conn ids r es)
+view_is conn ids own r [] h users = refl
+view_is conn ids own r (e ∷ es) h users =
+    let u = users_split ids (e.conn == conn) (user_of r e) (users_from conn (after r e) es) users in
+    let s = entry_stands conn ids own r e h u.0 in
+    let more = view_is conn ids own (after r e) es (settled_after conn ids own r e h u.0) u.1 in
+    ap (λ (ms : List (List (List ℕ))). sent (message conn r e) ++ ms) more
+    ∙ ap (λ (ms : List (List (List ℕ))). ms ++ items_view conn (own_part own (after r e)) (low_from conn ids (after r e) es)) (sym s.view)
+    ∙ ap (λ (x : Record). items_view conn (own_part own r) (items_of conn ids r e) ++ items_view conn x (low_from conn ids (after r e) es)) (sym s.after)
+    ∙ sym (items_view_more conn (own_part own r) (items_of conn ids r e) (low_from conn ids (after r e) es))
 
--- the records of two openings that are equal but for these places
-opened_alike : (conn : ℕ) (places : Hidden) (one two : Opening) → AreOpenedAlike places one two → AreAlike conn places (opened one) (opened two)
-opened_alike conn places one two w = alike_is conn places (opened one) (opened two) (ap opened w.rest)
+unshown_split : (places : Hidden) (o : Option Round) (rs : List Round) → AreUnshown places (option_to_list o ++ rs) → AreUnshown places (option_to_list o) × AreUnshown places rs
+unshown_split places None rs h = (tt, h)
+unshown_split places (Some r) rs h = ((h.0, tt), h.1)
 
--- two stories that are the same to a connection give it equal views
-pub views_are_equal : (conn : ℕ) (one two : Story) → AreSame conn one two → view_of conn one ≡ view_of conn two
-views_are_equal conn one two same =
-    let places = hidden_in_both conn one two in
-    view_is conn places (users conn one) (begun one) one.history (chat_opened one.opening same.first)
-    ∙ ap (items_view conn (begun one)) same.histories
-    ∙ views_alike conn places (begun one) (begun two) (low conn two) (opened_alike conn places one.opening two.opening same.openings)
-    ∙ sym (view_is conn places (users conn two) (begun two) two.history (chat_opened two.opening same.second))
+-- its items are fine where no round shows a hidden place
+pub low_is_fine : (conn : ℕ) (ids : List (List ℕ)) (own : ℕ → Bool) (places : Hidden) (r : Record) (es : List Entry) → IsSettled conn ids own r → AreUsers ids (users_from conn r es) → AreUnshown places (rounds_from r es) → AreFine conn own places (own_part own r) (low_from conn ids r es)
+low_is_fine conn ids own places r [] h users shown = tt
+low_is_fine conn ids own places r (e ∷ es) h users shown =
+    let u = users_split ids (e.conn == conn) (user_of r e) (users_from conn (after r e) es) users in
+    let s = entry_stands conn ids own r e h u.0 in
+    let rounds = unshown_split places (round_of r e) (rounds_from (after r e) es) shown in
+    let more = low_is_fine conn ids own places (after r e) es (settled_after conn ids own r e h u.0) u.1 rounds.1 in
+    fine_more conn own places (own_part own r) (items_of conn ids r e) (low_from conn ids (after r e) es) (s.fine places h.waits rounds.0)
+    (subst (λ (x : Record). AreFine conn own places x (low_from conn ids (after r e) es)) (sym s.after) more)
+
+entry_users_by : (conn : ℕ) (ids : List (List ℕ)) (r : Record) (e : Entry) (mine : Bool) → is_own conn ids r e ≡ mine → items_users conn r.opening r.chat (items_of conn ids r e) ≡ user_if (e.conn == conn) (user_of r e)
+entry_users_by conn ids r e true is = rw is (own_users conn r e)
+entry_users_by conn ids r e false is =
+    let n = neither_own (e.conn == conn) (is_user ids (user_of r e)) is in
+    rw is (others_users conn r e (verdict r e) n.0 ∙ ap (λ (b : Bool). user_if b (user_of r e)) (sym n.0))
+
+-- the users are told by the items
+pub users_is : (conn : ℕ) (ids : List (List ℕ)) (own : ℕ → Bool) (r : Record) (es : List Entry) → IsSettled conn ids own r → AreUsers ids (users_from conn r es) → users_from conn r es ≡ items_users conn r.opening r.chat (low_from conn ids r es)
+users_is conn ids own r [] h users = refl
+users_is conn ids own r (e ∷ es) h users =
+    let u = users_split ids (e.conn == conn) (user_of r e) (users_from conn (after r e) es) users in
+    let s = entry_stands conn ids own r e h u.0 in
+    let more = users_is conn ids own (after r e) es (settled_after conn ids own r e h u.0) u.1 in
+    let js = low_from conn ids (after r e) es in
+    let chat : (after r e).chat ≡ chat_over r.opening r.chat (items_of conn ids r e) = ap (λ (x : Record). x.chat) (sym s.after) ∙ items_chat (own_part own r) (items_of conn ids r e) in
+    ap (λ (us : List (List ℕ)). user_if (e.conn == conn) (user_of r e) ++ us) more
+    ∙ ap (λ (us : List (List ℕ)). us ++ items_users conn (after r e).opening (after r e).chat js) (sym (entry_users_by conn ids r e (is_own conn ids r e) refl))
+    ∙ ap (λ (o : ChatOpening). items_users conn r.opening r.chat (items_of conn ids r e) ++ items_users conn o (after r e).chat js) (opening_after r e)
+    ∙ ap (λ (c : ChatRecord). items_users conn r.opening r.chat (items_of conn ids r e) ++ items_users conn r.opening c js) chat
+    ∙ sym (users_more conn r.opening r.chat (items_of conn ids r e) js)

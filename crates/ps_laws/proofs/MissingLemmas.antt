@@ -1,30 +1,64 @@
--- A story without an entry that has no item is the same.
-use Rattle.std.proofs.Common.{◌≡◌, ℕ, ◌==◌, Bool, true, false, cond, List, [], ◌∷◌, ◌++◌, refl, sym, ap, ◌∙◌, inl, inr}
+-- A story of a chat room without an entry that has no item is the same.
+use Rattle.std.proofs.Common.{◌≡◌, ℕ, ◌==◌, ◌||◌, Bool, true, false, cond, List, [], ◌∷◌, ◌++◌, Option, Some, None, refl, sym, ap, ◌∙◌}
+use Rattle.std.specs.Prelude.{IfSome}
+use Rattle.std.proofs.lemmas.Bool.Decides.{nat_tests}
+use Rattle.std.proofs.Common.{arith}
+use Rattle.ps_base.specs.declared.why.Why.{Why}
+use Rattle.ps_lines.specs.declared.command.Command.{Command}
+use Rattle.ps_lines.specs.declared.command.Command.TheVariants.{Modnote, Choose, Undo}
+use Rattle.ps_dex.specs.declared.row.Tables.{Tables}
+use Rattle.ps_valid.specs.declared.row.Settings.{Settings}
+use Rattle.ps_valid.specs.declared.start.Start.{Start}
+use Rattle.ps_start.specs.Fits.{IsFit}
+use Rattle.ps_alike.specs.Places.{Hidden}
 use Rattle.ps_room.specs.declared.entry.Entry.{Entry}
 use Rattle.ps_room.specs.Records.{Record, opened}
-use Rattle.ps_room.specs.Rooms.{after, run_record}
-use Rattle.ps_room.proofs.ChatLemmas.{IsChat, chat_opened, chat_after}
-use Rattle.ps_laws.specs.Stories.{Story, story}
+use Rattle.ps_room.specs.Rooms.{verdict, after, run_record}
+use Rattle.ps_room.specs.Unseen.{sees_notes}
+use Rattle.ps_room.proofs.AnswerLemmas.{after_refused}
+use Rattle.ps_room.proofs.ChatLemmas.{IsChat, chat_opened, chat_after, choice_refused, undo_refused}
+use Rattle.ps_room.proofs.UnseenLemmas.{note_unseen}
+use Rattle.ps_laws.specs.Stories.{story}
+use Rattle.ps_laws.specs.Users.{user_of, users_from, users}
 use Rattle.ps_laws.specs.Hidden.{hidden_in_both}
-use Rattle.ps_laws.specs.Low.{Item, whole, user_of, users_from, users, items_of, low_from}
-use Rattle.ps_laws.specs.Same.{UnshownMayBeMissing}
-use Rattle.ps_laws.proofs.EntryLemmas.{shown_or_hidden, same_record}
+use Rattle.ps_laws.specs.Low.{Item, whole, items_of_round, items_of_allowed, items_of_others, items_of, is_own, low_from}
+use Rattle.ps_laws.specs.Same.{AreBattlesSame, UnshownMayBeMissing}
+use Rattle.ps_laws.proofs.UserLemmas.{is_user}
 
 -- an entry of another that leaves the record as it was
 record IsIdle (conn : ℕ) (r : Record) (e : Entry) : Type 0 where
   other : (e.conn == conn) ≡ false
   kept : after r e ≡ r
 
-idle_by : (conn : ℕ) (ids : List (List ℕ)) (r : Record) (e : Entry) → items_of conn ids r e ≡ [] → after r e ≡ r → (own : Bool) → (e.conn == conn) ≡ own → IsIdle conn r e
-idle_by conn ids r e none same true own = let some : whole e ∷ [] ≡ [] = rw own at none in absurd cc
-idle_by conn ids r e none same false own = record { other = own; kept = same }
+not_same : (a b : ℕ) → (a == b) ≡ false → (b == a) ≡ false
+not_same a b e = grind (arith, nat_tests)
 
-idle : (conn : ℕ) (ids : List (List ℕ)) (r : Record) (e : Entry) (s : Story) → IsChat r → items_of conn ids r e ≡ [] → IsIdle conn r e
-idle conn ids r e s chat none =
-    elim (shown_or_hidden conn (hidden_in_both conn s s) ids r e chat) [
-      | inl shown ↦ (let some : whole e ∷ [] ≡ [] = sym shown ∙ none in absurd cc)
-      | inr h ↦ idle_by conn ids r e none (same_record conn (hidden_in_both conn s s) (after r e) r h.alike) (e.conn == conn) refl
-    ]
+of_modnote : (conn : ℕ) (r : Record) (e : Entry) (text : List ℕ) (sees : Bool) → (e.conn == conn) ≡ false → e.cmd ≡ Modnote text → verdict r e ≡ None → sees_notes conn r ≡ sees → cond sees (whole e ∷ []) [] ≡ [] → after r e ≡ r
+of_modnote conn r e text true other is v sees none = absurd cc
+of_modnote conn r e text false other is v sees none = (note_unseen conn r e text (not_same e.conn conn other) is v sees).unchanged
+
+of_allowed : (conn : ℕ) (r : Record) (e : Entry) (cmd : Command) → IsChat r → (e.conn == conn) ≡ false → e.cmd ≡ cmd → verdict r e ≡ None → items_of_allowed conn r e cmd ≡ [] → after r e ≡ r
+of_allowed conn r e (Choose choice rqid) chat other is v none = absurd (let some = choice_refused r e choice rqid chat is in let wrong : None ≡ Some some.0 = sym v ∙ some.1 in cc)
+of_allowed conn r e Undo chat other is v none = absurd (let some = undo_refused r e chat is in let wrong : None ≡ Some some.0 = sym v ∙ some.1 in cc)
+of_allowed conn r e (Modnote text) chat other is v none = of_modnote conn r e text (sees_notes conn r) other is v refl none
+of_allowed conn r e rest chat other is v none = absurd cc
+
+of_others : (conn : ℕ) (r : Record) (e : Entry) (v : Option Why) → IsChat r → (e.conn == conn) ≡ false → verdict r e ≡ v → items_of_others conn r e v ≡ [] → after r e ≡ r
+of_others conn r e (Some why) chat other v none = after_refused r e why v
+of_others conn r e None chat other v none = of_allowed conn r e e.cmd chat other refl v none
+
+not_mine : (mine user : Bool) → (mine || user) ≡ false → mine ≡ false
+not_mine false user e = refl
+not_mine true user e = absurd cc
+
+idle_by : (conn : ℕ) (ids : List (List ℕ)) (r : Record) (e : Entry) (own : Bool) → IsChat r → is_own conn ids r e ≡ own → items_of conn ids r e ≡ [] → IsIdle conn r e
+idle_by conn ids r e true chat own none = absurd (let some : whole e ∷ items_of_round r e ≡ [] = rw own at none in cc)
+idle_by conn ids r e false chat own none =
+    let other = not_mine (e.conn == conn) (is_user ids (user_of r e)) own in
+    record { other = other; kept = of_others conn r e (verdict r e) chat other refl (rw own at none) }
+
+idle : (conn : ℕ) (ids : List (List ℕ)) (r : Record) (e : Entry) → IsChat r → items_of conn ids r e ≡ [] → IsIdle conn r e
+idle conn ids r e chat none = idle_by conn ids r e (is_own conn ids r e) chat refl none
 
 chat_run : (r : Record) (es : List Entry) → IsChat r → IsChat (run_record r es)
 chat_run r [] chat = chat
@@ -40,15 +74,23 @@ same_low conn ids r [] e later none same =
     ∙ ap (λ (x : Record). low_from conn ids x later) same
 same_low conn ids r (x ∷ xs) e later none same = ap (λ (is : List Item). items_of conn ids r x ++ is) (same_low conn ids (after r x) xs e later none same)
 
+fits : (config : Settings) (dex : Tables) (bo : Option Start) → bo ≡ None → IfSome bo (λ s. IsFit s config dex)
+fits config dex None good = tt
+fits config dex (Some st) good = absurd cc
+
+none_same : (places : Hidden) (bo : Option Start) → bo ≡ None → AreBattlesSame places bo bo
+none_same places None good = tt
+none_same places (Some st) good = absurd cc
+
 pub unshown_may_be_missing : UnshownMayBeMissing
 unshown_may_be_missing conn o before e later good none =
     let ids = users conn (story o (before ++ later)) in
-    let i : IsIdle conn (run_record (opened o) before) e = idle conn ids (run_record (opened o) before) e (story o later) (chat_run (opened o) before (chat_opened o good)) none in
+    let i : IsIdle conn (run_record (opened o) before) e = idle conn ids (run_record (opened o) before) e (chat_run (opened o) before (chat_opened o good)) none in
     record {
-      first = good;
-      second = good;
+      first = fits o.config o.dex o.battle good;
+      second = fits o.config o.dex o.battle good;
       histories =
           ap (λ (x : List (List ℕ)). low_from conn x (opened o) (before ++ e ∷ later)) (same_users conn (opened o) before e later i)
           ∙ same_low conn ids (opened o) before e later none i.kept;
-      openings = record { rest = refl };
+      openings = record { no = refl; id = refl; title = refl; config = refl; dex = refl; battle = none_same (hidden_in_both conn (story o (before ++ e ∷ later)) (story o (before ++ later))) o.battle good };
     }

@@ -1,21 +1,82 @@
--- Hidden places: what a room holds that a connection wasn't shown.
-use Rattle.std.specs.Prelude.{ℕ, Bool, false, ◌&&◌}
+-- Hidden places: what a battle's room holds that a connection wasn't shown.
+use Rattle.std.specs.Prelude.{ℕ, Bool, false, ◌&&◌, ◌||◌, ◌==◌, ◌-◌, not, nat_lt, slice_index_or, Option, Some, None, List}
+use Rattle.std.specs.List.{list_any}
+use Rattle.ps_mon.specs.declared.choice.Choice.{Choice}
+use Rattle.ps_mon.specs.declared.choice.Choice.TheVariants as choices
+use Rattle.ps_mon.specs.declared.team.Member.{Member}
+use Rattle.ps_mon.specs.Reading.{side_of, place_of, slot_of, no_member}
+use Rattle.ps_valid.specs.declared.row.Settings.{Settings}
+use Rattle.ps_valid.specs.declared.start.Start.{Start}
+use Rattle.ps_start.specs.Fits.{legal_of}
+use Rattle.ps_alike.specs.Places.{Hidden}
+use Rattle.ps_alike.specs.Showing.{shows_one}
+use Rattle.ps_alike.specs.Laws.{forms}
+use Rattle.ps_room.specs.Openings.{names_of}
 use Rattle.ps_laws.specs.Stories.{Story}
+use Rattle.ps_laws.specs.Users.{users, is_own_side}
+use Rattle.ps_laws.specs.Rounds.{Round, choice_of, rounds}
 
--- Which places are hidden: the members of the two sides of a battle, by side and number, and the slots of these members, by
--- side, member and number.
-pub record Hidden : Type 0 where
-  pub member : ℕ → ℕ → Bool
-  pub slot : ℕ → ℕ → ℕ → Bool
+-- ---- members
 
--- The places that are hidden to a connection in a story. A chat room has neither members of a side nor slots, so none is
--- hidden. The story of a battle will name those that it never showed.
+-- a member of a team as the battle starts, by side and place
+abbrev pub member_in : Start → ℕ → ℕ → Member
+member_in st s k = slice_index_or (legal_of st.teams s).team.members k no_member
+
+-- whether a member ever stood at position 1: the first one does at the opening
+abbrev pub has_stood : List Round → ℕ → ℕ → Bool
+has_stood rs s k = k == 0 || list_any (λ r. place_of (side_of r.after s) == k) rs
+
+-- a member is hidden where its side isn't the connection's own and it never stood at position 1
+abbrev pub is_member_hidden : Bool → Start → List Round → ℕ → ℕ → Bool
+is_member_hidden own st rs s k = not own && nat_lt k (legal_of st.teams s).team.count && not (has_stood rs s k)
+
+-- ---- slots
+
+-- whether a choice names a slot, which counts from 1 in choices
+abbrev pub names_slot : ℕ → Choice → Bool
+names_slot j (choices.Move n) = n - 1 == j
+names_slot j other = false
+
+-- whether a slot's number was in the choice of a round while its member was active
+abbrev pub is_chosen : ℕ → ℕ → ℕ → Round → Bool
+is_chosen s k j r = place_of (side_of r.before s) == k && names_slot j (choice_of r s)
+
+-- whether an event of a round shows the slot: its move was used by its member or named by an event of its member, or Mimic or
+-- Transform copied it
+abbrev pub is_told : Start → ℕ → ℕ → ℕ → Round → Bool
+is_told st s k j r = shows_one s k (place_of (side_of r.after s) == k) (slot_of (member_in st s k) j).mv (forms r.before r.first r.second s k) r.told
+
+abbrev pub is_slot_shown : Start → ℕ → ℕ → ℕ → Round → Bool
+is_slot_shown st s k j r = is_chosen s k j r || is_told st s k j r
+
+-- a slot is hidden where its side isn't the connection's own and no round showed it
+abbrev pub is_slot_hidden : Bool → Start → List Round → ℕ → ℕ → ℕ → Bool
+is_slot_hidden own st rs s k j = not own && nat_lt j (member_in st s k).slot_count && not (list_any (is_slot_shown st s k j) rs)
+
+-- ---- a story
+
+-- a chat room has neither members of a side nor slots
+abbrev pub hidden_with : (ℕ → Bool) → Option Start → List Round → Hidden
+hidden_with own None rs = record { member = λ s k. false; slot = λ s k j. false; move = λ s k j. 0 }
+hidden_with own (Some st) rs = record {
+  member = λ s k. is_member_hidden (own s) st rs s k;
+  slot = λ s k j. is_slot_hidden (own s) st rs s k j;
+  move = λ s k j. (slot_of (member_in st s k) j).mv;
+}
+
+-- which sides of a battle are a connection's own
+abbrev pub own_sides : List (List ℕ) → Settings → Option Start → ℕ → Bool
+own_sides ids config None s = false
+own_sides ids config (Some st) s = is_own_side ids (names_of config st) s
+
+-- the places that are hidden to a connection in a story
 abbrev pub hidden : ℕ → Story → Hidden
-hidden conn s = record { member = λ side member. false; slot = λ side member slot. false }
+hidden conn s = hidden_with (own_sides (users conn s) s.opening.config s.opening.battle) s.opening.battle (rounds s)
 
--- the places that are hidden in both of two stories
+-- the places that are hidden in both of two stories; the moves are those of the first
 abbrev pub hidden_in_both : ℕ → Story → Story → Hidden
 hidden_in_both conn one two = record {
-  member = λ side member. (hidden conn one).member side member && (hidden conn two).member side member;
-  slot = λ side member slot. (hidden conn one).slot side member slot && (hidden conn two).slot side member slot;
+  member = λ s k. (hidden conn one).member s k && (hidden conn two).member s k;
+  slot = λ s k j. (hidden conn one).slot s k j && (hidden conn two).slot s k j;
+  move = (hidden conn one).move;
 }

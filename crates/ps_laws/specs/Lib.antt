@@ -1,5 +1,10 @@
 pub mod Stories
+pub mod Users
+pub mod Rounds
 pub mod Hidden
 pub mod Low
 pub mod Same
 pub mod Alike
+pub mod HallStories
+pub mod HallLow
+pub mod HallSame

@@ -2,63 +2,50 @@
 use Rattle.std.specs.Prelude.{ℕ, Bool, ◌||◌, ◌==◌, if◌then◌else◌, List, [], ◌∷◌, ◌++◌, Option, Some, None}
 use Rattle.std.specs.List.{list_any}
 use Rattle.std.specs.Str.{bytes_eq}
-use Rattle.ps_base.specs.Ids.{id_of}
-use Rattle.ps_base.specs.declared.badge.Badge.{Badge}
 use Rattle.ps_base.specs.declared.why.Why.{Why}
 use Rattle.ps_lines.specs.declared.command.Command.{Command}
 use Rattle.ps_lines.specs.declared.command.Command.TheVariants.{Modnote, Choose, Undo}
-use Rattle.ps_chat.specs.Looks.{member}
-use Rattle.ps_chat.specs.declared.present.Present.{Present}
+use Rattle.ps_mon.specs.declared.choice.Choice.{Choice}
 use Rattle.ps_room.specs.declared.entry.Entry.{Entry}
-use Rattle.ps_room.specs.Records.{Record, presents_of}
+use Rattle.ps_room.specs.Records.{Record}
 use Rattle.ps_room.specs.Rooms.{verdict, after}
 use Rattle.ps_room.specs.Unseen.{sees_notes}
 use Rattle.ps_laws.specs.Stories.{Story, begun}
-
--- ---- the users of a connection
-
--- by the badge of its Join while it is a member, and by the badge that it brings otherwise
-abbrev pub badge_of : Option Present → Badge → Badge
-badge_of None brought = brought
-badge_of (Some me) brought = me.badge
-
--- the id of who makes an entry
-abbrev pub user_of : Record → Entry → List ℕ
-user_of r e = id_of (badge_of (member e.conn (presents_of r)) e.badge).name
-
--- the ids of a connection's entries in a history, from a record on
-abbrev pub users_from : ℕ → Record → List Entry → List (List ℕ)
-users_from conn r [] = []
-users_from conn r (e ∷ es) = (if e.conn == conn then user_of r e ∷ [] else []) ++ users_from conn (after r e) es
-
--- the users of a connection in a story
-abbrev pub users : ℕ → Story → List (List ℕ)
-users conn s = users_from conn (begun s) s.history
+use Rattle.ps_laws.specs.Users.{user_of, users}
+use Rattle.ps_laws.specs.Rounds.{Round, round_of}
 
 -- ---- items
 
--- What is kept of an entry. The completed rounds of battles will be items too.
+-- what is kept of an entry: all of it; or the two choices of the round that it completes
 pub data Item : Type 0 where
   whole : Entry → Item
+  commit : Choice → Choice → Item
 
 -- whether an entry is of the connection, or of one with the same user
 abbrev pub is_own : ℕ → List (List ℕ) → Record → Entry → Bool
 is_own conn ids r e = e.conn == conn || list_any (bytes_eq (user_of r e)) ids
 
+abbrev pub commit_of : Option Round → List Item
+commit_of None = []
+commit_of (Some round) = commit round.first round.second ∷ []
+
+-- any choice that completes a round: the round's two choices, whoever chose first
+abbrev pub items_of_round : Record → Entry → List Item
+items_of_round r e = commit_of (round_of r e)
+
 -- ---- the table, row by row
 
--- an entry of the connection, or of a connection whose user is one of its users: the entry whole
-abbrev pub items_of_own : Entry → List Item
-items_of_own e = whole e ∷ []
+-- an entry of the connection, or of a connection whose user is one of its users: the entry whole, and the round that it completes
+abbrev pub items_of_own : Record → Entry → List Item
+items_of_own r e = whole e ∷ items_of_round r e
 
 -- of others, refused: none
 abbrev pub items_of_refused : List Item
 items_of_refused = []
 
--- of others, a choice that completes no round: none. No choice completes one in a chat room; in a battle the one that does
--- will have the round's two choices as its item, also behind an own entry.
-abbrev pub items_of_choice : List Item
-items_of_choice = []
+-- of others, a choice: the round that it completes, else none
+abbrev pub items_of_choice : Record → Entry → List Item
+items_of_choice r e = items_of_round r e
 
 -- of others, an Undo: none
 abbrev pub items_of_undo : List Item
@@ -75,7 +62,7 @@ items_of_rest e = whole e ∷ []
 -- ---- which row an entry has
 
 abbrev pub items_of_allowed : ℕ → Record → Entry → Command → List Item
-items_of_allowed conn r e (Choose choice rqid) = items_of_choice
+items_of_allowed conn r e (Choose choice rqid) = items_of_choice r e
 items_of_allowed conn r e Undo = items_of_undo
 items_of_allowed conn r e (Modnote text) = items_of_modnote conn r e
 items_of_allowed conn r e other = items_of_rest e
@@ -86,7 +73,7 @@ items_of_others conn r e None = items_of_allowed conn r e e.cmd
 
 -- the items of an entry, to a connection with these users
 abbrev pub items_of : ℕ → List (List ℕ) → Record → Entry → List Item
-items_of conn ids r e = if is_own conn ids r e then items_of_own e else items_of_others conn r e (verdict r e)
+items_of conn ids r e = if is_own conn ids r e then items_of_own r e else items_of_others conn r e (verdict r e)
 
 -- ---- the low history
 

@@ -1,28 +1,101 @@
 -- When two stories are the same to a connection.
-use Rattle.std.specs.Prelude.{◌≡◌, ℕ, None, List, [], ◌∷◌, ◌++◌}
+use Rattle.std.specs.Prelude.{◌≡◌, ℕ, ◌<◌, ◌≤◌, Bool, true, false, Option, Some, None, List, [], ◌∷◌, ◌++◌, length, unwrap_or, slice_get}
+use Rattle.ps_mon.specs.declared.team.Member.{Member}
+use Rattle.ps_mon.specs.declared.team.MoveSlot.{MoveSlot}
+use Rattle.ps_mon.specs.Reading.{slot_of}
+use Rattle.ps_valid.specs.declared.start.Start.{Start}
+use Rattle.ps_start.specs.Fits.{legal_of}
+use Rattle.ps_alike.specs.Places.{Hidden}
+use Rattle.ps_alike.specs.Alike.{front_of}
 use Rattle.ps_room.specs.declared.entry.Entry.{Entry}
-use Rattle.ps_room.specs.Openings.{Opening}
-use Rattle.ps_room.specs.Records.{opened}
-use Rattle.ps_room.specs.Rooms.{run_record}
+use Rattle.ps_room.specs.Openings.{Opening, IsFitOpening}
+use Rattle.ps_room.specs.Records.{Record, opened}
+use Rattle.ps_room.specs.Rooms.{verdict, after, run_record}
 use Rattle.ps_laws.specs.Stories.{Story, story}
-use Rattle.ps_laws.specs.Hidden.{Hidden, hidden_in_both}
-use Rattle.ps_laws.specs.Low.{users, items_of, low}
+use Rattle.ps_laws.specs.Users.{users}
+use Rattle.ps_laws.specs.Hidden.{hidden_in_both, member_in}
+use Rattle.ps_laws.specs.Rounds.{round_of}
+use Rattle.ps_laws.specs.Low.{items_of, low_from, low}
+use Rattle.ps_lines.specs.declared.command.Command.TheVariants.{Choose, Undo}
 
--- Two openings are equal in everything but what these places hold. What opens a chat room holds none of them. The teams of a
--- battle will differ here in hidden members, and shown members in hidden slots, of which both have equally many.
+-- ---- openings that differ in hidden places alone
+
+-- a hidden slot may hold anything
+abbrev pub IsSlotSame : Bool → MoveSlot → MoveSlot → Type 0
+IsSlotSame true x y = Unit {0}
+IsSlotSame false x y = x ≡ y
+
+-- all but the hidden slots is equal, so both have equally many slots
+pub record AreEqualMembers (hides : ℕ → Bool) (m n : Member) : Type 0 where
+  pub front : front_of m ≡ front_of n
+  pub long : length m.slots ≡ length n.slots
+  pub slots : (j : ℕ) → IsSlotSame (hides j) (slot_of m j) (slot_of n j)
+
+-- so may a hidden member
+abbrev pub IsMemberSame : Bool → (ℕ → Bool) → Member → Member → Type 0
+IsMemberSame true hides m n = Unit {0}
+IsMemberSame false hides m n = AreEqualMembers hides m n
+
+-- and its nickname
+abbrev pub IsNickSame : Bool → List ℕ → List ℕ → Type 0
+IsNickSame true x y = Unit {0}
+IsNickSame false x y = x ≡ y
+
+-- the nickname of a member of a team, by side and place
+abbrev pub nick_in : Start → ℕ → ℕ → List ℕ
+nick_in st s k = unwrap_or (slice_get (legal_of st.teams s).nicks k) []
+
+-- the teams of a side; what stands past the members is equal
+pub record AreTeamsSame (places : Hidden) (one two : Start) (s : ℕ) : Type 0 where
+  pub count : (legal_of one.teams s).team.count ≡ (legal_of two.teams s).team.count
+  pub members : (k : ℕ) → k < (legal_of one.teams s).team.count → IsMemberSame (places.member s k) (places.slot s k) (member_in one s k) (member_in two s k)
+  pub long : length (legal_of one.teams s).team.members ≡ length (legal_of two.teams s).team.members
+  pub rest : (k : ℕ) → (legal_of one.teams s).team.count ≤ k → member_in one s k ≡ member_in two s k
+  pub nicks : (k : ℕ) → IsNickSame (places.member s k) (nick_in one s k) (nick_in two s k)
+
+pub record AreStartsSame (places : Hidden) (one two : Start) : Type 0 where
+  pub number : one.number ≡ two.number
+  pub format : one.format ≡ two.format
+  pub players : one.players ≡ two.players
+  pub seed : one.seed ≡ two.seed
+  pub teams : (s : ℕ) → s < 2 → AreTeamsSame places one two s
+
+-- both open a chat room, or both open a battle
+abbrev pub AreBattlesSame : Hidden → Option Start → Option Start → Type 0
+AreBattlesSame places None None = Unit {0}
+AreBattlesSame places (Some one) (Some two) = AreStartsSame places one two
+AreBattlesSame places one two = ⊥
+
 pub record AreOpenedAlike (places : Hidden) (one two : Opening) : Type 0 where
-  pub rest : one ≡ two
+  pub no : one.no ≡ two.no
+  pub id : one.id ≡ two.id
+  pub title : one.title ≡ two.title
+  pub config : one.config ≡ two.config
+  pub dex : one.dex ≡ two.dex
+  pub battle : AreBattlesSame places one.battle two.battle
+
+-- ---- stories
 
 pub record AreSame (conn : ℕ) (one two : Story) : Type 0 where
-  -- both are of a chat room; battles will follow,
-  pub first : one.opening.battle ≡ None
-  pub second : two.opening.battle ≡ None
+  -- both openings can be a room's,
+  pub first : IsFitOpening one.opening
+  pub second : IsFitOpening two.opening
   -- the low histories are equal,
   pub histories : low conn one ≡ low conn two
   -- and the openings are equal, but for places that are hidden in both
   pub openings : AreOpenedAlike (hidden_in_both conn one two) one.opening two.opening
 
--- An entry that has no item where it stands may as well be missing: the story with it and the story without it are the same to
--- the connection.
+-- ---- such stories there are
+
+-- In a chat room an entry that has no item where it stands may as well be missing: the story with it and the story without it are
+-- the same to the connection.
 abbrev pub UnshownMayBeMissing : Type 0
 UnshownMayBeMissing = (conn : ℕ) (o : Opening) (before : List Entry) (e : Entry) (later : List Entry) → o.battle ≡ None → items_of conn (users conn (story o (before ++ later))) (run_record (opened o) before) e ≡ [] → AreSame conn (story o (before ++ e ∷ later)) (story o (before ++ later))
+
+-- In every room so may entries that have no items where they stand, and together leave the record as it was.
+abbrev pub IdleMayBeMissing : Type 0
+IdleMayBeMissing = (conn : ℕ) (o : Opening) (before es later : List Entry) → IsFitOpening o → low_from conn (users conn (story o (before ++ later))) (run_record (opened o) before) es ≡ [] → run_record (run_record (opened o) before) es ≡ run_record (opened o) before → AreSame conn (story o (before ++ (es ++ later))) (story o (before ++ later))
+
+-- A choice that waits and is taken back at once leaves the record as it was.
+abbrev pub UndoneLeavesNothing : Type 0
+UndoneLeavesNothing = (r : Record) (e u : Entry) (choice : List ℕ) (rqid : Option ℕ) → e.cmd ≡ Choose choice rqid → u.cmd ≡ Undo → u.conn ≡ e.conn → verdict r e ≡ None → round_of r e ≡ None → verdict (after r e) u ≡ None → after (after r e) u ≡ r

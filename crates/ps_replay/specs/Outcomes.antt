@@ -139,7 +139,7 @@ HasOneEntryEachText config dex bytes = (items : List Item) → IsScript (symbols
 abbrev pub HasHistories : Settings → Tables → List ℕ → Type 0
 HasHistories config dex bytes = (items : List Item) → IsScript (symbols_of config.groups) bytes items → AreHistories (setup_of config dex items) items
 
--- a connection's block from a chat room is the same for every script whose world there is the same to it
+-- a connection's block from the hall or a room is the same for every script whose world there is the same to it
 abbrev pub HasEqualWorlds : Settings → Tables → List ℕ → Type 0
 HasEqualWorlds config dex bytes = (items : List Item) → IsScript (symbols_of config.groups) bytes items → HasEqualBlocks config dex items
 

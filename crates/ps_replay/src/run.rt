@@ -216,7 +216,7 @@ pub fn run<F: Files, S: Source, K: Sink>(
     ensures one_entry { IfReplay (words_in (map string_bytes words.now)) (λ o. result ≡ Status.Done → HasSetup (F.held files.old) o (λ config dex. IfSome (S.left input.old) (HasOneEntryEachText config dex))) }
     ensures histories { IfReplay (words_in (map string_bytes words.now)) (λ o. result ≡ Status.Done → HasSetup (F.held files.old) o (λ config dex. IfSome (S.left input.old) (HasHistories config dex))) }
 
-    // A connection's block from a chat room is the same for every script whose world there is the same to it.
+    // A connection's block from the hall or a room is the same for every script whose world there is the same to it.
     ensures two_worlds { IfReplay (words_in (map string_bytes words.now)) (λ o. result ≡ Status.Done → HasSetup (F.held files.old) o (λ config dex. IfSome (S.left input.old) (HasEqualWorlds config dex))) }
 
     // A check ends as the first of its steps that tells a status, and at Done the team of the told files is legal. The input

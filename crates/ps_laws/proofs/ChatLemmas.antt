@@ -1,0 +1,180 @@
+-- The chat of a room takes its way by itself, so the users of a connection are told by its low history.
+use Rattle.std.proofs.Common.{◌≡◌, ℕ, Bool, true, false, cond, List, [], ◌∷◌, ◌++◌, Option, Some, None, append-nil, append_assoc, refl, ap, ◌∙◌, sym}
+use Rattle.std.specs.Prelude.{◌==◌}
+use Rattle.ps_base.specs.Ids.{id_of}
+use Rattle.ps_base.specs.declared.why.Why.{Why}
+use Rattle.ps_lines.specs.declared.command.Command.{Command}
+use Rattle.ps_lines.specs.declared.command.Command.TheVariants.{Modnote, Choose, Undo, Forfeit}
+use Rattle.ps_mon.specs.declared.choice.Choice.{Choice}
+use Rattle.ps_bout.specs.Fights.{Fight, refusal_in}
+use Rattle.ps_chat.specs.Looks.{member}
+use Rattle.ps_chat.specs.Records.{Record as ChatRecord, Opening as ChatOpening}
+use Rattle.ps_chat.specs.Rooms.{presents}
+use Rattle.ps_chat.specs.Changes.{record_after}
+use Rattle.ps_chat.specs.Verdicts.{verdict as chat_verdict}
+use Rattle.ps_room.specs.declared.entry.Entry.{Entry}
+use Rattle.ps_room.specs.Records.{Record}
+use Rattle.ps_room.specs.Roles.{side_of_member}
+use Rattle.ps_room.specs.Rooms.{sender_of, verdict, after, after_by, refusal_by_battle, or_else}
+use Rattle.ps_room.specs.Unseen.{sees_notes}
+use Rattle.ps_laws.specs.Users.{badge_of, user_of}
+use Rattle.ps_laws.specs.Rounds.{Round, round_of}
+use Rattle.ps_laws.specs.Low.{Item, whole, commit, commit_of, items_of_others, items_of_allowed, items_of_own}
+use Rattle.ps_laws.proofs.PartLemmas.{is_choose}
+use Rattle.ps_laws.proofs.ItemLemmas.{item_after, items_after, whole_after, commit_after, whole_is}
+
+-- ---- the chat after an entry
+
+abbrev pub chat_by : Option Why → ChatOpening → ChatRecord → Entry → ChatRecord
+chat_by (Some why) o chat e = chat
+chat_by None o chat e = record_after o.groups chat e.conn e.badge e.moment e.cmd
+
+abbrev pub chat_next : ChatOpening → ChatRecord → Entry → ChatRecord
+chat_next o chat e = chat_by (chat_verdict o chat e.conn e.badge e.moment e.cmd) o chat e
+
+-- what the battle refuses changes no chat
+record IsQuiet (r : Record) (e : Entry) : Type 0 where
+  chat : record_after r.opening.groups r.chat e.conn e.badge e.moment e.cmd ≡ r.chat
+
+battle_quiet_by : (r : Record) (e : Entry) (cmd : Command) (side : Option ℕ) (f : Fight) (why : Why) → e.cmd ≡ cmd → refusal_in f.cast.dex f.bout side cmd ≡ Some why → record_after r.opening.groups r.chat e.conn e.badge e.moment cmd ≡ r.chat
+battle_quiet_by r e (Choose choice rqid) side f why is refused = refl
+battle_quiet_by r e Undo side f why is refused = refl
+battle_quiet_by r e Forfeit side f why is refused = refl
+battle_quiet_by r e cmd None f why is refused = absurd cc
+battle_quiet_by r e cmd (Some s) f why is refused = absurd cc
+
+battle_quiet : (r : Record) (e : Entry) (fo : Option Fight) (why : Why) → refusal_by_battle fo (sender_of r e) e.cmd ≡ Some why → record_after r.opening.groups r.chat e.conn e.badge e.moment e.cmd ≡ r.chat
+battle_quiet r e None why refused = absurd cc
+battle_quiet r e (Some f) why refused = battle_quiet_by r e e.cmd (side_of_member f.cast (sender_of r e)) f why refl refused
+
+-- the chat after an entry depends on the chat and the entry alone
+chat_of_both : (r : Record) (e : Entry) (cv bv : Option Why) → chat_verdict r.opening r.chat e.conn e.badge e.moment e.cmd ≡ cv → refusal_by_battle r.battle (sender_of r e) e.cmd ≡ bv → (after_by (or_else cv bv) r e).chat ≡ chat_by cv r.opening r.chat e
+chat_of_both r e (Some why) bv c b = refl
+chat_of_both r e None None c b = refl
+chat_of_both r e None (Some why) c b = sym (battle_quiet r e r.battle why b)
+
+pub chat_after_is : (r : Record) (e : Entry) → (after r e).chat ≡ chat_next r.opening r.chat e
+unfolding after verdict
+chat_after_is r e = chat_of_both r e _ _ refl refl
+
+opening_by : (r : Record) (e : Entry) (v : Option Why) → (after_by v r e).opening ≡ r.opening
+opening_by r e (Some why) = refl
+opening_by r e None = refl
+
+pub opening_after : (r : Record) (e : Entry) → (after r e).opening ≡ r.opening
+unfolding after
+opening_after r e = opening_by r e (verdict r e)
+
+-- ---- the chat after an item
+
+whole_choose_chat : (r : Record) (e : Entry) (v : Option Why) (choice : List ℕ) (rqid : Option ℕ) → (whole_after v r e (Choose choice rqid)).chat ≡ r.chat
+whole_choose_chat r e (Some why) choice rqid = refl
+whole_choose_chat r e None choice rqid = refl
+
+whole_choose_opening : (r : Record) (e : Entry) (v : Option Why) (choice : List ℕ) (rqid : Option ℕ) → (whole_after v r e (Choose choice rqid)).opening ≡ r.opening
+whole_choose_opening r e (Some why) choice rqid = refl
+whole_choose_opening r e None choice rqid = refl
+
+next_choose : (o : ChatOpening) (chat : ChatRecord) (e : Entry) (v : Option Why) (choice : List ℕ) (rqid : Option ℕ) → e.cmd ≡ Choose choice rqid → chat_by v o chat e ≡ chat
+next_choose o chat e (Some why) choice rqid is = refl
+next_choose o chat e None choice rqid is = rw is refl
+
+whole_chat_by : (r : Record) (e : Entry) (cmd : Command) → e.cmd ≡ cmd → (item_after r (whole e)).chat ≡ chat_next r.opening r.chat e
+whole_chat_by r e (Choose choice rqid) is =
+    ap (λ (c : Command). (whole_after (verdict r e) r e c).chat) is
+    ∙ whole_choose_chat r e (verdict r e) choice rqid
+    ∙ sym (next_choose r.opening r.chat e (chat_verdict r.opening r.chat e.conn e.badge e.moment e.cmd) choice rqid is)
+whole_chat_by r e cmd is = ap (λ (x : Record). x.chat) (whole_is r e (ap is_choose is)) ∙ chat_after_is r e
+
+pub whole_chat : (r : Record) (e : Entry) → (item_after r (whole e)).chat ≡ chat_next r.opening r.chat e
+whole_chat r e = whole_chat_by r e e.cmd refl
+
+whole_opening_by : (r : Record) (e : Entry) (cmd : Command) → e.cmd ≡ cmd → (item_after r (whole e)).opening ≡ r.opening
+whole_opening_by r e (Choose choice rqid) is =
+    ap (λ (c : Command). (whole_after (verdict r e) r e c).opening) is ∙ whole_choose_opening r e (verdict r e) choice rqid
+whole_opening_by r e cmd is = ap (λ (x : Record). x.opening) (whole_is r e (ap is_choose is)) ∙ opening_after r e
+
+pub whole_opening : (r : Record) (e : Entry) → (item_after r (whole e)).opening ≡ r.opening
+whole_opening r e = whole_opening_by r e e.cmd refl
+
+commit_chat_by : (r : Record) (fo : Option Fight) (one two : Choice) → (commit_after r fo one two).chat ≡ r.chat
+commit_chat_by r None one two = refl
+commit_chat_by r (Some f) one two = refl
+
+commit_opening_by : (r : Record) (fo : Option Fight) (one two : Choice) → (commit_after r fo one two).opening ≡ r.opening
+commit_opening_by r None one two = refl
+commit_opening_by r (Some f) one two = refl
+
+pub commit_chat : (r : Record) (one two : Choice) → (item_after r (commit one two)).chat ≡ r.chat
+commit_chat r one two = commit_chat_by r r.battle one two
+
+pub commit_opening : (r : Record) (one two : Choice) → (item_after r (commit one two)).opening ≡ r.opening
+commit_opening r one two = commit_opening_by r r.battle one two
+
+-- ---- over items
+
+abbrev pub chat_over : ChatOpening → ChatRecord → List Item → ChatRecord
+chat_over o chat [] = chat
+chat_over o chat (whole e ∷ is) = chat_over o (chat_next o chat e) is
+chat_over o chat (commit one two ∷ is) = chat_over o chat is
+
+pub items_opening : (r : Record) (is : List Item) → (items_after r is).opening ≡ r.opening
+items_opening r [] = refl
+items_opening r (whole e ∷ is) = items_opening (item_after r (whole e)) is ∙ whole_opening r e
+items_opening r (commit one two ∷ is) = items_opening (item_after r (commit one two)) is ∙ commit_opening r one two
+
+pub items_chat : (r : Record) (is : List Item) → (items_after r is).chat ≡ chat_over r.opening r.chat is
+items_chat r [] = refl
+items_chat r (whole e ∷ is) =
+    items_chat (item_after r (whole e)) is
+    ∙ ap (λ (o : ChatOpening). chat_over o (item_after r (whole e)).chat is) (whole_opening r e)
+    ∙ ap (λ (chat : ChatRecord). chat_over r.opening chat is) (whole_chat r e)
+items_chat r (commit one two ∷ is) =
+    items_chat (item_after r (commit one two)) is
+    ∙ ap (λ (o : ChatOpening). chat_over o (item_after r (commit one two)).chat is) (commit_opening r one two)
+    ∙ ap (λ (chat : ChatRecord). chat_over r.opening chat is) (commit_chat r one two)
+
+-- ---- users
+
+-- the id of who makes an entry
+abbrev pub chat_user : ChatOpening → ChatRecord → Entry → List ℕ
+chat_user o chat e = id_of (badge_of (member e.conn (presents o chat)) e.badge).name
+
+abbrev pub user_if : Bool → List ℕ → List (List ℕ)
+user_if own id = cond own (id ∷ []) []
+
+-- the ids of a connection's entries among items
+abbrev pub items_users : ℕ → ChatOpening → ChatRecord → List Item → List (List ℕ)
+items_users conn o chat [] = []
+items_users conn o chat (whole e ∷ is) = user_if (e.conn == conn) (chat_user o chat e) ++ items_users conn o (chat_next o chat e) is
+items_users conn o chat (commit one two ∷ is) = items_users conn o chat is
+
+pub users_more : (conn : ℕ) (o : ChatOpening) (chat : ChatRecord) (is js : List Item) → items_users conn o chat (is ++ js) ≡ items_users conn o chat is ++ items_users conn o (chat_over o chat is) js
+users_more conn o chat [] js = refl
+users_more conn o chat (whole e ∷ is) js =
+    ap (λ (ids : List (List ℕ)). user_if (e.conn == conn) (chat_user o chat e) ++ ids) (users_more conn o (chat_next o chat e) is js)
+    ∙ sym (append_assoc (user_if (e.conn == conn) (chat_user o chat e)) (items_users conn o (chat_next o chat e) is) _)
+users_more conn o chat (commit one two ∷ is) js = users_more conn o chat is js
+
+round_users : (conn : ℕ) (o : ChatOpening) (chat : ChatRecord) (x : Option Round) → items_users conn o chat (commit_of x) ≡ []
+round_users conn o chat None = refl
+round_users conn o chat (Some r) = refl
+
+-- of an own user's entry the one of its connection
+pub own_users : (conn : ℕ) (r : Record) (e : Entry) → items_users conn r.opening r.chat (items_of_own r e) ≡ user_if (e.conn == conn) (user_of r e)
+own_users conn r e = ap (λ (ids : List (List ℕ)). user_if (e.conn == conn) (user_of r e) ++ ids) (round_users conn r.opening (chat_next r.opening r.chat e) (round_of r e)) ∙ append-nil _
+
+note_users : (conn : ℕ) (r : Record) (e : Entry) (sees : Bool) → (e.conn == conn) ≡ false → items_users conn r.opening r.chat (cond sees (whole e ∷ []) []) ≡ []
+note_users conn r e true other = rw other refl
+note_users conn r e false other = refl
+
+allowed_users : (conn : ℕ) (r : Record) (e : Entry) (cmd : Command) → (e.conn == conn) ≡ false → items_users conn r.opening r.chat (items_of_allowed conn r e cmd) ≡ []
+allowed_users conn r e (Choose choice rqid) other = round_users conn r.opening r.chat (round_of r e)
+allowed_users conn r e Undo other = refl
+allowed_users conn r e (Modnote text) other = note_users conn r e (sees_notes conn r) other
+allowed_users conn r e rest other = rw other refl
+
+-- of another's none
+pub others_users : (conn : ℕ) (r : Record) (e : Entry) (v : Option Why) → (e.conn == conn) ≡ false → items_users conn r.opening r.chat (items_of_others conn r e v) ≡ []
+others_users conn r e (Some why) other = refl
+others_users conn r e None other = allowed_users conn r e e.cmd other

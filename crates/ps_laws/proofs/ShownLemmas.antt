@@ -1,0 +1,142 @@
+-- No round of a story shows a place that is hidden to a connection there.
+use Rattle.std.proofs.Common.{◌≡◌, ℕ, ◌<◌, ◌-◌, Bool, true, false, ◌&&◌, ◌||◌, List, [], ◌∷◌, Option, Some, None, get_or, refl, ap, ◌∙◌, sym, arith}
+use Rattle.std.specs.Prelude.{◌==◌, not}
+use Rattle.std.specs.List.{list_any}
+use Rattle.ps_mon.specs.declared.record.Battle.{Battle}
+use Rattle.ps_mon.specs.declared.record.SideState.{SideState}
+use Rattle.ps_mon.specs.declared.choice.Choice.{Choice}
+use Rattle.ps_mon.specs.declared.choice.Choice.TheVariants as choices
+use Rattle.ps_mon.specs.Facts.{Figures}
+use Rattle.ps_mon.specs.Reading.{side_of, place_of, slot_of}
+use Rattle.ps_battle.specs.Turns.{turn}
+use Rattle.ps_valid.specs.declared.start.Start.{Start}
+use Rattle.ps_alike.specs.Places.{Hidden}
+use Rattle.ps_alike.specs.Alike.{AreAlike as AreBattlesAlike, IsPlaced}
+use Rattle.ps_alike.specs.Showing.{shows_one, ShowsNoHidden}
+use Rattle.ps_alike.specs.Laws.{IsChoiceUnhidden, forms, fronts, untold}
+use Rattle.ps_alike.proofs.FrontLemmas.{turn_front, front_after, choice_of_side}
+use Rattle.ps_laws.specs.Rounds.{Round, choice_of, round_of_choices, rounds}
+use Rattle.ps_laws.specs.Hidden.{member_in, has_stood, is_member_hidden, is_chosen, is_told, is_slot_shown, is_slot_hidden, hidden_with, own_sides, hidden, hidden_in_both}
+use Rattle.ps_laws.specs.Stories.{Story}
+use Rattle.ps_laws.specs.Users.{users}
+use Rattle.ps_room.proofs.AnswerLemmas.{same_is}
+use Rattle.ps_laws.proofs.WaitLemmas.{AreChoices}
+
+-- ---- rounds that show no hidden place
+
+pub record IsUnshown (places : Hidden) (r : Round) : Type 0 where
+  pub members : (s k : ℕ) → places.member s k ≡ true → (place_of (side_of r.after s) == k) ≡ false
+  pub chosen : (s k j : ℕ) → places.slot s k j ≡ true → is_chosen s k j r ≡ false
+  pub told : (s k j : ℕ) → places.slot s k j ≡ true → shows_one s k (place_of (side_of r.after s) == k) (places.move s k j) (forms r.before r.first r.second s k) r.told ≡ false
+
+abbrev pub AreUnshown : Hidden → List Round → Type 0
+AreUnshown places [] = Unit {0}
+AreUnshown places (r ∷ rs) = IsUnshown places r × AreUnshown places rs
+
+-- ---- those of a story
+
+neither : (a b : Bool) → (a || b) ≡ false → (a ≡ false) × (b ≡ false)
+neither false b e = (refl, e)
+neither true b e = absurd cc
+
+-- no round shows them
+record AreNeverShown (st : Start) (places : Hidden) (rs : List Round) : Type 0 where
+  moves : (s k j : ℕ) → places.move s k j ≡ (slot_of (member_in st s k) j).mv
+  members : (s k : ℕ) → places.member s k ≡ true → list_any (λ r. place_of (side_of r.after s) == k) rs ≡ false
+  slots : (s k j : ℕ) → places.slot s k j ≡ true → list_any (is_slot_shown st s k j) rs ≡ false
+
+each_unshown : (st : Start) (places : Hidden) (rs : List Round) → AreNeverShown st places rs → AreUnshown places rs
+each_unshown st places [] never = tt
+each_unshown st places (r ∷ rs) never =
+    let slot : (s k j : ℕ) → places.slot s k j ≡ true → (is_chosen s k j r ≡ false) × (is_told st s k j r ≡ false) = λ s k j h. neither (is_chosen s k j r) (is_told st s k j r) (neither (is_slot_shown st s k j r) (list_any (is_slot_shown st s k j) rs) (never.slots s k j h)).0 in (
+      record {
+        members = λ s k h. (neither (place_of (side_of r.after s) == k) (list_any (λ x. place_of (side_of x.after s) == k) rs) (never.members s k h)).0;
+        chosen = λ s k j h. (slot s k j h).0;
+        told = λ s k j h. ap (λ (mv : ℕ). shows_one s k (place_of (side_of r.after s) == k) mv (forms r.before r.first r.second s k) r.told) (never.moves s k j) ∙ (slot s k j h).1;
+      },
+      each_unshown st places rs (record {
+        moves = never.moves;
+        members = λ s k h. (neither (place_of (side_of r.after s) == k) (list_any (λ x. place_of (side_of x.after s) == k) rs) (never.members s k h)).1;
+        slots = λ s k j h. (neither (is_slot_shown st s k j r) (list_any (is_slot_shown st s k j) rs) (never.slots s k j h)).1;
+      }),
+    )
+
+-- a place that is hidden in both stories is so in the first
+first_of_both : (a b : Bool) → (a && b) ≡ true → a ≡ true
+first_of_both true b e = refl
+first_of_both false b e = absurd cc
+
+not_true : (a : Bool) → not a ≡ true → a ≡ false
+not_true false e = refl
+not_true true e = absurd cc
+
+last_of_three : (a b c : Bool) → (a && b && not c) ≡ true → c ≡ false
+last_of_three true true c e = not_true c e
+last_of_three true false c e = absurd cc
+last_of_three false b c e = absurd cc
+
+second_of : (a b : Bool) → (a || b) ≡ false → b ≡ false
+second_of a b e = (neither a b e).1
+
+never_shown : (own : ℕ → Bool) (st : Start) (rs : List Round) (other : Hidden) (places : Hidden) → ((s k : ℕ) → places.member s k ≡ (is_member_hidden (own s) st rs s k && other.member s k)) → ((s k j : ℕ) → places.slot s k j ≡ (is_slot_hidden (own s) st rs s k j && other.slot s k j)) → ((s k j : ℕ) → places.move s k j ≡ (slot_of (member_in st s k) j).mv) → AreNeverShown st places rs
+never_shown own st rs other places members slots moves = record {
+  moves = moves;
+  members = λ s k h. second_of (k == 0) _ (last_of_three (not (own s)) _ (has_stood rs s k) (first_of_both _ _ (sym (members s k) ∙ h)));
+  slots = λ s k j h. last_of_three (not (own s)) _ _ (first_of_both _ _ (sym (slots s k j) ∙ h));
+}
+
+none_hidden : (places : Hidden) (rs : List Round) → ((s k : ℕ) → places.member s k ≡ false) → ((s k j : ℕ) → places.slot s k j ≡ false) → AreUnshown places rs
+none_hidden places [] members slots = tt
+none_hidden places (r ∷ rs) members slots = (
+  record {
+    members = λ s k h. absurd (let wrong : true ≡ false = sym h ∙ members s k in cc);
+    chosen = λ s k j h. absurd (let wrong : true ≡ false = sym h ∙ slots s k j in cc);
+    told = λ s k j h. absurd (let wrong : true ≡ false = sym h ∙ slots s k j in cc);
+  },
+  none_hidden places rs members slots,
+)
+
+both_with : (own : ℕ → Bool) (bo : Option Start) (rs : List Round) (other : Hidden) → AreUnshown (record {
+  member = λ s k. (hidden_with own bo rs).member s k && other.member s k;
+  slot = λ s k j. (hidden_with own bo rs).slot s k j && other.slot s k j;
+  move = (hidden_with own bo rs).move;
+}) rs
+both_with own None rs other = none_hidden _ rs (λ s k. refl) (λ s k j. refl)
+both_with own (Some st) rs other = each_unshown st _ rs (never_shown own st rs other _ (λ s k. refl) (λ s k j. refl) (λ s k j. refl))
+
+-- no round of the first of two stories shows a place that is hidden in both
+pub story_unshown : (conn : ℕ) (one two : Story) → AreUnshown (hidden_in_both conn one two) (rounds one)
+story_unshown conn one two = both_with (own_sides (users conn one) one.opening.config one.opening.battle) one.opening.battle (rounds one) (hidden conn two)
+
+-- ---- the choices and the events of such a round
+
+not_hidden : (b : Bool) → (b ≡ true → ⊥) → b ≡ false
+not_hidden false no_way = refl
+not_hidden true no_way = absurd (no_way refl)
+
+-- the slot or the member that a choice names isn't hidden
+choice_unhidden : (places : Hidden) (r : Round) (s : ℕ) (side : SideState) (choice : Choice) → IsUnshown places r → choice_of r s ≡ choice → place_of (side_of r.before s) ≡ place_of side → place_of (side_of r.after s) ≡ front_after side choice → IsChoiceUnhidden places s side choice
+choice_unhidden places r s side (choices.Move n) h is before after = not_hidden (places.slot s (place_of side) (n - 1)) (λ t.
+    let wrong : true ≡ false = sym (rw (is, before) (rw (same_is (place_of side), same_is (n - 1)) refl)) ∙ h.chosen s (place_of side) (n - 1) t in absurd cc)
+choice_unhidden places r s side (choices.Switch p) h is before after = not_hidden (places.member s (get_or side.order (p - 1) 0)) (λ t.
+    let wrong : true ≡ false = sym (rw after (same_is (get_or side.order (p - 1) 0))) ∙ h.members s (get_or side.order (p - 1) 0) t in absurd cc)
+choice_unhidden places r s side choices.Struggle h is before after = tt
+choice_unhidden places r s side choices.Continue h is before after = tt
+choice_unhidden places r s side choices.Pass h is before after = tt
+
+-- what a round from alike battles shows isn't hidden
+pub record AreOpenChoices (places : Hidden) (facts : Figures) (b : Battle) (one two : Choice) : Type 0 where
+  pub first : IsChoiceUnhidden places 0 (side_of b 0) one
+  pub second : IsChoiceUnhidden places 1 (side_of b 1) two
+  pub told : ShowsNoHidden places (fronts (turn facts one two (untold b)).battle) (forms b one two) (turn facts one two (untold b)).told
+
+pub open_choices : (places : Hidden) (facts : Figures) (a b : Battle) (one two : Choice) → AreBattlesAlike places a b → AreChoices a one two → IsUnshown places (round_of_choices facts a one two) → AreOpenChoices places facts a one two
+open_choices places facts a b one two w c h =
+    let p0 : IsPlaced (side_of a 0) = (w.sides 0 (omega arith)).first in
+    let p1 : IsPlaced (side_of a 1) = (w.sides 1 (omega arith)).first in
+    let front : (s : ℕ) → s < 2 → place_of (side_of (turn facts one two (untold a)).battle s) ≡ front_after (side_of a s) (choice_of_side one two s) = λ s lt. turn_front facts one two a s lt w.first_two p0 p1 c.first c.second in
+    record {
+      first = choice_unhidden places (round_of_choices facts a one two) 0 (side_of a 0) one h refl refl (front 0 (omega arith));
+      second = choice_unhidden places (round_of_choices facts a one two) 1 (side_of a 1) two h refl refl (front 1 (omega arith));
+      told = h.told;
+    }

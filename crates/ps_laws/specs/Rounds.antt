@@ -1,0 +1,82 @@
+-- The rounds of a battle that a history completed.
+use Rattle.std.specs.Prelude.{ℕ, zero, suc, Bool, true, false, ◌&&◌, List, [], ◌∷◌, ◌++◌, Option, Some, None, option_to_list, Result, Ok, Err}
+use Rattle.ps_base.specs.declared.why.Why.{Why}
+use Rattle.ps_lines.specs.declared.command.Command.{Command}
+use Rattle.ps_lines.specs.declared.command.Command.TheVariants.{Choose}
+use Rattle.ps_mon.specs.declared.record.Battle.{Battle}
+use Rattle.ps_mon.specs.declared.choice.Choice.{Choice}
+use Rattle.ps_mon.specs.Facts.{Figures}
+use Rattle.ps_dex.specs.declared.row.Tables.{Tables}
+use Rattle.ps_dex.specs.Figures.{figures_of}
+use Rattle.ps_event.specs.declared.event.Event.{Event}
+use Rattle.ps_battle.specs.Turns.{turn}
+use Rattle.ps_bout.specs.declared.bout.Bout.{Bout}
+use Rattle.ps_bout.specs.Bouts.{with_waiting}
+use Rattle.ps_bout.specs.Refusals.{chosen}
+use Rattle.ps_bout.specs.Rounds.{untold, is_ready, choice_or_pass}
+use Rattle.ps_bout.specs.Fights.{Fight}
+use Rattle.ps_chat.specs.declared.present.Present.{Present}
+use Rattle.ps_room.specs.declared.entry.Entry.{Entry}
+use Rattle.ps_room.specs.Records.{Record}
+use Rattle.ps_room.specs.Roles.{side_of_member}
+use Rattle.ps_room.specs.Rooms.{sender_of, verdict, after}
+use Rattle.ps_laws.specs.Stories.{Story, begun}
+
+-- a round: the battle before it, the choices of player 1 and player 2, the battle after it, and what was told
+pub record Round : Type 0 where
+  pub before : Battle
+  pub first : Choice
+  pub second : Choice
+  pub after : Battle
+  pub told : List Event
+
+abbrev pub choice_of : Round → ℕ → Choice
+choice_of r zero = r.first
+choice_of r (suc s) = r.second
+
+-- the round of two choices
+abbrev pub round_of_choices : Figures → Battle → Choice → Choice → Round
+round_of_choices facts b first second =
+    let c = turn facts first second (untold b) in
+    record { before = b; first = first; second = second; after = c.battle; told = c.told }
+
+-- what waits is a round where both sides are ready
+abbrev pub completed_if : Bool → Figures → Bout → Option Round
+completed_if true facts b = Some (round_of_choices facts b.battle (choice_or_pass b.first) (choice_or_pass b.second))
+completed_if false facts b = None
+
+abbrev pub completed_by : Figures → Bout → Option Round
+completed_by facts b = completed_if (is_ready b 0 && is_ready b 1) facts b
+
+-- the choice of a side completes a round, or waits
+abbrev pub round_by : Tables → Bout → ℕ → Result Choice Why → Option Round
+round_by dex b s (Ok choice) = completed_by (figures_of dex) (with_waiting s (Some choice) b)
+round_by dex b s (Err why) = None
+
+abbrev pub round_of_side : Tables → Bout → ℕ → Command → Option Round
+round_of_side dex b s (Choose choice rqid) = round_by dex b s (chosen b s dex choice rqid)
+round_of_side dex b s other = None
+
+abbrev pub round_in : Tables → Bout → Option ℕ → Command → Option Round
+round_in dex b None cmd = None
+round_in dex b (Some s) cmd = round_of_side dex b s cmd
+
+abbrev pub round_of_member : Option Fight → Option Present → Command → Option Round
+round_of_member None me cmd = None
+round_of_member (Some f) me cmd = round_in f.cast.dex f.bout (side_of_member f.cast me) cmd
+
+abbrev pub round_if_allowed : Option Why → Record → Entry → Option Round
+round_if_allowed (Some why) r e = None
+round_if_allowed None r e = round_of_member r.battle (sender_of r e) e.cmd
+
+-- the round that an entry completes, if it completes one
+abbrev pub round_of : Record → Entry → Option Round
+round_of r e = round_if_allowed (verdict r e) r e
+
+-- the rounds that a history completes, from a record on
+abbrev pub rounds_from : Record → List Entry → List Round
+rounds_from r [] = []
+rounds_from r (e ∷ es) = option_to_list (round_of r e) ++ rounds_from (after r e) es
+
+abbrev pub rounds : Story → List Round
+rounds s = rounds_from (begun s) s.history
