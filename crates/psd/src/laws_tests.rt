@@ -1,5 +1,6 @@
-//! Two scripts whose worlds of the lobby are the same to a connection give it the same lines.
+//! Two scripts whose worlds of a place are the same to a connection give it the same lines from there.
 use crate::runs::{lines_of, replayed};
+use crate::world_tests::{ROW_CONFIG, written};
 use std::alloc::{AllocError, Global};
 use std::process::Abort;
 use std::test::Fail;
@@ -55,5 +56,100 @@ fn what_is_seen_does_change_lines(rt: HostRuntime) -> Result<(), Fail> {
     assert!(rt; !are_same(alloc, '2', TOLD, QUIET)?);
     assert!(rt; !are_same(alloc, '2', OWN, QUIET)?);
     assert!(rt; !are_same(alloc, '1', NOTED, QUIET)?);
+    Ok(())
+}
+
+/// Ann with Tauros and a second member, Bob and Cy.
+const WITH_CHANSEY: &str = "+1\n+2\n+3\n>1 |/trn Ann,0,\n>2 |/trn Bob,0,\n>3 |/trn Cy,0,
+>1 |/utm Tauros||||bodyslam,hyperbeam,blizzard|||||||]Chansey||||softboiled,blizzard|||||||\n";
+
+const WITH_JYNX: &str = "+1\n+2\n+3\n>1 |/trn Ann,0,\n>2 |/trn Bob,0,\n>3 |/trn Cy,0,
+>1 |/utm Tauros||||bodyslam,hyperbeam,blizzard|||||||]Ice Queen|jynx|||blizzard,rest|||||||\n";
+
+/// Ann's third move is another one.
+const WITH_EARTHQUAKE: &str = "+1\n+2\n+3\n>1 |/trn Ann,0,\n>2 |/trn Bob,0,\n>3 |/trn Cy,0,
+>1 |/utm Tauros||||bodyslam,hyperbeam,earthquake|||||||]Chansey||||softboiled,blizzard|||||||\n";
+
+/// Bob has a team, and Ann and Bob play. Cy looks on.
+const BOUT: &str =
+    ">2 |/utm Snorlax||||bodyslam,rest|||||||\n>1 |/challenge Bob, gen1ou\n>2 |/accept Ann
+>1 |/join battle-gen1ou-1\n>2 |/join battle-gen1ou-1\n>3 |/join battle-gen1ou-1\n";
+
+/// Three rounds, in which Ann uses her first two moves.
+const ROUNDS: &str = ">1 battle-gen1ou-1|/choose move 1\n>2 battle-gen1ou-1|/choose move 1
+>1 battle-gen1ou-1|/choose move 2\n>2 battle-gen1ou-1|/choose move 2
+>1 battle-gen1ou-1|/choose default\n>2 battle-gen1ou-1|/choose default\n";
+
+/// The same, where Ann takes three choices back, and Bob chooses before she does in the end.
+const UNDONE: &str = ">1 battle-gen1ou-1|/choose move 2\n>1 battle-gen1ou-1|/undo
+>1 battle-gen1ou-1|/choose switch 2\n>1 battle-gen1ou-1|/undo\n>1 battle-gen1ou-1|/choose move 3
+>1 battle-gen1ou-1|/undo\n>2 battle-gen1ou-1|/choose move 1\n>1 battle-gen1ou-1|/choose move 1
+>1 battle-gen1ou-1|/choose move 2\n>2 battle-gen1ou-1|/choose move 2
+>1 battle-gen1ou-1|/choose default\n>2 battle-gen1ou-1|/choose default\n";
+
+const SENT_OUT: &str = ">1 battle-gen1ou-1|/choose switch 2\n>2 battle-gen1ou-1|/choose move 1\n";
+
+const WHISPERS: &str =
+    ">1 |/pm Bob, hi\n>2 |/pm Ann, go away\n>2 |/block Ann\n>1 |/pm Bob, hello?\n>2 |/unblock Ann\n";
+
+/// The lines of a connection in what is written for the parts of a script of the hall and of battles.
+fn lines_by(alloc: Global, conn: char, parts: &[&str]) -> Result<String, AllocError> {
+    let bytes = written(alloc, ROW_CONFIG, parts)?;
+    lines_of(alloc, &bytes, conn)
+}
+
+/// Whether two scripts of these parts give a connection the same lines.
+fn are_alike(alloc: Global, conn: char, one: &[&str], two: &[&str]) -> Result<bool, AllocError> {
+    let first = lines_by(alloc, conn, one)?;
+    let second = lines_by(alloc, conn, two)?;
+    Ok(first.as_str() == second.as_str())
+}
+
+#[test]
+fn benched_members_and_unplayed_moves_change_no_line(rt: HostRuntime) -> Result<(), Fail> {
+    let alloc = rt.alloc();
+    let parts = [WITH_CHANSEY, BOUT, ROUNDS];
+    for other in [[WITH_JYNX, BOUT, ROUNDS], [WITH_EARTHQUAKE, BOUT, ROUNDS]] {
+        assert!(rt; are_alike(alloc, '2', &parts, &other)?);
+        assert!(rt; are_alike(alloc, '3', &parts, &other)?);
+        assert!(rt; !are_alike(alloc, '1', &parts, &other)?);
+    }
+    let lines = lines_by(alloc, '2', &parts)?;
+    has_line(
+        &rt,
+        lines.as_str(),
+        "2. |move|p1a: Tauros|Hyper Beam|p2a: Snorlax",
+    );
+    Ok(())
+}
+
+#[test]
+fn a_member_that_is_sent_out_does_change_lines(rt: HostRuntime) -> Result<(), Fail> {
+    let alloc = rt.alloc();
+    let one = [WITH_CHANSEY, BOUT, SENT_OUT];
+    let two = [WITH_JYNX, BOUT, SENT_OUT];
+    assert!(rt; !are_alike(alloc, '2', &one, &two)?);
+    assert!(rt; !are_alike(alloc, '3', &one, &two)?);
+    Ok(())
+}
+
+#[test]
+fn undone_choices_change_no_line(rt: HostRuntime) -> Result<(), Fail> {
+    let alloc = rt.alloc();
+    let one = [WITH_CHANSEY, BOUT, ROUNDS];
+    let two = [WITH_CHANSEY, BOUT, UNDONE];
+    assert!(rt; are_alike(alloc, '2', &one, &two)?);
+    assert!(rt; are_alike(alloc, '3', &one, &two)?);
+    assert!(rt; !are_alike(alloc, '1', &one, &two)?);
+    Ok(())
+}
+
+#[test]
+fn foreign_whispers_change_no_line(rt: HostRuntime) -> Result<(), Fail> {
+    let alloc = rt.alloc();
+    let one = [WITH_CHANSEY, WHISPERS, BOUT];
+    let two = [WITH_CHANSEY, BOUT];
+    assert!(rt; are_alike(alloc, '3', &one, &two)?);
+    assert!(rt; !are_alike(alloc, '2', &one, &two)?);
     Ok(())
 }

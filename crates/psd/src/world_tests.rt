@@ -6,7 +6,7 @@ use std::process::Abort;
 use std::test::Fail;
 
 /// One format, of which the first battle has the seed 0.
-const ROW_CONFIG: &str =
+pub(crate) const ROW_CONFIG: &str =
     r#"{"formats":[{"name":"[Gen 1] OU","rules":["speciesclause"]}],"seeds":[0]}"#;
 
 /// Ann is registered with the secret `s`.
@@ -260,7 +260,8 @@ fn script_of(alloc: Global, parts: &[&str]) -> Result<String, AllocError> {
     Ok(script)
 }
 
-fn written(alloc: Global, config: &str, parts: &[&str]) -> Result<Vec<u8>, AllocError> {
+/// What is written for the parts of a script, under the row dex and a configuration.
+pub(crate) fn written(alloc: Global, config: &str, parts: &[&str]) -> Result<Vec<u8>, AllocError> {
     let words = ["replay", "--dex", "dex", "--config", "config"];
     let script = script_of(alloc, parts)?;
     let (_, bytes) = replayed_by(alloc, &words, ROW_DEX, config, script)?;
