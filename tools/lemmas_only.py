@@ -1,0 +1,139 @@
+#!/usr/bin/env python3
+"""Copies the crates of this repository without their functions: types, definitions and lemmas alone.
+
+    tools/lemmas_only.py FOLDER [CRATE..]
+
+In such a copy all crates up to a law check in a few minutes from nothing, and one law in seconds, since nothing has to be
+proved of code: so definitions can be tried, and lemmas written, before the chain below them is proved. It proves nothing
+of the repository itself. Without CRATE all crates that are libraries are copied; what a copy has of these crates is
+replaced, and its out/ stays.
+"""
+import os
+import re
+import shutil
+import sys
+
+KEPT_DERIVES = {"Clone", "Copy", "Drop"}
+ITEM = r"(?:pub(?:\(.*?\))? )?"
+
+
+def items(text):
+    """The items of a formatted file, each with the comments and attributes above it."""
+    lines = text.split("\n")
+    at = 0
+    while at < len(lines):
+        if not lines[at].strip():
+            at += 1
+            continue
+        start = at
+        while at < len(lines) and lines[at].startswith(("//", "#", ")]")):
+            if lines[at].startswith("#[") and not lines[at].rstrip().endswith("]"):
+                while not lines[at].startswith(")]"):
+                    at += 1
+            at += 1
+        if at >= len(lines) or not lines[at].strip():
+            yield "", lines[start:at]
+            continue
+        head = lines[at]
+        if head.startswith(("use ", "ghost use ", "pub use ", "pub(crate) use ")):
+            while not lines[at].rstrip().endswith(";"):
+                at += 1
+        elif not head.rstrip().endswith((";", "{}")):
+            at += 1
+            while not (lines[at] and lines[at][0] in "{})];" and lines[at].rstrip().endswith(("}", ";"))):
+                at += 1
+        at += 1
+        yield head, lines[start:at]
+
+
+def type_lines(lines):
+    """A type without derives that need proofs, and without attributes of macros."""
+    for line in lines:
+        derive = re.match(r"#\[derive\((.*)\)\]", line)
+        if derive:
+            kept = [word.strip() for word in derive.group(1).split(",") if word.strip() in KEPT_DERIVES]
+            if kept:
+                yield "#[derive(%s)]" % ", ".join(kept)
+        elif not re.match(r"\s*#\[(error|default|from|source|tactic)|#\[", line):
+            yield line
+
+
+def kept_use(text, own, names):
+    """An import without the functions and traits that are gone."""
+    body = " ".join(text.strip().rstrip(";").split())
+    front, path = body.split("use ", 1)
+    group = re.match(r"(.*)::\{(.*)\}$", path)
+    if path.split("::")[0] not in own:
+        return text
+    if group:
+        kept = [n.strip() for n in group.group(2).split(",") if n.split(" as ")[0].split("::")[-1].strip() in names]
+        return "%suse %s::{%s};" % (front, group.group(1), ", ".join(kept)) if kept else None
+    return text if path.split(" as ")[0].split("::")[-1] in names else None
+
+
+def stripped(text, own, names):
+    out = []
+    for head, lines in items(text):
+        top = [line for line in lines if line.startswith(("//!", "#!["))]
+        rest = [line for line in lines if line not in top]
+        out += top
+        if not head or any("cfg(test)" in line or line.startswith("#[test]") for line in lines):
+            continue
+        if head.startswith("ghost use "):
+            out += rest
+        elif re.match(ITEM + r"use ", head):
+            use = kept_use("\n".join(line for line in rest if not line.startswith(("//", "#"))), own, names)
+            out += [use] if use else []
+        elif re.match(r"impl.*\bModel for\b", head) or re.match(ITEM + r"(struct|enum|mod|type|static|const(?! fn))\b", head):
+            out += [""] + list(type_lines(rest))
+    return "\n".join(out) + "\n"
+
+
+def read(path):
+    with open(path, encoding="utf-8") as file:
+        return file.read()
+
+
+def write(path, text):
+    os.makedirs(os.path.dirname(path), exist_ok=True)
+    with open(path, "w", encoding="utf-8") as file:
+        file.write(text)
+
+
+def files_below(folder):
+    for root, _, names in os.walk(folder):
+        for name in sorted(names):
+            yield os.path.join(root, name)
+
+
+def main():
+    top = os.path.dirname(os.path.dirname(os.path.abspath(__file__)))
+    goal, chosen = sys.argv[1], set(sys.argv[2:])
+    crates = [c for c in sorted(os.listdir(os.path.join(top, "crates"))) if not os.path.exists(os.path.join(top, "crates", c, "src", "main.rt"))]
+    sources = {c: [f for f in files_below(os.path.join(top, "crates", c, "src")) if f.endswith(".rt")] for c in crates}
+    names = set()
+    for files in sources.values():
+        for file in files:
+            names |= set(re.findall(r"^%s(?:struct|enum|type|const|static) (\w+)" % ITEM, read(file), re.M))
+    lines = read(os.path.join(top, "crates.txt")).split("\n")
+    write(os.path.join(goal, "crates.txt"), "\n".join(l for l in lines if l.split(":")[0] in crates) + "\n")
+    shutil.copy(os.path.join(top, "HANDLES"), goal)
+    for crate in crates:
+        if chosen and crate not in chosen:
+            continue
+        here, there = os.path.join(top, "crates", crate), os.path.join(goal, "crates", crate)
+        for part in ("src", "specs", "proofs"):
+            shutil.rmtree(os.path.join(there, part), ignore_errors=True)
+        modules = {os.path.splitext(os.path.relpath(f, os.path.join(here, "src")))[0].split(os.sep)[0] for f in sources[crate]}
+        for file in sources[crate]:
+            if "tests" not in os.path.basename(file):
+                write(os.path.join(there, os.path.relpath(file, here)), stripped(read(file), set(crates) | modules | {"crate", "self", "super"}, names))
+        shutil.copytree(os.path.join(here, "specs"), os.path.join(there, "specs"))
+        if os.path.isdir(os.path.join(here, "proofs")):
+            for name in os.listdir(os.path.join(here, "proofs")):
+                if name.endswith(".antt"):
+                    write(os.path.join(there, "proofs", name), read(os.path.join(here, "proofs", name)))
+
+
+if __name__ == "__main__":
+    main()
