@@ -1,0 +1,16 @@
+//! A lock round a value whose history only grows, and passes that know how much of it they have seen.
+//!
+//! The lock has one word and one slot. The word is 2n where the value is at home and stands for n entries, and 2n + 1
+//! where somebody has the turn. Nothing here names a room: what the value is and what its entries do is its own affair.
+#![tactic(auto)]
+
+mod kept;
+mod lock;
+mod rule;
+mod turn;
+mod view;
+
+pub use kept::Kept;
+pub use lock::{HistLock, OWN_LIMIT, Pass};
+pub use turn::{Turn, TurnOf};
+pub use view::{Entry, View};
