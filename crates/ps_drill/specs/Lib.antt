@@ -1,0 +1,4 @@
+pub mod Draws
+pub mod Drills
+pub mod Fights
+pub mod Lines
