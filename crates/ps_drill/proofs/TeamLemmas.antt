@@ -5,10 +5,10 @@ use Rattle.std.specs.List.{join_with_byte}
 use Rattle.std.proofs.lemmas.List.{length-map, get_or-map, take-map}
 use Rattle.std.proofs.lemmas.Slice.Eq.{bytes_eq-Decides}
 use Rattle.ps_packed.proofs.Joins.{joins}
-use Rattle.ps_packed.specs.Canon.{nick_text, species_text, evs_text, ivs_text, level_text, canon}
+use Rattle.ps_packed.specs.Canon.{nick_text, species_text, evs_text, ivs_text, level_text}
 use Rattle.ps_dex.specs.declared.row.MoveRow.{MoveRow}
 use Rattle.ps_dex.specs.declared.row.SpeciesRow.{SpeciesRow}
-use Rattle.ps_drill.specs.Fights.{first_moves, packed_alone, drill_set, drill_team}
+use Rattle.ps_drill.specs.Fights.{first_moves, packed_alone, drill_team}
 
 -- ---- the set's text
 

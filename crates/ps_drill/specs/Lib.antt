@@ -2,3 +2,5 @@ pub mod Draws
 pub mod Drills
 pub mod Fights
 pub mod Lines
+pub mod Messages
+pub mod Tallies

@@ -1,5 +1,5 @@
 //! The lines of a drill's script.
-ghost use Rattle.std.specs.Prelude.{◌≡◌, ◌++◌, OnOk, codes, string_bytes};
+ghost use Rattle.std.specs.Prelude.{◌≡◌, ◌++◌, OnOk, string_bytes};
 ghost use Rattle.ps_drill.specs.Lines.{each_to, group_line, open_line, name_line, join_line, head_lines, team_line, team_lines, challenge_line, accept_line, battle_line, join_battle_line, join_battle_lines, start_lines, default_line, choose_lines, time_line, lobby_line, talk_line, whisper_line, note_line};
 
 use ps_base::id::Id;

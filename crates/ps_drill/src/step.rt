@@ -1,7 +1,7 @@
 //! The steps of a drill.
-ghost use Rattle.std.specs.Prelude.{◌≡◌, ◌++◌, ◌+◌, ◌-◌, OnOk, string_bytes};
+ghost use Rattle.std.specs.Prelude.{◌≡◌, ◌++◌, ◌+◌, OnOk, string_bytes};
 ghost use Rattle.ps_drill.specs.Lines.{each_to, time_line};
-ghost use Rattle.ps_drill.specs.Draws.{conn_drawn, drawn_line, after_step, after_steps};
+ghost use Rattle.ps_drill.specs.Draws.{conn_drawn, drawn_line, after_step};
 ghost use Rattle.ps_drill.specs.Drills.{step_lines};
 ghost use Rattle.ps_drill.specs.Fights.{fight_choices};
 ghost use Rattle.ps_calc.specs.Draws.{after};
