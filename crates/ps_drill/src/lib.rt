@@ -8,3 +8,5 @@ pub mod mark;
 pub mod script;
 mod step;
 pub mod tally;
+#[cfg(test)]
+mod tests;
