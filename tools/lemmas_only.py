@@ -5,7 +5,7 @@
 
 In such a copy all crates up to a law check in a few minutes from nothing, and one law in seconds, since nothing has to be
 proved of code: so definitions can be tried, and lemmas written, before the chain below them is proved. It proves nothing
-of the repository itself. Without CRATE all crates that are libraries are copied; what a copy has of these crates is
+of the repository itself. Without CRATE all crates that have definitions are copied; what a copy has of these crates is
 replaced, and its out/ stays.
 """
 import os
@@ -109,7 +109,7 @@ def files_below(folder):
 def main():
     top = os.path.dirname(os.path.dirname(os.path.abspath(__file__)))
     goal, chosen = sys.argv[1], set(sys.argv[2:])
-    crates = [c for c in sorted(os.listdir(os.path.join(top, "crates"))) if not os.path.exists(os.path.join(top, "crates", c, "src", "main.rt"))]
+    crates = [c for c in sorted(os.listdir(os.path.join(top, "crates"))) if os.path.isdir(os.path.join(top, "crates", c, "specs"))]
     sources = {c: [f for f in files_below(os.path.join(top, "crates", c, "src")) if f.endswith(".rt")] for c in crates}
     names = set()
     for files in sources.values():

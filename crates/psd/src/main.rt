@@ -10,55 +10,15 @@ use std::process::ExitCode;
 use std::{env, io};
 
 #[cfg(test)]
-mod arena;
-#[cfg(test)]
-mod battle_tests;
-#[cfg(test)]
-mod calc_tests;
-#[cfg(test)]
-mod chat_tests;
-#[cfg(test)]
 mod check_tests;
 #[cfg(test)]
-mod choice_tests;
-#[cfg(test)]
-mod config_tests;
-#[cfg(test)]
-mod dex_tests;
-#[cfg(test)]
-mod effects_tests;
-#[cfg(test)]
-mod hall_tests;
-#[cfg(test)]
-mod ladder_tests;
-#[cfg(test)]
 mod laws_tests;
-#[cfg(test)]
-mod long_tests;
-#[cfg(test)]
-mod pms_tests;
-#[cfg(test)]
-mod request_tests;
-#[cfg(test)]
-mod room_tests;
-#[cfg(test)]
-mod rules_tests;
 #[cfg(test)]
 mod runs;
 #[cfg(test)]
 mod script_tests;
 #[cfg(test)]
-mod session_tests;
-#[cfg(test)]
-mod start_tests;
-#[cfg(test)]
-mod steps;
-#[cfg(test)]
 mod tests;
-#[cfg(test)]
-mod users_tests;
-#[cfg(test)]
-mod view_tests;
 #[cfg(test)]
 mod world_tests;
 

@@ -471,13 +471,17 @@ const COPIES: Effects = &[
 ];
 
 /// The effect of the only move of a dex.
+fn effect_in(dex: &Dex) -> Option<Effect> {
+    match dex.moves() {
+        [only] => Some(only.numbers.effect),
+        _ => None,
+    }
+}
+
 fn only_effect(alloc: Global, file: &str) -> Option<Effect> {
     match Dex::read(alloc, file.as_bytes()) {
         Err(_) => None,
-        Ok(dex) => match dex.moves() {
-            [only] => Some(only.numbers.effect),
-            _ => None,
-        },
+        Ok(dex) => effect_in(&dex),
     }
 }
 

@@ -13,7 +13,6 @@ use ps_valid::config::Config;
 use std::alloc::{AllocError, Global};
 use std::process::Abort;
 use std::sync::Arc;
-use std::test::Fail;
 
 /// A dex of one move and one species.
 const DEX: &str = r#"{"types":[{"name":"Normal","special":false}],
@@ -198,51 +197,50 @@ fn hall(rt: &impl Abort, alloc: Global) -> Hall {
     Hall::new(alloc, config, dex, IdMap::new(alloc)).expect(rt, "memory")
 }
 
-fn play(rt: &impl Abort, alloc: Global, hall: &mut Hall, rows: Rows) -> Result<(), Fail> {
+fn play(rt: &impl Abort, alloc: Global, hall: &mut Hall, rows: Rows) {
     for (conn, text, wanted) in rows {
         let told = answer(rt, alloc, hall, *conn, text);
         assert_eq!(rt; told.as_str(), *wanted);
     }
-    Ok(())
+}
+
+fn play_all(rt: &impl Abort, alloc: Global, tables: &[Rows]) {
+    let mut hall = hall(rt, alloc);
+    for rows in tables {
+        play(rt, alloc, &mut hall, rows);
+    }
 }
 
 #[test]
-fn a_challenge(rt: HostRuntime) -> Result<(), Fail> {
-    let alloc = rt.alloc();
-    let mut hall = hall(&rt, alloc);
-    play(&rt, alloc, &mut hall, NAMED)?;
-    play(&rt, alloc, &mut hall, TEAMS)?;
-    play(&rt, alloc, &mut hall, CHALLENGES)
+fn a_challenge(rt: HostRuntime) {
+    play_all(&rt, rt.alloc(), &[NAMED, TEAMS, CHALLENGES]);
 }
 
 #[test]
-fn a_ladder_battle(rt: HostRuntime) -> Result<(), Fail> {
-    let alloc = rt.alloc();
-    let mut hall = hall(&rt, alloc);
-    play(&rt, alloc, &mut hall, NAMED)?;
-    play(&rt, alloc, &mut hall, TEAMS)?;
-    play(&rt, alloc, &mut hall, LADDER)
+fn a_ladder_battle(rt: HostRuntime) {
+    play_all(&rt, rt.alloc(), &[NAMED, TEAMS, LADDER]);
 }
 
 #[test]
-fn whispers_and_blocks(rt: HostRuntime) -> Result<(), Fail> {
-    let alloc = rt.alloc();
-    let mut hall = hall(&rt, alloc);
-    play(&rt, alloc, &mut hall, NAMED)?;
-    play(&rt, alloc, &mut hall, TEAMS)?;
-    play(&rt, alloc, &mut hall, WHISPERS)
+fn whispers_and_blocks(rt: HostRuntime) {
+    play_all(&rt, rt.alloc(), &[NAMED, TEAMS, WHISPERS]);
+}
+
+/// How many messages a look gives.
+fn count_pulled(rt: &impl Abort, alloc: Global, hall: &Hall, cursor: &mut Cursor) -> usize {
+    let pulled = hall.pull(alloc, cursor).expect(rt, "memory");
+    pulled.len()
 }
 
 /// A connection that looks late is given its messages alone, and then nothing.
 #[test]
-fn a_late_look(rt: HostRuntime) -> Result<(), Fail> {
+fn a_late_look(rt: HostRuntime) {
     let alloc = rt.alloc();
     let mut hall = hall(&rt, alloc);
-    play(&rt, alloc, &mut hall, NAMED)?;
+    play(&rt, alloc, &mut hall, NAMED);
     let mut cursor = Cursor::new(ConnNo(2));
-    let pulled = hall.pull(alloc, &mut cursor).expect(&rt, "memory");
-    assert_eq!(rt; pulled.len(), 3);
-    let pulled = hall.pull(alloc, &mut cursor).expect(&rt, "memory");
-    assert_eq!(rt; pulled.len(), 0);
-    Ok(())
+    let first = count_pulled(&rt, alloc, &hall, &mut cursor);
+    assert_eq!(rt; first, 3);
+    let second = count_pulled(&rt, alloc, &hall, &mut cursor);
+    assert_eq!(rt; second, 0);
 }

@@ -1,5 +1,4 @@
 //! What no clause says: the room of a battle, entry by entry.
-use crate::arena::ROW_DEX;
 use crate::chat_tests::{enter, entered};
 use ps_base::id::{Id, to_id};
 use ps_base::name::Name;
@@ -22,6 +21,17 @@ use std::alloc::Global;
 use std::process::Abort;
 use std::sync::Arc;
 use std::test::Fail;
+
+/// The moves and species of the two teams, as `data/row/dex.json` has them.
+const DEX: &str = r#"{"types":[{"name":"Normal","special":false},{"name":"Ground","special":false},
+{"name":"Psychic","special":true},{"name":"Ice","special":true}],"moves":[
+{"name":"Body Slam","type":"Normal","power":85,"accuracy":100,"pp":24,"priority":0,"effect":{"kind":"status","status":"par","chance":77}},
+{"name":"Hyper Beam","type":"Normal","power":150,"accuracy":90,"pp":8,"priority":0,"effect":{"kind":"recharge"}},
+{"name":"Blizzard","type":"Ice","power":120,"accuracy":90,"pp":8,"priority":0,"effect":{"kind":"status","status":"frz","chance":26}},
+{"name":"Earthquake","type":"Ground","power":100,"accuracy":100,"pp":16,"priority":0},
+{"name":"Rest","type":"Psychic","power":0,"accuracy":0,"pp":16,"priority":0,"effect":{"kind":"rest"}}],"species":[
+{"name":"Tauros","types":["Normal"],"stats":[75,100,95,70,110],"learns":["bodyslam","hyperbeam","blizzard","earthquake"]},
+{"name":"Snorlax","types":["Normal"],"stats":[160,110,65,65,30],"learns":["bodyslam","rest"]}]}"#;
 
 const CONFIG: &str = r#"{"formats":[{"name":"[Gen 1] OU","rules":["speciesclause"]}],"seeds":[0]}"#;
 
@@ -80,7 +90,7 @@ fn start(rt: &impl Abort, alloc: Global, dex: &Dex, config: &Config, is_tired: b
 }
 
 fn opening(rt: &impl Abort, alloc: Global, is_tired: bool) -> Opening {
-    let dex = Dex::read(alloc, ROW_DEX.as_bytes()).expect(rt, "a dex");
+    let dex = Dex::read(alloc, DEX.as_bytes()).expect(rt, "a dex");
     let config = Config::read(alloc, CONFIG.as_bytes(), &dex).expect(rt, "a configuration");
     let start = start(rt, alloc, &dex, &config, is_tired);
     let config = Arc::new(alloc, config).expect(rt, "memory");

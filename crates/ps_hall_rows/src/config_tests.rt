@@ -154,18 +154,28 @@ const SEEDS: &[(&str, u32, u64)] = &[
     ),
 ];
 
-fn summary(alloc: Global, config: &Config) -> Result<String, AllocError> {
+/// What the lists of a configuration hold, and who is staff.
+fn lists(alloc: Global, config: &Config) -> Result<String, AllocError> {
     let groups = config.groups().count();
+    let staff = config.staff();
     let rooms = config.rooms().len();
     let users = config.users().len();
     let formats = config.formats().list().len();
+    format!(in alloc; "{groups} {staff} {rooms} {users} {formats}")
+}
+
+/// What battles and log-ins draw from.
+fn draws(alloc: Global, config: &Config) -> Result<String, AllocError> {
+    let nonce = config.nonce();
+    let seed = config.seed();
     let seeds = config.seeds().len();
-    format!(in alloc;
-        "{groups} {} {rooms} {users} {formats} {} {} {seeds}",
-        config.staff(),
-        config.nonce(),
-        config.seed()
-    )
+    format!(in alloc; "{nonce} {seed} {seeds}")
+}
+
+fn summary(alloc: Global, config: &Config) -> Result<String, AllocError> {
+    let lists = lists(alloc, config)?;
+    let draws = draws(alloc, config)?;
+    format!(in alloc; "{lists} {draws}")
 }
 
 fn told(alloc: Global, dex: &Dex, text: &str) -> Result<String, AllocError> {
@@ -206,22 +216,44 @@ fn seeds_of_battles(rt: HostRuntime) -> Result<(), Fail> {
     Ok(())
 }
 
+fn standard(rt: &impl Abort, alloc: Global) -> Config {
+    Config::standard(alloc).expect(rt, "memory")
+}
+
+fn staff_can_note(config: &Config) -> bool {
+    config
+        .groups()
+        .can(config.staff(), None, false, Perm::Modnote)
+}
+
+/// The id and the title of each room.
+fn rooms_of(alloc: Global, config: &Config) -> Result<String, AllocError> {
+    let mut told = String::new(alloc);
+    for room in config.rooms() {
+        told.push_str(room.id.as_str())?;
+        told.push_str(" ")?;
+        told.push_str(room.title.as_str())?;
+    }
+    Ok(told)
+}
+
+fn has_format(rt: &impl Abort, alloc: Global, config: &Config, name: &str) -> bool {
+    let id = to_id(alloc, name).expect(rt, "memory");
+    resolve(alloc, config.formats(), &id).is_ok()
+}
+
+fn standard_holds(rt: &impl Abort, alloc: Global, config: &Config) -> Result<(), Fail> {
+    let told = summary(alloc, config)?;
+    assert_eq!(rt; told.as_str(), "6 3 1 0 0 0 0 0");
+    let rooms = rooms_of(alloc, config)?;
+    assert_eq!(rt; rooms.as_str(), "lobby Lobby");
+    assert!(rt; staff_can_note(config));
+    assert!(rt; has_format(rt, alloc, config, "Species Clause"));
+    Ok(())
+}
+
 #[test]
 fn without_a_file(rt: HostRuntime) -> Result<(), Fail> {
-    let alloc = rt.alloc();
-    let config = Config::standard(alloc)?;
-    let summary = summary(alloc, &config)?;
-    assert_eq!(rt; summary.as_str(), "6 3 1 0 0 0 0 0");
-    assert!(rt;
-        config
-            .groups()
-            .can(config.staff(), None, false, Perm::Modnote)
-    );
-    for room in config.rooms() {
-        assert_eq!(rt; room.id.as_str(), "lobby");
-        assert_eq!(rt; room.title.as_str(), "Lobby");
-    }
-    let id = to_id(alloc, "Species Clause")?;
-    assert!(rt; resolve(alloc, config.formats(), &id).is_ok());
-    Ok(())
+    let config = standard(&rt, rt.alloc());
+    standard_holds(&rt, rt.alloc(), &config)
 }

@@ -419,17 +419,18 @@ const SEVERAL_FAULTS: [LegalRow; 14] = [
     (FALLEN, Choice::Switch(1), Some(ALREADY_OUT)),
 ];
 
-fn fault(dex: &Dex, steps: Steps, choice: Choice) -> Option<ChoiceFault> {
-    let battle = battle_after(dex.facts(), 3, steps);
-    match legal(&battle, 0, choice) {
+fn fault(dex: &Dex, row: &LegalRow) -> Option<ChoiceFault> {
+    let (steps, choice, _) = row;
+    let battle = battle_after(dex.facts(), 3, *steps);
+    match legal(&battle, 0, *choice) {
         Ok(()) => None,
         Err(fault) => Some(fault),
     }
 }
 
 fn faults_hold(rt: &impl Abort, dex: &Dex, rows: &[LegalRow]) {
-    for (steps, choice, wanted) in rows {
-        assert_eq!(rt; fault(dex, *steps, *choice), *wanted, "{choice:?}");
+    for (place, row) in rows.iter().enumerate() {
+        assert_eq!(rt; fault(dex, row), row.2, "row {place}");
     }
 }
 

@@ -1,0 +1,311 @@
+//! Teams against the rules of formats, and the members of legal ones.
+use ps_base::id::to_id;
+use ps_dex::dex::Dex;
+use ps_mon::status::Status;
+use ps_mon::team::{Member, MoveSlot};
+use ps_packed::team::read_team;
+use ps_rules::formats::resolve;
+use ps_rules::row::RuleTable;
+use ps_valid::check::check_team;
+use ps_valid::config::Config;
+use ps_valid::start::Legal;
+use ps_valid::verdict::TeamFault;
+use std::alloc::{AllocError, Global};
+use std::process::Abort;
+use std::test::Fail;
+
+/// A format, a packed team, and what is told: the set, the rule and the subject, or `legal`.
+type Rows = &'static [(&'static str, &'static str, &'static str)];
+
+/// Two types, six moves and three species, with an alias of a species, of a move, and of both.
+const DEX: &str = r#"{
+  "types": [{"name": "Normal", "special": false}, {"name": "Ice", "special": true}],
+  "moves": [
+    {"name": "Body Slam", "type": "Normal", "power": 85, "accuracy": 100, "pp": 24, "priority": 0},
+    {"name": "Fissure", "type": "Normal", "power": 0, "accuracy": 30, "pp": 8, "priority": 0,
+     "effect": {"kind": "ohko"}},
+    {"name": "Double Team", "type": "Normal", "power": 0, "accuracy": 0, "pp": 24, "priority": 0,
+     "effect": {"kind": "boost", "who": "self", "stat": "eva", "by": 1}},
+    {"name": "Open Guard", "type": "Normal", "power": 0, "accuracy": 0, "pp": 16, "priority": 0,
+     "effect": {"kind": "boost", "who": "self", "stat": "eva", "by": -1}},
+    {"name": "Sweet Scent", "type": "Normal", "power": 0, "accuracy": 0, "pp": 32, "priority": 0,
+     "effect": {"kind": "boost", "who": "foe", "stat": "eva", "by": 1}},
+    {"name": "Surf", "type": "Ice", "power": 95, "accuracy": 100, "pp": 24, "priority": 0}
+  ],
+  "species": [
+    {"name": "Tauros", "types": ["Normal"], "stats": [75, 100, 95, 70, 110],
+     "learns": ["bodyslam", "fissure", "doubleteam", "openguard", "sweetscent"]},
+    {"name": "Jynx", "types": ["Ice", "Normal"], "stats": [65, 50, 35, 95, 95], "learns": ["bodyslam"]},
+    {"name": "Surf", "types": ["Ice"], "stats": [1, 1, 1, 1, 1], "learns": ["surf"]}
+  ],
+  "aliases": {"bull": "Tauros", "slam": "Body Slam", "wave": "Surf"}
+}"#;
+
+const CONFIG: &str = r#"{"formats": [
+  {"name": "free"},
+  {"name": "two", "min": 2, "max": 2},
+  {"name": "banned", "bans": ["bull", "fissure"]},
+  {"name": "wave", "bans": ["wave"]},
+  {"name": "low", "levels": [10, 50]},
+  {"name": "tidy", "rules": ["ohkoclause", "evasionmovesclause"]},
+  {"name": "single", "rules": ["speciesclause", "nicknameclause"]},
+  {"name": "nick", "rules": ["nicknameclause"]}
+]}"#;
+
+/// Numbers of sets, species and levels.
+const SETS: Rows = &[
+    ("two", "Mew|||||||||||", "0 TooFew 1"),
+    (
+        "two",
+        "Mew|||||||||||]Mew|||||||||||]Mew|||||||||||",
+        "0 TooMany 3",
+    ),
+    ("low", "Mew||||||||||5|", "1 UnknownSpecies mew"),
+    ("free", "Bob|M.e-w||||||||||", "1 UnknownSpecies mew"),
+    ("banned", "Tauros||||||||||1|", "1 BannedSpecies tauros"),
+    ("banned", "Bull|||||||||||", "1 BannedSpecies bull"),
+    ("wave", "Surf||||surf|||||||", "1 BannedSpecies surf"),
+    ("low", "Tauros||||||||||9|", "1 LevelTooLow 9"),
+    ("low", "Tauros|||||||||||", "1 LevelTooHigh 100"),
+    ("low", "Tauros||||||||||50|", "1 NoMoves tauros"),
+    ("free", "Bob|Bull||||||||||", "1 NoMoves bull"),
+];
+
+/// Moves and EVs.
+const MOVES: Rows = &[
+    ("free", "Bull||||slam,tackle|||||||", "1 UnknownMove tackle"),
+    ("free", "Bull||||surf|||||||", "1 NotLearned surf"),
+    (
+        "free",
+        "Bull||||slam,Body Slam|||||||",
+        "1 RepeatedMove bodyslam",
+    ),
+    (
+        "banned",
+        "Jynx||||slam,fissure|||||||",
+        "1 BannedMove fissure",
+    ),
+    ("wave", "Jynx||||wave|||||||", "1 BannedMove wave"),
+    (
+        "tidy",
+        "Bull||||slam,fissure|||||||",
+        "1 OhkoClause fissure",
+    ),
+    (
+        "tidy",
+        "Bull||||openguard,sweetscent,doubleteam|||||||",
+        "1 EvasionClause doubleteam",
+    ),
+    ("tidy", "Bull||||openguard,sweetscent|||||||", "legal"),
+    ("free", "Bull||||fissure,doubleteam|||||||", "legal"),
+    ("free", "Bull||||slam||,,,,253,254|||||", "1 EvTooHigh 253"),
+    ("free", "Bull||||slam||252,,,,252,|||||", "legal"),
+    (
+        "free",
+        "Bull||||slam|||||||]Bull||||slam||255,,,,,|||||",
+        "2 EvTooHigh 255",
+    ),
+];
+
+/// Sets beside those before them.
+const PAIRS: Rows = &[
+    (
+        "single",
+        "Ann|Tauros|||slam|||||||]Ann|Bull|||slam|||||||",
+        "2 SpeciesClause bull",
+    ),
+    (
+        "single",
+        "Ann|Tauros|||slam|||||||]Ann|Jynx|||slam|||||||]Eve|Bull|||slam|||||||",
+        "2 NicknameClause Ann",
+    ),
+    (
+        "single",
+        "Ann|Tauros|||slam|||||||]ann|Jynx|||slam|||||||",
+        "legal",
+    ),
+    (
+        "nick",
+        "Ann|Tauros|||slam|||||||]Eve|Bull|||slam|||||||",
+        "legal",
+    ),
+    (
+        "single",
+        "Bull||||slam|||||||]Bull||||slam|||||||]Mew|||||||||||",
+        "3 UnknownSpecies mew",
+    ),
+];
+
+fn rules_of(
+    rt: &impl Abort,
+    alloc: Global,
+    config: &Config,
+    format: &str,
+) -> Result<RuleTable, AllocError> {
+    let id = to_id(alloc, format)?;
+    Ok(resolve(alloc, config.formats(), &id).expect(rt, "a format"))
+}
+
+fn checked(
+    rt: &impl Abort,
+    alloc: Global,
+    dex: &Dex,
+    config: &Config,
+    format: &str,
+    text: &str,
+) -> Result<Legal, TeamFault> {
+    let rules = rules_of(rt, alloc, config, format)?;
+    let team = read_team(alloc, text).expect(rt, "a team");
+    check_team(alloc, dex, &rules, &team)
+}
+
+fn told(
+    rt: &impl Abort,
+    alloc: Global,
+    dex: &Dex,
+    config: &Config,
+    format: &str,
+    text: &str,
+) -> Result<String, AllocError> {
+    match checked(rt, alloc, dex, config, format, text) {
+        Ok(_) => String::from_str(alloc, "legal"),
+        Err(TeamFault::Verdict(v)) => { format!(in alloc; "{} {:?} {}", v.set, v.rule, v.subject) }
+        Err(TeamFault::NoMemory) => Err(AllocError),
+    }
+}
+
+fn told_rows(
+    rt: &impl Abort,
+    alloc: Global,
+    dex: &Dex,
+    config: &Config,
+    rows: Rows,
+) -> Result<(), Fail> {
+    for (format, text, wanted) in rows {
+        let told = told(rt, alloc, dex, config, format, text)?;
+        assert_eq!(rt; told.as_str(), *wanted);
+    }
+    Ok(())
+}
+
+/// The dex and the configuration of these rows, as one value: two that live beside each other are slow to prove.
+#[derive(Drop)]
+struct Setup {
+    dex: Dex,
+    config: Config,
+}
+
+fn make_setup(rt: &impl Abort, alloc: Global) -> Setup {
+    let dex = Dex::read(alloc, DEX.as_bytes()).expect(rt, "a dex");
+    let config = Config::read(alloc, CONFIG.as_bytes(), &dex).expect(rt, "a configuration");
+    Setup { dex, config }
+}
+
+fn told_tables(rt: &impl Abort, alloc: Global, setup: &Setup, tables: &[Rows]) -> Result<(), Fail> {
+    for rows in tables {
+        told_rows(rt, alloc, &setup.dex, &setup.config, rows)?;
+    }
+    Ok(())
+}
+
+#[test]
+fn team_rules(rt: HostRuntime) -> Result<(), Fail> {
+    let setup = make_setup(&rt, rt.alloc());
+    told_tables(&rt, rt.alloc(), &setup, &[SETS, MOVES, PAIRS])
+}
+
+const NO_MOVE: MoveSlot = MoveSlot {
+    mv: 0,
+    pp: 0,
+    max_pp: 0,
+};
+
+/// Tauros of level 100 with all IVs and EVs: 353, 298, 288, 238 and 318.
+const TAUROS: Member = Member {
+    species: 0,
+    level: 100,
+    types: [0, 0],
+    stats: [298, 288, 238, 318],
+    base_speed: 110,
+    hp: 353,
+    max: 353,
+    status: Status::Healthy,
+    counter: 0,
+    rested: false,
+    slots: [
+        MoveSlot {
+            mv: 1,
+            pp: 8,
+            max_pp: 8,
+        },
+        MoveSlot {
+            mv: 0,
+            pp: 24,
+            max_pp: 24,
+        },
+        NO_MOVE,
+        NO_MOVE,
+    ],
+    slot_count: 2,
+};
+
+/// Jynx of level 50: the IVs 31, 30, 29, 28, 0, 3 are the DVs 15 of Attack, 14 of Defense, 14 of Special
+/// and 1 of Speed, so 8 + 2 of HP.
+const JYNX: Member = Member {
+    species: 1,
+    level: 50,
+    types: [1, 0],
+    stats: [75, 54, 145, 132],
+    base_speed: 95,
+    hp: 135,
+    max: 135,
+    status: Status::Healthy,
+    counter: 0,
+    rested: false,
+    slots: [
+        MoveSlot {
+            mv: 0,
+            pp: 24,
+            max_pp: 24,
+        },
+        NO_MOVE,
+        NO_MOVE,
+        NO_MOVE,
+    ],
+    slot_count: 1,
+};
+
+fn nicks_of(alloc: Global, legal: &Legal) -> Result<String, AllocError> {
+    let mut nicks = String::new(alloc);
+    for nick in legal.nicks.as_slice() {
+        nicks.push_str(nick.as_str())?;
+        nicks.push_str(" ")?;
+    }
+    Ok(nicks)
+}
+
+/// What a team is in the format that bars nothing.
+fn free_team(rt: &impl Abort, alloc: Global, text: &str) -> Result<Legal, TeamFault> {
+    let setup = make_setup(rt, alloc);
+    checked(rt, alloc, &setup.dex, &setup.config, "free", text)
+}
+
+const TWO: &str =
+    "Bull||||fissure,slam|||||||]Ice|Jynx|||bodyslam||4,40,0,252,8,252||31,30,29,28,0,3||50|";
+
+#[test]
+fn members_of_a_legal_team(rt: HostRuntime) -> Result<(), Fail> {
+    let legal = free_team(&rt, rt.alloc(), TWO).expect(&rt, "a legal team");
+    assert_eq!(rt; legal.team.count, 2);
+    assert_eq!(rt; legal.team.members[0], TAUROS);
+    assert_eq!(rt; legal.team.members[1], JYNX);
+    Ok(())
+}
+
+#[test]
+fn nicknames_of_a_legal_team(rt: HostRuntime) -> Result<(), Fail> {
+    let legal = free_team(&rt, rt.alloc(), TWO).expect(&rt, "a legal team");
+    let nicks = nicks_of(rt.alloc(), &legal)?;
+    assert_eq!(rt; nicks.as_str(), "Bull Ice ");
+    Ok(())
+}
