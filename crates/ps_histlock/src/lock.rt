@@ -22,7 +22,7 @@ use std::thread;
 #[cfg(test)]
 mod tests;
 
-/// How many entries one pass may make.
+/// How many entries one pass may make: 4,096 texts of a connection, 256 reports of battles that they end, and its end.
 pub const OWN_LIMIT: u64 = 4353;
 
 /// A lock round a value with a history. Contracts see a name, which its passes share, and the value's origin.
