@@ -44,7 +44,7 @@ drill_set moves s = record {
 unfoldable pub drill_team : List MoveRow → SpeciesRow → List ℕ
 drill_team moves s = canon (drill_set moves s ∷ [])
 
--- the packed text of a set of which only the name and the moves are told: the name stands in the nickname's field where it has
+-- for the code alone: the packed text of a set of which only the name and the moves are told: the name stands in the nickname's field where it has
 -- up to 18 characters, else in the species'
 unfoldable pub packed_alone : List ℕ → List ℕ → List ℕ
 packed_alone name moves =

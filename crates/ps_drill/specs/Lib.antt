@@ -3,4 +3,5 @@ pub mod Drills
 pub mod Fights
 pub mod Lines
 pub mod Messages
+pub mod Plain
 pub mod Tallies

@@ -24,7 +24,7 @@ begins Number b = 0
 begins Sign b = if b == 32 then 1 else 0
 begins Inside b = 0
 
--- behind a text whose last line had come so far
+-- for the code alone: behind a text whose last line had come so far
 abbrev pub mark_after : Mark → List ℕ → Mark
 mark_after m [] = m
 mark_after m (b ∷ bs) = mark_after (next_mark m b) bs
@@ -37,6 +37,6 @@ messages_from m (b ∷ bs) = begins m b + messages_from (next_mark m b) bs
 abbrev pub messages_in : List ℕ → ℕ
 messages_in text = messages_from Start text
 
--- a count as a number of 64 bits, which stands still at the greatest
+-- for the code alone: a count as a number of 64 bits, which stands still at the greatest
 abbrev pub counted : ℕ → ℕ
 counted n = min n (2 ^ 64 - 1)

@@ -1,7 +1,8 @@
-//! The script of a drill: eight users in the lobby and one battle, of any length, from a number; and the tally of what a drill
-//! gives.
+//! The script of a drill, which a number of steps determines: eight users in the lobby, and one battle. And what is told of
+//! the text that comes of it: its length, its digest and its messages.
 #![tactic(auto)]
 
+pub mod counter;
 mod fight;
 mod lines;
 pub mod mark;

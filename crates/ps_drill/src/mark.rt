@@ -1,6 +1,6 @@
 //! Where in a line a text ends, as far as beginnings of messages go.
 ghost use Rattle.std.specs.Prelude.{◌≡◌};
-ghost use Rattle.ps_drill.specs.Messages.{is_digit, next_mark, begins};
+ghost use Rattle.ps_drill.specs.Messages.{next_mark, begins};
 
 /// How far the line that a text ends in has come.
 #[derive(Clone, Copy, Debug, PartialEq, Eq)]
@@ -15,12 +15,6 @@ pub enum Mark {
     Inside,
 }
 
-fn is_digit(b: u8) -> bool
-    ensures { result ≡ is_digit b }
-{
-    b >= b'0' && b <= b'9'
-}
-
 impl Mark {
     /// After one byte more.
     #[tactic(auto, unfolding(crate::specs::Messages::next_mark))]
@@ -32,13 +26,13 @@ impl Mark {
         }
         match self {
             Mark::Start => {
-                if is_digit(b) {
+                if b.is_ascii_digit() {
                     return Mark::Number;
                 }
                 Mark::Inside
             }
             Mark::Number => {
-                if is_digit(b) {
+                if b.is_ascii_digit() {
                     return Mark::Number;
                 }
                 if b == b'<' {

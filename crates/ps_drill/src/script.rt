@@ -9,7 +9,7 @@ use ps_dex::dex::Dex;
 use ps_valid::config::Config;
 use std::alloc::{AllocError, Global};
 
-/// The script of a drill of so many steps: `psd replay` takes it under the same configuration and dex.
+/// The script of a drill of so many steps, for a replay under the same configuration and dex.
 ///
 /// Eight users come, name themselves `u1` to `u8` and join the lobby; `u1` has the group `%`, where there is one. Where there
 /// is a format and a species, `u7` and `u8` begin a battle under the first format, each with one Pokemon of the first species.

@@ -1,45 +1,15 @@
-//! The numbers and the digest of a text that comes in pieces.
-ghost use Rattle.std.specs.Prelude.{◌≡◌, ◌+◌, ◌++◌, ℕ, [], length, List};
+//! The length and the digest of a text that comes in pieces.
+ghost use Rattle.std.specs.Prelude.{◌≡◌, ◌++◌, ℕ, [], length, List};
 ghost use Rattle.sha2.specs.Sha256.{sha256};
-ghost use Rattle.ps_drill.specs.Messages.{begins, next_mark, mark_after, messages_from, messages_in, counted};
+ghost use Rattle.ps_drill.specs.Messages.{counted};
 
-use crate::mark::Mark;
 use sha2::{Digest, Sha256};
 
-/// The messages so far, and how far the last line has come.
-#[derive(Clone, Copy, Debug, PartialEq, Eq)]
-pub(crate) struct Counter {
-    pub(crate) mark: Mark,
-    pub(crate) messages: u64,
-}
-
-fn next(counter: Counter, b: u8) -> Counter
-    ensures mark { result.mark ≡ next_mark counter.mark b }
-    ensures messages { result.messages ≡ counted (counter.messages + begins counter.mark b) }
-{
-    Counter {
-        mark: counter.mark.next(b),
-        messages: counter.messages.saturating_add(counter.mark.begins(b)),
-    }
-}
-
-fn count(mark: Mark, messages: u64, bytes: &[u8]) -> Counter
-    ensures mark { result.mark ≡ mark_after mark bytes.now }
-    ensures messages { result.messages ≡ counted (messages + messages_from mark bytes.now) }
-{
-    let mut now = Counter { mark, messages };
-    for b in bytes {
-        now = next(now, *b);
-    }
-    now
-}
-
-/// What a drill tells of a text that comes in pieces: its bytes, its messages and its digest.
+/// What a drill tells of a text that comes in pieces: its bytes and its digest.
 #[derive(Drop)]
 pub struct Tally {
     hasher: Sha256,
     bytes: u64,
-    counter: Counter,
 }
 
 impl Tally {
@@ -52,10 +22,6 @@ impl Tally {
         Tally {
             hasher: Sha256::new(),
             bytes: 0,
-            counter: Counter {
-                mark: Mark::Start,
-                messages: 0,
-            },
         }
     }
 
@@ -65,7 +31,6 @@ impl Tally {
     {
         self.hasher.update(piece);
         self.bytes = self.bytes.saturating_add(piece.len() as u64);
-        self.counter = count(self.counter.mark, self.counter.messages, piece);
     }
 
     /// How many bytes came. The count stands still at the last value of a `u64`.
@@ -73,14 +38,6 @@ impl Tally {
         ensures { (text : List ℕ) → Tallies self.now text → result ≡ counted (length text) }
     {
         self.bytes
-    }
-
-    /// How many messages came: lines that begin with digits, `<` and a space. The count stands still at the last value of a
-    /// `u64`.
-    pub fn messages(&self) -> u64
-        ensures { (text : List ℕ) → Tallies self.now text → result ≡ counted (messages_in text) }
-    {
-        self.counter.messages
     }
 
     /// The SHA-256 (FIPS 180-4) of all that came.

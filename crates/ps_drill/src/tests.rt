@@ -1,4 +1,5 @@
-//! What no clause says: that a script and a tally come with ample memory, on rows worked by hand.
+//! What no clause says: that a script, a tally and a counter come with ample memory, on rows worked by hand.
+use crate::counter::Counter;
 use crate::script::drill_script;
 use crate::tally::Tally;
 use ps_dex::dex::Dex;
@@ -26,8 +27,18 @@ fn pieces_are_tallied_as_one_text(rt: HostRuntime) -> Result<(), Fail> {
     tally.take(b"2");
     tally.take(b"< ok\n2. no\nx3< no\n");
     assert_eq!(rt; tally.bytes(), 36);
-    assert_eq!(rt; tally.messages(), 2);
     let digest = format!(in rt.alloc(); "{:?}", &tally.digest()[..4])?;
     assert_eq!(rt; digest.as_str(), "[2, 17, 27, 49]");
+    Ok(())
+}
+
+/// A message begins in the pieces `1`, `2` and `< ok`, though none has its beginning whole.
+#[test]
+fn messages_are_counted_across_pieces(rt: HostRuntime) -> Result<(), Fail> {
+    let mut counter = Counter::new();
+    counter.take(b"1< >lobby\n1. hi\n1");
+    counter.take(b"2");
+    counter.take(b"< ok\n2. no\nx3< no\n");
+    assert_eq!(rt; counter.messages(), 2);
     Ok(())
 }
