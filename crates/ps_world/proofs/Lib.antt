@@ -18,3 +18,4 @@ pub mod ReadLemmas
 pub mod OneEntryLemmas
 pub mod OrderLemmas
 pub mod EndLemmas
+pub mod EntryCounts

@@ -13,7 +13,7 @@ use Rattle.ps_room.specs.Rooms.{message}
 use Rattle.ps_room.specs.Logs.{Seen, seen_after, out_of}
 use Rattle.ps_world.specs.Worlds.{room_message}
 use Rattle.ps_world.specs.Nows.{Standing, standing, rooms_after}
-use Rattle.ps_world.specs.Entries.{ending_at}
+use Rattle.ps_world.specs.Entries.{out_at}
 use Rattle.ps_world.specs.Transcript.{printed, with_id}
 use Rattle.ps_world.specs.Tables.{each_to}
 
@@ -35,11 +35,11 @@ found_room rooms place d within = slice_get-map standing rooms place ∙ ap (opt
 pub room_text : (rooms : List Seen) (place : ℕ) (d : Seen) (e : Entry) (count : ℕ) → place < length rooms → each_to (λ conn. printed conn (with_id (Some (get_or rooms place d).id) (message conn (get_or rooms place d).state e))) count ≡ text_of e count (slice_get (map standing rooms) place)
 room_text rooms place d e count within = sym (ap (text_of e count) (found_room rooms place d within))
 
-pub room_ended : (rooms : List Seen) (place : ℕ) (d : Seen) (e : Entry) → place < length rooms → (out_of (get_or rooms place d).state e).ended ≡ ending_at (option_map (λ s. s.state) (slice_get (map standing rooms) place)) e
-room_ended rooms place d e within = ap (λ (o : Option Standing). ending_at (option_map (λ s. s.state) o) e) (sym (found_room rooms place d within))
+pub room_out : (rooms : List Seen) (place : ℕ) (d : Seen) (e : Entry) → place < length rooms → Some (out_of (get_or rooms place d).state e) ≡ out_at (option_map (λ s. s.state) (slice_get (map standing rooms) place)) e
+room_out rooms place d e within = ap (λ (o : Option Standing). out_at (option_map (λ s. s.state) o) e) (sym (found_room rooms place d within))
 
-pub no_room_ended : (rooms : List Seen) (place : ℕ) (e : Entry) → length rooms ≤ place → None ≡ ending_at (option_map (λ s. s.state) (slice_get (map standing rooms) place)) e
-no_room_ended rooms place e past = ap (λ (o : Option Standing). ending_at (option_map (λ s. s.state) o) e) (sym (slice_get_past (map standing rooms) place (omega (arith, length-map rooms standing))))
+pub no_room_out : (rooms : List Seen) (place : ℕ) (e : Entry) → length rooms ≤ place → None ≡ out_at (option_map (λ s. s.state) (slice_get (map standing rooms) place)) e
+no_room_out rooms place e past = ap (λ (o : Option Standing). out_at (option_map (λ s. s.state) o) e) (sym (slice_get_past (map standing rooms) place (omega (arith, length-map rooms standing))))
 
 pub room_set : (rooms : List Seen) (place : ℕ) (d new : Seen) (e : Entry) → place < length rooms → new ≡ seen_after (get_or rooms place d) e → map standing (slice_set rooms place new) ≡ rooms_after (map standing rooms) place e
 room_set rooms place d new e within is =

@@ -106,7 +106,7 @@ opened_stories : (os : List Opening) → map standing_of (map no_story os) ≡ m
 opened_stories [] = refl
 opened_stories (o ∷ os) = ap (λ (x : List Standing). opened_standing o ∷ x) (opened_stories os)
 
-fresh_is : (s : Setup) → fresh s ≡ state_of (run_opening s)
+pub fresh_is : (s : Setup) → fresh s ≡ state_of (run_opening s)
 fresh_is s = ap (λ (chats : List Standing). record (fresh s) { now = record (now_opening s) { chats = chats } }) (sym (opened_stories (chat_openings s)))
 
 pub output_is : (s : Setup) (items : List Item) → text_from (fresh s) items ≡ output s items

@@ -19,6 +19,7 @@ use Rattle.ps_hall.specs.Looks.{badge_of}
 use Rattle.ps_hall.specs.Halls as halls
 use Rattle.ps_room.specs.declared.entry.Entry.{Entry as RoomEntry}
 use Rattle.ps_room.specs.declared.outcome.Ending.{Ending}
+use Rattle.ps_room.specs.declared.outcome.RoomOut.{RoomOut}
 use Rattle.ps_room.specs.Records.{Record}
 use Rattle.ps_room.specs.Rooms.{role}
 use Rattle.ps_room.specs.Logs.{out_of}
@@ -106,9 +107,17 @@ abbrev pub report_of : ℕ → ℕ → Option Ending → List Happening
 report_of moment conn None = []
 report_of moment conn (Some end) = Entry (hall_entry moment conn (hall_commands.Report end.number end.winner)) ∷ []
 
+-- what comes of an entry in a room, if it is there
+abbrev pub out_at : Option Record → RoomEntry → Option RoomOut
+out_at None e = None
+out_at (Some r) e = Some (out_of r e)
+
+abbrev pub ending_in : Option RoomOut → Option Ending
+ending_in None = None
+ending_in (Some out) = out.ended
+
 abbrev pub ending_at : Option Record → RoomEntry → Option Ending
-ending_at None e = None
-ending_at (Some r) e = (out_of r e).ended
+ending_at r e = ending_in (out_at r e)
 
 abbrev pub reports : ℕ → Now → ℕ → Placed → List Happening
 reports moment n conn (Hall e) = []

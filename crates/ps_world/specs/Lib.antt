@@ -2,6 +2,7 @@ pub mod Setup
 pub mod Worlds
 pub mod Nows
 pub mod Entries
+pub mod Counts
 pub mod Transcript
 pub mod OneEntry
 pub mod TwoWorlds

@@ -1,13 +1,15 @@
--- What a replay prints line by line, by the state that its code keeps in the place of histories. No statement of the top call
+-- What a replay prints and counts line by line, by the state that its code keeps in the place of histories. No statement of the top call
 -- rests on this file.
-use Rattle.std.specs.Prelude.{ℕ, zero, suc, List, [], ◌∷◌, ◌++◌, length, Option}
+use Rattle.std.specs.Prelude.{ℕ, zero, suc, ◌+◌, Bool, List, [], ◌∷◌, ◌++◌, length, Option}
 use Rattle.ps_script.specs.declared.item.Item.{Item}
 use Rattle.ps_world.specs.declared.place.Placed.{Placed}
 use Rattle.ps_world.specs.declared.place.Happening.{Happening}
 use Rattle.ps_world.specs.declared.place.Happening.TheVariants.{Entry, Ended}
+use Rattle.ps_world.specs.declared.transcript.Counts.{Counts}
 use Rattle.ps_world.specs.Setup.{Setup}
 use Rattle.ps_world.specs.Nows.{Now, now_opening, now_after, now_message, id_at}
 use Rattle.ps_world.specs.Entries.{State, Line, line_at, moment_after}
+use Rattle.ps_world.specs.Counts.{is_refused, one_if}
 use Rattle.ps_world.specs.Transcript.{printed, with_id, over_line}
 
 -- before the first line
@@ -63,3 +65,30 @@ item_after s i = line_after s i (line_at s i)
 abbrev pub text_from : State → List Item → List ℕ
 text_from s [] = []
 text_from s (i ∷ is) = item_text s i ++ text_from (item_after s i) is
+
+-- ---- counts
+
+abbrev pub no_counts : Counts
+no_counts = record { entries = 0; refused = 0 }
+
+-- with an entry more
+abbrev pub one_more : Bool → Counts → Counts
+one_more refused c = record { entries = c.entries + 1; refused = c.refused + one_if refused }
+
+abbrev pub happening_counts : Now → Happening → Counts → Counts
+happening_counts n (Entry p) c = one_more (is_refused n p) c
+happening_counts n (Ended conn) c = c
+
+-- with the entries of these happenings
+abbrev pub happenings_counts : Now → List Happening → Counts → Counts
+happenings_counts n [] c = c
+happenings_counts n (x ∷ xs) c = happenings_counts (happening_after n x) xs (happening_counts n x c)
+
+-- with the entries of a line
+abbrev pub item_counts : State → Item → Counts → Counts
+item_counts s i c = happenings_counts s.now (line_at s i).happenings c
+
+-- with the entries of these lines
+abbrev pub counts_from : State → List Item → Counts → Counts
+counts_from s [] c = c
+counts_from s (i ∷ is) c = counts_from (item_after s i) is (item_counts s i c)

@@ -7,3 +7,4 @@ mod play;
 mod print;
 pub mod ranks;
 pub mod table;
+pub mod transcript;

@@ -10,11 +10,13 @@ ghost use Rattle.ps_world.specs.declared.place.Placed.TheVariants as placed;
 ghost use Rattle.ps_world.specs.Setup.{chat_opening, chats_from, battle_opening};
 ghost use Rattle.ps_world.specs.Worlds.{with_number, numbers_from, started_by};
 ghost use Rattle.ps_world.specs.Nows.{Now, standing, opened_standing, begin, now_opening, now_after, record_at};
-ghost use Rattle.ps_world.specs.Entries.{is_member, quit_of, quit_in, room_quits, named_quits, quits, hall_entry, is_open, ending_at};
-ghost use Rattle.ps_world.specs.Tables.{entry_text};
+ghost use Rattle.ps_world.specs.Entries.{is_member, quit_of, quit_in, room_quits, named_quits, quits, hall_entry, is_open, out_at, ending_in, ending_at};
+ghost use Rattle.ps_world.specs.Counts.{is_refused};
+ghost use Rattle.ps_world.specs.Tables.{entry_text, one_more};
 
 use crate::place::Placed;
 use crate::play;
+use crate::transcript::{Transcript, count, hall_refuses, out_refuses};
 use ps_base::badge::Badge;
 use ps_base::number::{ConnNo, Moment, RoomNo};
 use ps_base::text::Text;
@@ -26,7 +28,7 @@ use ps_hall::outcome::HallOut;
 use ps_lines::command::{Command, HallCmd};
 use ps_room::entry::Entry;
 use ps_room::opening::Opening;
-use ps_room::outcome::Ending;
+use ps_room::outcome::{Ending, RoomOut};
 use ps_room::role::Role;
 use ps_room::room::Room;
 use ps_roster::id_map::IdMap;
@@ -228,6 +230,15 @@ fn push_quits(
     }
 }
 
+fn ending_in(out: Option<RoomOut>) -> Option<Ending>
+    ensures { result ≡ ending_in out }
+{
+    match out {
+        None => None,
+        Some(out) => out.ended,
+    }
+}
+
 fn hall_entry(moment: Moment, conn: ConnNo, cmd: HallCmd) -> HallEntry
     ensures { placed.Hall result ≡ hall_entry moment conn cmd }
 {
@@ -307,23 +318,29 @@ impl Places {
         Ok(quits)
     }
 
-    /// Prints an entry of the hall to the connections from 1 to `count`, and applies it. Gives the badge that its
-    /// sender has from it on.
+    /// Prints and counts an entry of the hall, to the connections from 1 to `conns`, and applies it. Gives the badge that
+    /// its sender has from it on.
     pub fn push_hall(
         &mut self,
         alloc: Global,
-        count: u32,
+        conns: u32,
         entry: &HallEntry,
-        out: &mut String,
+        out: &mut Transcript,
     ) -> Result<Option<Badge>, AllocError>
         ensures state { OnOk result (self.new ≡ now_after self.old (placed.Hall entry.now)) }
-        ensures text { OnOk result (string_bytes out.new ≡ string_bytes out.old ++ entry_text count self.old (placed.Hall entry.now)) }
+        ensures text { OnOk result (string_bytes out.new.text ≡ string_bytes out.old.text ++ entry_text conns self.old (placed.Hall entry.now)) }
+        ensures counts { OnOk result (out.new.counts ≡ one_more (is_refused self.old (placed.Hall entry.now)) out.old.counts) }
         ensures badge { IfOk result (λ b. b ≡ (halls.out_of self.old.hall entry.now).badge) }
     {
         let config = self.hall.config().clone()?;
         let dex = self.hall.dex().clone()?;
-        let HallOut { badge, start, .. } = self.hall.apply(alloc, entry)?;
-        play::push_hall(out, count, self.hall.told())?;
+        let HallOut {
+            verdict,
+            badge,
+            start,
+        } = self.hall.apply(alloc, entry)?;
+        play::push_hall(&mut out.text, conns, self.hall.told())?;
+        count(&mut out.counts, hall_refuses(&verdict))?;
         match start {
             None => {}
             Some(start) => {
@@ -340,25 +357,45 @@ impl Places {
         Ok(badge)
     }
 
-    /// Prints an entry of a room to the connections from 1 to `count`, and applies it. Gives the end of its battle,
-    /// where the entry ended it.
-    pub fn push_room(
+    /// Prints an entry of a room, to the connections from 1 to `conns`, and applies it. Gives what comes of it, where the
+    /// room is there.
+    fn play_room(
         &mut self,
         alloc: Global,
-        count: u32,
+        conns: u32,
         no: RoomNo,
         entry: &Entry,
         out: &mut String,
-    ) -> Result<Option<Ending>, AllocError>
+    ) -> Result<Option<RoomOut>, AllocError>
         ensures state { OnOk result (self.new ≡ now_after self.old (placed.Room no entry.now)) }
-        ensures text { OnOk result (string_bytes out.new ≡ string_bytes out.old ++ entry_text count self.old (placed.Room no entry.now)) }
-        ensures ended { IfOk result (λ o. o ≡ ending_at (record_at no self.old) entry.now) }
+        ensures text { OnOk result (string_bytes out.new ≡ string_bytes out.old ++ entry_text conns self.old (placed.Room no entry.now)) }
+        ensures out { IfOk result (λ o. o ≡ out_at (record_at no self.old) entry.now) }
     {
         if no.0 < FIRST_BATTLE {
-            play::play_rooms(alloc, out, count, &mut self.chats, no.0 as usize, entry)
+            play::play_rooms(alloc, out, conns, &mut self.chats, no.0 as usize, entry)
         } else {
             let place = (no.0 - FIRST_BATTLE) as usize;
-            play::play_rooms(alloc, out, count, &mut self.battles, place, entry)
+            play::play_rooms(alloc, out, conns, &mut self.battles, place, entry)
         }
+    }
+
+    /// Prints and counts an entry of a room, to the connections from 1 to `conns`, and applies it. Gives the end of its
+    /// battle, where the entry ended it.
+    pub fn push_room(
+        &mut self,
+        alloc: Global,
+        conns: u32,
+        no: RoomNo,
+        entry: &Entry,
+        out: &mut Transcript,
+    ) -> Result<Option<Ending>, AllocError>
+        ensures state { OnOk result (self.new ≡ now_after self.old (placed.Room no entry.now)) }
+        ensures text { OnOk result (string_bytes out.new.text ≡ string_bytes out.old.text ++ entry_text conns self.old (placed.Room no entry.now)) }
+        ensures counts { OnOk result (out.new.counts ≡ one_more (is_refused self.old (placed.Room no entry.now)) out.old.counts) }
+        ensures ended { IfOk result (λ o. o ≡ ending_at (record_at no self.old) entry.now) }
+    {
+        let made = self.play_room(alloc, conns, no, entry, &mut out.text)?;
+        count(&mut out.counts, out_refuses(made))?;
+        Ok(ending_in(made))
     }
 }

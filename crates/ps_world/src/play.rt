@@ -7,7 +7,7 @@ ghost use Rattle.ps_room.specs.Logs.{seen_after};
 ghost use Rattle.ps_hall.specs.Halls as halls;
 ghost use Rattle.ps_world.specs.Worlds.{room_message};
 ghost use Rattle.ps_world.specs.Nows.{standing, rooms_after};
-ghost use Rattle.ps_world.specs.Entries.{ending_at};
+ghost use Rattle.ps_world.specs.Entries.{out_at};
 ghost use Rattle.ps_world.specs.Transcript.{printed, with_id};
 ghost use Rattle.ps_world.specs.Tables.{each_to};
 
@@ -16,7 +16,7 @@ use ps_base::number::ConnNo;
 use ps_hall::notice::Notice;
 use ps_room::entry::Entry;
 use ps_room::message::joined_for;
-use ps_room::outcome::Ending;
+use ps_room::outcome::RoomOut;
 use ps_room::room::Room;
 use ps_room::told::Told;
 use std::alloc::{AllocError, Global};
@@ -107,7 +107,7 @@ fn play_room(
 }
 
 /// Prints an entry of the room at a place to the connections from 1 to `count`, and applies it. Where no room is
-/// there, nothing is printed and nothing changes. Gives the end of the battle, where the entry ended it.
+/// there, nothing is printed and nothing changes. Gives what comes of the entry, where the room is there.
 pub fn play_rooms(
     alloc: Global,
     out: &mut String,
@@ -115,16 +115,16 @@ pub fn play_rooms(
     rooms: &mut [Room],
     place: usize,
     entry: &Entry,
-) -> Result<Option<Ending>, AllocError>
+) -> Result<Option<RoomOut>, AllocError>
     ensures state { OnOk result (map standing rooms.new ≡ rooms_after (map standing rooms.old) place entry.now) }
     ensures text { OnOk result (string_bytes out.new ≡ string_bytes out.old
         ++ each_to (λ conn. printed conn (with_id (Some (option_map_or (λ s. s.id) (slice_get (map standing rooms.old) place) [])) (room_message conn entry.now (option_map (λ s. s.state) (slice_get (map standing rooms.old) place))))) count) }
-    ensures ended { IfOk result (λ o. o ≡ ending_at (option_map (λ s. s.state) (slice_get (map standing rooms.old) place)) entry.now) }
+    ensures out { IfOk result (λ o. o ≡ out_at (option_map (λ s. s.state) (slice_get (map standing rooms.old) place)) entry.now) }
 {
     if place >= rooms.len() {
         return Ok(None);
     }
-    let ended = rooms[place].out_of(entry).ended;
+    let made = rooms[place].out_of(entry);
     play_room(alloc, out, count, &mut rooms[place], entry)?;
-    Ok(ended)
+    Ok(Some(made))
 }

@@ -8,11 +8,12 @@ ghost use Rattle.ps_world.specs.declared.place.Happening.TheVariants as happenin
 ghost use Rattle.ps_world.specs.Nows.{now_opening};
 ghost use Rattle.ps_session.specs.Sessions.{begun};
 ghost use Rattle.ps_world.specs.Entries.{quits, ended, badged, report_of, entry_happenings, entry_in_room, entry_in_hall, text_entry, text_session, order_entry, order_session, sent_by, session_of, opening, IsCounted};
-ghost use Rattle.ps_world.specs.Tables.{happenings_text, happenings_after};
+ghost use Rattle.ps_world.specs.Tables.{happenings_text, happenings_after, happenings_counts};
 
 use crate::place::Placed;
 use crate::places::Places;
 use crate::print;
+use crate::transcript::Transcript;
 use ps_base::badge::Badge;
 use ps_base::number::{ConnNo, Moment, RoomNo};
 use ps_dex::dex::Dex;
@@ -64,10 +65,11 @@ fn push_placed(
     places: &mut Places,
     count: u32,
     entry: &Placed,
-    out: &mut String,
+    out: &mut Transcript,
 ) -> Result<(), AllocError>
     ensures state { OnOk result (places.new ≡ happenings_after places.old (happening.Entry entry.now ∷ [])) }
-    ensures text { OnOk result (string_bytes out.new ≡ string_bytes out.old ++ happenings_text count places.old (happening.Entry entry.now ∷ [])) }
+    ensures text { OnOk result (string_bytes out.new.text ≡ string_bytes out.old.text ++ happenings_text count places.old (happening.Entry entry.now ∷ [])) }
+    ensures counts { OnOk result (out.new.counts ≡ happenings_counts places.old (happening.Entry entry.now ∷ []) out.old.counts) }
 {
     match entry {
         Placed::Hall(entry) => {
@@ -86,10 +88,11 @@ fn push_all(
     places: &mut Places,
     count: u32,
     entries: &[Placed],
-    out: &mut String,
+    out: &mut Transcript,
 ) -> Result<(), AllocError>
     ensures state { OnOk result (places.new ≡ happenings_after places.old (map happening.Entry entries.now)) }
-    ensures text { OnOk result (string_bytes out.new ≡ string_bytes out.old ++ happenings_text count places.old (map happening.Entry entries.now)) }
+    ensures text { OnOk result (string_bytes out.new.text ≡ string_bytes out.old.text ++ happenings_text count places.old (map happening.Entry entries.now)) }
+    ensures counts { OnOk result (out.new.counts ≡ happenings_counts places.old (map happening.Entry entries.now) out.old.counts) }
 {
     match entries {
         [] => Ok(()),
@@ -107,30 +110,32 @@ fn push_quits(
     moment: Moment,
     count: u32,
     conn: ConnNo,
-    out: &mut String,
+    out: &mut Transcript,
 ) -> Result<(), AllocError>
     ensures state { OnOk result (places.new ≡ happenings_after places.old (map happening.Entry (quits moment places.old conn))) }
-    ensures text { OnOk result (string_bytes out.new ≡ string_bytes out.old ++ happenings_text count places.old (map happening.Entry (quits moment places.old conn))) }
+    ensures text { OnOk result (string_bytes out.new.text ≡ string_bytes out.old.text ++ happenings_text count places.old (map happening.Entry (quits moment places.old conn))) }
+    ensures counts { OnOk result (out.new.counts ≡ happenings_counts places.old (map happening.Entry (quits moment places.old conn)) out.old.counts) }
 {
     let quits = places.quits(alloc, moment, conn)?;
     push_all(alloc, places, count, &quits, out)
 }
 
 // The end of a session.
-#[tactic(auto, using(crate::proofs::EndLemmas::ended_after, crate::proofs::EndLemmas::ended_text))]
+#[tactic(auto, using(crate::proofs::EndLemmas::ended_after, crate::proofs::EndLemmas::ended_text, crate::proofs::EndLemmas::ended_counts))]
 fn push_ended(
     alloc: Global,
     places: &mut Places,
     moment: Moment,
     count: u32,
     conn: ConnNo,
-    out: &mut String,
+    out: &mut Transcript,
 ) -> Result<(), AllocError>
     ensures state { OnOk result (places.new ≡ happenings_after places.old (ended moment places.old conn)) }
-    ensures text { OnOk result (string_bytes out.new ≡ string_bytes out.old ++ happenings_text count places.old (ended moment places.old conn)) }
+    ensures text { OnOk result (string_bytes out.new.text ≡ string_bytes out.old.text ++ happenings_text count places.old (ended moment places.old conn)) }
+    ensures counts { OnOk result (out.new.counts ≡ happenings_counts places.old (ended moment places.old conn) out.old.counts) }
 {
     push_quits(alloc, places, moment, count, conn, out)?;
-    print::push_over(out, conn)?;
+    print::push_over(&mut out.text, conn)?;
     Ok(())
 }
 
@@ -154,10 +159,11 @@ fn push_report(
     count: u32,
     conn: ConnNo,
     end: Option<Ending>,
-    out: &mut String,
+    out: &mut Transcript,
 ) -> Result<(), AllocError>
     ensures state { OnOk result (places.new ≡ happenings_after places.old (report_of moment conn end)) }
-    ensures text { OnOk result (string_bytes out.new ≡ string_bytes out.old ++ happenings_text count places.old (report_of moment conn end)) }
+    ensures text { OnOk result (string_bytes out.new.text ≡ string_bytes out.old.text ++ happenings_text count places.old (report_of moment conn end)) }
+    ensures counts { OnOk result (out.new.counts ≡ happenings_counts places.old (report_of moment conn end) out.old.counts) }
 {
     match end {
         None => Ok(()),
@@ -184,10 +190,11 @@ fn push_in_room(
     count: u32,
     no: u32,
     entry: &Entry,
-    out: &mut String,
+    out: &mut Transcript,
 ) -> Result<(), AllocError>
     ensures state { OnOk result (places.new ≡ happenings_after places.old (entry_happenings moment places.old entry.now.conn (Some (placed.Room no entry.now)))) }
-    ensures text { OnOk result (string_bytes out.new ≡ string_bytes out.old ++ happenings_text count places.old (entry_happenings moment places.old entry.now.conn (Some (placed.Room no entry.now)))) }
+    ensures text { OnOk result (string_bytes out.new.text ≡ string_bytes out.old.text ++ happenings_text count places.old (entry_happenings moment places.old entry.now.conn (Some (placed.Room no entry.now)))) }
+    ensures counts { OnOk result (out.new.counts ≡ happenings_counts places.old (entry_happenings moment places.old entry.now.conn (Some (placed.Room no entry.now))) out.old.counts) }
 {
     let end = places.push_room(alloc, count, RoomNo(no), entry, out)?;
     push_report(alloc, places, moment, count, entry.conn, end, out)
@@ -200,10 +207,11 @@ fn push_in_hall(
     moment: Moment,
     count: u32,
     entry: &HallEntry,
-    out: &mut String,
+    out: &mut Transcript,
 ) -> Result<Option<Badge>, AllocError>
     ensures state { OnOk result (places.new ≡ happenings_after places.old (entry_happenings moment places.old entry.now.conn (Some (placed.Hall entry.now)))) }
-    ensures text { OnOk result (string_bytes out.new ≡ string_bytes out.old ++ happenings_text count places.old (entry_happenings moment places.old entry.now.conn (Some (placed.Hall entry.now)))) }
+    ensures text { OnOk result (string_bytes out.new.text ≡ string_bytes out.old.text ++ happenings_text count places.old (entry_happenings moment places.old entry.now.conn (Some (placed.Hall entry.now)))) }
+    ensures counts { OnOk result (out.new.counts ≡ happenings_counts places.old (entry_happenings moment places.old entry.now.conn (Some (placed.Hall entry.now))) out.old.counts) }
     ensures badge { IfOk result (λ b. b ≡ (halls.out_of places.old.hall entry.now).badge) }
 {
     places.push_hall(alloc, count, entry, out)
@@ -219,10 +227,11 @@ fn push_to_room(
     conn: ConnNo,
     no: u32,
     cmd: Command,
-    out: &mut String,
+    out: &mut Transcript,
 ) -> Result<(), AllocError>
     ensures state { OnOk result (places.new ≡ happenings_after places.old (entry_happenings moment places.old conn (entry_in_room moment conn no cmd session.now.badge))) }
-    ensures text { OnOk result (string_bytes out.new ≡ string_bytes out.old ++ happenings_text count places.old (entry_happenings moment places.old conn (entry_in_room moment conn no cmd session.now.badge))) }
+    ensures text { OnOk result (string_bytes out.new.text ≡ string_bytes out.old.text ++ happenings_text count places.old (entry_happenings moment places.old conn (entry_in_room moment conn no cmd session.now.badge))) }
+    ensures counts { OnOk result (out.new.counts ≡ happenings_counts places.old (entry_happenings moment places.old conn (entry_in_room moment conn no cmd session.now.badge)) out.old.counts) }
 {
     match session.badge() {
         None => push_ended(alloc, places, moment, count, conn, out),
@@ -247,12 +256,13 @@ fn push_to_none(
     moment: Moment,
     count: u32,
     conn: ConnNo,
-    out: &mut String,
+    out: &mut Transcript,
 ) -> Result<(), AllocError>
     requires { is_some session.old.last ≡ true }
     ensures state { OnOk result (places.new ≡ happenings_after places.old (entry_happenings moment places.old conn (entry_in_hall moment conn (no_room session.old)))) }
     ensures session { session.new ≡ after_no_room session.old }
-    ensures text { OnOk result (string_bytes out.new ≡ string_bytes out.old ++ happenings_text count places.old (entry_happenings moment places.old conn (entry_in_hall moment conn (no_room session.old)))) }
+    ensures text { OnOk result (string_bytes out.new.text ≡ string_bytes out.old.text ++ happenings_text count places.old (entry_happenings moment places.old conn (entry_in_hall moment conn (no_room session.old)))) }
+    ensures counts { OnOk result (out.new.counts ≡ happenings_counts places.old (entry_happenings moment places.old conn (entry_in_hall moment conn (no_room session.old))) out.old.counts) }
 {
     match session.no_room() {
         Some(Order::Hall(cmd)) => {
@@ -273,12 +283,13 @@ fn push_order(
     count: u32,
     conn: ConnNo,
     order: Order,
-    out: &mut String,
+    out: &mut Transcript,
 ) -> Result<(), AllocError>
     requires { IsCounted order session.old }
     ensures state { OnOk result (places.new ≡ happenings_after places.old (entry_happenings moment places.old conn (order_entry moment places.old conn (Ok order) session.old))) }
     ensures session { OnOk result (session.new ≡ order_session moment places.old conn (Ok order) session.old) }
-    ensures text { OnOk result (string_bytes out.new ≡ string_bytes out.old ++ happenings_text count places.old (entry_happenings moment places.old conn (order_entry moment places.old conn (Ok order) session.old))) }
+    ensures text { OnOk result (string_bytes out.new.text ≡ string_bytes out.old.text ++ happenings_text count places.old (entry_happenings moment places.old conn (order_entry moment places.old conn (Ok order) session.old))) }
+    ensures counts { OnOk result (out.new.counts ≡ happenings_counts places.old (entry_happenings moment places.old conn (order_entry moment places.old conn (Ok order) session.old)) out.old.counts) }
 {
     match order {
         Order::Hall(cmd) => {
@@ -304,11 +315,12 @@ fn push_text(
     count: u32,
     conn: ConnNo,
     text: &str,
-    out: &mut String,
+    out: &mut Transcript,
 ) -> Result<(), AllocError>
     ensures state { OnOk result (places.new ≡ happenings_after places.old (entry_happenings moment places.old conn (text_entry moment places.old conn text.now session.old))) }
     ensures session { OnOk result (session.new ≡ text_session moment places.old conn text.now session.old) }
-    ensures text { OnOk result (string_bytes out.new ≡ string_bytes out.old ++ happenings_text count places.old (entry_happenings moment places.old conn (text_entry moment places.old conn text.now session.old))) }
+    ensures text { OnOk result (string_bytes out.new.text ≡ string_bytes out.old.text ++ happenings_text count places.old (entry_happenings moment places.old conn (text_entry moment places.old conn text.now session.old))) }
+    ensures counts { OnOk result (out.new.counts ≡ happenings_counts places.old (entry_happenings moment places.old conn (text_entry moment places.old conn text.now session.old)) out.old.counts) }
 {
     match session.take(alloc, text.as_bytes()) {
         Err(TakeFault::NoMemory) => Err(AllocError),
@@ -333,12 +345,13 @@ fn push_sent(
     count: u32,
     conn: ConnNo,
     text: &str,
-    out: &mut String,
+    out: &mut Transcript,
 ) -> Result<(), AllocError>
     requires { count ≡ length sessions.old }
     ensures state { OnOk result (places.new ≡ happenings_after places.old (sent_by (record { moment = moment; now = places.old; sessions = sessions.old }) conn text.now (session_of conn sessions.old)).happenings) }
     ensures sessions { OnOk result (sessions.new ≡ (sent_by (record { moment = moment; now = places.old; sessions = sessions.old }) conn text.now (session_of conn sessions.old)).sessions) }
-    ensures text { OnOk result (string_bytes out.new ≡ string_bytes out.old ++ happenings_text count places.old (sent_by (record { moment = moment; now = places.old; sessions = sessions.old }) conn text.now (session_of conn sessions.old)).happenings) }
+    ensures text { OnOk result (string_bytes out.new.text ≡ string_bytes out.old.text ++ happenings_text count places.old (sent_by (record { moment = moment; now = places.old; sessions = sessions.old }) conn text.now (session_of conn sessions.old)).happenings) }
+    ensures counts { OnOk result (out.new.counts ≡ happenings_counts places.old (sent_by (record { moment = moment; now = places.old; sessions = sessions.old }) conn text.now (session_of conn sessions.old)).happenings out.old.counts) }
 {
     let place = place_of(conn);
     if place >= sessions.len() {
@@ -363,13 +376,14 @@ fn push_opened(
     sessions: &mut Vec<Session>,
     moment: Moment,
     conn: ConnNo,
-    out: &mut String,
+    out: &mut Transcript,
 ) -> Result<(), AllocError>
     requires { length sessions.old.items ≤ 65536 }
     ensures state { OnOk result (places.new ≡ happenings_after places.old (opening moment conn ∷ [])) }
     ensures sessions { OnOk result (sessions.new.items ≡ sessions.old.items ++ begun conn ∷ []) }
     ensures few { length sessions.new.items ≤ 65536 }
-    ensures text { OnOk result (string_bytes out.new ≡ string_bytes out.old ++ happenings_text (length sessions.new.items) places.old (opening moment conn ∷ [])) }
+    ensures text { OnOk result (string_bytes out.new.text ≡ string_bytes out.old.text ++ happenings_text (length sessions.new.items) places.old (opening moment conn ∷ [])) }
+    ensures counts { OnOk result (out.new.counts ≡ happenings_counts places.old (opening moment conn ∷ []) out.old.counts) }
 {
     if sessions.len() >= MOST_SESSIONS {
         return Err(AllocError);
@@ -386,7 +400,7 @@ fn push_opened(
 
 impl Table {
     ghost use Rattle.ps_world.specs.Entries.{moment_after};
-    ghost use Rattle.ps_world.specs.Tables.{fresh, item_text, item_after};
+    ghost use Rattle.ps_world.specs.Tables.{fresh, item_text, item_after, item_counts};
 
     /// Before the first line, with the ranks that the script gives.
     pub fn new(
@@ -404,10 +418,16 @@ impl Table {
         })
     }
 
-    /// Prints what a line prints, and goes on to the state after it.
-    pub fn play(&mut self, alloc: Global, item: &Item, out: &mut String) -> Result<(), AllocError>
+    /// Prints what a line prints, counts its entries, and goes on to the state after it.
+    pub fn play(
+        &mut self,
+        alloc: Global,
+        item: &Item,
+        out: &mut Transcript,
+    ) -> Result<(), AllocError>
         ensures state { OnOk result (self.new ≡ item_after self.old item.now) }
-        ensures text { OnOk result (string_bytes out.new ≡ string_bytes out.old ++ item_text self.old item.now) }
+        ensures text { OnOk result (string_bytes out.new.text ≡ string_bytes out.old.text ++ item_text self.old item.now) }
+        ensures counts { OnOk result (out.new.counts ≡ item_counts self.old item.now out.old.counts) }
     {
         match item {
             Item::Nothing => Ok(()),

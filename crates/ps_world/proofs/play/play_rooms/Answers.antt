@@ -1,15 +1,15 @@
-use Rattle.std.proofs.Common.{◌++◌, string_bytes, List, ℕ, arith, ap, sym, ◌∙◌}
+use Rattle.std.proofs.Common.{◌++◌, string_bytes, List, ℕ, arith, Some, ap, sym, ◌∙◌}
 use Rattle.std.proofs.lemmas.List.{append-nil}
 use Rattle.ps_room.specs.declared.outcome.RoomOut.{RoomOut}
-use Rattle.ps_world.proofs.PlayLemmas.{no_room_text, no_room_ended, room_text, room_set, room_ended}
+use Rattle.ps_world.proofs.PlayLemmas.{no_room_text, no_room_out, room_text, room_set, room_out}
 use Rattle.ps_world.proofs.play.play_rooms.Goals as goal
 
 pub returns-then-place-rooms-clause-text : goal.returns-then-place-rooms-clause-text
 returns-then-place-rooms-clause-text c =
     sym (ap (λ (x : List ℕ). string_bytes c.args.out.now ++ x) (no_room_text c.args.rooms.now c.args.place c.args.entry.now c.args.count c.if-place-rooms.true) ∙ append-nil (string_bytes c.args.out.now))
 
-pub returns-then-place-rooms-clause-ended : goal.returns-then-place-rooms-clause-ended
-returns-then-place-rooms-clause-ended c = no_room_ended c.args.rooms.now c.args.place c.args.entry.now c.if-place-rooms.true
+pub returns-then-place-rooms-clause-out : goal.returns-then-place-rooms-clause-out
+returns-then-place-rooms-clause-out c = no_room_out c.args.rooms.now c.args.place c.args.entry.now c.if-place-rooms.true
 
 pub returns-clause-state : goal.returns-clause-state
 returns-clause-state c = room_set c.args.rooms.now c.args.place c.index-rooms-place-2.result c.play_room.new.room c.args.entry.now (omega arith) c.in_ok-play_room.ensures.state
@@ -18,6 +18,6 @@ pub returns-clause-text : goal.returns-clause-text
 returns-clause-text c =
     c.in_ok-play_room.ensures.text ∙ ap (λ (x : List ℕ). string_bytes c.args.out.now ++ x) (room_text c.args.rooms.now c.args.place c.index-rooms-place-2.result c.args.entry.now c.args.count (omega arith))
 
-pub returns-clause-ended : goal.returns-clause-ended
-returns-clause-ended c =
-    ap (λ (o : RoomOut). o.ended) c.out_of-ended.ensures ∙ room_ended c.args.rooms.now c.args.place c.index-rooms-place.result c.args.entry.now (omega arith)
+pub returns-clause-out : goal.returns-clause-out
+returns-clause-out c =
+    ap (λ (o : RoomOut). Some o) c.out_of-made.ensures ∙ room_out c.args.rooms.now c.args.place c.index-rooms-place.result c.args.entry.now (omega arith)

@@ -11,5 +11,5 @@ returns-clause-text c =
     let left = map happening.Entry (quits c.args.moment c.args.places.now c.args.conn) in
     c.in_ok-push_over.ensures
     ∙ ap (λ (x : List ℕ). x ++ over_line c.args.conn) c.in_ok-push_quits.ensures.text
-    ∙ append_assoc (string_bytes c.args.out.now) (happenings_text c.args.count c.args.places.now left) (over_line c.args.conn)
-    ∙ ap (λ (x : List ℕ). string_bytes c.args.out.now ++ x) (sym (ended_text c.args.count c.args.places.now left c.args.conn))
+    ∙ append_assoc (string_bytes c.args.out.now.text) (happenings_text c.args.count c.args.places.now left) (over_line c.args.conn)
+    ∙ ap (λ (x : List ℕ). string_bytes c.args.out.now.text ++ x) (sym (ended_text c.args.count c.args.places.now left c.args.conn))
