@@ -3,3 +3,4 @@ pub mod FlowLemmas
 pub mod OutcomeLemmas
 pub mod SetupLemmas
 pub mod SymbolLemmas
+pub mod RunLemmas

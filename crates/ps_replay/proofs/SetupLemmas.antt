@@ -9,7 +9,7 @@ use Rattle.ps_replay.specs.declared.status.Status.{Status}
 use Rattle.ps_replay.specs.declared.status.Status.TheVariants.{Done, Usage, FileMissing, FileFault, FileLong, BadDex, BadConfig, BadScript, ScriptLong, ReadFault, WriteFault, BadTeam, NoMemory, UnknownFormat, BadPack}
 use Rattle.ps_replay.specs.Words.{Options}
 use Rattle.ps_replay.specs.Steps.{dex_in, config_in}
-use Rattle.ps_replay.specs.Outcomes.{Stands, IsSetUp, IsReadable, ReplayCause, IsSettled, IsKnown, IsReadied, Settles, IsOfInput, InputCause, SettlesInput}
+use Rattle.ps_replay.specs.Outcomes.{Stands, IsSetUp, IsReadable, ReplayCause, IsSettled, IsKnown, AreGood, IsReadied, Settles, IsOfInput, InputCause, SettlesInput}
 use Rattle.ps_replay.specs.Files.{StepCause, Ended}
 
 -- ---- a step has one value
@@ -22,15 +22,15 @@ one_value held None step x y s k = let e = s nowhere in let f = k nowhere in cc
 one_value None (Some name) step x y s k = absurd k
 one_value (Some look) (Some name) step x y s k = cc
 
-one_dex : (held : Option (List ℕ → Option (List ℕ))) (o : Options) (left : Option (List ℕ)) (dex : Tables) → Stands held o.dex (λ look. dex_in look o.dex) dex → (r : IsReadied held o left) → dex ≡ r.dex
-one_dex held o left dex s r = one_value held o.dex (λ (look : List ℕ → Option (List ℕ)). dex_in look o.dex) dex r.dex s r.dex_is
+one_dex : (held : Option (List ℕ → Option (List ℕ))) (o : Options) (dex : Tables) → Stands held o.dex (λ look. dex_in look o.dex) dex → (f : AreGood held o) → dex ≡ f.dex
+one_dex held o dex s f = one_value held o.dex (λ (look : List ℕ → Option (List ℕ)). dex_in look o.dex) dex f.dex s f.dex_is
 
 -- the configuration of the words, over this dex
-known_config : (held : Option (List ℕ → Option (List ℕ))) (o : Options) (left : Option (List ℕ)) (dex : Tables) → Stands held o.dex (λ look. dex_in look o.dex) dex → (r : IsReadied held o left) → IsKnown held o.config (λ look. config_in look dex o.config) r.config
-known_config held o left dex s r = subst (λ (t : Tables). IsKnown held o.config (λ (look : List ℕ → Option (List ℕ)). config_in look t o.config) r.config) (sym (one_dex held o left dex s r)) r.config_is
+known_config : (held : Option (List ℕ → Option (List ℕ))) (o : Options) (dex : Tables) → Stands held o.dex (λ look. dex_in look o.dex) dex → (f : AreGood held o) → IsKnown held o.config (λ look. config_in look dex o.config) f.config
+known_config held o dex s f = subst (λ (t : Tables). IsKnown held o.config (λ (look : List ℕ → Option (List ℕ)). config_in look t o.config) f.config) (sym (one_dex held o dex s f)) f.config_is
 
-one_config : (held : Option (List ℕ → Option (List ℕ))) (o : Options) (left : Option (List ℕ)) (config : Settings) (dex : Tables) → IsSetUp held o config dex → (r : IsReadied held o left) → config ≡ r.config
-one_config held o left config dex s r = one_value held o.config (λ (look : List ℕ → Option (List ℕ)). config_in look dex o.config) config r.config s.config_is (known_config held o left dex s.dex_is r)
+one_config : (held : Option (List ℕ → Option (List ℕ))) (o : Options) (config : Settings) (dex : Tables) → IsSetUp held o config dex → (f : AreGood held o) → config ≡ f.config
+one_config held o config dex s f = one_value held o.config (λ (look : List ℕ → Option (List ℕ)). config_in look dex o.config) config f.config s.config_is (known_config held o dex s.dex_is f)
 
 -- ---- a step that has a value is ended by memory or a fault of the files alone
 
@@ -44,12 +44,15 @@ step_settles (Some look) (Some name) step x old new status known alone (inl e) c
 step_settles (Some look) (Some name) step x old new status known alone (inr (inl e)) cause files = absurd (files (fault_rose name old new status e cause))
 step_settles (Some look) (Some name) step x old new status known alone (inr (inr e)) cause files = absurd cc
 
+pub files_settle : (held : Option (List ℕ → Option (List ℕ))) (o : Options) (dex : Tables) (old new : FileCounts) (status : Status) → Stands held o.dex (λ look. dex_in look o.dex) dex → (o.config ≡ None → status ≡ NoMemory) → Ended held o.config (λ look. config_in look dex o.config) status → StepCause o.config old new status → AreGood held o → (Rose old.faults new.faults → ⊥) → IsSettled status
+files_settle held o dex old new status s alone ended cause good files = step_settles held o.config (λ (look : List ℕ → Option (List ℕ)). config_in look dex o.config) good.config old new status (known_config held o dex s good) alone ended cause files
+
 pub config_settles : (held : Option (List ℕ → Option (List ℕ))) (o : Options) (left : Option (List ℕ)) (dex : Tables) (old new : FileCounts) (read_fault write_fault : Type 0) (status : Status) → Stands held o.dex (λ look. dex_in look o.dex) dex → (o.config ≡ None → status ≡ NoMemory) → Ended held o.config (λ look. config_in look dex o.config) status → StepCause o.config old new status → Settles held o left (Rose old.faults new.faults) read_fault write_fault status
-config_settles held o left dex old new read_fault write_fault status s alone ended cause = λ r files _ _. step_settles held o.config (λ (look : List ℕ → Option (List ℕ)). config_in look dex o.config) r.config old new status (known_config held o left dex s r) alone ended cause files
+config_settles held o left dex old new read_fault write_fault status s alone ended cause = λ r files _ _. files_settle held o dex old new status s alone ended cause r.files files
 
 pub input_settles : (held : Option (List ℕ → Option (List ℕ))) (o : Options) (left : Option (List ℕ)) (config : Settings) (dex : Tables) (file_fault read_fault write_fault : Type 0) (status : Status) → IsSetUp held o config dex → SettlesInput config.groups left read_fault write_fault status → Settles held o left file_fault read_fault write_fault status
 input_settles held o left config dex file_fault read_fault write_fault status s settles =
-    λ r _ read write. settles (subst (λ (c : Settings). IsSomeAnd left (IsReadable c.groups)) (sym (one_config held o left config dex s r)) r.script) read write
+    λ r _ read write. settles (subst (λ (c : Settings). IsSomeAnd left (IsReadable c.groups)) (sym (one_config held o config dex s r.files)) r.script) read write
 
 -- ---- under a configuration and a dex
 

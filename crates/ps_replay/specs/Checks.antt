@@ -29,9 +29,9 @@ use Rattle.ps_valid.specs.Standard.{standard}
 use Rattle.ps_valid.specs.TeamRows.{legal_in}
 use Rattle.ps_replay.specs.declared.status.Status.{Status}
 use Rattle.ps_replay.specs.declared.status.Status.TheVariants.{Done, Usage, FileMissing, FileFault, FileLong, BadDex, BadConfig, BadScript, ScriptLong, ReadFault, WriteFault, BadTeam, NoMemory, UnknownFormat, BadPack}
-use Rattle.ps_replay.specs.Words.{Checked, Asked, Replays, Checks}
+use Rattle.ps_replay.specs.Words.{Checked}
 use Rattle.ps_replay.specs.Steps.{IsFaultOf, within, from_file, dex_in, config_in}
-use Rattle.ps_replay.specs.Outcomes.{WritesPrefix, IsSettled}
+use Rattle.ps_replay.specs.Outcomes.{IsSettled}
 
 abbrev pub most_team : ℕ
 most_team = 8192
@@ -162,12 +162,6 @@ WritesLegal old new (BadTeam set rule subject) = Keeps old new
 WritesLegal old new NoMemory = Keeps old new
 WritesLegal old new (UnknownFormat id) = Keeps old new
 WritesLegal old new (BadPack at kind) = Keeps old new
-
--- what was written at a status other than Done of a replay, by what the words ask for
-abbrev pub Writes : Result Asked ℕ → Option (List ℕ → Option (List ℕ)) → Option (List ℕ) → Option (List ℕ) → Option (List ℕ) → Status → Type 0
-Writes (Ok (Replays options)) held left old new status = WritesPrefix held options left old new status
-Writes (Ok (Checks words)) held left old new status = WritesLegal old new status
-Writes (Err at) held left old new status = Keeps old new
 
 -- the files are told, and the team of the check is legal
 abbrev pub HasLegal : Option (List ℕ → Option (List ℕ)) → Checked → Type 0

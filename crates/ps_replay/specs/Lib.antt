@@ -3,5 +3,8 @@ pub mod Statuses
 pub mod Steps
 pub mod Outcomes
 pub mod Checks
+pub mod Drills
+pub mod Writes
+pub mod Runs
 pub mod Files
 pub mod Flow

@@ -220,13 +220,17 @@ abbrev pub IsKnown : {A : Type 0} → Option (List ℕ → Option (List ℕ)) �
 IsKnown held None step x = (look : List ℕ → Option (List ℕ)) → step look ≡ Ok x
 IsKnown held (Some name) step x = IsSomeAnd held (λ look. step look ≡ Ok x)
 
--- the words' files are told and good, and the input is told, within its limits and a script
-pub record IsReadied (held : Option (List ℕ → Option (List ℕ))) (options : Options) (left : Option (List ℕ)) : Type 0 where
+-- the words' files are told and good
+pub record AreGood (held : Option (List ℕ → Option (List ℕ))) (options : Options) : Type 0 where
   pub dex : Tables
   pub dex_is : IsKnown held options.dex (λ look. dex_in look options.dex) dex
   pub config : Settings
   pub config_is : IsKnown held options.config (λ look. config_in look dex options.config) config
-  pub script : IsSomeAnd left (IsReadable config.groups)
+
+-- they are, and the input is told, within its limits and a script
+pub record IsReadied (held : Option (List ℕ → Option (List ℕ))) (options : Options) (left : Option (List ℕ)) : Type 0 where
+  pub files : AreGood held options
+  pub script : IsSomeAnd left (IsReadable files.config.groups)
 
 -- that, with no fault of the files, the source or the sink, settles a run
 abbrev pub Settles : Option (List ℕ → Option (List ℕ)) → Options → Option (List ℕ) → Type 0 → Type 0 → Type 0 → Status → Type 0

@@ -1,6 +1,7 @@
 //! Reads the configuration that the words name.
 ghost use Rattle.std.specs.Prelude.{◌≡◌, ◌≤◌, length, Some, None, IfOk, IfErr};
 ghost use Rattle.std.specs.Option.{option_copied};
+ghost use Rattle.ps_drill.specs.Plain.{HasPlainFormats};
 ghost use Rattle.ps_replay.specs.Steps.{config_in};
 ghost use Rattle.ps_replay.specs.Outcomes.{Stands};
 ghost use Rattle.ps_replay.specs.Files.{Gave, Ended, StepCause};
@@ -25,6 +26,7 @@ fn read_config<F: Files>(
     ensures same { F.held files.new ≡ F.held files.old }
     ensures value { IfOk result (Gave (F.held files.old) (λ look. config_in look dex.now (Some name.now))) }
     ensures few { IfOk result (λ c. length c.rooms ≤ 16) }
+    ensures plain { IfOk result HasPlainFormats }
     ensures counts { IfOk result (λ _. F.counts files.new ≡ F.counts files.old) }
     ensures ended { IfErr result (Ended (F.held files.old) (Some name.now) (λ look. config_in look dex.now (Some name.now))) }
     ensures cause { IfErr result (StepCause (Some name.now) (F.counts files.old) (F.counts files.new)) }
@@ -52,6 +54,7 @@ pub fn config_or_standard<F: Files>(
     ensures value { IfOk result (Gave (F.held files.old) (λ look. config_in look dex.now (option_copied named.entry))) }
     ensures stands { IfOk result (Stands (F.held files.old) (option_copied named.entry) (λ look. config_in look dex.now (option_copied named.entry))) }
     ensures few { IfOk result (λ c. length c.rooms ≤ 16) }
+    ensures plain { IfOk result HasPlainFormats }
     ensures counts { IfOk result (λ _. F.counts files.new ≡ F.counts files.old) }
     ensures ended { IfErr result (Ended (F.held files.old) (option_copied named.entry) (λ look. config_in look dex.now (option_copied named.entry))) }
     ensures alone { IfErr result (λ s. option_copied named.entry ≡ None → s ≡ Status.NoMemory) }

@@ -1,6 +1,7 @@
 //! Reads the dex file that the words name.
 ghost use Rattle.std.specs.Prelude.{◌≡◌, Some, None, IfOk, IfErr};
 ghost use Rattle.std.specs.Option.{option_copied};
+ghost use Rattle.ps_drill.specs.Plain.{HasPlainNames};
 ghost use Rattle.ps_replay.specs.Steps.{dex_in};
 ghost use Rattle.ps_replay.specs.Outcomes.{Stands};
 ghost use Rattle.ps_replay.specs.Files.{Gave, Ended, StepCause};
@@ -19,6 +20,7 @@ pub const MOST_DEX: u32 = 16_777_216;
 fn read_dex<F: Files>(alloc: Global, files: &mut F, name: &str) -> Result<Dex, Status>
     ensures same { F.held files.new ≡ F.held files.old }
     ensures value { IfOk result (Gave (F.held files.old) (λ look. dex_in look (Some name.now))) }
+    ensures plain { IfOk result HasPlainNames }
     ensures counts { IfOk result (λ _. F.counts files.new ≡ F.counts files.old) }
     ensures ended { IfErr result (Ended (F.held files.old) (Some name.now) (λ look. dex_in look (Some name.now))) }
     ensures cause { IfErr result (StepCause (Some name.now) (F.counts files.old) (F.counts files.new)) }
@@ -43,6 +45,7 @@ pub fn dex_or_none<F: Files>(
     ensures same { F.held files.new ≡ F.held files.old }
     ensures value { IfOk result (Gave (F.held files.old) (λ look. dex_in look (option_copied named.entry))) }
     ensures stands { IfOk result (Stands (F.held files.old) (option_copied named.entry) (λ look. dex_in look (option_copied named.entry))) }
+    ensures plain { IfOk result HasPlainNames }
     ensures counts { IfOk result (λ _. F.counts files.new ≡ F.counts files.old) }
     ensures ended { IfErr result (Ended (F.held files.old) (option_copied named.entry) (λ look. dex_in look (option_copied named.entry))) }
     ensures alone { IfErr result (λ s. option_copied named.entry ≡ None → s ≡ Status.NoMemory) }

@@ -1,12 +1,12 @@
 //! Replays the lines of a script.
-ghost use Rattle.std.specs.Prelude.{◌≡◌, ◌++◌, ◌≤◌, [], OnOk, OnErr, Err, string_bytes};
+ghost use Rattle.std.specs.Prelude.{◌≡◌, ◌++◌, ◌≤◌, [], IfOk, OnOk, OnErr, Err, string_bytes};
 ghost use Rattle.std.specs.Io.KnownBytes.{Appends};
 ghost use Rattle.ps_outside.specs.Causes.{Rose, HasCause};
 ghost use Rattle.ps_outside.specs.Sinks.{AppendsFront};
 ghost use Rattle.std.specs.Arc.{arc_value};
 ghost use Rattle.ps_world.specs.Setup.{setup_of};
 ghost use Rattle.ps_world.specs.Transcript.{output};
-ghost use Rattle.ps_world.specs.Tables.{item_text, item_after, text_from};
+ghost use Rattle.ps_world.specs.Tables.{fresh, item_text, item_after, text_from};
 ghost use Rattle.ps_replay.specs.Flow.{MovesFront};
 
 use ps_dex::dex::Dex;
@@ -16,6 +16,7 @@ use ps_script::item::Item;
 use ps_valid::config::Config;
 use ps_world::ranks::ranks_of;
 use ps_world::table::Table;
+use ps_world::transcript::Transcript;
 use std::alloc::{AllocError, Global};
 use std::sync::Arc;
 
@@ -64,18 +65,18 @@ fn replay_item<K: Sink>(
     alloc: Global,
     table: &mut Table,
     item: &Item,
-    pending: &mut String,
+    pending: &mut Transcript,
     out: &mut K,
 ) -> Result<(), ReplayEnd>
     ensures state { OnOk result (table.new ≡ item_after table.old item.now) }
-    ensures wrote { OnOk result (MovesFront (K.written out.old) (K.written out.new) (string_bytes pending.old ++ item_text table.old item.now) (string_bytes pending.new)) }
-    ensures err { OnErr result (AppendsFront (K.written out.old) (K.written out.new) (string_bytes pending.old ++ item_text table.old item.now)) }
+    ensures wrote { OnOk result (MovesFront (K.written out.old) (K.written out.new) (string_bytes pending.old.text ++ item_text table.old item.now) (string_bytes pending.new.text)) }
+    ensures err { OnErr result (AppendsFront (K.written out.old) (K.written out.new) (string_bytes pending.old.text ++ item_text table.old item.now)) }
     ensures later { K.faults out.old ≤ K.faults out.new }
     ensures fault { result ≡ Err ReplayEnd.WriteFault → Rose (K.faults out.old) (K.faults out.new) }
 {
     match table.play(alloc, item, pending) {
         Err(_) => Err(ReplayEnd::NoMemory),
-        Ok(()) => match flush_full(pending, out) {
+        Ok(()) => match flush_full(&mut pending.text, out) {
             Err(_) => Err(ReplayEnd::WriteFault),
             Ok(()) => Ok(()),
         },
@@ -95,17 +96,30 @@ fn replay_from<K: Sink>(
     ensures fault { result ≡ Err ReplayEnd.WriteFault → Rose (K.faults out.old) (K.faults out.new) }
 {
     let mut table = table;
-    let mut pending = String::new(alloc);
+    let mut pending = Transcript::new(alloc);
     for item in items {
         match replay_item(alloc, &mut table, item, &mut pending, out) {
             Err(end) => return Err(end),
             Ok(()) => {}
         }
     }
-    match flush(&mut pending, out) {
+    match flush(&mut pending.text, out) {
         Err(_) => Err(ReplayEnd::WriteFault),
         Ok(()) => Ok(()),
     }
+}
+
+/// Before the first of the lines of a script, under a configuration and a dex.
+pub(crate) fn table_of(
+    alloc: Global,
+    config: Arc<Config>,
+    dex: Arc<Dex>,
+    items: &[Item],
+) -> Result<Table, AllocError>
+    ensures { IfOk result (λ t. t ≡ fresh (setup_of (arc_value config) (arc_value dex) items.now)) }
+{
+    let ranks = ranks_of(alloc, config.groups(), items)?;
+    Table::new(alloc, config, dex, ranks)
 }
 
 /// Writes the transcript of the lines of a script under a configuration and a dex. Where memory or the sink fails a
@@ -122,11 +136,7 @@ pub fn replay<K: Sink>(
     ensures later { K.faults out.old ≤ K.faults out.new }
     ensures fault { result ≡ Err ReplayEnd.WriteFault → Rose (K.faults out.old) (K.faults out.new) }
 {
-    let ranks = match ranks_of(alloc, config.groups(), items) {
-        Err(_) => return Err(ReplayEnd::NoMemory),
-        Ok(ranks) => ranks,
-    };
-    match Table::new(alloc, config, dex, ranks) {
+    match table_of(alloc, config, dex, items) {
         Err(_) => Err(ReplayEnd::NoMemory),
         Ok(table) => replay_from(alloc, table, items, out),
     }

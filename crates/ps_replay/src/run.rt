@@ -8,12 +8,15 @@ ghost use Rattle.ps_script.specs.Limits.{long_of, ReadsFew};
 ghost use Rattle.ps_script.specs.declared.item.Item.{Item};
 ghost use Rattle.ps_replay.specs.Outcomes.{usage_of, usage_told, symbols_of, HasSetup, IsOfInput, KeepsInput, IsTranscript, HasOneEntryEachText, HasHistories, HasEqualWorlds, WritesOfInput, WritesPrefix, Stands, ReplayCause, InputCause, Settles, SettlesInput};
 ghost use Rattle.ps_replay.specs.Steps.{dex_in};
-ghost use Rattle.ps_replay.specs.Words.{words_in, options_of, IfReplay, IfCheck};
-ghost use Rattle.ps_replay.specs.Checks.{legal_line, CheckEnds, Told, IsNamed, CheckCause, Writes, SettlesCheck};
+ghost use Rattle.ps_replay.specs.Words.{words_in, options_of, IfReplay, IfDrill, IfCheck};
+ghost use Rattle.ps_replay.specs.Checks.{legal_line, CheckEnds, Told, IsNamed, CheckCause, SettlesCheck};
+ghost use Rattle.ps_replay.specs.Drills.{DrillEnds, DrillCause, WritesSummary, SettlesDrill};
+ghost use Rattle.ps_replay.specs.Writes.{Writes};
 
 use crate::check::check;
 use crate::config::config_or_standard;
 use crate::dex::dex_or_none;
+use crate::drill::drill;
 use crate::replay::{ReplayEnd, replay};
 use crate::status::Status;
 use crate::symbols::symbols_of;
@@ -192,7 +195,8 @@ fn run_replay<F: Files, S: Source, K: Sink>(
 /// Does what the words ask for. `replay` reads the dex file and the configuration, if the words name them, and a script
 /// from the input whole, and then writes the transcript of the script's entries. `check` reads the dex file and the
 /// configuration, if the words name them, and the file of a packed team, and writes `legal` where the team keeps the
-/// rules of the format; it leaves the input alone.
+/// rules of the format. `drill` reads the dex file and the configuration, if the words name them, makes a script, runs it,
+/// and writes six lines that tell what came of it. `check` and `drill` leave the input alone.
 pub fn run<F: Files, S: Source, K: Sink>(
     alloc: Global,
     words: &[String],
@@ -221,14 +225,23 @@ pub fn run<F: Files, S: Source, K: Sink>(
 
     // A check ends as the first of its steps that tells a status, and at Done the team of the told files is legal. The input
     // isn't touched.
-    ensures ends { IfCheck (words_in (map string_bytes words.now)) (λ asked. Told (F.held files.old) (λ look. CheckEnds look asked) result) }
-    ensures named { IfCheck (words_in (map string_bytes words.now)) (λ asked. CheckCause (IsNamed asked) (F.counts files.old) (F.counts files.new) result) }
-    ensures untouched { IfCheck (words_in (map string_bytes words.now)) (λ _. S.left input.new ≡ S.left input.old) }
+    ensures check_ends { IfCheck (words_in (map string_bytes words.now)) (λ asked. Told (F.held files.old) (λ look. CheckEnds look asked) result) }
+    ensures check_cause { IfCheck (words_in (map string_bytes words.now)) (λ asked. CheckCause (IsNamed asked) (F.counts files.old) (F.counts files.new) result) }
+    ensures check_untouched { IfCheck (words_in (map string_bytes words.now)) (λ _. S.left input.new ≡ S.left input.old) }
 
     // At Done of a check `legal` and a newline were written.
-    ensures summary { IfCheck (words_in (map string_bytes words.now)) (λ _. result ≡ Status.Done → Appends (K.written out.old) (K.written out.new) legal_line) }
+    ensures check_summary { IfCheck (words_in (map string_bytes words.now)) (λ _. result ≡ Status.Done → Appends (K.written out.old) (K.written out.new) legal_line) }
 
-    // At every other status nothing was written, but for a front of the output at WriteFault and NoMemory.
+    // A drill ends as the first of the dex and the configuration that tells a status, and else in Done, unless the sink or
+    // memory fails: its text is a script whatever they say. The input isn't touched.
+    ensures drill_ends { IfDrill (words_in (map string_bytes words.now)) (λ asked. Told (F.held files.old) (λ look. DrillEnds look asked.options) result) }
+    ensures drill_cause { IfDrill (words_in (map string_bytes words.now)) (λ asked. DrillCause asked.options (F.counts files.old) (F.counts files.new) result) }
+    ensures drill_untouched { IfDrill (words_in (map string_bytes words.now)) (λ _. S.left input.new ≡ S.left input.old) }
+
+    // At Done of a drill its summary was written: the numbers and the digest of its script and of the transcript of that script.
+    ensures drill_summary { IfDrill (words_in (map string_bytes words.now)) (λ asked. result ≡ Status.Done → HasSetup (F.held files.old) asked.options (λ config dex. WritesSummary config dex asked.steps (K.written out.old) (K.written out.new))) }
+
+    // At every other status nothing was written, but for a front of the output at WriteFault, and at NoMemory of a replay.
     ensures prefix { Writes (words_in (map string_bytes words.now)) (F.held files.old) (S.left input.old) (K.written out.old) (K.written out.new) result }
     ensures bounded { ReadsFew (S.left input.old) (S.left input.new) }
 
@@ -237,10 +250,12 @@ pub fn run<F: Files, S: Source, K: Sink>(
     ensures write_fault { result ≡ Status.WriteFault → Rose (K.faults out.old) (K.faults out.new) }
     ensures complete { IfReplay (words_in (map string_bytes words.now)) (λ o. Settles (F.held files.old) o (S.left input.old) (Rose (F.counts files.old).faults (F.counts files.new).faults) (Rose (S.faults input.old) (S.faults input.new)) (Rose (K.faults out.old) (K.faults out.new)) result) }
     ensures complete_check { IfCheck (words_in (map string_bytes words.now)) (λ asked. SettlesCheck (F.held files.old) (Rose (F.counts files.old).faults (F.counts files.new).faults) (Rose (K.faults out.old) (K.faults out.new)) asked result) }
+    ensures complete_drill { IfDrill (words_in (map string_bytes words.now)) (λ asked. SettlesDrill (F.held files.old) (Rose (F.counts files.old).faults (F.counts files.new).faults) (Rose (K.faults out.old) (K.faults out.new)) asked.options result) }
 {
     match read_words(words) {
         Err(word) => Status::Usage { word },
         Ok(Command::Replay(options)) => run_replay(alloc, options, files, input, out),
+        Ok(Command::Drill(words)) => drill(alloc, words, files, out),
         Ok(Command::Check(words)) => check(alloc, words, files, out),
     }
 }

@@ -14,7 +14,7 @@ use std::fmt;
 /// the field's name, `=` and its value.
 #[derive(Debug, Drop)]
 pub enum Status {
-    /// The command did its work, and its input was read to the end.
+    /// The command did its work. A replay read its input to the end.
     Done,
     /// The words aren't a command: the place of the first that can't stand, counted from 0, or how many
     /// there are where one is missing.

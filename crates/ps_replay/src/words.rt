@@ -1,7 +1,12 @@
 //! The words of a command.
-ghost use Rattle.std.specs.Prelude.{◌≡◌, ◌<◌, Ok, Err, map, string_bytes, MatchResult};
+ghost use Rattle.std.specs.Prelude.{◌≡◌, ◌<◌, ◌≤◌, IfOk, IfSome, Ok, Err, map, string_bytes, MatchResult};
 ghost use Rattle.std.specs.Option.{option_copied};
-ghost use Rattle.ps_replay.specs.Words.{is_name, last_name, last_option, dex_first, config_first, options_in, replay_in, checks, team_in, check_in, words_in, options_of, asked_of};
+ghost use Rattle.ps_replay.specs.Words.{is_name, last_name, last_option, dex_first, config_first, options_in, replay_in, steps_in, drill_in, checks, team_in, check_in, words_in, options_of, asked_of, HasFewSteps};
+
+use ps_base::decimal::read_u32;
+
+/// The most steps of a drill.
+pub const MOST_STEPS: u32 = 4_000;
 
 /// The files that options name.
 #[derive(Clone, Copy, Debug)]
@@ -10,6 +15,15 @@ pub struct OptionWords<'a> {
     pub dex: Option<&'a str>,
     /// The name of the configuration's file, if one is named.
     pub config: Option<&'a str>,
+}
+
+/// What `drill` is asked for.
+#[derive(Clone, Copy, Debug)]
+pub struct DrillWords<'a> {
+    /// How many steps, 1 to 4,000.
+    pub steps: u32,
+    /// The files that options name.
+    pub options: OptionWords<'a>,
 }
 
 /// What `check` is asked for.
@@ -30,6 +44,8 @@ pub struct CheckWords<'a> {
 pub enum Command<'a> {
     /// To replay a script, with the files of these names.
     Replay(OptionWords<'a>),
+    /// To run the script of a drill, and to tell what came of it.
+    Drill(DrillWords<'a>),
     /// To check a team.
     Check(CheckWords<'a>),
 }
@@ -152,7 +168,8 @@ fn options_in(at: u32, words: &[String]) -> Result<OptionWords<'_>, u32>
 }
 
 fn replay_in(words: &[String]) -> Result<Command<'_>, u32>
-    ensures { MatchResult result (λ c. replay_in (map string_bytes words.now) ≡ Ok (asked_of c)) (λ n. replay_in (map string_bytes words.now) ≡ Err n) }
+    ensures read { MatchResult result (λ c. replay_in (map string_bytes words.now) ≡ Ok (asked_of c)) (λ n. replay_in (map string_bytes words.now) ≡ Err n) }
+    ensures few { IfOk result HasFewSteps }
 {
     match options_in(1, words) {
         Err(at) => Err(at),
@@ -160,8 +177,41 @@ fn replay_in(words: &[String]) -> Result<Command<'_>, u32>
     }
 }
 
+// How many steps a word says.
+fn steps_in(word: &str) -> Option<u32>
+    ensures value { result ≡ steps_in word.now }
+    ensures few { IfSome result (λ n. n ≤ 4000) }
+{
+    match read_u32(word.as_bytes()) {
+        None => None,
+        Some(steps) => {
+            if steps >= 1 && steps <= MOST_STEPS {
+                return Some(steps);
+            }
+            None
+        }
+    }
+}
+
+fn drill_in(words: &[String]) -> Result<Command<'_>, u32>
+    ensures read { MatchResult result (λ c. drill_in (map string_bytes words.now) ≡ Ok (asked_of c)) (λ n. drill_in (map string_bytes words.now) ≡ Err n) }
+    ensures few { IfOk result HasFewSteps }
+{
+    match words {
+        [] => Err(1),
+        [number, rest @ ..] => match steps_in(number.as_str()) {
+            None => Err(1),
+            Some(steps) => match options_in(2, rest) {
+                Err(at) => Err(at),
+                Ok(options) => Ok(Command::Drill(DrillWords { steps, options })),
+            },
+        },
+    }
+}
+
 fn checks<'a>(format: &'a str, team: &'a str, words: &'a [String]) -> Result<Command<'a>, u32>
-    ensures { MatchResult result (λ c. checks format.now team.now (options_in 3 (map string_bytes words.now)) ≡ Ok (asked_of c)) (λ n. checks format.now team.now (options_in 3 (map string_bytes words.now)) ≡ Err n) }
+    ensures read { MatchResult result (λ c. checks format.now team.now (options_in 3 (map string_bytes words.now)) ≡ Ok (asked_of c)) (λ n. checks format.now team.now (options_in 3 (map string_bytes words.now)) ≡ Err n) }
+    ensures few { IfOk result HasFewSteps }
 {
     match options_in(3, words) {
         Err(at) => Err(at),
@@ -175,7 +225,8 @@ fn checks<'a>(format: &'a str, team: &'a str, words: &'a [String]) -> Result<Com
 }
 
 fn team_in<'a>(format: &'a str, words: &'a [String]) -> Result<Command<'a>, u32>
-    ensures { MatchResult result (λ c. team_in format.now (map string_bytes words.now) ≡ Ok (asked_of c)) (λ n. team_in format.now (map string_bytes words.now) ≡ Err n) }
+    ensures read { MatchResult result (λ c. team_in format.now (map string_bytes words.now) ≡ Ok (asked_of c)) (λ n. team_in format.now (map string_bytes words.now) ≡ Err n) }
+    ensures few { IfOk result HasFewSteps }
 {
     match words {
         [] => Err(2),
@@ -190,7 +241,8 @@ fn team_in<'a>(format: &'a str, words: &'a [String]) -> Result<Command<'a>, u32>
 }
 
 fn check_in(words: &[String]) -> Result<Command<'_>, u32>
-    ensures { MatchResult result (λ c. check_in (map string_bytes words.now) ≡ Ok (asked_of c)) (λ n. check_in (map string_bytes words.now) ≡ Err n) }
+    ensures read { MatchResult result (λ c. check_in (map string_bytes words.now) ≡ Ok (asked_of c)) (λ n. check_in (map string_bytes words.now) ≡ Err n) }
+    ensures few { IfOk result HasFewSteps }
 {
     match words {
         [] => Err(1),
@@ -204,18 +256,22 @@ fn check_in(words: &[String]) -> Result<Command<'_>, u32>
     }
 }
 
-/// Reads the words of a command: `replay`, or `check FORMAT TEAMFILE`, and then `--dex NAME` and
-/// `--config NAME`, each at most once, in either order. A name, format or
-/// file is a word that isn't empty and doesn't begin with `-`. The error is the place of the first word
-/// that can't stand, counted from 0, or how many there are where one is missing.
+/// Reads the words of a command: `replay`, `drill N` or `check FORMAT TEAMFILE`, and then `--dex NAME` and `--config NAME`,
+/// each at most once, in either order. N is 1 to 4,000, without a sign or leading zeros; a name, format or file is a word that
+/// isn't empty and doesn't begin with `-`. The error is the place of the first word that can't stand, counted from 0, or how
+/// many there are where one is missing.
 pub fn read_words(words: &[String]) -> Result<Command<'_>, u32>
-    ensures { MatchResult result (λ c. words_in (map string_bytes words.now) ≡ Ok (asked_of c)) (λ n. words_in (map string_bytes words.now) ≡ Err n) }
+    ensures read { MatchResult result (λ c. words_in (map string_bytes words.now) ≡ Ok (asked_of c)) (λ n. words_in (map string_bytes words.now) ≡ Err n) }
+    ensures few { IfOk result HasFewSteps }
 {
     match words {
         [] => Err(0),
         [word, rest @ ..] => {
             if word.as_str() == "replay" {
                 return replay_in(rest);
+            }
+            if word.as_str() == "drill" {
+                return drill_in(rest);
             }
             if word.as_str() == "check" {
                 return check_in(rest);

@@ -12,6 +12,8 @@ use std::{env, io};
 #[cfg(test)]
 mod check_tests;
 #[cfg(test)]
+mod drill_tests;
+#[cfg(test)]
 mod laws_tests;
 #[cfg(test)]
 mod runs;
@@ -29,6 +31,9 @@ Usage:
   psd replay [--dex NAME] [--config NAME]
       reads a recorded script of connections from standard input, and writes what
       each connection is sent to standard output
+  psd drill N [--dex NAME] [--config NAME]
+      makes a script of N steps, 1 to 4000, runs it, and prints six lines that tell
+      what came of it: the same on every machine, as long as the files are
   psd check FORMAT TEAMFILE [--dex NAME] [--config NAME]
       checks the packed team of a file against the rules of a format, and prints
       `legal`, or ends with the first rule that the team breaks

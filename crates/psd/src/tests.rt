@@ -92,7 +92,7 @@ fn words_that_are_no_command(rt: HostRuntime) -> Result<(), Fail> {
     let alloc = rt.alloc();
     let rows: &[(&[&str], &str)] = &[
         (&[], "Usage word=0"),
-        (&["drill"], "Usage word=0"),
+        (&["drill"], "Usage word=1"),
         (&["Replay"], "Usage word=0"),
         (&["replay", "x"], "Usage word=1"),
         (&["replay", "--dex"], "Usage word=2"),

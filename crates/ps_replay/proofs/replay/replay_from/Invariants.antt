@@ -5,6 +5,6 @@ use Rattle.ps_replay.proofs.replay.replay_from.Given as goal
 
 abbrev pub invariant-loop-item : goal.invariant-loop-item
 invariant-loop-item g l = record {
-  came : Came (g.K.Sink.written l.fn.out) (g.K.Sink.written l.out) (text_from l.fn.table l.items) (string_bytes l.pending) l.table (drop l.item-index l.items);
+  came : Came (g.K.Sink.written l.fn.out) (g.K.Sink.written l.out) (text_from l.fn.table l.items) (string_bytes l.pending.text) l.table (drop l.item-index l.items);
   later : g.K.Sink.faults l.fn.out ≤ g.K.Sink.faults l.out;
 }

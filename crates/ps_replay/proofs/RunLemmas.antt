@@ -1,0 +1,98 @@
+-- How far the run of a drill has come, and what is told of it.
+use Rattle.std.proofs.Common.{◌≡◌, ◌≢◌, ◌-◌, ◌^◌, ◌≤◌, ℕ, List, [], ◌∷◌, ◌++◌, length, min, Result, Ok, Err, IfOk, refl, sym, ap, ◌∙◌, subst, arith, append_assoc}
+use Rattle.std.specs.Str.Lines.{lines}
+use Rattle.std.proofs.lemmas.List.{append-nil}
+use Rattle.sha2.specs.Sha256.{sha256}
+use Rattle.ps_script.specs.declared.item.Item.{Item}
+use Rattle.ps_dex.specs.declared.row.Tables.{Tables}
+use Rattle.ps_valid.specs.declared.row.Settings.{Settings}
+use Rattle.ps_script.specs.declared.script.ScriptEnd.{ScriptEnd}
+use Rattle.ps_script.specs.declared.script.ScriptEnd.TheVariants.{Bad}
+use Rattle.ps_script.specs.declared.script.ScriptKind.{ScriptKind}
+use Rattle.ps_script.specs.Ends.{IsNoScript}
+use Rattle.ps_script.specs.Scripts.{Seen, IsScript, AreItems, start, next}
+use Rattle.ps_world.specs.declared.transcript.Counts.{Counts as EntryCounts}
+use Rattle.ps_world.specs.Setup.{Setup}
+use Rattle.ps_world.specs.Entries.{State, entries}
+use Rattle.ps_world.specs.Counts.{refused}
+use Rattle.ps_world.specs.Transcript.{output}
+use Rattle.ps_world.specs.Tables.{fresh, item_text, item_after, text_from, no_counts, item_counts, counts_from}
+use Rattle.ps_world.proofs.TextLemmas.{output_is}
+use Rattle.ps_world.proofs.EntryCounts.{counts_is}
+use Rattle.ps_drill.specs.declared.tally.Tally.{Tally}
+use Rattle.ps_drill.specs.declared.counter.Counter.{Counter}
+use Rattle.ps_drill.specs.Messages.{messages_in, counted}
+use Rattle.ps_drill.specs.Plain.{HasPlainNames, HasPlainFormats}
+use Rattle.ps_drill.specs.Drills.{drill_text}
+use Rattle.ps_drill.proofs.GrammarLemmas.{drill_is_script}
+use Rattle.ps_drill.specs.Tallies.{Tallies, Counts}
+use Rattle.ps_replay.specs.declared.drill.Run.{Run}
+use Rattle.ps_replay.specs.Outcomes.{symbols_of}
+use Rattle.ps_replay.specs.Drills.{summary_lines, summary_of}
+use Rattle.ps_replay.specs.Runs.{TellsRun, HasRun}
+
+-- ---- line by line
+
+pub record Ran (old new : Tally) (counter : Counter) (whole : List ℕ) (s : State) (rest : List Item) : Type 0 where
+  pub front : List ℕ
+  pub tallies : (text : List ℕ) → Tallies old text → Tallies new (text ++ front)
+  pub counts : Counts counter front
+  pub parts : whole ≡ front ++ text_from s rest
+
+pub Ran-start : (tally : Tally) (counter : Counter) (s : State) (items : List Item) → Counts counter [] → Ran tally tally counter (text_from s items) s items
+Ran-start tally counter s items none = record { front = []; tallies = λ text t. subst (Tallies tally) (sym (append-nil text)) t; counts = none; parts = refl }
+
+pub Ran-more : (old mid new : Tally) (counter after : Counter) (whole : List ℕ) (s : State) (i : Item) (rest : List Item) → Ran old mid counter whole s (i ∷ rest) → ((text : List ℕ) → Tallies mid text → Tallies new (text ++ item_text s i)) → ((text : List ℕ) → Counts counter text → Counts after (text ++ item_text s i)) → Ran old new after whole (item_after s i) rest
+Ran-more old mid new counter after whole s i rest r tally count = record {
+  front = r.front ++ item_text s i;
+  tallies = λ text t. subst (Tallies new) (append_assoc text r.front (item_text s i)) (tally (text ++ r.front) (r.tallies text t));
+  counts = count r.front r.counts;
+  parts = r.parts ∙ sym (append_assoc r.front (item_text s i) (text_from (item_after s i) rest));
+}
+
+pub Ran-all : (old new : Tally) (counter : Counter) (counts : EntryCounts) (s end : State) (items : List Item) → Ran old new counter (text_from s items) end [] → counts ≡ counts_from s items no_counts → TellsRun old s items (record { tally = new; counter = counter; counts = counts })
+Ran-all old new counter counts s end items r is =
+    let whole : r.front ≡ text_from s items = sym (r.parts ∙ append-nil r.front) in
+    record {
+      tallies = λ text t. subst (λ (x : List ℕ). Tallies new (text ++ x)) whole (r.tallies text t);
+      counter = subst (Counts counter) whole r.counts;
+      counts = is;
+    }
+
+pub counts_more : (s next : State) (i : Item) (rest : List Item) (c more all : EntryCounts) → next ≡ item_after s i → more ≡ item_counts s i c → counts_from s (i ∷ rest) c ≡ all → counts_from next rest more ≡ all
+counts_more s next i rest c more all after made is = rw (after, made) is
+
+-- ---- numbers
+
+-- a count that doesn't stand still is exact
+pub exact_is : (n m : ℕ) → n ≢ 18446744073709551615 → n ≡ counted m → n ≡ m
+exact_is n m below is = omega (arith, below, is)
+
+items_of_lines : (s : Seen) (ls : List (List ℕ)) (is : List Item) → AreItems s ls is → length ls ≡ length is
+items_of_lines s [] [] a = refl
+items_of_lines s [] (i ∷ is) a = absurd a
+items_of_lines s (l ∷ ls) [] a = absurd a
+items_of_lines s (l ∷ ls) (i ∷ is) a = omega (arith, items_of_lines (next s i) ls is a.2)
+
+-- ---- what is told of the run of a script's lines
+
+pub told_of : (symbols script : List ℕ) (setup : Setup) (items : List Item) (tally : Tally) (run : Run) (told : List ℕ) → IsScript symbols script items → Tallies tally script → TellsRun tally (fresh setup) items run → HasRun run (length items) told → told ≡ summary_of script setup items
+told_of symbols script setup items tally run told is_script tallied ran has =
+    let whole : text_from (fresh setup) items ≡ output setup items = output_is setup items in
+    let all : length items ≡ length (lines script) = sym (items_of_lines (start symbols) (lines script) items is_script) in
+    let made : run.counts ≡ record { entries = length (entries setup items); refused = refused setup items } = ran.counts ∙ counts_is setup items in
+    has.told_is script (output setup items) (subst (λ (x : List ℕ). Tallies run.tally (script ++ x)) whole (ran.tallies script tallied)) (subst (Counts run.counter) whole ran.counter)
+    ∙ ap (λ (c : EntryCounts). summary_lines (length items) c.entries c.refused (messages_in (output setup items)) (length (script ++ output setup items)) (sha256 (script ++ output setup items))) made
+    ∙ ap (λ (n : ℕ). summary_lines n (length (entries setup items)) (refused setup items) (messages_in (output setup items)) (length (script ++ output setup items)) (sha256 (script ++ output setup items))) all
+
+pub if_told : {T E : Type 0} (bytes : T → List ℕ) (symbols script : List ℕ) (setup : Setup) (items : List Item) (tally : Tally) (run : Run) (told : Result T E) → IsScript symbols script items → Tallies tally script → TellsRun tally (fresh setup) items run → IfOk told (λ t. HasRun run (length items) (bytes t)) → IfOk told (λ t. bytes t ≡ summary_of script setup items)
+if_told bytes symbols script setup items tally run (Ok text) is_script tallied ran has = told_of symbols script setup items tally run (bytes text) is_script tallied ran has
+if_told bytes symbols script setup items tally run (Err end) is_script tallied ran has = tt
+
+-- ---- a drill's text is a script, so that it has no fault
+
+pub no_fault : (config : Settings) (dex : Tables) (steps : ℕ) (symbols text : List ℕ) (end : ScriptEnd) (line : ℕ) (kind : ScriptKind) → end ≡ Bad line kind → HasPlainFormats config → HasPlainNames dex → steps ≤ 4000 → symbols ≡ symbols_of config.groups → text ≡ drill_text config dex steps → IsNoScript symbols text end → ⊥
+no_fault config dex steps symbols text end line kind bad formats names few symbols_are text_is none =
+    let script = drill_is_script config dex steps formats names few in
+    let no_items : (items : List Item) → IsScript symbols text items → ⊥ = subst (IsNoScript symbols text) bad none in
+    no_items script.0 (rw (symbols_are, text_is) script.1)

@@ -1,0 +1,166 @@
+-- What a drill tells, and how it ends.
+use Rattle.std.specs.Prelude.{◌≡◌, ◌⊎◌, ℕ, List, [], ◌∷◌, ◌++◌, codes, length, Option, Result, Ok, Err}
+use Rattle.std.specs.Fmt.{decimal}
+use Rattle.std.specs.Str.Lines.{lines}
+use Rattle.std.specs.Io.KnownBytes.{Appends, Keeps}
+use Rattle.hex.specs.Hex.{encode_lower}
+use Rattle.sha2.specs.Sha256.{sha256}
+use Rattle.ps_outside.specs.Causes.{Rose}
+use Rattle.ps_outside.specs.Files.{FileCounts}
+use Rattle.ps_outside.specs.Sinks.{AppendsFront}
+use Rattle.ps_dex.specs.declared.row.Tables.{Tables}
+use Rattle.ps_valid.specs.declared.row.Settings.{Settings}
+use Rattle.ps_script.specs.declared.item.Item.{Item}
+use Rattle.ps_script.specs.Scripts.{IsScript}
+use Rattle.ps_world.specs.Setup.{Setup, setup_of}
+use Rattle.ps_world.specs.Entries.{entries}
+use Rattle.ps_world.specs.Counts.{refused}
+use Rattle.ps_world.specs.Transcript.{output}
+use Rattle.ps_drill.specs.Drills.{drill_text}
+use Rattle.ps_drill.specs.Messages.{messages_in}
+use Rattle.ps_replay.specs.declared.status.Status.{Status}
+use Rattle.ps_replay.specs.declared.status.Status.TheVariants.{Done, Usage, FileMissing, FileFault, FileLong, BadDex, BadConfig, BadScript, ScriptLong, ReadFault, WriteFault, BadTeam, NoMemory, UnknownFormat, BadPack}
+use Rattle.ps_replay.specs.Words.{Options, Drilled}
+use Rattle.ps_replay.specs.Steps.{IsFaultOf, dex_in, config_in}
+use Rattle.ps_replay.specs.Outcomes.{HasSetup, IsOption, symbols_of, AreGood, IsSettled}
+use Rattle.ps_replay.specs.Checks.{Then}
+
+-- ---- the summary
+
+abbrev pub number_line : List ℕ → ℕ → List ℕ
+number_line name n = name ++ codes " " ++ decimal n ++ 10 ∷ []
+
+-- in lower hex
+abbrev pub digest_line : List ℕ → List ℕ
+digest_line digest = codes "sha256 " ++ encode_lower digest ++ 10 ∷ []
+
+-- the six lines of a drill
+unfoldable pub summary_lines : ℕ → ℕ → ℕ → ℕ → ℕ → List ℕ → List ℕ
+summary_lines all made refusals messages bytes digest =
+    number_line (codes "lines") all
+    ++ number_line (codes "entries") made
+    ++ number_line (codes "refused") refusals
+    ++ number_line (codes "messages") messages
+    ++ number_line (codes "bytes") bytes
+    ++ digest_line digest
+
+-- Of a script's text and its transcript: the lines of the script, the entries that they make and those of them that are refused,
+-- the messages of the transcript, and the bytes and the digest of the script with the transcript behind it.
+abbrev pub summary_of : List ℕ → Setup → List Item → List ℕ
+summary_of text s items = summary_lines (length (lines text)) (length (entries s items)) (refused s items) (messages_in (output s items)) (length (text ++ output s items)) (sha256 (text ++ output s items))
+
+-- what a drill of so many steps tells: the one script that its text is, is run
+pub record IsSummary (config : Settings) (dex : Tables) (steps : ℕ) (told : List ℕ) : Type 0 where
+  pub items : List Item
+  pub script : IsScript (symbols_of config.groups) (drill_text config dex steps) items
+  pub told_is : told ≡ summary_of (drill_text config dex steps) (setup_of config dex items) items
+
+-- ---- what was written
+
+-- the summary, and nothing else
+pub record WritesSummary (config : Settings) (dex : Tables) (steps : ℕ) (old new : Option (List ℕ)) : Type 0 where
+  pub told : List ℕ
+  pub told_is : IsSummary config dex steps told
+  pub wrote : Appends old new told
+
+-- a front of it
+pub record WritesFrontOfSummary (config : Settings) (dex : Tables) (steps : ℕ) (old new : Option (List ℕ)) : Type 0 where
+  pub told : List ℕ
+  pub told_is : IsSummary config dex steps told
+  pub front : AppendsFront old new told
+
+-- At a status other than Done: a front of the summary where the sink failed, and else nothing, since all of it is known before
+-- its first byte is written.
+abbrev pub WritesDrill : Option (List ℕ → Option (List ℕ)) → Drilled → Option (List ℕ) → Option (List ℕ) → Status → Type 0
+WritesDrill held words old new Done = Unit {0}
+WritesDrill held words old new WriteFault = HasSetup held words.options (λ config dex. WritesFrontOfSummary config dex words.steps old new)
+WritesDrill held words old new (Usage word) = Keeps old new
+WritesDrill held words old new (FileMissing name) = Keeps old new
+WritesDrill held words old new (FileFault name) = Keeps old new
+WritesDrill held words old new (FileLong name) = Keeps old new
+WritesDrill held words old new (BadDex path kind) = Keeps old new
+WritesDrill held words old new (BadConfig path kind) = Keeps old new
+WritesDrill held words old new (BadScript line kind) = Keeps old new
+WritesDrill held words old new (ScriptLong count) = Keeps old new
+WritesDrill held words old new ReadFault = Keeps old new
+WritesDrill held words old new (BadTeam set rule subject) = Keeps old new
+WritesDrill held words old new NoMemory = Keeps old new
+WritesDrill held words old new (UnknownFormat id) = Keeps old new
+WritesDrill held words old new (BadPack at kind) = Keeps old new
+
+-- ---- How a drill may end, where the files are told. A file that is there may still fail.
+
+-- under a configuration and a dex: its text is a script whatever they say, so that nothing is at fault
+abbrev pub RunEnds : Status → Type 0
+RunEnds Done = Unit {0}
+RunEnds WriteFault = Unit {0}
+RunEnds (Usage word) = ⊥
+RunEnds (FileMissing name) = ⊥
+RunEnds (FileFault name) = ⊥
+RunEnds (FileLong name) = ⊥
+RunEnds (BadDex path kind) = ⊥
+RunEnds (BadConfig path kind) = ⊥
+RunEnds (BadScript line kind) = ⊥
+RunEnds (ScriptLong count) = ⊥
+RunEnds ReadFault = ⊥
+RunEnds (BadTeam set rule subject) = ⊥
+RunEnds NoMemory = ⊥
+RunEnds (UnknownFormat id) = ⊥
+RunEnds (BadPack at kind) = ⊥
+
+abbrev pub SetUpEnds : Settings → Status → Type 0
+SetUpEnds config status = RunEnds status
+
+-- from the configuration on
+abbrev pub ConfigEnds : (List ℕ → Option (List ℕ)) → Options → Tables → Status → Type 0
+ConfigEnds look options dex status = IsFaultOf options.config status ⊎ Then (config_in look dex options.config) SetUpEnds status
+
+-- from the dex on, which is all
+abbrev pub DrillEnds : (List ℕ → Option (List ℕ)) → Options → Status → Type 0
+DrillEnds look options status = IsFaultOf options.dex status ⊎ Then (dex_in look options.dex) (ConfigEnds look options) status
+
+-- The statuses of a drill, and what has shown each. A status of a file names one of the words' files, and its count rose.
+abbrev pub DrillCause : Options → FileCounts → FileCounts → Status → Type 0
+DrillCause options old new Done = Unit {0}
+DrillCause options old new (Usage word) = ⊥
+DrillCause options old new (FileMissing name) = IsOption options name × Rose old.missing new.missing
+DrillCause options old new (FileFault name) = IsOption options name × Rose old.faults new.faults
+DrillCause options old new (FileLong name) = IsOption options name × Rose old.long new.long
+DrillCause options old new (BadDex path kind) = Unit {0}
+DrillCause options old new (BadConfig path kind) = Unit {0}
+DrillCause options old new (BadScript line kind) = ⊥
+DrillCause options old new (ScriptLong count) = ⊥
+DrillCause options old new ReadFault = ⊥
+DrillCause options old new WriteFault = Unit {0}
+DrillCause options old new (BadTeam set rule subject) = ⊥
+DrillCause options old new NoMemory = Unit {0}
+DrillCause options old new (UnknownFormat id) = ⊥
+DrillCause options old new (BadPack at kind) = ⊥
+
+-- good files, with no fault of the files or the sink, settle a drill
+pub record SettlesDrill (held : Option (List ℕ → Option (List ℕ))) (file_fault write_fault : Type 0) (options : Options) (status : Status) : Type 0 where
+  pub settled : AreGood held options → (file_fault → ⊥) → (write_fault → ⊥) → IsSettled status
+
+-- ---- for the code alone: a status that the words and the files have no part in, and what was written at it
+
+abbrev pub IsOfRun : Status → Type 0
+IsOfRun Done = Unit {0}
+IsOfRun WriteFault = Unit {0}
+IsOfRun NoMemory = Unit {0}
+IsOfRun (Usage word) = ⊥
+IsOfRun (FileMissing name) = ⊥
+IsOfRun (FileFault name) = ⊥
+IsOfRun (FileLong name) = ⊥
+IsOfRun (BadDex path kind) = ⊥
+IsOfRun (BadConfig path kind) = ⊥
+IsOfRun (BadScript line kind) = ⊥
+IsOfRun (ScriptLong count) = ⊥
+IsOfRun ReadFault = ⊥
+IsOfRun (BadTeam set rule subject) = ⊥
+IsOfRun (UnknownFormat id) = ⊥
+IsOfRun (BadPack at kind) = ⊥
+
+abbrev pub WritesRun : Settings → Tables → ℕ → Option (List ℕ) → Option (List ℕ) → Status → Type 0
+WritesRun config dex steps old new Done = WritesSummary config dex steps old new
+WritesRun config dex steps old new WriteFault = WritesFrontOfSummary config dex steps old new
+WritesRun config dex steps old new other = Keeps old new
