@@ -1,0 +1,4 @@
+pub mod IndexLemmas
+pub mod MessageLemmas
+pub mod ReadLemmas
+pub mod EventLemmas

@@ -1,0 +1,65 @@
+-- The log: its entries, and what a connection is sent at each.
+use Rattle.std.specs.Prelude.{ℕ, ◌-◌, List, [], ◌∷◌, ◌++◌, length, take, drop, Option, Some, None, ◌==◌, if◌then◌else◌}
+use Rattle.std.specs.List.{filter, flat_map}
+use Rattle.ps_event.specs.declared.event.Event.{Event}
+use Rattle.ps_dex.specs.declared.row.Tables.{Tables}
+use Rattle.ps_view.specs.declared.names.Names.{Names}
+use Rattle.ps_view.specs.declared.role.Role.{Role}
+use Rattle.ps_splitlog.specs.declared.stored.Stored.{Stored}
+use Rattle.ps_splitlog.specs.declared.entry.Joined.{Joined}
+use Rattle.ps_splitlog.specs.declared.entry.Held.{Held}
+use Rattle.ps_splitlog.specs.Lines.{Line, stored_of, is_logged_line, shown_lines}
+
+-- what the log holds of an entry
+abbrev pub held_of : Names → Tables → ℕ → List Event → List Line → Option Joined → List (ℕ × Role) → Held
+held_of names dex conn events ls join roles = record { conn = conn; lines = stored_of names dex events ls; join = join; roles = roles }
+
+-- ---- roles
+
+-- the role after these changes: the first that names the connection counts
+abbrev pub changed : ℕ → List (ℕ × Role) → Role → Role
+changed conn [] role = role
+changed conn (c ∷ cs) role = if c.0 == conn then c.1 else changed conn cs role
+
+-- ---- the backlog
+
+abbrev pub logged_in : Held → List Stored
+logged_in h = filter is_logged_line h.lines
+
+-- all lines of these entries that are logged, in order
+abbrev pub logged_lines : List Held → List Stored
+logged_lines hs = flat_map logged_in hs
+
+-- the last so many; this number means all
+abbrev pub all_of_them : ℕ
+all_of_them = 4294967295
+
+abbrev pub last_of : {X : Type 0} → ℕ → List X → List X
+last_of keep ls = if keep == all_of_them then ls else drop (length ls - keep) ls
+
+abbrev pub tail_texts : Option (List ℕ) → List (List ℕ)
+tail_texts None = []
+tail_texts (Some text) = text ∷ []
+
+-- ---- messages
+
+-- what who joins is sent in the place of the entry's lines, where this connection is the one
+abbrev pub join_for : ℕ → Held → Option Joined
+join_for conn h = if conn == h.conn then h.join else None
+
+-- the head, the last lines that were logged before by the role of the join, and the tail
+abbrev pub joined_or : ℕ → Option Joined → List Stored → List (List ℕ) → List (List ℕ)
+joined_or conn None before texts = texts
+joined_or conn (Some j) before texts = j.head ++ shown_lines conn j.role (last_of j.keep before) ++ tail_texts j.tail
+
+-- what a connection in this role is sent at an entry, before which these lines were logged
+abbrev pub message_of : ℕ → Role → List Stored → Held → List (List ℕ)
+message_of conn role before h = joined_or conn (join_for conn h) before (shown_lines conn role h.lines)
+
+abbrev pub first_message : ℕ → Role → List Held → List Held → List (List ℕ)
+first_message conn role earlier [] = []
+first_message conn role earlier (h ∷ hs) = message_of conn role (logged_lines earlier) h
+
+-- what it is sent at the entry in this place of the log; past the end there is none
+abbrev pub message_at : ℕ → Role → List Held → ℕ → List (List ℕ)
+message_at conn role log place = first_message conn role (take place log) (drop place log)

@@ -1,0 +1,4 @@
+pub mod Entries
+pub mod Indices
+pub mod Lines
+pub mod Reads

@@ -1,0 +1,81 @@
+-- Reading by a cursor.
+use Rattle.std.specs.Prelude.{◌≡◌, ◌≤◌, ℕ, false, List, [], ◌∷◌, ◌++◌, length, take, drop, Option, Some, None}
+use Rattle.ps_base.specs.declared.msg.Msg.{Msg}
+use Rattle.ps_event.specs.declared.event.Event.{Event}
+use Rattle.ps_dex.specs.declared.row.Tables.{Tables}
+use Rattle.ps_view.specs.declared.names.Names.{Names}
+use Rattle.ps_view.specs.declared.role.Role.{Role}
+use Rattle.ps_view.specs.declared.role.Role.TheVariants.{Outside}
+use Rattle.ps_view.specs.Lines.{line_of}
+use Rattle.ps_event.specs.Table.{is_logged}
+use Rattle.ps_splitlog.specs.declared.stored.Stored.{Stored}
+use Rattle.ps_splitlog.specs.declared.entry.Held.{Held}
+use Rattle.ps_splitlog.specs.declared.cursor.Cursor.{Cursor}
+use Rattle.ps_splitlog.specs.Lines.{stored_of_event, shown_if, is_logged_line}
+use Rattle.ps_splitlog.specs.Entries.{changed, logged_lines, message_of}
+
+-- a message, where it has lines
+abbrev pub sent : List (List ℕ) → List (List (List ℕ))
+sent [] = []
+sent (line ∷ ls) = (line ∷ ls) ∷ []
+
+-- the messages of entries to a connection in this role before, where these came earlier
+abbrev pub messages_of : ℕ → Role → List Held → List Held → List (List (List ℕ))
+messages_of conn role earlier [] = []
+messages_of conn role earlier (h ∷ hs) = sent (message_of conn role (logged_lines earlier) h) ++ messages_of conn (changed conn h.roles role) (earlier ++ h ∷ []) hs
+
+-- the role after entries: what one gives holds from the next on
+abbrev pub role_past : ℕ → Role → List Held → Role
+role_past conn role [] = role
+role_past conn role (h ∷ hs) = role_past conn (changed conn h.roles role) hs
+
+-- ---- cursors
+
+-- before the first entry
+abbrev pub first_cursor : ℕ → Cursor
+first_cursor conn = record { conn = conn; at = 0; role = Outside }
+
+-- at the end of the log
+abbrev pub cursor_past : Cursor → List Held → Cursor
+cursor_past c log = record { conn = c.conn; at = length log; role = role_past c.conn c.role (drop c.at log) }
+
+-- the messages past a cursor
+abbrev pub read_past : Cursor → List Held → List (List (List ℕ))
+read_past c log = messages_of c.conn c.role (take c.at log) (drop c.at log)
+
+abbrev pub msg_lines : Msg → List (List ℕ)
+msg_lines m = m.lines
+
+-- ---- laws
+
+-- Who reads a log, and reads again when it has grown, gets what who reads it once when it has grown gets, and stands at the
+-- same place.
+pub record ReadsTwice (c : Cursor) (log more : List Held) : Type 0 where
+  pub messages : read_past c (log ++ more) ≡ read_past c log ++ read_past (cursor_past c log) (log ++ more)
+  pub end : cursor_past c (log ++ more) ≡ cursor_past (cursor_past c log) (log ++ more)
+
+abbrev pub ReadsCompose : Type 0
+ReadsCompose = (c : Cursor) (log more : List Held) → c.at ≤ length log → ReadsTwice c log more
+
+-- the messages of who reads a log after each further entry
+abbrev pub read_each : Cursor → List Held → List Held → List (List (List ℕ))
+read_each c log [] = []
+read_each c log (h ∷ hs) = read_past c (log ++ h ∷ []) ++ read_each (cursor_past c (log ++ h ∷ [])) (log ++ h ∷ []) hs
+
+abbrev pub ReadsAgree : Type 0
+ReadsAgree = (conn : ℕ) (log : List Held) → read_each (first_cursor conn) [] log ≡ read_past (first_cursor conn) log
+
+-- ---- a stored event is shown as the event
+
+-- what a connection in this role is shown of what is stored of an event is the line of the event for the role
+abbrev pub EventsAreShown : Type 0
+EventsAreShown = (conn : ℕ) (role : Role) (names : Names) (dex : Tables) (event : Event) → shown_if conn role (stored_of_event names dex event) ≡ line_of event role names dex
+
+-- what isn't stored isn't logged
+abbrev pub IsLoggedAs : Event → Option Stored → Type 0
+IsLoggedAs event None = is_logged event ≡ false
+IsLoggedAs event (Some s) = is_logged_line s ≡ is_logged event
+
+-- and it is logged where the event is
+abbrev pub EventsAreLogged : Type 0
+EventsAreLogged = (names : Names) (dex : Tables) (event : Event) → IsLoggedAs event (stored_of_event names dex event)

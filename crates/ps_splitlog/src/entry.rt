@@ -1,0 +1,141 @@
+//! The entries of a log.
+ghost use Rattle.std.specs.Prelude.{◌≡◌, ◌++◌, ◌∷◌, [], map, IfOk, OnOk};
+ghost use Rattle.std.specs.List.{filter_map};
+ghost use Rattle.ps_splitlog.specs.Lines.{stored_of_event, stored_of_line, stored_of};
+ghost use Rattle.ps_splitlog.specs.Entries.{held_of};
+
+use crate::stored::{Stored, stored_of_event, stored_of_line};
+use ps_base::list::List;
+use ps_base::number::ConnNo;
+use ps_base::text::Text;
+use ps_dex::dex::Dex;
+use ps_event::event::Event;
+use ps_event::line::ChatLine;
+use ps_view::names::Names;
+use ps_view::role::Role;
+use std::alloc::{AllocError, Global};
+
+/// A `keep` with which who joins is sent all that was logged.
+pub const ALL: u32 = 4_294_967_295;
+
+/// What who joins is sent in the place of the entry's lines.
+#[derive(Debug, Drop)]
+pub struct Joined {
+    /// What the joiner is to the room from then on, by which it is shown what was logged.
+    pub role: Role,
+    /// The lines that come first.
+    pub head: List<Text>,
+    /// How many of the lines that were logged before follow, the last ones; `ALL` means all.
+    pub keep: u32,
+    /// The line that comes last.
+    pub tail: Option<Text>,
+}
+
+/// An entry that a log is to take.
+#[derive(Drop)]
+pub struct Entry<'a> {
+    /// The connection that made it.
+    pub conn: ConnNo,
+    /// The events of the battle, whose lines come first.
+    pub events: &'a [Event],
+    /// The lines that are text already.
+    pub lines: &'a [ChatLine<Text>],
+    /// Where the connection joins by it, what it is sent.
+    pub join: Option<Joined>,
+    /// The roles that it gives, which hold from the next entry on. The first that names a connection counts, and who isn't
+    /// here keeps its role.
+    pub roles: &'a [(ConnNo, Role)],
+}
+
+/// What a log holds of an entry.
+#[derive(Debug, Drop)]
+pub struct Held {
+    /// The connection that made it.
+    pub conn: ConnNo,
+    /// Its lines, those of its events first.
+    pub lines: List<Stored>,
+    /// Where the connection joins by it, what it is sent in place of these.
+    pub join: Option<Joined>,
+    /// The roles that it gives from the next entry on.
+    pub roles: List<(ConnNo, Role)>,
+}
+
+// Puts what is stored of an event behind the others.
+fn push_event(
+    alloc: Global,
+    stored: &mut Vec<Stored>,
+    names: &Names,
+    dex: &Dex,
+    event: &Event,
+) -> Result<(), AllocError>
+    ensures { OnOk result (stored.new.items ≡ stored.old.items ++ filter_map (stored_of_event names.now dex.now) (event.now ∷ [])) }
+{
+    if let Some(line) = stored_of_event(alloc, names, dex, event)? {
+        stored.push(line)?;
+    }
+    Ok(())
+}
+
+fn push_events(
+    alloc: Global,
+    stored: &mut Vec<Stored>,
+    names: &Names,
+    dex: &Dex,
+    events: &[Event],
+) -> Result<(), AllocError>
+    ensures { OnOk result (stored.new.items ≡ stored.old.items ++ filter_map (stored_of_event names.now dex.now) events.now) }
+{
+    for event in events {
+        push_event(alloc, stored, names, dex, event)?;
+    }
+    Ok(())
+}
+
+fn push_lines(
+    alloc: Global,
+    stored: &mut Vec<Stored>,
+    lines: &[ChatLine<Text>],
+) -> Result<(), AllocError>
+    ensures { OnOk result (stored.new.items ≡ stored.old.items ++ map stored_of_line lines.now) }
+{
+    for line in lines {
+        let line = stored_of_line(alloc, line)?;
+        stored.push(line)?;
+    }
+    Ok(())
+}
+
+// What is stored of an entry's events and lines.
+fn stored_of(
+    alloc: Global,
+    names: &Names,
+    dex: &Dex,
+    events: &[Event],
+    lines: &[ChatLine<Text>],
+) -> Result<List<Stored>, AllocError>
+    ensures { IfOk result (λ v. v ≡ stored_of names.now dex.now events.now lines.now) }
+{
+    let mut stored = Vec::new(alloc);
+    push_events(alloc, &mut stored, names, dex, events)?;
+    push_lines(alloc, &mut stored, lines)?;
+    Ok(List::from_vec(stored))
+}
+
+// What a log holds of an entry.
+pub(crate) fn held_of(
+    alloc: Global,
+    names: &Names,
+    dex: &Dex,
+    entry: Entry<'_>,
+) -> Result<Held, AllocError>
+    ensures { IfOk result (λ h. h ≡ held_of names.now dex.now entry.entry.conn entry.entry.events.now entry.entry.lines.now entry.entry.join entry.entry.roles.now) }
+{
+    let lines = stored_of(alloc, names, dex, entry.events, entry.lines)?;
+    let roles = entry.roles.to_vec(alloc)?;
+    Ok(Held {
+        conn: entry.conn,
+        lines,
+        join: entry.join,
+        roles: List::from_vec(roles),
+    })
+}

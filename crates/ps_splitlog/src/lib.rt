@@ -1,0 +1,12 @@
+//! The log of a room, each text written once, and read by cursors.
+#![tactic(auto)]
+
+pub mod cursor;
+pub mod entry;
+mod index;
+pub mod law;
+pub mod log;
+pub mod read;
+pub mod stored;
+#[cfg(test)]
+mod tests;

@@ -1,0 +1,191 @@
+//! The log.
+ghost use Rattle.std.specs.Prelude.{◌≡◌, ◌++◌, ◌∷◌, [], length, map, None, IfOk, OnOk, OnErr};
+ghost use Rattle.std.specs.Prelude as prelude;
+ghost use Rattle.ps_splitlog.specs.declared.entry.Held.{Held};
+ghost use Rattle.ps_splitlog.specs.Entries.{held_of, message_at};
+ghost use Rattle.ps_splitlog.specs.Reads.{cursor_past, read_past, msg_lines};
+
+use crate::cursor::Cursor;
+use crate::entry::{Entry, Held, held_of};
+use crate::index::{Index, forget, none, note};
+use crate::read::{message, push_messages};
+use ps_base::list::List;
+use ps_base::msg::Msg;
+use ps_base::number::ConnNo;
+use ps_base::text::Text;
+use ps_dex::dex::Dex;
+use ps_event::event::Event;
+use ps_view::names::Names;
+use ps_view::role::Role;
+use std::alloc::{AllocError, Global};
+use std::marker::Model;
+
+/// A log of what a room told, each text once. Contracts see the list of its entries. Where each logged line stands is noted
+/// beside it, so that the last lines cost who joins as much as they are, however long the log is.
+#[derive(Drop)]
+pub struct SplitLog {
+    entries: Vec<Held>,
+    index: Index,
+}
+
+impl Model for SplitLog {
+    ghost use Rattle.std.specs.Prelude as prelude;
+    ghost use Rattle.ps_splitlog.specs.declared.entry.Held.{Held};
+    ghost use Rattle.ps_splitlog.specs.Indices.{IsIndex};
+
+    ghost Value = { prelude.List Held };
+
+    ghost view = { λ l. l.entries.items };
+
+    ghost invariant = { λ l. IsIndex l.entries.items l.index.starts.items l.index.places.items };
+}
+
+// Gives the last entry these roles in place of its own.
+fn set_roles(entries: &mut Vec<Held>, roles: List<(ConnNo, Role)>)
+    ensures last { (log : prelude.List Held) (h : Held) → entries.old.items ≡ log ++ h ∷ [] → entries.new.items ≡ log ++ record h { roles = roles } ∷ [] }
+    ensures none { entries.old.items ≡ [] → entries.new.items ≡ [] }
+{
+    let count = entries.len();
+    if count > 0 {
+        entries[count - 1].roles = roles;
+    }
+}
+
+impl SplitLog {
+    /// A log with no entry. Takes no memory.
+    pub fn new(alloc: Global) -> SplitLog
+        ensures { result ≡ [] }
+    {
+        SplitLog {
+            entries: Vec::new(alloc),
+            index: none(alloc),
+        }
+    }
+
+    /// How many entries it has.
+    pub fn len(&self) -> usize
+        ensures { result ≡ length self.now }
+    {
+        self.entries.len()
+    }
+
+    /// The entries, in order. What a connection is shown of a line of one tells `shown`, without a copy.
+    pub fn as_slice(&self) -> &[Held]
+        ensures { result.now ≡ self.now }
+    {
+        self.entries.as_slice()
+    }
+
+    // Puts an entry at the end. Where memory fails nothing changes.
+    fn push(&mut self, held: Held) -> Result<(), AllocError>
+        ensures ok { OnOk result (self.new ≡ self.old ++ held ∷ []) }
+        ensures err { OnErr result (self.new ≡ self.old) }
+    {
+        let entry = self.entries.len();
+        self.entries.reserve(1)?;
+        note(&mut self.index, entry, held.lines.as_slice())?;
+        self.entries.push(held).unwrap();
+        Ok(())
+    }
+
+    /// Puts an entry at the end: of its events the lines that `line_for` gives, then its lines. The events' numbers are in the
+    /// range of names and dex; another has the line that `line_for` says. Where memory fails nothing changes.
+    pub fn append_whole(
+        &mut self,
+        alloc: Global,
+        entry: Entry<'_>,
+        names: &Names,
+        dex: &Dex,
+    ) -> Result<(), AllocError>
+        ensures ok { OnOk result (self.new ≡ self.old ++ held_of names.now dex.now entry.entry.conn entry.entry.events.now entry.entry.lines.now entry.entry.join entry.entry.roles.now ∷ []) }
+        ensures err { OnErr result (self.new ≡ self.old) }
+    {
+        let held = held_of(alloc, names, dex, entry)?;
+        self.push(held)
+    }
+
+    /// Puts an entry of events alone at the end. Where memory fails nothing changes.
+    pub fn append(
+        &mut self,
+        alloc: Global,
+        conn: ConnNo,
+        events: &[Event],
+        names: &Names,
+        dex: &Dex,
+    ) -> Result<(), AllocError>
+        ensures ok { OnOk result (self.new ≡ self.old ++ held_of names.now dex.now conn events.now [] None [] ∷ []) }
+        ensures err { OnErr result (self.new ≡ self.old) }
+    {
+        let entry = Entry {
+            conn,
+            events,
+            lines: &[],
+            join: None,
+            roles: &[],
+        };
+        self.append_whole(alloc, entry, names, dex)
+    }
+
+    /// Takes the last entry back, if there is one: for who changes something of its own with the log, where that fails. Takes no
+    /// memory.
+    #[tactic(auto, using(crate::proofs::IndexLemmas::front))]
+    pub fn take_back(&mut self)
+        ensures last { (log : prelude.List Held) (h : Held) → self.old ≡ log ++ h ∷ [] → self.new ≡ log }
+        ensures none { self.old ≡ [] → self.new ≡ [] }
+    {
+        let rest = self.entries.len().saturating_sub(1);
+        forget(&mut self.index);
+        self.entries.truncate(rest);
+    }
+
+    /// Gives the last entry, if there is one, these roles in place of its own: for who learns them by a change that comes after
+    /// all memory was taken. Takes no memory.
+    pub fn give_roles(&mut self, roles: List<(ConnNo, Role)>)
+        ensures last { (log : prelude.List Held) (h : Held) → self.old ≡ log ++ h ∷ [] → self.new ≡ log ++ record h { roles = roles } ∷ [] }
+        ensures none { self.old ≡ [] → self.new ≡ [] }
+    {
+        set_roles(&mut self.entries, roles);
+    }
+
+    /// What a connection in this role is sent at the entry in a place, from 0; past the end nothing.
+    pub fn message(
+        &self,
+        alloc: Global,
+        place: usize,
+        conn: ConnNo,
+        role: Role,
+    ) -> Result<List<Text>, AllocError>
+        ensures { IfOk result (λ v. v ≡ message_at conn role self.now place) }
+    {
+        message(
+            alloc,
+            self.entries.as_slice(),
+            &self.index,
+            place,
+            conn,
+            role,
+        )
+    }
+
+    /// The messages past a cursor, which moves to the end. Each has one line at least. Where memory fails the cursor stays. The
+    /// cursor is one of this log.
+    pub fn read_from(&self, alloc: Global, cursor: &mut Cursor) -> Result<Vec<Msg>, AllocError>
+        ensures messages { IfOk result (λ v. map msg_lines v.items ≡ read_past cursor.old self.now) }
+        ensures end { OnOk result (cursor.new ≡ cursor_past cursor.old self.now) }
+        ensures err { OnErr result (cursor.new ≡ cursor.old) }
+    {
+        let mut messages = Vec::new(alloc);
+        let role = push_messages(
+            alloc,
+            &mut messages,
+            self.entries.as_slice(),
+            &self.index,
+            cursor.conn,
+            cursor.role,
+            cursor.at,
+        )?;
+        cursor.role = role;
+        cursor.at = self.entries.len();
+        Ok(messages)
+    }
+}
