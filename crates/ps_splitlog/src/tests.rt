@@ -133,13 +133,18 @@ fn opened(rt: &impl Abort, alloc: Global) -> SplitLog {
     log
 }
 
-/// Puts each line of messages behind others, with a blank at its end, and a newline behind each message.
+/// Puts each line behind others, with a blank at its end.
+fn push_lines(rt: &impl Abort, out: &mut String, lines: &[Text]) {
+    for line in lines {
+        out.push_str(line.as_str()).expect(rt, "memory");
+        out.push_str(" ").expect(rt, "memory");
+    }
+}
+
+/// Puts the lines of messages behind others, and a newline behind each message.
 fn push_shown(rt: &impl Abort, out: &mut String, messages: &[Msg]) {
     for message in messages {
-        for line in message.lines.as_slice() {
-            out.push_str(line.as_str()).expect(rt, "memory");
-            out.push_str(" ").expect(rt, "memory");
-        }
+        push_lines(rt, out, message.lines.as_slice());
         out.push_str("\n").expect(rt, "memory");
     }
 }
@@ -195,5 +200,33 @@ fn one_call_or_one_after_each_entry(rt: HostRuntime) -> Result<(), Fail> {
     let once = read_once(&rt, alloc, &log, 3);
     assert_eq!(rt; each.as_str(), "|-damage|p1a: Tauros|94/100 \nthree \n");
     assert_eq!(rt; once.as_str(), each.as_str());
+    Ok(())
+}
+
+/// An entry of Ann's of one event alone.
+fn append_damage(rt: &impl Abort, alloc: Global, log: &mut SplitLog) {
+    let names = names(rt, alloc);
+    log.append(alloc, ConnNo(1), &[DAMAGE], &names, &Dex::empty(alloc))
+        .expect(rt, "memory");
+}
+
+/// What the third connection is sent at an entry, in this role.
+fn message(rt: &impl Abort, alloc: Global, log: &SplitLog, place: usize, role: Role) -> String {
+    let lines = log
+        .message(alloc, place, ConnNo(3), role)
+        .expect(rt, "memory");
+    let mut out = String::new(alloc);
+    push_lines(rt, &mut out, lines.as_slice());
+    out
+}
+
+#[test]
+fn message_of_one_entry(rt: HostRuntime) -> Result<(), Fail> {
+    let mut log = opened(&rt, rt.alloc());
+    append_damage(&rt, rt.alloc(), &mut log);
+    let own = message(&rt, rt.alloc(), &log, 1, PLAYER_1);
+    assert_eq!(rt; own.as_str(), "|-damage|p1a: Tauros|331/353 ");
+    let outside = message(&rt, rt.alloc(), &log, 1, Role::Outside);
+    assert_eq!(rt; outside.as_str(), "");
     Ok(())
 }
