@@ -12,8 +12,3 @@ next_read f xs i d front old new lt so added =
     ∙ ap (λ ys. ys ++ filter_map f (get_or xs i d ∷ [])) so
     ∙ append_assoc front (filter_map f (take i xs)) (filter_map f (get_or xs i d ∷ []))
     ∙ ap (λ ys. front ++ ys) (sym (filter_map-append f (take i xs) (get_or xs i d ∷ [])) ∙ ap (filter_map f) (sym (take_more xs i d lt)))
-
--- the same where the item was lent
-pub next_taken : {X Y : Type 0} (f : X → Option Y) (xs : List X) (i : ℕ) (x : X) (front old new : List Y) → i < length xs → x ≡ get_or xs i x → old ≡ front ++ filter_map f (take i xs) → new ≡ old ++ filter_map f (x ∷ [])
-    → new ≡ front ++ filter_map f (take (i + 1) xs)
-next_taken f xs i x front old new lt is so added = next_read f xs i x front old new lt so (added ∙ ap (λ y. old ++ filter_map f (y ∷ [])) is)

@@ -2,8 +2,6 @@
 use Rattle.std.proofs.Common.{◌≡◌, ◌<◌, ◌||◌, arith, not, ℕ, zero, suc, Bool, true, false, Option, Some, None, refl, if◌then◌else◌}
 use Rattle.std.specs.Prelude.{IfSome, is_some}
 use Rattle.ps_mon.specs.declared.record.Battle.{Battle}
-use Rattle.ps_mon.specs.declared.record.Phase.{Phase}
-use Rattle.ps_mon.specs.declared.record.Phase.TheVariants as phases
 use Rattle.ps_mon.specs.declared.choice.Choice.{Choice}
 use Rattle.ps_mon.specs.Facts.{Figures}
 use Rattle.ps_mon.specs.Choices.{is_asked, IsChoiceOf}
@@ -12,7 +10,6 @@ use Rattle.ps_bout.specs.declared.bout.Bout.{Bout}
 use Rattle.ps_bout.specs.Bouts.{CanWait, IsBout, with_waiting}
 use Rattle.ps_bout.specs.Rounds.{choice_or_pass}
 use Rattle.ps_bout.specs.Refusals.{refusal_of_forfeit}
-use Rattle.ps_base.specs.declared.why.Why.{Why}
 use Rattle.ps_base.specs.declared.why.Why.TheVariants.{NotYourTurn}
 
 unasked : (asked : Bool) → (not asked || false) ≡ true → asked ≡ false
@@ -23,13 +20,6 @@ unasked true e = absurd (let wrong : false ≡ true = e in cc)
 pub ready_choices : (b : Battle) (s : ℕ) (w : Option Choice) → IfSome w (CanWait b s) → (not (is_asked b.phase s) || is_some w) ≡ true → IsChoiceOf b s (choice_or_pass w)
 ready_choices b s None p e = rw (unasked (is_asked b.phase s) e) refl
 ready_choices b s (Some choice) p e = rw p.asked p.legal
-
--- where a side is asked the battle goes on
-pub asked_goes_on : (phase : Phase) (s : ℕ) → is_asked phase s ≡ true → is_over phase ≡ false
-asked_goes_on phases.Turn s e = refl
-asked_goes_on (phases.Replace p1 p2) s e = refl
-asked_goes_on (phases.Won side) s e = absurd (let wrong : false ≡ true = e in cc)
-asked_goes_on phases.Tied s e = absurd (let wrong : false ≡ true = e in cc)
 
 -- a choice that may wait does
 pub waits : (facts : Figures) (b : Bout) (s : ℕ) (choice : Choice) → IsBout facts b → CanWait b.battle s choice → s < 2 → IsBout facts (with_waiting s (Some choice) b)

@@ -1,5 +1,5 @@
 -- The battle of a room: which commands it takes, and what they do.
-use Rattle.std.specs.Prelude.{ℕ, Bool, true, false, List, [], ◌∷◌, Option, Some, None, Result, Ok, Err, if◌then◌else◌}
+use Rattle.std.specs.Prelude.{ℕ, Bool, true, false, List, [], Option, Some, None, Result, Ok, Err, if◌then◌else◌}
 use Rattle.std.specs.List.{filter_map}
 use Rattle.ps_base.specs.declared.why.Why.{Why}
 use Rattle.ps_base.specs.declared.why.Why.TheVariants.{NotPlayer}
@@ -12,14 +12,12 @@ use Rattle.ps_event.specs.declared.side.Side.{Side}
 use Rattle.ps_event.specs.declared.side.Side.TheVariants.{P1, P2}
 use Rattle.ps_event.specs.declared.line.ChatLine.{ChatLine}
 use Rattle.ps_mon.specs.declared.choice.Choice.{Choice}
-use Rattle.ps_mon.specs.declared.team.BattleTeam.{BattleTeam}
 use Rattle.ps_mon.specs.Valid.{is_over}
 use Rattle.ps_dex.specs.declared.row.Tables.{Tables}
 use Rattle.ps_dex.specs.Figures.{figures_of}
-use Rattle.ps_hits.specs.Told.{side_name}
 use Rattle.ps_bout.specs.declared.bout.Bout.{Bout}
 use Rattle.ps_bout.specs.Refusals.{chosen, refusal_of_choose, refusal_of_undo, refusal_of_forfeit}
-use Rattle.ps_bout.specs.Rounds.{Outcome, chose, undone, gave_up, ended}
+use Rattle.ps_bout.specs.Rounds.{Outcome, chose, undone, gave_up}
 use Rattle.ps_bout.specs.Casts.{Cast}
 use Rattle.ps_bout.specs.Asked.{request_line}
 

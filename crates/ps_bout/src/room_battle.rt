@@ -5,7 +5,6 @@ ghost use Rattle.ps_dex.specs.Figures.{figures_of};
 ghost use Rattle.ps_mon.specs.Teams.{IsFresh, IsTeamKnown};
 ghost use Rattle.ps_mon.specs.Valid.{IsSound};
 ghost use Rattle.ps_bout.specs.Bouts.{IsBout};
-ghost use Rattle.ps_bout.specs.Casts.{event_texts};
 ghost use Rattle.ps_bout.specs.Rounds.{outcome, opened};
 ghost use Rattle.ps_bout.specs.Refusals.{chosen, refusal_of_choose};
 ghost use Rattle.ps_bout.specs.Fights.{is_of_battle, refusal_of_side, refusal_in, chose_by, outcome_of_side, outcome_in, number_of_side, request_of, requests, open_request};
@@ -24,8 +23,6 @@ use ps_event::line::ChatLine;
 use ps_event::side::Side;
 use ps_lines::command::Command;
 use ps_mon::team::BattleTeam;
-use ps_view::line::line_for;
-use ps_view::role::Role;
 use std::alloc::{AllocError, Global};
 use std::marker::Model;
 
@@ -151,41 +148,6 @@ pub fn requests(
         push_request(alloc, &mut lines, cast, bout, *event)?;
     }
     Ok(lines)
-}
-
-/// Puts the line of an event that a role is shown behind the others.
-pub fn push_event_text(
-    alloc: Global,
-    texts: &mut Vec<Text>,
-    cast: &Cast,
-    role: Role,
-    event: &Event,
-) -> Result<(), AllocError>
-    ensures { OnOk result (texts.new.items ≡ texts.old.items ++ event_texts cast.now role (event.now ∷ [])) }
-{
-    match line_for(alloc, event, role, cast.names(), cast.dex())? {
-        None => Ok(()),
-        Some(text) => {
-            texts.push(text)?;
-            Ok(())
-        }
-    }
-}
-
-/// Puts the lines of events that a role is shown behind the others.
-pub fn push_event_texts(
-    alloc: Global,
-    texts: &mut Vec<Text>,
-    cast: &Cast,
-    role: Role,
-    events: &[Event],
-) -> Result<(), AllocError>
-    ensures { OnOk result (texts.new.items ≡ texts.old.items ++ event_texts cast.now role events.now) }
-{
-    for event in events {
-        push_event_text(alloc, texts, cast, role, event)?;
-    }
-    Ok(())
 }
 
 fn choose_by(

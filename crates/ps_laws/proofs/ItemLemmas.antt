@@ -17,7 +17,7 @@ use Rattle.ps_bout.specs.Rounds.{Outcome, untold, in_round, next_round}
 use Rattle.ps_bout.specs.Fights.{Fight, requests}
 use Rattle.ps_chat.specs.declared.present.Present.{Present}
 use Rattle.ps_room.specs.declared.entry.Entry.{Entry}
-use Rattle.ps_room.specs.declared.told.Logged.{Logged}
+use Rattle.ps_room.specs.Tolds.{Logged}
 use Rattle.ps_room.specs.Records.{Record, cast_in}
 use Rattle.ps_room.specs.Roles.{side_of_member}
 use Rattle.ps_room.specs.Rooms.{sender_of, verdict, told, after, applied, logged_of, message, role, sent, shown_events, seen_texts, allowed_events, allowed_lines, joined_or}

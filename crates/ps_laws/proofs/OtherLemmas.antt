@@ -23,7 +23,7 @@ use Rattle.ps_bout.specs.Fights.{Fight, outcome_in, refusal_in}
 use Rattle.ps_chat.specs.declared.present.Present.{Present}
 use Rattle.ps_chat.specs.Told.{lines}
 use Rattle.ps_room.specs.declared.entry.Entry.{Entry}
-use Rattle.ps_room.specs.declared.told.Logged.{Logged}
+use Rattle.ps_room.specs.Tolds.{Logged}
 use Rattle.ps_room.specs.Records.{Record}
 use Rattle.ps_room.specs.Roles.{side_of_member}
 use Rattle.ps_room.specs.Rooms.{sender_of, verdict, after, message, role, sent, refusal_by_battle}

@@ -11,7 +11,7 @@ use Rattle.ps_chat.specs.Looks.{member}
 use Rattle.ps_chat.specs.Records.{Opening as ChatOpening, Record as ChatRecord}
 use Rattle.ps_alike.specs.Places.{Hidden}
 use Rattle.ps_room.specs.declared.entry.Entry.{Entry}
-use Rattle.ps_room.specs.declared.told.Logged.{Logged}
+use Rattle.ps_room.specs.Tolds.{Logged}
 use Rattle.ps_room.specs.Records.{Record, presents_of, cast_in}
 use Rattle.ps_room.specs.Rooms.{sender_of, joiner_of, is_join, or_else, verdict, told, role, role_in, message, joined_if, joined_or, shown_events, seen_texts, allowed_events, allowed_lines}
 use Rattle.ps_room.proofs.AnswerLemmas.{told_line, silent_line}

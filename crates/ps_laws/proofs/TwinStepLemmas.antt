@@ -14,7 +14,7 @@ use Rattle.ps_alike.specs.Places.{Hidden}
 use Rattle.ps_alike.specs.Showing.{NamesNoHidden, whos}
 use Rattle.ps_alike.proofs.TellTurnLemmas.{IsShown}
 use Rattle.ps_room.specs.declared.entry.Entry.{Entry}
-use Rattle.ps_room.specs.declared.told.Logged.{Logged}
+use Rattle.ps_room.specs.Tolds.{Logged}
 use Rattle.ps_room.specs.Records.{Record, presents_of, cast_in, logged_events}
 use Rattle.ps_room.specs.Roles.{role_of_member}
 use Rattle.ps_room.specs.Rooms.{events_by, lines_by, battle_after, outcome_by, seen_text, seen_texts, shown_events, shown_items, kept_back, request_texts, logged_lines}

@@ -16,8 +16,8 @@ use Rattle.ps_bout.specs.Fights.{Fight, request_at, requests}
 use Rattle.ps_chat.specs.Lines.{Line}
 use Rattle.ps_alike.specs.Places.{Hidden}
 use Rattle.ps_alike.specs.Showing.{NamesNoHidden}
-use Rattle.ps_room.specs.declared.told.Logged.{Logged}
-use Rattle.ps_room.specs.declared.told.Logged.TheVariants as logs
+use Rattle.ps_room.specs.Tolds as logs
+use Rattle.ps_room.specs.Tolds.{Logged}
 use Rattle.ps_room.specs.Records.{cast_in, logged_event, logged_events}
 use Rattle.ps_room.specs.Rooms.{logged_line, logged_lines, logged_of, shown_events, shown_item, shown_items, kept_back}
 use Rattle.ps_laws.specs.Alike.{AreMaybeAlike, IsLoggedOpenly}

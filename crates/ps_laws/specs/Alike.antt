@@ -9,8 +9,8 @@ use Rattle.ps_bout.specs.Fights.{Fight}
 use Rattle.ps_alike.specs.Places.{Hidden}
 use Rattle.ps_alike.specs.Alike.{AreAlike as AreBattlesAlike}
 use Rattle.ps_alike.specs.Showing.{side_number, whos}
-use Rattle.ps_room.specs.declared.told.Logged.{Logged}
-use Rattle.ps_room.specs.declared.told.Logged.TheVariants as logs
+use Rattle.ps_room.specs.Tolds as logs
+use Rattle.ps_room.specs.Tolds.{Logged}
 use Rattle.ps_room.specs.Records.{Record}
 
 -- ---- what a connection may know of the choices that wait

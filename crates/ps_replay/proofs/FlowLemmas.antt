@@ -5,19 +5,18 @@ use Rattle.std.proofs.KnownBytes.{Appends-trans, Appends-nil}
 use Rattle.std.proofs.lemmas.List.{append-nil}
 use Rattle.ps_outside.specs.Sinks.{AppendsFront}
 use Rattle.ps_script.specs.declared.item.Item.{Item}
-use Rattle.ps_world.specs.Entries.{State}
-use Rattle.ps_world.specs.Tables.{item_text, item_after, text_from}
+use Rattle.ps_world.specs.Tables.{Desk, item_text, item_after, text_from}
 use Rattle.ps_replay.specs.Flow.{MovesFront}
 
-pub record Came (old new : Option (List ℕ)) (all pending : List ℕ) (s : State) (rest : List Item) : Type 0 where
+pub record Came (old new : Option (List ℕ)) (all pending : List ℕ) (s : Desk) (rest : List Item) : Type 0 where
   pub front : List ℕ
   pub wrote : Appends old new front
   pub parts : all ≡ front ++ (pending ++ text_from s rest)
 
-pub Came-start : (old : Option (List ℕ)) (s : State) (items : List Item) → Came old old (text_from s items) [] s items
+pub Came-start : (old : Option (List ℕ)) (s : Desk) (items : List Item) → Came old old (text_from s items) [] s items
 Came-start old s items = record { front = []; wrote = Appends-nil old; parts = refl }
 
-pub Came-more : (old mid new : Option (List ℕ)) (all pending now : List ℕ) (s : State) (i : Item) (rest : List Item) → Came old mid all pending s (i ∷ rest) → MovesFront mid new (pending ++ item_text s i) now → Came old new all now (item_after s i) rest
+pub Came-more : (old mid new : Option (List ℕ)) (all pending now : List ℕ) (s : Desk) (i : Item) (rest : List Item) → Came old mid all pending s (i ∷ rest) → MovesFront mid new (pending ++ item_text s i) now → Came old new all now (item_after s i) rest
 Came-more old mid new all pending now s i rest c m = record {
   front = c.front ++ m.front;
   wrote = Appends-trans old mid new c.front m.front c.wrote m.grew;
@@ -28,7 +27,7 @@ Came-more old mid new all pending now s i rest c m = record {
 }
 
 -- a front of what waits is a front of all
-pub Came-stopped : (old mid new : Option (List ℕ)) (all pending : List ℕ) (s : State) (i : Item) (rest : List Item) → Came old mid all pending s (i ∷ rest) → AppendsFront mid new (pending ++ item_text s i) → AppendsFront old new all
+pub Came-stopped : (old mid new : Option (List ℕ)) (all pending : List ℕ) (s : Desk) (i : Item) (rest : List Item) → Came old mid all pending s (i ∷ rest) → AppendsFront mid new (pending ++ item_text s i) → AppendsFront old new all
 Came-stopped old mid new all pending s i rest c a =
     let tail = text_from (item_after s i) rest in
     record {
@@ -41,7 +40,7 @@ Came-stopped old mid new all pending s i rest c a =
       grew = Appends-trans old mid new c.front a.front c.wrote a.grew;
     }
 
-pub Came-last : (old mid new : Option (List ℕ)) (all pending : List ℕ) (s : State) → Came old mid all pending s [] → AppendsFront mid new pending → AppendsFront old new all
+pub Came-last : (old mid new : Option (List ℕ)) (all pending : List ℕ) (s : Desk) → Came old mid all pending s [] → AppendsFront mid new pending → AppendsFront old new all
 Came-last old mid new all pending s c a = record {
   front = c.front ++ a.front;
   rest = a.rest;
@@ -49,7 +48,7 @@ Came-last old mid new all pending s c a = record {
   grew = Appends-trans old mid new c.front a.front c.wrote a.grew;
 }
 
-pub Came-all : (old mid new : Option (List ℕ)) (all pending now : List ℕ) (s : State) → Came old mid all pending s [] → MovesFront mid new pending now → now ≡ [] → Appends old new all
+pub Came-all : (old mid new : Option (List ℕ)) (all pending now : List ℕ) (s : Desk) → Came old mid all pending s [] → MovesFront mid new pending now → now ≡ [] → Appends old new all
 Came-all old mid new all pending now s c m empty =
     let waited : pending ≡ m.front = m.parts ∙ ap (λ (x : List ℕ). m.front ++ x) empty ∙ append-nil m.front in
     let whole : all ≡ c.front ++ m.front = c.parts ∙ ap (λ (x : List ℕ). c.front ++ x) (append-nil pending ∙ waited) in

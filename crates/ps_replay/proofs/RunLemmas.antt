@@ -1,5 +1,5 @@
 -- How far the run of a drill has come, and what is told of it.
-use Rattle.std.proofs.Common.{◌≡◌, ◌≢◌, ◌-◌, ◌^◌, ◌≤◌, ℕ, List, [], ◌∷◌, ◌++◌, length, min, Result, Ok, Err, IfOk, refl, sym, ap, ◌∙◌, subst, arith, append_assoc}
+use Rattle.std.proofs.Common.{◌≡◌, ◌≢◌, ◌≤◌, ℕ, List, [], ◌∷◌, ◌++◌, length, Result, Ok, Err, IfOk, refl, sym, ap, ◌∙◌, subst, arith, append_assoc}
 use Rattle.std.specs.Str.Lines.{lines}
 use Rattle.std.proofs.lemmas.List.{append-nil}
 use Rattle.sha2.specs.Sha256.{sha256}
@@ -13,10 +13,10 @@ use Rattle.ps_script.specs.Ends.{IsNoScript}
 use Rattle.ps_script.specs.Scripts.{Seen, IsScript, AreItems, start, next}
 use Rattle.ps_world.specs.declared.transcript.Counts.{Counts as EntryCounts}
 use Rattle.ps_world.specs.Setup.{Setup}
-use Rattle.ps_world.specs.Entries.{State, entries}
+use Rattle.ps_world.specs.Entries.{entries}
 use Rattle.ps_world.specs.Counts.{refused}
 use Rattle.ps_world.specs.Transcript.{output}
-use Rattle.ps_world.specs.Tables.{fresh, item_text, item_after, text_from, no_counts, item_counts, counts_from}
+use Rattle.ps_world.specs.Tables.{Desk, fresh, item_text, item_after, text_from, no_counts, item_counts, counts_from}
 use Rattle.ps_world.proofs.TextLemmas.{output_is}
 use Rattle.ps_world.proofs.EntryCounts.{counts_is}
 use Rattle.ps_drill.specs.declared.tally.Tally.{Tally}
@@ -33,16 +33,16 @@ use Rattle.ps_replay.specs.Runs.{TellsRun, HasRun}
 
 -- ---- line by line
 
-pub record Ran (old new : Tally) (counter : Counter) (whole : List ℕ) (s : State) (rest : List Item) : Type 0 where
+pub record Ran (old new : Tally) (counter : Counter) (whole : List ℕ) (s : Desk) (rest : List Item) : Type 0 where
   pub front : List ℕ
   pub tallies : (text : List ℕ) → Tallies old text → Tallies new (text ++ front)
   pub counts : Counts counter front
   pub parts : whole ≡ front ++ text_from s rest
 
-pub Ran-start : (tally : Tally) (counter : Counter) (s : State) (items : List Item) → Counts counter [] → Ran tally tally counter (text_from s items) s items
+pub Ran-start : (tally : Tally) (counter : Counter) (s : Desk) (items : List Item) → Counts counter [] → Ran tally tally counter (text_from s items) s items
 Ran-start tally counter s items none = record { front = []; tallies = λ text t. subst (Tallies tally) (sym (append-nil text)) t; counts = none; parts = refl }
 
-pub Ran-more : (old mid new : Tally) (counter after : Counter) (whole : List ℕ) (s : State) (i : Item) (rest : List Item) → Ran old mid counter whole s (i ∷ rest) → ((text : List ℕ) → Tallies mid text → Tallies new (text ++ item_text s i)) → ((text : List ℕ) → Counts counter text → Counts after (text ++ item_text s i)) → Ran old new after whole (item_after s i) rest
+pub Ran-more : (old mid new : Tally) (counter after : Counter) (whole : List ℕ) (s : Desk) (i : Item) (rest : List Item) → Ran old mid counter whole s (i ∷ rest) → ((text : List ℕ) → Tallies mid text → Tallies new (text ++ item_text s i)) → ((text : List ℕ) → Counts counter text → Counts after (text ++ item_text s i)) → Ran old new after whole (item_after s i) rest
 Ran-more old mid new counter after whole s i rest r tally count = record {
   front = r.front ++ item_text s i;
   tallies = λ text t. subst (Tallies new) (append_assoc text r.front (item_text s i)) (tally (text ++ r.front) (r.tallies text t));
@@ -50,7 +50,7 @@ Ran-more old mid new counter after whole s i rest r tally count = record {
   parts = r.parts ∙ sym (append_assoc r.front (item_text s i) (text_from (item_after s i) rest));
 }
 
-pub Ran-all : (old new : Tally) (counter : Counter) (counts : EntryCounts) (s end : State) (items : List Item) → Ran old new counter (text_from s items) end [] → counts ≡ counts_from s items no_counts → TellsRun old s items (record { tally = new; counter = counter; counts = counts })
+pub Ran-all : (old new : Tally) (counter : Counter) (counts : EntryCounts) (s end : Desk) (items : List Item) → Ran old new counter (text_from s items) end [] → counts ≡ counts_from s items no_counts → TellsRun old s items (record { tally = new; counter = counter; counts = counts })
 Ran-all old new counter counts s end items r is =
     let whole : r.front ≡ text_from s items = sym (r.parts ∙ append-nil r.front) in
     record {
@@ -59,7 +59,7 @@ Ran-all old new counter counts s end items r is =
       counts = is;
     }
 
-pub counts_more : (s next : State) (i : Item) (rest : List Item) (c more all : EntryCounts) → next ≡ item_after s i → more ≡ item_counts s i c → counts_from s (i ∷ rest) c ≡ all → counts_from next rest more ≡ all
+pub counts_more : (s next : Desk) (i : Item) (rest : List Item) (c more all : EntryCounts) → next ≡ item_after s i → more ≡ item_counts s i c → counts_from s (i ∷ rest) c ≡ all → counts_from next rest more ≡ all
 counts_more s next i rest c more all after made is = rw (after, made) is
 
 -- ---- numbers

@@ -9,7 +9,7 @@ use Rattle.ps_replay.specs.declared.status.Status.{Status}
 use Rattle.ps_replay.specs.declared.status.Status.TheVariants.{Done, Usage, FileMissing, FileFault, FileLong, BadDex, BadConfig, BadScript, ScriptLong, ReadFault, WriteFault, BadTeam, NoMemory, UnknownFormat, BadPack}
 use Rattle.ps_replay.specs.Words.{Options}
 use Rattle.ps_replay.specs.Steps.{dex_in, config_in}
-use Rattle.ps_replay.specs.Outcomes.{Stands, IsSetUp, IsReadable, ReplayCause, IsSettled, IsKnown, AreGood, IsReadied, Settles, IsOfInput, InputCause, SettlesInput}
+use Rattle.ps_replay.specs.Outcomes.{Stands, IsSetUp, IsReadable, ReplayCause, IsSettled, IsKnown, AreGood, Settles, IsOfInput, InputCause, SettlesInput}
 use Rattle.ps_replay.specs.Files.{StepCause, Ended}
 
 -- ---- a step has one value

@@ -1,5 +1,5 @@
 -- What a check of a team finds, and how it ends.
-use Rattle.std.specs.Prelude.{◌≡◌, ◌⊎◌, ℕ, List, codes, length, nat_le, Option, Some, None, IfSome, Result, Ok, Err, if◌then◌else◌}
+use Rattle.std.specs.Prelude.{◌≡◌, ◌⊎◌, ℕ, List, codes, Option, Some, None, IfSome, Result, Ok, Err}
 use Rattle.std.specs.Option.{IsSomeAnd}
 use Rattle.std.specs.Str.{IsUtf8, chars}
 use Rattle.std.specs.Io.BufRead.{strip_last}
@@ -11,21 +11,15 @@ use Rattle.ps_base.specs.declared.pack_kind.PackKind.TheVariants as pack_kinds
 use Rattle.ps_outside.specs.Causes.{Rose}
 use Rattle.ps_outside.specs.Files.{FileCounts}
 use Rattle.ps_outside.specs.Sinks.{AppendsFront}
-use Rattle.ps_data.specs.Paths.{path_text}
-use Rattle.ps_data.specs.declared.fault.Fault.{Fault}
 use Rattle.ps_packed.specs.declared.set.Set.{Set}
 use Rattle.ps_packed.specs.declared.fault.PackFault.TheVariants as pack_faults
 use Rattle.ps_packed.specs.Packed.{IsTeam, Refuses}
 use Rattle.ps_dex.specs.declared.row.Tables.{Tables}
-use Rattle.ps_dex.specs.Tables.{tables_of}
-use Rattle.ps_dex.specs.Lookups.{no_tables}
 use Rattle.ps_rules.specs.declared.row.RuleTable.{RuleTable}
 use Rattle.ps_rules.specs.declared.row.Format.{Format}
 use Rattle.ps_rules.specs.Resolve.{format_of}
 use Rattle.ps_valid.specs.declared.row.Settings.{Settings}
 use Rattle.ps_valid.specs.declared.start.Legal.{Legal}
-use Rattle.ps_valid.specs.Reading.{config_of}
-use Rattle.ps_valid.specs.Standard.{standard}
 use Rattle.ps_valid.specs.TeamRows.{legal_in}
 use Rattle.ps_replay.specs.declared.status.Status.{Status}
 use Rattle.ps_replay.specs.declared.status.Status.TheVariants.{Done, Usage, FileMissing, FileFault, FileLong, BadDex, BadConfig, BadScript, ScriptLong, ReadFault, WriteFault, BadTeam, NoMemory, UnknownFormat, BadPack}

@@ -16,13 +16,13 @@ use Rattle.ps_script.specs.Scripts.{IsScript, IsFirstFault}
 use Rattle.ps_script.specs.Limits.{long_of}
 use Rattle.ps_replay.specs.declared.status.Status.{Status}
 use Rattle.ps_replay.specs.declared.status.Status.TheVariants.{Done, Usage, FileMissing, FileFault, FileLong, BadDex, BadConfig, BadScript, ScriptLong, ReadFault, WriteFault, BadTeam, NoMemory, UnknownFormat, BadPack}
-use Rattle.ps_world.specs.Setup.{Setup, setup_of}
+use Rattle.ps_world.specs.Setup.{setup_of}
 use Rattle.ps_world.specs.Worlds.{Place, world_view}
 use Rattle.ps_world.specs.Entries.{world_of}
 use Rattle.ps_world.specs.Transcript.{messages, output, block}
 use Rattle.ps_world.specs.OneEntry.{HasOneEntryEach, AreHistories}
 use Rattle.ps_world.specs.TwoWorlds.{HasEqualBlocks}
-use Rattle.ps_replay.specs.Words.{Options, Asked, Replays, words_in}
+use Rattle.ps_replay.specs.Words.{Options, Asked, words_in}
 use Rattle.ps_replay.specs.Steps.{IsFaultOf, dex_in, config_in}
 
 -- ---- the words

@@ -2,8 +2,7 @@
 use Rattle.std.specs.Prelude.{◌≡◌, ℕ, List, ◌++◌, length}
 use Rattle.sha2.specs.Sha256.{sha256}
 use Rattle.ps_script.specs.declared.item.Item.{Item}
-use Rattle.ps_world.specs.Entries.{State}
-use Rattle.ps_world.specs.Tables.{no_counts, counts_from, text_from}
+use Rattle.ps_world.specs.Tables.{Desk, no_counts, counts_from, text_from}
 use Rattle.ps_drill.specs.declared.tally.Tally.{Tally}
 use Rattle.ps_drill.specs.Messages.{messages_in}
 use Rattle.ps_drill.specs.Tallies.{Tallies, Counts}
@@ -11,7 +10,7 @@ use Rattle.ps_replay.specs.declared.drill.Run.{Run}
 use Rattle.ps_replay.specs.Drills.{summary_lines}
 
 -- it is of these lines from a state on, behind a text with this tally
-pub record TellsRun (tally : Tally) (s : State) (items : List Item) (run : Run) : Type 0 where
+pub record TellsRun (tally : Tally) (s : Desk) (items : List Item) (run : Run) : Type 0 where
   pub tallies : (text : List ℕ) → Tallies tally text → Tallies run.tally (text ++ text_from s items)
   pub counter : Counts run.counter (text_from s items)
   pub counts : run.counts ≡ counts_from s items no_counts

@@ -1,22 +1,24 @@
 -- What a room keeps of an entry.
 use Rattle.std.proofs.Common.{◌≡◌, ℕ, ◌+◌, ◌<◌, List, [], ◌∷◌, ◌++◌, length, map, take, drop, get_or, set, Option, Some, None, refl, sym, ap, ◌∙◌, add-one}
-use Rattle.ps_chat.proofs.PlaceLemmas.{changed, unchanged}
 use Rattle.ps_base.specs.declared.why.Why.{Why}
+use Rattle.ps_chat.proofs.PlaceLemmas.{changed, unchanged}
 use Rattle.ps_chat.specs.Steps.{Seen as ChatSeen}
 use Rattle.ps_chat.specs.Changes.{record_after}
-use Rattle.ps_chat.specs.Rooms.{presents}
-use Rattle.ps_room.specs.declared.entry.Entry.{Entry}
-use Rattle.ps_room.specs.declared.told.Change.{Change}
-use Rattle.ps_room.specs.declared.told.Kept.{Kept}
-use Rattle.ps_room.specs.declared.told.Told.{Told}
-use Rattle.ps_lines.specs.declared.command.Command.{Command}
 use Rattle.ps_chat.specs.Looks.{member}
+use Rattle.ps_chat.specs.Rooms.{presents}
 use Rattle.ps_chat.specs.declared.present.Present.{Present}
+use Rattle.ps_splitlog.specs.declared.entry.Joined.{Joined}
+use Rattle.ps_view.specs.declared.role.Role.{Role}
+use Rattle.ps_bout.specs.Casts.{Cast}
 use Rattle.ps_bout.specs.Fights.{Fight}
-use Rattle.ps_room.specs.declared.told.Logged.{Logged}
+use Rattle.ps_chat.specs.Lines.{Line}
+use Rattle.ps_splitlog.specs.Lines.{stored_of_line}
+use Rattle.ps_splitlog.specs.declared.entry.Held.{Held}
+use Rattle.ps_room.specs.declared.entry.Entry.{Entry}
 use Rattle.ps_room.specs.Records.{Record, presents_of, cast_in}
-use Rattle.ps_room.specs.Rooms.{verdict, told, applied, after, allowed_events, allowed_lines, logged_of, battle_after}
-use Rattle.ps_room.specs.Logs.{Seen, seen_after, change_in, change_to, changed_conn, touched_by}
+use Rattle.ps_room.specs.Rooms.{verdict, sender_of, chat_lines, told, refused_line, events_by, lines_by, allowed_events, allowed_lines, is_join, applied, battle_after}
+use Rattle.ps_room.specs.Logs.{Seen, record_in, seen_after, change_in, change_to, changed_conn, touched_by, stored_in, join_if, given, kept_of}
+use Rattle.ps_room.proofs.AnswerLemmas.{after_allowed, after_refused}
 
 -- ---- lists
 
@@ -32,55 +34,76 @@ map_twice f g (x ∷ xs) = ap (λ ys. g (f x) ∷ ys) (map_twice f g xs)
 
 -- ---- entries
 
-abbrev pub kept_with : ℕ → Told → List Change → Kept
-kept_with sender given changes = record { sender = sender; told = given; changes = changes }
+-- an entry with the roles that it gives
+abbrev pub with_roles : Held → List (ℕ × Role) → Held
+with_roles h roles = record h { roles = roles }
 
--- a refused entry leaves the record as it was and changes no role
-pub seen_refused : (s : Seen) (e : Entry) (why : Why) (given : Told) → verdict s.state e ≡ Some why → given ≡ told s.state e → record s { log = s.log ++ kept_with e.conn given [] ∷ [] } ≡ seen_after s e
-unfolding after
-seen_refused s e why given v is = rw (v, is) refl
+plain_stored : (cast : Option Cast) (ls : List Line) → map stored_of_line ls ≡ stored_in cast [] ls
+plain_stored None ls = refl
+plain_stored (Some c) ls = refl
 
--- an allowed one is applied, and the roles are those after it
-pub seen_applied : (s : Seen) (e : Entry) (given : Told) (changes : List Change) → verdict s.state e ≡ None → given ≡ told s.state e → changes ≡ map (change_to (applied s.state e)) (touched_by e.cmd (presents_of s.state) e.conn)
-    → ◌≡◌ {A = Seen} (record { no = s.no; id = s.id; state = applied s.state e; log = s.log ++ kept_with e.conn given changes ∷ [] }) (seen_after s e)
-unfolding after
-seen_applied s e given changes v is these = rw (v, is, these) refl
-
-allowed_told : (r : Record) (e : Entry) → verdict r e ≡ None → logged_of (told r e).events (told r e).lines ≡ logged_of (allowed_events r e) (allowed_lines r e)
+-- what a refused entry gives
+pub given_refused : (r : Record) (e : Entry) (why : Why) → verdict r e ≡ Some why → record { conn = e.conn; lines = map stored_of_line (refused_line e.conn why ∷ []); join = None; roles = [] } ≡ given r e
 unfolding told
-allowed_told r e v = rw v refl
+given_refused r e why v = rw (v, plain_stored (cast_in r.battle) (refused_line e.conn why ∷ [])) refl
 
--- what the lines of a battle name stays
-pub cast_after : (battle : Option Fight) (me : Option Present) (cmd : Command) → cast_in (battle_after battle me cmd) ≡ cast_in battle
-cast_after None me cmd = refl
-cast_after (Some f) me cmd = refl
+-- and an allowed one
+pub given_allowed : (r : Record) (e : Entry) → verdict r e ≡ None → record { conn = e.conn; lines = stored_in (cast_in r.battle) (allowed_events r e) (allowed_lines r e); join = join_if (is_join e.cmd) r e; roles = [] } ≡ given r e
+unfolding told
+given_allowed r e v = rw v refl
 
-abbrev pub seen_with : ℕ → List ℕ → ChatSeen → List Logged → Option Fight → List Kept → Seen
-seen_with number id chat logged battle log = record { no = number; id = id; state = record { opening = chat.opening; chat = chat.state; logged = logged; battle = battle }; log = log }
+-- by the parts of a room
+pub given_by_parts : (s : Seen) (e : Entry) (battle : Option Fight) (me : Option Present) (ls : List Line) (join : Option Joined) → verdict (record_in s) e ≡ None
+    → battle ≡ s.battle → me ≡ sender_of (record_in s) e → ls ≡ chat_lines (record_in s) e → join ≡ join_if (is_join e.cmd) (record_in s) e
+    → record { conn = e.conn; lines = stored_in (cast_in battle) (events_by battle me e.cmd) (lines_by battle me e.cmd ls); join = join; roles = [] } ≡ given (record_in s) e
+given_by_parts s e battle me ls join v b m l j = rw (b, m, l, j) (given_allowed (record_in s) e v)
+
+-- a refused entry changes nothing but the log, and no role
+pub seen_refused : (s : Seen) (e : Entry) (why : Why) (h : Held) → verdict (record_in s) e ≡ Some why → h ≡ given (record_in s) e → record s { log = s.log ++ h ∷ [] } ≡ seen_after s e
+seen_refused s e why h v is =
+    ap (λ (x : Held). record s { log = s.log ++ x ∷ [] }) (is ∙ kept)
+    ∙ ap (λ (x : Record). record s { opening = x.opening; chat = x.chat; battle = x.battle; log = s.log ++ kept_of (record_in s) e ∷ [] }) (sym (after_refused (record_in s) e why v))
+  where
+    kept : given (record_in s) e ≡ kept_of (record_in s) e
+    kept = rw v refl
+
+-- a room with these parts
+abbrev pub room_with : ℕ → List ℕ → ChatSeen → Option Fight → List Held → Seen
+room_with number id chat battle log = record { no = number; id = id; opening = chat.opening; chat = chat.state; battle = battle; log = log }
 
 abbrev pub chat_after : ChatSeen → Entry → ChatSeen
 chat_after chat e = record chat { state = record_after chat.opening.groups chat.state e.conn e.badge e.moment e.cmd }
 
+-- an allowed one is applied, and the roles are those after it
+seen_applied : (s : Seen) (e : Entry) (h : Held) (changes : List (ℕ × Role)) → verdict (record_in s) e ≡ None → h ≡ given (record_in s) e → changes ≡ map (change_to (applied (record_in s) e)) (touched_by e.cmd (presents_of (record_in s)) e.conn)
+    → record { no = s.no; id = s.id; opening = (applied (record_in s) e).opening; chat = (applied (record_in s) e).chat; battle = (applied (record_in s) e).battle; log = s.log ++ with_roles h changes ∷ [] } ≡ seen_after s e
+seen_applied s e h changes v is these =
+    ap (λ (x : Held). record { no = s.no; id = s.id; opening = (applied r e).opening; chat = (applied r e).chat; battle = (applied r e).battle; log = s.log ++ x ∷ [] }) (ap (λ (x : Held). with_roles x changes) is ∙ ap (with_roles (given r e)) (these ∙ roles))
+    ∙ ap (λ (x : Record). record { no = s.no; id = s.id; opening = x.opening; chat = x.chat; battle = x.battle; log = s.log ++ kept_of r e ∷ [] }) (sym (after_allowed r e v))
+  where
+    r : Record
+    r = record_in s
+
+    roles : map (change_to (applied r e)) (touched_by e.cmd (presents_of r) e.conn) ≡ (kept_of r e).roles
+    roles = rw v (ap (λ (x : Record). map (change_to x) (touched_by e.cmd (presents_of r) e.conn)) (sym (after_allowed r e v)))
+
 -- the parts of a room after an entry that is allowed
-pub parts_applied : (number : ℕ) (id : List ℕ) (old new : ChatSeen) (was now : List Logged) (battle next : Option Fight) (log : List Kept) (e : Entry) (given : Told) (unset changes : List Change)
-    → verdict (seen_with number id old was battle log).state e ≡ None
-    → given ≡ told (seen_with number id old was battle log).state e
+pub parts_applied : (number : ℕ) (id : List ℕ) (old new : ChatSeen) (battle next : Option Fight) (log : List Held) (e : Entry) (h : Held) (unset changes : List (ℕ × Role))
+    → verdict (record_in (room_with number id old battle log)) e ≡ None
+    → h ≡ given (record_in (room_with number id old battle log)) e
     → new ≡ chat_after old e
-    → now ≡ was ++ logged_of given.events given.lines
     → next ≡ battle_after battle (member e.conn (presents old.opening old.state)) e.cmd
     → map changed_conn unset ≡ touched_by e.cmd (presents old.opening old.state) e.conn
-    → changes ≡ map (λ c. change_in (cast_in next) new.opening new.state c.conn) unset
-    → seen_with number id new now next (log ++ kept_with e.conn given changes ∷ []) ≡ seen_after (seen_with number id old was battle log) e
-parts_applied number id old new was now battle next log e given unset changes v is moved grew went touch these =
-    let r : Record = record { opening = old.opening; chat = old.state; logged = was; battle = battle } in
-    let more : now ≡ was ++ logged_of (allowed_events r e) (allowed_lines r e) = grew ∙ ap (λ (t : Told). was ++ logged_of t.events t.lines) is ∙ ap (λ xs. was ++ xs) (allowed_told r e v) in
+    → changes ≡ map (λ c. change_in (cast_in next) new.opening new.state (changed_conn c)) unset
+    → room_with number id new next (log ++ with_roles h changes ∷ []) ≡ seen_after (room_with number id old battle log) e
+parts_applied number id old new battle next log e h unset changes v is moved went touch these =
+    let r : Record = record_in (room_with number id old battle log) in
     let roles : changes ≡ map (change_to (applied r e)) (touched_by e.cmd (presents_of r) e.conn) =
     these
-    ∙ ap (λ (chat : ChatSeen). map (λ (c : Change). change_in (cast_in next) chat.opening chat.state c.conn) unset) moved
-    ∙ ap (λ (b : Option Fight). map (λ (c : Change). change_in (cast_in b) old.opening (chat_after old e).state c.conn) unset) went
+    ∙ ap (λ (chat : ChatSeen). map (λ c. change_in (cast_in next) chat.opening chat.state (changed_conn c)) unset) moved
+    ∙ ap (λ (b : Option Fight). map (λ c. change_in (cast_in b) old.opening (chat_after old e).state (changed_conn c)) unset) went
     ∙ map_twice changed_conn (change_to (applied r e)) unset
     ∙ ap (map (change_to (applied r e))) touch in
-    ap (λ (chat : ChatSeen). seen_with number id chat now next (log ++ kept_with e.conn given changes ∷ [])) moved
-    ∙ ap (λ (xs : List Logged). seen_with number id (chat_after old e) xs next (log ++ kept_with e.conn given changes ∷ [])) more
-    ∙ ap (λ (b : Option Fight). seen_with number id (chat_after old e) (was ++ logged_of (allowed_events r e) (allowed_lines r e)) b (log ++ kept_with e.conn given changes ∷ [])) went
-    ∙ seen_applied (seen_with number id old was battle log) e given changes v is roles
+    ap (λ (chat : ChatSeen). room_with number id chat next (log ++ with_roles h changes ∷ [])) moved
+    ∙ ap (λ (b : Option Fight). room_with number id (chat_after old e) b (log ++ with_roles h changes ∷ [])) went
+    ∙ seen_applied (room_with number id old battle log) e h changes v is roles

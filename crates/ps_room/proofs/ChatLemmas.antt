@@ -1,5 +1,5 @@
 -- Chat rooms: they have no battle, and refuse a battle's commands.
-use Rattle.std.proofs.Common.{◌≡◌, ℕ, List, false, Option, Some, None, refl, sym, ap, ◌∙◌, subst}
+use Rattle.std.proofs.Common.{◌≡◌, ℕ, List, false, Option, Some, None, refl, sym, subst}
 use Rattle.ps_base.specs.declared.why.Why.{Why}
 use Rattle.ps_base.specs.declared.why.Why.TheVariants.{NotMember, NotBattle}
 use Rattle.ps_lines.specs.declared.command.Command.{Command}
@@ -14,7 +14,7 @@ use Rattle.ps_bout.specs.Fights.{Fight}
 use Rattle.ps_room.specs.declared.entry.Entry.{Entry}
 use Rattle.ps_room.specs.Openings.{Opening}
 use Rattle.ps_room.specs.Records.{Record, opened}
-use Rattle.ps_room.specs.Rooms.{verdict, sender_of, after, applied, battle_after}
+use Rattle.ps_room.specs.Rooms.{verdict, sender_of, after, battle_after}
 use Rattle.ps_room.proofs.AnswerLemmas.{after_allowed, after_refused}
 
 pub record IsChat (r : Record) : Type 0 where

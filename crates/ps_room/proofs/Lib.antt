@@ -1,8 +1,12 @@
 pub mod AnswerLemmas
+pub mod BlankLemmas
+pub mod CastLemmas
 pub mod ChangeLemmas
+pub mod LogLemmas
 pub mod PullLemmas
 pub mod RoleLemmas
 pub mod SilenceLemmas
+pub mod StoredLemmas
 pub mod UnseenLemmas
 pub mod QuietLemmas
 pub mod ChatLemmas

@@ -1,34 +1,32 @@
 -- What is given to who looks is its view.
-use Rattle.std.proofs.Common.{◌≡◌, ℕ, suc, ◌==◌, Bool, true, false, cond, List, [], ◌∷◌, ◌++◌, length, take, drop, Option, Some, None, refl, sym, ap, ◌∙◌, append_assoc}
-use Rattle.std.proofs.lemmas.List.{append-nil}
-use Rattle.std.proofs.Math.Seq.{take-append_seam, take-length, drop-append_seam}
-use Rattle.ps_base.specs.declared.why.Why.{Why}
-use Rattle.ps_room.specs.declared.entry.Entry.{Entry}
-use Rattle.ps_room.specs.Openings.{Opening}
-use Rattle.ps_room.specs.declared.told.Logged.{Logged}
+use Rattle.std.proofs.Common.{◌≡◌, ℕ, suc, ◌+◌, ◌==◌, Bool, true, false, cond, List, [], ◌∷◌, ◌++◌, length, take, drop, Option, Some, None, refl, sym, ap, ◌∙◌, append_assoc, subst}
+use Rattle.std.proofs.lemmas.List.{append-nil, length-append}
+use Rattle.std.proofs.Math.Seq.{take-append_seam, drop-append_seam}
+use Rattle.ps_valid.specs.declared.start.Start.{Start}
+use Rattle.ps_event.specs.declared.event.Event.{Event}
 use Rattle.ps_view.specs.declared.role.Role.{Role}
+use Rattle.ps_view.specs.declared.role.Role.TheVariants.{Outside}
 use Rattle.ps_bout.specs.Casts.{Cast}
-use Rattle.ps_room.specs.declared.told.Kept.{Kept}
-use Rattle.ps_room.specs.Records.{Record, opened, cast_in}
-use Rattle.ps_room.specs.Rooms.{refused_line, verdict, sender_of, told, after, allowed_events, allowed_lines, logged_of, is_join, joined, joined_if, joined_or, shown_items, kept_back, request_texts, message, message_of, shown_events, seen_texts, role, role_in, run_record, sent, view}
-use Rattle.ps_room.specs.Logs.{Seen, changed, kept_of, run_seen, seen_after, seen_opened, pulled, role_past, cursor_at, first_cursor, PullsView}
-use Rattle.ps_room.proofs.AnswerLemmas.{after_allowed, after_refused}
-use Rattle.ps_room.proofs.ChangeLemmas.{cast_after}
+use Rattle.ps_splitlog.specs.declared.entry.Held.{Held}
+use Rattle.ps_splitlog.specs.Entries as log
+use Rattle.ps_splitlog.specs.Lines.{shown_lines}
+use Rattle.ps_splitlog.specs.Reads.{sent as sent_of, messages_of, role_past, read_past, cursor_past, first_cursor}
+use Rattle.ps_room.specs.declared.entry.Entry.{Entry}
+use Rattle.ps_room.specs.Openings.{Opening, cast_with, bout_with}
+use Rattle.ps_room.specs.Records.{Record, opened}
+use Rattle.ps_room.specs.Rooms.{verdict, after, message, role, role_in, run_record, sent, view}
+use Rattle.ps_room.specs.Logs.{Seen, record_in, stored_in, opened_log, given, kept_of, run_seen, seen_after, seen_opened, cursor_at, PullsView, PullsAll, out_of, AreRoomsOfHistories}
+use Rattle.ps_room.proofs.BlankLemmas.{blank, blank_verdict, blank_out, blank_given, seen_with, seen_step}
+use Rattle.ps_room.proofs.StoredLemmas.{stored_shown}
+use Rattle.ps_room.proofs.LogLemmas.{IsLogOf, log_after, opened_is, message_is}
 use Rattle.ps_room.proofs.RoleLemmas.{role_next}
+use Rattle.ps_room.proofs.SilenceLemmas.{no_events}
 
--- ---- what is kept of a history
+-- ---- what the log has of a history
 
-abbrev logs : Record → List Entry → List Kept
+abbrev pub logs : Record → List Entry → List Held
 logs r [] = []
 logs r (e ∷ es) = kept_of r e ∷ logs (after r e) es
-
-log_is : (s : Seen) (es : List Entry) → (run_seen s es).log ≡ s.log ++ logs s.state es
-log_is s [] = sym (append-nil s.log)
-log_is s (e ∷ es) = log_is (seen_after s e) es ∙ append_assoc s.log (kept_of s.state e ∷ []) (logs (after s.state e) es)
-
-state_is : (s : Seen) (es : List Entry) → (run_seen s es).state ≡ run_record s.state es
-state_is s [] = refl
-state_is s (e ∷ es) = state_is (seen_after s e) es
 
 pub run_more : (r : Record) (before later : List Entry) → run_record r (before ++ later) ≡ run_record (run_record r before) later
 run_more r [] later = refl
@@ -36,70 +34,49 @@ run_more r (e ∷ es) later = run_more (after r e) es later
 
 logs_more : (r : Record) (before later : List Entry) → logs r (before ++ later) ≡ logs r before ++ logs (run_record r before) later
 logs_more r [] later = refl
-logs_more r (e ∷ es) later = ap (λ ks. kept_of r e ∷ ks) (logs_more (after r e) es later)
+logs_more r (e ∷ es) later = ap (λ hs. kept_of r e ∷ hs) (logs_more (after r e) es later)
 
 length_logs : (r : Record) (es : List Entry) → length (logs r es) ≡ length es
 length_logs r [] = refl
 length_logs r (e ∷ es) = ap suc (length_logs (after r e) es)
 
--- ---- what the lines of a battle name stays
+run_is : (number : ℕ) (id : List ℕ) (r : Record) (entries : List Held) (es : List Entry) → run_seen (seen_with number id r entries) es ≡ seen_with number id (run_record r es) (entries ++ logs r es)
+run_is number id r entries [] = ap (seen_with number id r) (sym (append-nil entries))
+run_is number id r entries (e ∷ es) =
+    ap (λ (s : Seen). run_seen s es) (seen_step number id r entries e)
+    ∙ run_is number id (after r e) (entries ++ kept_of r e ∷ []) es
+    ∙ ap (seen_with number id (run_record (after r e) es)) (append_assoc entries (kept_of r e ∷ []) (logs (after r e) es))
 
-cast_by : (r : Record) (e : Entry) (v : Option Why) → verdict r e ≡ v → cast_in (after r e).battle ≡ cast_in r.battle
-cast_by r e (Some why) v = ap (λ (x : Record). cast_in x.battle) (after_refused r e why v)
-cast_by r e None v = ap (λ (x : Record). cast_in x.battle) (after_allowed r e v) ∙ cast_after r.battle (sender_of r e) e.cmd
+log_run : (r : Record) (entries : List Held) (es : List Entry) → IsLogOf r entries → IsLogOf (run_record r es) (entries ++ logs r es)
+log_run r entries [] is = subst (IsLogOf r) (sym (append-nil entries)) is
+log_run r entries (e ∷ es) is =
+    subst (IsLogOf (run_record (after r e) es)) (append_assoc entries (kept_of r e ∷ []) (logs (after r e) es))
+    (log_run (after r e) (entries ++ kept_of r e ∷ []) es (log_after r e entries is))
 
-cast_run : (r : Record) (es : List Entry) → cast_in (run_record r es).battle ≡ cast_in r.battle
-cast_run r [] = refl
-cast_run r (e ∷ es) = cast_run (after r e) es ∙ cast_by r e (verdict r e) refl
+-- the log of an opening
+abbrev opening_of : Opening → List Held
+opening_of o = opened_log o.config o.dex o.battle
 
--- ---- what is logged grows
+-- a room with a history: its record, and its log
+pub room_is : (o : Opening) (h : List Entry) → run_seen (seen_opened o) h ≡ seen_with o.no o.id (run_record (opened o) h) (opening_of o ++ logs (opened o) h)
+room_is o h = run_is o.no o.id (opened o) (opening_of o) h
 
-abbrev Grown : List Logged → List Logged → Type 0
-Grown old new = (more : List Logged) × (new ≡ old ++ more)
+pub room_log : (o : Opening) (h : List Entry) → IsLogOf (run_record (opened o) h) (opening_of o ++ logs (opened o) h)
+room_log o h = log_run (opened o) (opening_of o) h (opened_is o)
 
-grown_more : (a b c : List Logged) → Grown a b → Grown b c → Grown a c
-grown_more a b c x y = (x.0 ++ y.0, y.1 ∙ ap (λ l. l ++ y.0) x.1 ∙ append_assoc a x.0 y.0)
+-- ---- what is read of it
 
-grown_by : (r : Record) (e : Entry) (v : Option Why) → verdict r e ≡ v → Grown r.logged (after r e).logged
-grown_by r e (Some why) v = ([], ap (λ (x : Record). x.logged) (after_refused r e why v) ∙ sym (append-nil r.logged))
-grown_by r e None v = (logged_of (allowed_events r e) (allowed_lines r e), ap (λ (x : Record). x.logged) (after_allowed r e v))
+sent_is : (lines : List (List ℕ)) → sent_of lines ≡ sent lines
+sent_is [] = refl
+sent_is (line ∷ lines) = refl
 
-grown : (r : Record) (es : List Entry) → Grown r.logged (run_record r es).logged
-grown r [] = ([], sym (append-nil r.logged))
-grown r (e ∷ es) = grown_more r.logged (after r e).logged (run_record (after r e) es).logged (grown_by r e (verdict r e) refl) (grown (after r e) es)
-
--- ---- so what was told to who joined stays the same
-
-same_backlog : (old new : List Logged) → Grown old new → take (length old) new ≡ take (length old) old
-same_backlog old new g = ap (take (length old)) g.1 ∙ take-append_seam old g.0 ∙ sym (take-length old)
-
--- however much more is logged
-same_joined : (r : Record) (e : Entry) (cast : Option Cast) (now : List Logged) (texts : List (List ℕ)) (mine join : Bool) → Grown r.logged now
-    → joined_or (cond mine (joined_if join r e) None) cast now texts ≡ joined_or (cond mine (joined_if join r e) None) cast r.logged texts
-same_joined r e cast now texts true true g = ap (λ items. (joined r e).head ++ shown_items cast (joined r e).role (kept_back cast items) ++ request_texts (joined r e).request) (same_backlog r.logged now g)
-same_joined r e cast now texts true false g = refl
-same_joined r e cast now texts false join g = refl
-
-none_joined : (cast : Option Cast) (now logged : List Logged) (texts : List (List ℕ)) (mine : Bool) → joined_or (cond mine None None) cast now texts ≡ joined_or (cond mine None None) cast logged texts
-none_joined cast now logged texts true = refl
-none_joined cast now logged texts false = refl
-
-same_message_by : (conn : ℕ) (role : Role) (cast : Option Cast) (r : Record) (e : Entry) (now : List Logged) (v : Option Why) → verdict r e ≡ v → Grown r.logged now → message_of conn role e.conn (told r e) cast now ≡ message_of conn role e.conn (told r e) cast r.logged
-unfolding told
-same_message_by conn role cast r e now (Some why) v g = rw v (none_joined cast now r.logged (shown_events cast role [] ++ seen_texts conn role (refused_line e.conn why ∷ [])) (conn == e.conn))
-same_message_by conn role cast r e now None v g = rw v (same_joined r e cast now (shown_events cast role (allowed_events r e) ++ seen_texts conn role (allowed_lines r e)) (conn == e.conn) (is_join e.cmd) g)
-
--- ---- what is pulled
-
-pulled_is : (conn : ℕ) (r : Record) (es : List Entry) (now : List Logged) → Grown (run_record r es).logged now → pulled conn (role conn r) (cast_in r.battle) now (logs r es) ≡ view conn r es
-pulled_is conn r [] now g = refl
-pulled_is conn r (e ∷ es) now g =
-    let whole : Grown r.logged now = grown_more r.logged (run_record r (e ∷ es)).logged now (grown r (e ∷ es)) g in
-    let cast : Option Cast = cast_in r.battle in
-    ap (λ m. sent m ++ pulled conn (changed conn (kept_of r e).changes (role conn r)) cast now (logs (after r e) es)) (same_message_by conn (role conn r) cast r e now (verdict r e) refl whole)
-    ∙ ap (λ (x : Role). sent (message conn r e) ++ pulled conn x cast now (logs (after r e) es)) (role_next conn r e)
-    ∙ ap (λ (x : Option Cast). sent (message conn r e) ++ pulled conn (role conn (after r e)) x now (logs (after r e) es)) (sym (cast_by r e (verdict r e) refl))
-    ∙ ap (λ ms. sent (message conn r e) ++ ms) (pulled_is conn (after r e) es now g)
+read_is : (conn : ℕ) (r : Record) (entries : List Held) (es : List Entry) → IsLogOf r entries → messages_of conn (role conn r) entries (logs r es) ≡ view conn r es
+read_is conn r entries [] is = refl
+read_is conn r entries (e ∷ es) is =
+    ap (λ m. sent_of m ++ messages_of conn (log.changed conn (kept_of r e).roles (role conn r)) (entries ++ kept_of r e ∷ []) (logs (after r e) es)) (message_is conn r e entries is)
+    ∙ ap (λ ms. ms ++ messages_of conn (log.changed conn (kept_of r e).roles (role conn r)) (entries ++ kept_of r e ∷ []) (logs (after r e) es)) (sent_is (message conn r e))
+    ∙ ap (λ (x : Role). sent (message conn r e) ++ messages_of conn x (entries ++ kept_of r e ∷ []) (logs (after r e) es)) (role_next conn r e)
+    ∙ ap (λ ms. sent (message conn r e) ++ ms) (read_is conn (after r e) (entries ++ kept_of r e ∷ []) es (log_after r e entries is))
 
 role_past_is : (conn : ℕ) (r : Record) (es : List Entry) → role_past conn (role conn r) (logs r es) ≡ role conn (run_record r es)
 role_past_is conn r [] = refl
@@ -107,48 +84,120 @@ role_past_is conn r (e ∷ es) = ap (λ (x : Role). role_past conn x (logs (afte
 
 -- ---- past a place
 
-log_past : (o : Opening) (before later : List Entry) → drop (length before) (run_seen (seen_opened o) (before ++ later)).log ≡ logs (run_record (opened o) before) later
-log_past o before later =
-    ap (drop (length before)) (log_is (seen_opened o) (before ++ later) ∙ logs_more (opened o) before later)
-    ∙ ap (λ n. drop n (logs (opened o) before ++ logs (run_record (opened o) before) later)) (sym (length_logs (opened o) before))
-    ∙ drop-append_seam (logs (opened o) before) (logs (run_record (opened o) before) later)
+parts : (o : Opening) (before later : List Entry) → opening_of o ++ logs (opened o) (before ++ later) ≡ (opening_of o ++ logs (opened o) before) ++ logs (run_record (opened o) before) later
+parts o before later =
+    ap (λ hs. opening_of o ++ hs) (logs_more (opened o) before later)
+    ∙ sym (append_assoc (opening_of o) (logs (opened o) before) (logs (run_record (opened o) before) later))
 
-logged_past : (o : Opening) (before later : List Entry) → (run_seen (seen_opened o) (before ++ later)).state.logged ≡ (run_record (run_record (opened o) before) later).logged
-logged_past o before later = ap (λ (r : Record). r.logged) (state_is (seen_opened o) (before ++ later) ∙ run_more (opened o) before later)
+place_is : (o : Opening) (before : List Entry) → length (opening_of o) + length before ≡ length (opening_of o ++ logs (opened o) before)
+place_is o before = sym (length-append (opening_of o) (logs (opened o) before) ∙ ap (λ n. length (opening_of o) + n) (length_logs (opened o) before))
 
-cast_past : (o : Opening) (before later : List Entry) → cast_in (run_seen (seen_opened o) (before ++ later)).state.battle ≡ cast_in (run_record (opened o) before).battle
-cast_past o before later =
-    ap (λ (r : Record). cast_in r.battle) (state_is (seen_opened o) (before ++ later) ∙ run_more (opened o) before later)
-    ∙ cast_run (run_record (opened o) before) later
-
-messages_past : (conn : ℕ) (o : Opening) (before later : List Entry) (s : Seen) → s ≡ run_seen (seen_opened o) (before ++ later)
-    → pulled conn (role conn (run_record (opened o) before)) (cast_in s.state.battle) s.state.logged (drop (length before) s.log) ≡ view conn (run_record (opened o) before) later
-messages_past conn o before later s is =
+messages_past : (conn : ℕ) (o : Opening) (before later : List Entry) → read_past (cursor_at conn o before) (opening_of o ++ logs (opened o) (before ++ later)) ≡ view conn (run_record (opened o) before) later
+messages_past conn o before later =
+    let earlier : List Held = opening_of o ++ logs (opened o) before in
     let start : Record = run_record (opened o) before in
-    ap (λ (cast : Option Cast). pulled conn (role conn start) cast s.state.logged (drop (length before) s.log)) (ap (λ (x : Seen). cast_in x.state.battle) is ∙ cast_past o before later)
-    ∙ ap (λ now. pulled conn (role conn start) (cast_in start.battle) now (drop (length before) s.log)) (ap (λ (x : Seen). x.state.logged) is ∙ logged_past o before later)
-    ∙ ap (pulled conn (role conn start) (cast_in start.battle) (run_record start later).logged) (ap (λ (x : Seen). drop (length before) x.log) is ∙ log_past o before later)
-    ∙ pulled_is conn start later (run_record start later).logged ([], sym (append-nil (run_record start later).logged))
+    let more : List Held = logs start later in
+    ap (λ n. messages_of conn (role conn start) (take n (opening_of o ++ logs (opened o) (before ++ later))) (drop n (opening_of o ++ logs (opened o) (before ++ later)))) (place_is o before)
+    ∙ ap (λ hs. messages_of conn (role conn start) (take (length earlier) hs) (drop (length earlier) hs)) (parts o before later)
+    ∙ ap (λ hs. messages_of conn (role conn start) hs (drop (length earlier) (earlier ++ more))) (take-append_seam earlier more)
+    ∙ ap (messages_of conn (role conn start) earlier) (drop-append_seam earlier more)
+    ∙ read_is conn start earlier later (room_log o before)
 
-end_past : (conn : ℕ) (o : Opening) (before later : List Entry) → role_past conn (role conn (run_record (opened o) before)) (drop (length before) (run_seen (seen_opened o) (before ++ later)).log) ≡ role conn (run_record (opened o) (before ++ later))
-end_past conn o before later =
-    ap (role_past conn (role conn (run_record (opened o) before))) (log_past o before later)
-    ∙ role_past_is conn (run_record (opened o) before) later
+role_end : (conn : ℕ) (o : Opening) (before later : List Entry) → role_past conn (role conn (run_record (opened o) before)) (drop (length (opening_of o) + length before) (opening_of o ++ logs (opened o) (before ++ later))) ≡ role conn (run_record (opened o) (before ++ later))
+role_end conn o before later =
+    let earlier : List Held = opening_of o ++ logs (opened o) before in
+    let start : Record = run_record (opened o) before in
+    ap (λ n. role_past conn (role conn start) (drop n (opening_of o ++ logs (opened o) (before ++ later)))) (place_is o before)
+    ∙ ap (λ hs. role_past conn (role conn start) (drop (length earlier) hs)) (parts o before later)
+    ∙ ap (role_past conn (role conn start)) (drop-append_seam earlier (logs start later))
+    ∙ role_past_is conn start later
     ∙ ap (role conn) (sym (run_more (opened o) before later))
-
-length_past : (o : Opening) (es : List Entry) → length (run_seen (seen_opened o) es).log ≡ length es
-length_past o es = ap length (log_is (seen_opened o) es) ∙ length_logs (opened o) es
 
 pub pulls_view : PullsView
 pulls_view conn o before later = record {
-  messages = messages_past conn o before later (run_seen (seen_opened o) (before ++ later)) refl;
-  end = λ i. record {
-    conn = conn;
-    at = length_past o (before ++ later) i;
-    role = end_past conn o before later i;
-  };
+  messages = ap (λ (s : Seen). read_past (cursor_at conn o before) s.log) (room_is o (before ++ later)) ∙ messages_past conn o before later;
+  end =
+      ap (λ (s : Seen). cursor_past (cursor_at conn o before) s.log) (room_is o (before ++ later))
+      ∙ (λ i. record {
+        conn = conn;
+        at = sym (place_is o (before ++ later)) i;
+        role = role_end conn o before later i;
+      });
 }
 
-pub first_is : (conn : ℕ) (o : Opening) → first_cursor conn ≡ cursor_at conn o []
+-- ---- from the first entry on
+
+-- who is no member is shown nothing of the opening
+opening_shown : (conn : ℕ) (c : Cast) (told : List Event) → shown_lines conn Outside (stored_in (Some c) told []) ≡ []
+opening_shown conn c told = stored_shown conn Outside (Some c) told [] ∙ append-nil _ ∙ no_events (Some c) told
+
+first_by : (conn : ℕ) (o : Opening) (b : Option Start) (hs : List Held) → messages_of conn Outside [] (opened_log o.config o.dex b ++ hs) ≡ messages_of conn Outside (opened_log o.config o.dex b) hs
+first_by conn o None hs = refl
+first_by conn o (Some s) hs = by (conn == 0)
+  where
+    none : shown_lines conn Outside (stored_in (Some (cast_with o.config o.dex s)) (bout_with o.config s).told []) ≡ []
+    none = opening_shown conn (cast_with o.config o.dex s) (bout_with o.config s).told
+
+    by : (mine : Bool) → sent_of (log.joined_or conn (cond mine None None) [] (shown_lines conn Outside (stored_in (Some (cast_with o.config o.dex s)) (bout_with o.config s).told []))) ++ messages_of conn Outside (opened_log o.config o.dex (Some s)) hs ≡ messages_of conn Outside (opened_log o.config o.dex (Some s)) hs
+    by true = rw none refl
+    by false = rw none refl
+
+first_role_by : (conn : ℕ) (o : Opening) (b : Option Start) (hs : List Held) → role_past conn Outside (opened_log o.config o.dex b ++ hs) ≡ role_past conn Outside hs
+first_role_by conn o None hs = refl
+first_role_by conn o (Some s) hs = refl
+
+nobody_inside : (conn : ℕ) (o : Opening) → role conn (opened o) ≡ Outside
 unfolding role_in
-first_is conn o = refl
+nobody_inside conn o = refl
+
+pub pulls_all : PullsAll
+pulls_all conn o h = record {
+  messages =
+      ap (λ (s : Seen). read_past (first_cursor conn) s.log) (room_is o h)
+      ∙ first_by conn o o.battle (logs (opened o) h)
+      ∙ ap (λ (x : Role). messages_of conn x (opening_of o) (logs (opened o) h)) (sym (nobody_inside conn o))
+      ∙ read_is conn (opened o) (opening_of o) h (opened_is o);
+  end =
+      ap (λ (s : Seen). cursor_past (first_cursor conn) s.log) (room_is o h)
+      ∙ (λ i. record {
+        conn = conn;
+        at = sym (place_is o h) i;
+        role = (first_role_by conn o o.battle (logs (opened o) h) ∙ ap (λ (x : Role). role_past conn x (logs (opened o) h)) (sym (nobody_inside conn o)) ∙ role_past_is conn (opened o) h) i;
+      });
+}
+
+-- ---- the next entry
+
+-- what the room's code tells a connection is its message
+pub next_is : (conn : ℕ) (o : Opening) (h : List Entry) (e : Entry)
+    → log.message_of conn (role conn (record_in (run_seen (seen_opened o) h))) (log.logged_lines (run_seen (seen_opened o) h).log) (given (record_in (run_seen (seen_opened o) h)) e) ≡ message conn (run_record (opened o) h) e
+next_is conn o h e =
+    let r : Record = run_record (opened o) h in
+    let entries : List Held = opening_of o ++ logs (opened o) h in
+    ap (λ (s : Seen). log.message_of conn (role conn (record_in s)) (log.logged_lines s.log) (given (record_in s) e)) (room_is o h)
+    ∙ ap (log.message_of conn (role conn r) (log.logged_lines entries)) (blank_given r e)
+    ∙ message_is conn r e entries (room_log o h)
+
+-- its record, but for what was logged
+pub record_is : (o : Opening) (h : List Entry) → record_in (run_seen (seen_opened o) h) ≡ blank (run_record (opened o) h)
+record_is o h = ap record_in (room_is o h)
+
+pub id_is : (o : Opening) (h : List Entry) → (run_seen (seen_opened o) h).id ≡ o.id
+id_is o h = ap (λ (s : Seen). s.id) (room_is o h)
+
+-- one entry more
+pub seen_run-append : (s : Seen) (es fs : List Entry) → run_seen s (es ++ fs) ≡ run_seen (run_seen s es) fs
+seen_run-append s [] fs = refl
+seen_run-append s (e ∷ es) fs = seen_run-append (seen_after s e) es fs
+
+pub are_rooms : AreRoomsOfHistories
+are_rooms o h =
+    let r : Record = run_record (opened o) h in
+    let here : record_in (run_seen (seen_opened o) h) ≡ blank r = record_is o h in
+    record {
+      record_is = here;
+      verdict_is = λ e. ap (λ (x : Record). verdict x e) here ∙ blank_verdict r e;
+      out_is = λ e. ap (λ (x : Record). out_of x e) here ∙ blank_out r e;
+      role_is = λ conn. ap (role conn) here;
+      message_is = λ conn e. next_is conn o h e;
+    }

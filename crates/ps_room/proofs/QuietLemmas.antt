@@ -1,5 +1,5 @@
 -- What the battle makes of commands that aren't its own: nothing.
-use Rattle.std.proofs.Common.{◌≡◌, ℕ, Bool, true, false, List, [], ◌++◌, Option, Some, None, refl, ap, ◌∙◌}
+use Rattle.std.proofs.Common.{◌≡◌, ℕ, true, false, List, [], ◌++◌, Option, Some, None, refl, ap, ◌∙◌}
 use Rattle.std.proofs.lemmas.List.{append-nil}
 use Rattle.ps_lines.specs.declared.command.Command.{Command}
 use Rattle.ps_lines.specs.declared.command.Command.TheVariants.{Join, Leave, Quit, Say, Announce, Modnote, Warn, Mute, Unmute, Ban, Unban, Promote, Modchat, Choose, Undo, Forfeit}
@@ -12,9 +12,7 @@ use Rattle.ps_bout.specs.Casts.{Cast}
 use Rattle.ps_bout.specs.Rounds.{Outcome}
 use Rattle.ps_bout.specs.Fights.{Fight, is_of_battle, still, outcome_in, outcome_of_side, requests}
 use Rattle.ps_room.specs.Roles.{side_of_member}
-use Rattle.ps_room.specs.declared.told.Told.{Told}
-use Rattle.ps_room.specs.declared.told.Logged.{Logged}
-use Rattle.ps_room.specs.Rooms.{shown_events, seen_texts, joined_for, message_of, battle_after, lines_by, events_by}
+use Rattle.ps_room.specs.Rooms.{shown_events, battle_after, lines_by, events_by}
 
 side_still : (dex : Tables) (b : Bout) (s : ℕ) (cmd : Command) → is_of_battle cmd ≡ false → outcome_of_side dex b s cmd ≡ still b
 side_still dex b s (Join room) e = refl
@@ -53,7 +51,3 @@ quiet_battle (Some f) me cmd e = ap (λ (o : Outcome). Some (record f { bout = o
 pub shown_nothing : (cast : Option Cast) (role : Role) → shown_events cast role [] ≡ []
 shown_nothing None role = refl
 shown_nothing (Some c) role = refl
-
--- what isn't the joiner's, and has no events, is the lines that are seen
-pub plain_message : (conn : ℕ) (role : Role) (sender : ℕ) (t : Told) (cast : Option Cast) (items : List Logged) → joined_for conn sender t ≡ None → t.events ≡ [] → message_of conn role sender t cast items ≡ seen_texts conn role t.lines
-plain_message conn role sender t cast items other none = rw (other, none, shown_nothing cast role) refl

@@ -25,9 +25,10 @@ use Rattle.ps_bout.specs.Casts.{Cast}
 use Rattle.ps_room.specs.Records.{Record, cast_in}
 use Rattle.ps_room.specs.Roles.{role_of}
 use Rattle.ps_room.specs.Rooms.{verdict, sender_of, after, role, role_in}
-use Rattle.ps_room.specs.Logs.{conns_with, touched_by, touched, change_to, changed}
+use Rattle.ps_splitlog.specs.Entries.{changed}
+use Rattle.ps_room.specs.Logs.{conns_with, touched_by, touched, change_to}
 use Rattle.ps_room.proofs.AnswerLemmas.{after_allowed, after_refused}
-use Rattle.ps_room.proofs.ChangeLemmas.{cast_after}
+use Rattle.ps_room.proofs.CastLemmas.{cast_after}
 
 -- whether a list of connections names one
 abbrev names : ℕ → List ℕ → Bool

@@ -28,8 +28,8 @@ use Rattle.ps_view.specs.declared.role.Role.TheVariants.{Outside}
 use Rattle.ps_view.specs.Roles.{has_role}
 use Rattle.ps_view.specs.Lines.{is_request, line_of}
 use Rattle.ps_bout.specs.declared.bout.Bout.{Bout}
-use Rattle.ps_bout.specs.Casts.{Cast, event_text, event_texts}
-use Rattle.ps_bout.specs.Fights.{Fight, request_at, requests}
+use Rattle.ps_bout.specs.Casts.{Cast, event_text}
+use Rattle.ps_bout.specs.Fights.{Fight, requests}
 use Rattle.ps_bout.specs.Rounds.{Outcome}
 use Rattle.ps_room.specs.Records.{Record, presents_of, cast_in}
 use Rattle.ps_room.specs.Rooms.{verdict, sender_of, told, after, role_in, message, shown_events, seen_text, seen_texts, events_by, lines_by, outcome_by, chat_lines}
@@ -107,7 +107,7 @@ none_of : {X Y : Type 0} (f : X → Option Y) (xs : List X) → ((x : X) → f x
 none_of f [] h = refl
 none_of f (x ∷ xs) h = rw (h x) (none_of f xs h)
 
-no_events : (cast : Option Cast) (told : List Event) → shown_events cast Outside told ≡ []
+pub no_events : (cast : Option Cast) (told : List Event) → shown_events cast Outside told ≡ []
 no_events None told = refl
 no_events (Some c) told = none_of (event_text c Outside) told (unshown c)
 

@@ -13,13 +13,11 @@ use Rattle.ps_chat.specs.declared.present.Present.{Present}
 use Rattle.ps_chat.specs.declared.room.Room.{Room}
 use Rattle.ps_room.specs.declared.entry.Entry.{Entry}
 use Rattle.ps_view.specs.declared.role.Role.{Role}
-use Rattle.ps_bout.specs.Casts.{Cast}
 use Rattle.ps_bout.specs.Fights.{Fight, is_of_battle}
-use Rattle.ps_event.specs.declared.event.Event.{Event}
-use Rattle.ps_room.specs.declared.told.Logged.{Logged}
-use Rattle.ps_room.specs.Records.{Record, presents_of, cast_in, logged_events}
+use Rattle.ps_room.specs.Tolds.{Logged}
+use Rattle.ps_room.specs.Records.{Record, presents_of, cast_in}
 use Rattle.ps_room.specs.Roles.{sees}
-use Rattle.ps_room.specs.Rooms.{verdict, sender_of, told, message, role, shown_events, seen_texts, logged_lines, logged_of, battle_after, chat_lines, lines_by, events_by, allowed_events, allowed_lines}
+use Rattle.ps_room.specs.Rooms.{verdict, sender_of, told, message, role, shown_events, seen_texts, logged_lines, logged_of, battle_after, chat_lines, allowed_events, allowed_lines}
 use Rattle.ps_room.specs.Unseen.{sees_notes, IsUnseen, NotesAreUnseen}
 use Rattle.ps_room.proofs.AnswerLemmas.{after_allowed, other_is}
 use Rattle.ps_room.proofs.QuietLemmas.{quiet_events, quiet_lines, quiet_battle, shown_nothing}

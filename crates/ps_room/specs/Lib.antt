@@ -5,4 +5,5 @@ pub mod Openings
 pub mod Records
 pub mod Roles
 pub mod Rooms
+pub mod Tolds
 pub mod Unseen

@@ -1,32 +1,40 @@
 -- What a room keeps for those who look later, and what they are given.
-use Rattle.std.specs.Prelude.{◌≡◌, ℕ, List, [], ◌∷◌, ◌++◌, length, drop, map, Option, Some, None, ◌==◌, if◌then◌else◌}
+use Rattle.std.specs.Prelude.{◌≡◌, ℕ, Bool, ◌+◌, List, [], ◌∷◌, ◌++◌, length, map, Option, Some, None}
+use Rattle.std.specs.Option.{option_map}
 use Rattle.std.specs.List.{filter}
 use Rattle.ps_base.specs.declared.why.Why.{Why}
-use Rattle.ps_base.specs.declared.msg.Msg.{Msg}
+use Rattle.ps_base.specs.declared.badge.Badge.{Badge}
 use Rattle.ps_lines.specs.declared.command.Command.{Command}
 use Rattle.ps_lines.specs.declared.command.Command.TheVariants.{Join, Leave, Quit, Ban, Promote}
-use Rattle.ps_base.specs.declared.badge.Badge.{Badge}
-use Rattle.ps_chat.specs.Records.{Opening as ChatOpening, Record as ChatRecord}
+use Rattle.ps_dex.specs.declared.row.Tables.{Tables}
+use Rattle.ps_valid.specs.declared.row.Settings.{Settings}
+use Rattle.ps_valid.specs.declared.start.Start.{Start}
+use Rattle.ps_event.specs.declared.event.Event.{Event}
+use Rattle.ps_chat.specs.Lines.{Line}
+use Rattle.ps_chat.specs.Records.{Opening as ChatOpening, Record as ChatRecord, nobody}
 use Rattle.ps_chat.specs.Looks.{has_id}
 use Rattle.ps_chat.specs.declared.present.Present.{Present}
-use Rattle.ps_room.specs.declared.entry.Entry.{Entry}
-use Rattle.ps_room.specs.Openings.{Opening}
 use Rattle.ps_view.specs.declared.role.Role.{Role}
-use Rattle.ps_view.specs.declared.role.Role.TheVariants.{Outside}
 use Rattle.ps_bout.specs.Casts.{Cast}
 use Rattle.ps_bout.specs.Fights.{Fight}
 use Rattle.ps_bout.specs.Rounds.{ended}
-use Rattle.ps_room.specs.declared.told.Change.{Change}
-use Rattle.ps_room.specs.declared.told.Kept.{Kept}
-use Rattle.ps_room.specs.declared.cursor.Cursor.{Cursor}
+use Rattle.ps_splitlog.specs.declared.stored.Stored.{Stored}
+use Rattle.ps_splitlog.specs.declared.entry.Joined.{Joined as LogJoined}
+use Rattle.ps_splitlog.specs.declared.entry.Held.{Held}
+use Rattle.ps_splitlog.specs.declared.cursor.Cursor.{Cursor}
+use Rattle.ps_splitlog.specs.Lines.{stored_of, stored_of_line}
+use Rattle.ps_splitlog.specs.Entries.{all_of_them, logged_lines, message_of}
+use Rattle.ps_splitlog.specs.Reads.{first_cursor, cursor_past, read_past}
+use Rattle.ps_room.specs.declared.entry.Entry.{Entry}
 use Rattle.ps_room.specs.declared.outcome.RoomOut.{RoomOut}
 use Rattle.ps_room.specs.declared.outcome.Ending.{Ending}
 use Rattle.ps_room.specs.declared.outcome.Verdict.TheVariants.{Applied, Refused}
-use Rattle.ps_room.specs.declared.told.Logged.{Logged}
-use Rattle.ps_room.specs.Records.{Record, opened, presents_of, cast_in}
-use Rattle.ps_room.specs.Rooms.{verdict, sender_of, outcome_by, told, after, role, role_in, message_of, sent, run_record, view}
+use Rattle.ps_room.specs.Openings.{Opening, cast_with, bout_with, fight_with}
+use Rattle.ps_room.specs.Tolds.{Joined, Told}
+use Rattle.ps_room.specs.Records.{Record, opened, chat_opening, presents_of, cast_in}
+use Rattle.ps_room.specs.Rooms.{verdict, sender_of, outcome_by, joined_if, told, after, role, role_in, run_record, message, view}
 
--- ---- what a room keeps
+-- ---- whose role may change
 
 abbrev pub conn_of : Present → ℕ
 conn_of p = p.conn
@@ -52,33 +60,74 @@ touched_if None r e = touched_by e.cmd (presents_of r) e.conn
 abbrev pub touched : Record → Entry → List ℕ
 touched r e = touched_if (verdict r e) r e
 
-abbrev pub change_in : Option Cast → ChatOpening → ChatRecord → ℕ → Change
-change_in cast o chat conn = record { conn = conn; role = role_in conn cast o chat }
+-- a connection with its role
+abbrev pub change_in : Option Cast → ChatOpening → ChatRecord → ℕ → ℕ × Role
+change_in cast o chat conn = (conn, role_in conn cast o chat)
 
--- the role that a connection has in a record
-abbrev pub change_to : Record → ℕ → Change
+-- with the role that it has in a record
+abbrev pub change_to : Record → ℕ → ℕ × Role
 change_to r conn = change_in (cast_in r.battle) r.opening r.chat conn
 
-abbrev pub changed_conn : Change → ℕ
-changed_conn c = c.conn
+abbrev pub changed_conn : ℕ × Role → ℕ
+changed_conn c = c.0
 
--- what is kept of an entry
-abbrev pub kept_of : Record → Entry → Kept
-kept_of r e = record { sender = e.conn; told = told r e; changes = map (change_to (after r e)) (touched r e) }
+-- ---- what the log has of an entry
 
--- a room: its number and id, its record, and what it keeps of its entries
+-- its events, each line in its two texts where it is split, and its lines; a room without a battle has no events
+abbrev pub stored_in : Option Cast → List Event → List Line → List Stored
+stored_in None events ls = map stored_of_line ls
+stored_in (Some c) events ls = stored_of c.names c.dex events ls
+
+-- how much of what was logged who joins is sent: of a chat the last hundred lines, of a battle all
+abbrev pub backlog_size : Option Cast → ℕ
+backlog_size None = 100
+backlog_size (Some c) = all_of_them
+
+abbrev pub join_of : Option Cast → Joined → LogJoined
+join_of cast j = record { role = j.role; head = j.head; keep = backlog_size cast; tail = j.request }
+
+abbrev pub held_with : Option Cast → ℕ → Told → List (ℕ × Role) → Held
+held_with cast conn t roles = record { conn = conn; lines = stored_in cast t.events t.lines; join = option_map (join_of cast) t.joined; roles = roles }
+
+abbrev pub join_if : Bool → Record → Entry → Option LogJoined
+join_if join r e = option_map (join_of (cast_in r.battle)) (joined_if join r e)
+
+-- all that an entry gives, as the log will have it, but for the roles
+abbrev pub given : Record → Entry → Held
+given r e = held_with (cast_in r.battle) e.conn (told r e) []
+
+-- what the log has of it: with the roles that hold from the next entry on
+abbrev pub kept_of : Record → Entry → Held
+kept_of r e = held_with (cast_in r.battle) e.conn (told r e) (map (change_to (after r e)) (touched r e))
+
+-- ---- what a room keeps
+
+-- A room: its number and id, what its chat was opened with, its chat and its battle, and its log. Events aren't kept: each of
+-- their lines stands in the log.
 pub record Seen : Type 0 where
   pub no : ℕ
   pub id : List ℕ
-  pub state : Record
-  pub log : List Kept
+  pub opening : ChatOpening
+  pub chat : ChatRecord
+  pub battle : Option Fight
+  pub log : List Held
+
+-- Its record, but for what was logged, which the log has. Neither verdict nor role looks at that; `joined` counts it, and `join_of`
+-- leaves the count out.
+abbrev pub record_in : Seen → Record
+record_in s = record { opening = s.opening; chat = s.chat; logged = []; battle = s.battle }
+
+-- the opening of a battle stands in the log before all entries, as one of a connection that nobody is
+abbrev pub opened_log : Settings → Tables → Option Start → List Held
+opened_log config dex None = []
+opened_log config dex (Some s) = held_with (Some (cast_with config dex s)) 0 (record { events = (bout_with config s).told; lines = []; joined = None }) [] ∷ []
 
 abbrev pub seen_opened : Opening → Seen
-seen_opened o = record { no = o.no; id = o.id; state = opened o; log = [] }
+seen_opened o = record { no = o.no; id = o.id; opening = chat_opening o; chat = nobody; battle = option_map (fight_with o.config o.dex) o.battle; log = opened_log o.config o.dex o.battle }
 
 -- a room after an entry
 abbrev pub seen_after : Seen → Entry → Seen
-seen_after s e = record { no = s.no; id = s.id; state = after s.state e; log = s.log ++ kept_of s.state e ∷ [] }
+seen_after s e = record { no = s.no; id = s.id; opening = (after (record_in s) e).opening; chat = (after (record_in s) e).chat; battle = (after (record_in s) e).battle; log = s.log ++ kept_of (record_in s) e ∷ [] }
 
 -- a room after a history
 abbrev pub run_seen : Seen → List Entry → Seen
@@ -109,45 +158,33 @@ out_of r e = out_by (verdict r e) r e
 
 -- ---- what is given to who looks
 
--- the role after these changes: the first that names the connection counts
-abbrev pub changed : ℕ → List Change → Role → Role
-changed conn [] role = role
-changed conn (c ∷ cs) role = if c.conn == conn then c.role else changed conn cs role
-
--- the messages of what was kept, to a connection in this role before
-abbrev pub pulled : ℕ → Role → Option Cast → List Logged → List Kept → List (List (List ℕ))
-pulled conn role cast logged [] = []
-pulled conn role cast logged (k ∷ ks) = sent (message_of conn role k.sender k.told cast logged) ++ pulled conn (changed conn k.changes role) cast logged ks
-
--- the role after what was kept
-abbrev pub role_past : ℕ → Role → List Kept → Role
-role_past conn role [] = role
-role_past conn role (k ∷ ks) = role_past conn (changed conn k.changes role) ks
-
--- before the first entry
-abbrev pub first_cursor : ℕ → Cursor
-first_cursor conn = record { conn = conn; at = 0; role = Outside }
-
--- at the end of what is kept
-abbrev pub cursor_past : Cursor → List Kept → Cursor
-cursor_past c log = record { conn = c.conn; at = length log; role = role_past c.conn c.role (drop c.at log) }
-
--- the messages past a cursor
-abbrev pub pulled_past : Cursor → Seen → List (List (List ℕ))
-pulled_past c s = pulled c.conn c.role (cast_in s.state.battle) s.state.logged (drop c.at s.log)
-
-abbrev pub msg_lines : Msg → List (List ℕ)
-msg_lines m = m.lines
-
 -- the cursor of a connection that has passed a history
 abbrev pub cursor_at : ℕ → Opening → List Entry → Cursor
-cursor_at conn o h = record { conn = conn; at = length h; role = role conn (run_record (opened o) h) }
+cursor_at conn o h = record { conn = conn; at = length (opened_log o.config o.dex o.battle) + length h; role = role conn (run_record (opened o) h) }
 
 -- What who has passed the history `before` is given of a room whose history goes on with `later`: the part of its view
 -- past that place, and the cursor stands at the end.
 pub record IsPastView (conn : ℕ) (o : Opening) (before later : List Entry) (s : Seen) (c : Cursor) : Type 0 where
-  pub messages : pulled_past c s ≡ view conn (run_record (opened o) before) later
+  pub messages : read_past c s.log ≡ view conn (run_record (opened o) before) later
   pub end : cursor_past c s.log ≡ cursor_at conn o (before ++ later)
 
 abbrev pub PullsView : Type 0
 PullsView = (conn : ℕ) (o : Opening) (before later : List Entry) → IsPastView conn o before later (run_seen (seen_opened o) (before ++ later)) (cursor_at conn o before)
+
+-- a new cursor is given all of it
+abbrev pub PullsAll : Type 0
+PullsAll = (conn : ℕ) (o : Opening) (h : List Entry) → IsPastView conn o [] h (run_seen (seen_opened o) h) (first_cursor conn)
+
+-- ---- what a room's calls say is said of its history
+
+-- A room after a history has the record of the history, but for what was logged; and its verdict, its answer, its roles and the
+-- message of the next entry are those of that record.
+pub record IsRoomOf (o : Opening) (h : List Entry) (s : Seen) : Type 0 where
+  pub record_is : record_in s ≡ record (run_record (opened o) h) { logged = [] }
+  pub verdict_is : (e : Entry) → verdict (record_in s) e ≡ verdict (run_record (opened o) h) e
+  pub out_is : (e : Entry) → out_of (record_in s) e ≡ out_of (run_record (opened o) h) e
+  pub role_is : (conn : ℕ) → role conn (record_in s) ≡ role conn (run_record (opened o) h)
+  pub message_is : (conn : ℕ) (e : Entry) → message_of conn (role conn (record_in s)) (logged_lines s.log) (given (record_in s) e) ≡ message conn (run_record (opened o) h) e
+
+abbrev pub AreRoomsOfHistories : Type 0
+AreRoomsOfHistories = (o : Opening) (h : List Entry) → IsRoomOf o h (run_seen (seen_opened o) h)

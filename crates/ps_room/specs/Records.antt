@@ -1,5 +1,5 @@
 -- The record of a room.
-use Rattle.std.specs.Prelude.{ℕ, List, [], Option, Some, None, is_some, option_map, if◌then◌else◌}
+use Rattle.std.specs.Prelude.{List, [], Option, Some, None, is_some, option_map, if◌then◌else◌}
 use Rattle.std.specs.List.{filter_map}
 use Rattle.ps_event.specs.declared.event.Event.{Event}
 use Rattle.ps_event.specs.Table.{is_logged}
@@ -9,8 +9,8 @@ use Rattle.ps_chat.specs.declared.present.Present.{Present}
 use Rattle.ps_valid.specs.declared.start.Start.{Start}
 use Rattle.ps_bout.specs.Casts.{Cast}
 use Rattle.ps_bout.specs.Fights.{Fight}
-use Rattle.ps_room.specs.declared.told.Logged.{Logged}
-use Rattle.ps_room.specs.declared.told.Logged.TheVariants as logs
+use Rattle.ps_room.specs.Tolds as logs
+use Rattle.ps_room.specs.Tolds.{Logged}
 use Rattle.ps_room.specs.Openings.{Opening, bout_with, fight_with}
 use Rattle.ps_valid.specs.declared.row.Settings.{Settings}
 

@@ -23,10 +23,8 @@ use Rattle.ps_bout.specs.Rounds.{Outcome}
 use Rattle.ps_bout.specs.Casts.{Cast, event_text, event_texts}
 use Rattle.ps_bout.specs.Fights.{Fight, refusal_in, outcome_in, requests, open_request}
 use Rattle.ps_room.specs.declared.entry.Entry.{Entry}
-use Rattle.ps_room.specs.declared.told.Joined.{Joined}
-use Rattle.ps_room.specs.declared.told.Told.{Told}
-use Rattle.ps_room.specs.declared.told.Logged.{Logged}
-use Rattle.ps_room.specs.declared.told.Logged.TheVariants as logs
+use Rattle.ps_room.specs.Tolds as logs
+use Rattle.ps_room.specs.Tolds.{Logged, Joined, Told}
 use Rattle.ps_room.specs.Lines.{kind_line, title_line, users_line}
 use Rattle.ps_room.specs.Records.{Record, presents_of, cast_in, logged_events}
 use Rattle.ps_room.specs.Roles.{role_of, role_of_member, side_of_member, sees}

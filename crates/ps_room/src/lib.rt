@@ -2,15 +2,10 @@
 //! look later.
 #![tactic(auto)]
 
-pub mod cursor;
 pub mod entry;
 pub mod law;
 pub mod line;
-mod logging;
-pub mod message;
 pub mod opening;
 pub mod outcome;
-pub mod role;
 pub mod room;
 mod start;
-pub mod told;

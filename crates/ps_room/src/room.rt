@@ -1,26 +1,23 @@
 //! The room.
-ghost use Rattle.std.specs.Prelude.{◌≡◌, ◌++◌, ◌∷◌, [], ◌<◌, ◌↔◌, true, IfOk, OnOk, OnErr, IfSome, map, drop, Some, None};
+ghost use Rattle.std.specs.Prelude.{◌≡◌, ◌++◌, ◌∷◌, [], ◌<◌, ◌↔◌, true, IfOk, OnOk, OnErr, IfSome, map, Some, None};
 ghost use Rattle.std.specs.Option.{option_copied};
 ghost use Rattle.ps_chat.specs.Verdicts.{verdict as chat_verdict};
 ghost use Rattle.ps_chat.specs.Changes.{record_after};
 ghost use Rattle.ps_dex.specs.Figures.{figures_of};
 ghost use Rattle.ps_bout.specs.Bouts.{IsBout};
 ghost use Rattle.ps_bout.specs.Rounds.{outcome};
+ghost use Rattle.ps_splitlog.specs.Entries.{logged_lines, message_of};
+ghost use Rattle.ps_splitlog.specs.Lines.{stored_of_line};
 ghost use Rattle.ps_room.specs.Records.{presents_of, cast_in};
 ghost use Rattle.ps_room.specs.Roles.{role_of_member, side_of_member};
-ghost use Rattle.ps_room.specs.Rooms.{joined_if, is_join, logged_of, role_in, refused_line, message_of, sent, refusal_by_battle, outcome_by, events_by, lines_by, with_bout, CanGoOn, battle_after, request_for};
-ghost use Rattle.ps_room.specs.Logs.{conns_with, touched_by, change_in, changed, changed_conn, msg_lines, pulled, role_past, entry_of, ending_of, ending_by};
+ghost use Rattle.ps_room.specs.Rooms.{is_join, role_in, refused_line, refusal_by_battle, outcome_by, events_by, lines_by, with_bout, CanGoOn, battle_after, request_for};
+ghost use Rattle.ps_room.specs.Logs.{conns_with, touched_by, change_in, changed_conn, backlog_size, stored_in, join_if, entry_of, ending_of, ending_by};
 
-use crate::cursor::Cursor;
 use crate::entry::Entry;
 use crate::line;
-use crate::logging::push_logged;
-use crate::message::message;
 use crate::opening::{Opening, Parts};
 use crate::outcome::{Ending, RoomOut, Verdict};
-use crate::role::Role;
-use crate::start::open_battle;
-use crate::told::{Change, Happened, Joined, Kept, Logged, Told};
+use crate::start::{Opened, open_battle};
 use ps_base::badge::Badge;
 use ps_base::list::List;
 use ps_base::msg::Msg;
@@ -36,19 +33,26 @@ use ps_chat::line::ChatLine;
 use ps_chat::look::has_id;
 use ps_chat::present::Present;
 use ps_event::audience::Audience;
-use ps_event::event::{Event, Events};
+use ps_event::event::Events;
 use ps_lines::command::Command;
+use ps_splitlog::cursor::Cursor;
+use ps_splitlog::entry::{ALL, Entry as Heard, Held, Joined, held_of, held_of_lines};
+use ps_splitlog::log::SplitLog;
+use ps_view::role::Role;
 use std::alloc::{AllocError, Global};
 use std::marker::Model;
 
-/// A room. Contracts see its number and id, its record, and what it keeps of its entries.
+/// Of what a chat logged who joins is sent the last so many lines.
+const BACKLOG: u32 = 100;
+
+/// A room. Contracts see its number and id, what its chat was opened with, its chat, its battle, and its log. It keeps no
+/// event: each line of one stands in the log.
 #[derive(Drop)]
 pub struct Room {
     no: RoomNo,
     id: Text,
     chat: Chat,
-    logged: Vec<Logged>,
-    log: Vec<Kept>,
+    log: SplitLog,
     battle: Option<RoomBattle>,
 }
 
@@ -62,28 +66,17 @@ impl Model for Room {
 
     ghost coded = { Prim.hlevel (codes, by_id_code coded_ℕ, by_id_code coded_unit) };
 
-    ghost view = { λ r. record { no = r.no; id = r.id; state = record { opening = r.chat.opening; chat = r.chat.state; logged = r.logged.items; battle = r.battle }; log = r.log.items } };
-}
-
-// ---- what an entry gives
-
-// The line of a refused entry.
-fn refused(alloc: Global, conn: ConnNo, why: Why) -> Result<List<ChatLine>, AllocError>
-    ensures { IfOk result (λ v. v ≡ refused_line conn why ∷ []) }
-{
-    let mut lines = Vec::with_capacity(alloc, 1)?;
-    lines.push(ChatLine {
-        audience: Audience::One(conn.0),
-        logged: false,
-        text: error_line(alloc, why)?,
-    })?;
-    Ok(List::from_vec(lines))
+    ghost view = { λ r. record { no = r.no; id = r.id; opening = r.chat.opening; chat = r.chat.state; battle = r.battle; log = r.log } };
 }
 
 // ---- whose role may change
 
 // The connections of the members with an id, each with a role that is still to be set.
-fn conns_with(alloc: Global, id: &str, members: &[Present]) -> Result<Vec<Change>, AllocError>
+fn conns_with(
+    alloc: Global,
+    id: &str,
+    members: &[Present],
+) -> Result<Vec<(ConnNo, Role)>, AllocError>
     ensures { IfOk result (λ v. map changed_conn v.items ≡ conns_with id.now members.now) }
 {
     let mut changes = Vec::new(alloc);
@@ -95,16 +88,13 @@ fn conns_with(alloc: Global, id: &str, members: &[Present]) -> Result<Vec<Change
     Ok(changes)
 }
 
-fn unset(conn: ConnNo) -> Change
+fn unset(conn: ConnNo) -> (ConnNo, Role)
     ensures { changed_conn result ≡ conn }
 {
-    Change {
-        conn,
-        role: Role::Outside,
-    }
+    (conn, Role::Outside)
 }
 
-fn one_unset(alloc: Global, conn: ConnNo) -> Result<Vec<Change>, AllocError>
+fn one_unset(alloc: Global, conn: ConnNo) -> Result<Vec<(ConnNo, Role)>, AllocError>
     ensures { IfOk result (λ v. map changed_conn v.items ≡ conn ∷ []) }
 {
     let mut changes = Vec::with_capacity(alloc, 1)?;
@@ -118,7 +108,7 @@ fn touched_by(
     members: &[Present],
     conn: ConnNo,
     cmd: &Command,
-) -> Result<Vec<Change>, AllocError>
+) -> Result<Vec<(ConnNo, Role)>, AllocError>
     ensures { IfOk result (λ v. map changed_conn v.items ≡ touched_by cmd.now members.now conn) }
 {
     match cmd {
@@ -151,17 +141,17 @@ fn role_in(chat: &Chat, cast: Option<&Cast>, conn: ConnNo) -> Role
 }
 
 // Sets each of these roles to the one that the connection has.
-fn set_roles(chat: &Chat, cast: Option<&Cast>, changes: &mut [Change])
-    ensures { changes.new ≡ map (λ c. change_in (option_copied cast.entry) chat.now.opening chat.now.state c.conn) changes.old }
+fn set_roles(chat: &Chat, cast: Option<&Cast>, changes: &mut [(ConnNo, Role)])
+    ensures { changes.new ≡ map (λ c. change_in (option_copied cast.entry) chat.now.opening chat.now.state (changed_conn c)) changes.old }
 {
     for change in changes.iter_mut() {
-        change.role = role_in(chat, cast, change.conn);
+        change.1 = role_in(chat, cast, change.0);
     }
 }
 
 // The same of a vector.
-fn set_all_roles(chat: &Chat, cast: Option<&Cast>, changes: &mut Vec<Change>)
-    ensures { changes.new.items ≡ map (λ c. change_in (option_copied cast.entry) chat.now.opening chat.now.state c.conn) changes.old.items }
+fn set_all_roles(chat: &Chat, cast: Option<&Cast>, changes: &mut Vec<(ConnNo, Role)>)
+    ensures { changes.new.items ≡ map (λ c. change_in (option_copied cast.entry) chat.now.opening chat.now.state (changed_conn c)) changes.old.items }
 {
     set_roles(chat, cast, changes.as_mut_slice());
 }
@@ -234,126 +224,91 @@ fn request_for(
     }
 }
 
-// The events of an allowed command, and its lines: those of the chat, and the requests that follow the events.
-fn told_by_battle(
-    alloc: Global,
-    battle: Option<&RoomBattle>,
-    member: Option<&Present>,
-    cmd: &Command,
-    lines: Vec<ChatLine>,
-) -> Result<Happened, AllocError>
-    requires { refusal_by_battle (option_copied battle) (option_copied member) cmd.now ≡ None }
-    ensures events { IfOk result (λ h. h.events ≡ events_by (option_copied battle.entry) (option_copied member.entry) cmd.now) }
-    ensures lines { IfOk result (λ h. h.lines ≡ lines_by (option_copied battle.entry) (option_copied member.entry) cmd.now lines.items) }
+// ---- what an entry gives
+
+// What a refused entry gives: its line, which goes to its sender alone.
+fn refused(alloc: Global, conn: ConnNo, why: Why) -> Result<Held, AllocError>
+    ensures { IfOk result (λ h. h ≡ record { conn = conn; lines = map stored_of_line (refused_line conn why ∷ []); join = None; roles = [] }) }
 {
-    match battle {
-        None => Ok(Happened {
-            events: List::from_vec(Vec::new(alloc)),
-            lines: List::from_vec(lines),
-        }),
-        Some(battle) => with_battle(alloc, battle, member, cmd, lines),
+    let line = ChatLine {
+        audience: Audience::One(conn.0),
+        logged: false,
+        text: error_line(alloc, why)?,
+    };
+    held_of_lines(alloc, conn, &[line], None)
+}
+
+fn backlog_size(cast: Option<&Cast>) -> u32
+    ensures { result ≡ backlog_size (option_copied cast.entry) }
+{
+    match cast {
+        None => BACKLOG,
+        Some(_) => ALL,
     }
 }
 
-fn with_battle(
+// The events of an allowed command, and its lines: those of the chat, and the requests that follow the events.
+fn happened(
     alloc: Global,
     battle: &RoomBattle,
     member: Option<&Present>,
     cmd: &Command,
     lines: Vec<ChatLine>,
-) -> Result<Happened, AllocError>
-    requires { refusal_by_battle (Some battle.now) (option_copied member) cmd.now ≡ None }
-    ensures events { IfOk result (λ h. h.events ≡ events_by (Some battle.now) (option_copied member.entry) cmd.now) }
-    ensures lines { IfOk result (λ h. h.lines ≡ lines_by (Some battle.now) (option_copied member.entry) cmd.now lines.items) }
+    out: &mut Events,
+) -> Result<Vec<ChatLine>, AllocError>
+    requires allowed { refusal_by_battle (Some battle.now) (option_copied member) cmd.now ≡ None }
+    requires empty { out.old.items ≡ [] }
+    ensures events { OnOk result (out.new.items ≡ events_by (Some battle.now) (option_copied member.entry) cmd.now) }
+    ensures lines { IfOk result (λ v. v.items ≡ lines_by (Some battle.now) (option_copied member.entry) cmd.now lines.items) }
 {
-    let mut out = Events::new();
-    let after = outcome_by(battle, member, cmd, &mut out);
+    let after = outcome_by(battle, member, cmd, out);
     let mut lines = lines;
     let mut asked = requests(alloc, battle.cast(), &after, out.as_slice())?;
     lines.append(&mut asked)?;
-    Ok(Happened {
-        events: List::from_vec(out.as_slice().to_vec(alloc)?),
-        lines: List::from_vec(lines),
-    })
+    Ok(lines)
 }
 
-// Changes the chat and the logged lines as an entry that is allowed does. Where memory fails nothing
-// changes.
-fn apply_chat(
+// What an allowed entry gives: the lines of the battle's events, those of the chat, and the requests that follow the events.
+fn held(
     alloc: Global,
-    chat: &mut Chat,
-    logged: &mut Vec<Logged>,
-    entry: &Entry,
-    events: &[Event],
-    lines: &[ChatLine],
-) -> Result<(), AllocError>
-    requires { chat_verdict chat.old.opening chat.old.state entry.now.conn entry.now.badge entry.now.moment entry.now.cmd ≡ None }
-    ensures chat { OnOk result (chat.new ≡ record chat.old { state = record_after chat.old.opening.groups chat.old.state entry.now.conn entry.now.badge entry.now.moment entry.now.cmd }) }
-    ensures logged { OnOk result (logged.new.items ≡ logged.old.items ++ logged_of events.now lines.now) }
-    ensures err { OnErr result (chat.new ≡ chat.old) }
-    ensures err_logged { OnErr result (logged.new.items ≡ logged.old.items) }
-{
-    let before = logged.len();
-    push_logged(alloc, logged, events, lines)?;
-    match chat.change(alloc, entry.conn, &entry.badge, entry.moment, &entry.cmd) {
-        Ok(()) => Ok(()),
-        Err(e) => {
-            logged.truncate(before);
-            Err(e)
-        }
-    }
-}
-
-// The role after these changes: the first that names the connection counts.
-fn changed(conn: ConnNo, changes: &[Change], role: Role) -> Role
-    ensures { result ≡ changed conn changes.now role }
-{
-    for change in changes {
-        if change.conn == conn {
-            return change.role;
-        }
-    }
-    role
-}
-
-// Puts a message behind the others, where it has lines.
-fn push_message(messages: &mut Vec<Msg>, lines: List<Text>) -> Result<(), AllocError>
-    ensures { OnOk result (map msg_lines messages.new.items ≡ map msg_lines messages.old.items ++ sent lines) }
-{
-    if !lines.as_slice().is_empty() {
-        messages.push(Msg { lines })?;
-    }
-    Ok(())
-}
-
-// What is kept past a place.
-fn past(log: &[Kept], at: usize) -> &[Kept]
-    ensures { result.now ≡ drop at log.now }
-{
-    if at < log.len() { &log[at..] } else { &[] }
-}
-
-// Puts the messages of what was kept behind the others, for a connection in this role before. The answer is
-// its role after.
-fn push_pulled(
-    alloc: Global,
-    messages: &mut Vec<Msg>,
     conn: ConnNo,
-    first: Role,
-    cast: Option<&Cast>,
-    log: &[Kept],
-    logged: &[Logged],
-) -> Result<Role, AllocError>
-    ensures messages { OnOk result (map msg_lines messages.new.items ≡ map msg_lines messages.old.items ++ pulled conn first (option_copied cast.entry) logged.now log.now) }
-    ensures role { IfOk result (λ role. role ≡ role_past conn first log.now) }
+    battle: Option<&RoomBattle>,
+    member: Option<&Present>,
+    cmd: &Command,
+    lines: Vec<ChatLine>,
+    join: Option<Joined>,
+) -> Result<Held, AllocError>
+    requires { refusal_by_battle (option_copied battle) (option_copied member) cmd.now ≡ None }
+    ensures { IfOk result (λ h. h ≡ record { conn = conn; lines = stored_in (cast_in (option_copied battle.entry)) (events_by (option_copied battle.entry) (option_copied member.entry) cmd.now) (lines_by (option_copied battle.entry) (option_copied member.entry) cmd.now lines.items); join = join; roles = [] }) }
 {
-    let mut role = first;
-    for kept in log {
-        let lines = message(alloc, cast, conn, role, kept.sender, &kept.told, logged)?;
-        push_message(messages, lines)?;
-        role = changed(conn, kept.changes.as_slice(), role);
+    match battle {
+        None => held_of_lines(alloc, conn, lines.as_slice(), join),
+        Some(battle) => held_with_battle(alloc, conn, battle, member, cmd, lines, join),
     }
-    Ok(role)
+}
+
+fn held_with_battle(
+    alloc: Global,
+    conn: ConnNo,
+    battle: &RoomBattle,
+    member: Option<&Present>,
+    cmd: &Command,
+    lines: Vec<ChatLine>,
+    join: Option<Joined>,
+) -> Result<Held, AllocError>
+    requires { refusal_by_battle (Some battle.now) (option_copied member) cmd.now ≡ None }
+    ensures { IfOk result (λ h. h ≡ record { conn = conn; lines = stored_in (Some battle.now.cast) (events_by (Some battle.now) (option_copied member.entry) cmd.now) (lines_by (Some battle.now) (option_copied member.entry) cmd.now lines.items); join = join; roles = [] }) }
+{
+    let mut out = Events::new();
+    let lines = happened(alloc, battle, member, cmd, lines, &mut out)?;
+    let heard = Heard {
+        conn,
+        events: out.as_slice(),
+        lines: lines.as_slice(),
+        join,
+        roles: &[],
+    };
+    held_of(alloc, battle.cast().names(), battle.cast().dex(), heard)
 }
 
 fn ending_of(number: u32, end: Option<Option<u8>>) -> Option<Ending>
@@ -410,10 +365,35 @@ fn set_bout(battle: &mut Option<RoomBattle>, bout: Option<Bout>)
     }
 }
 
+// Puts an entry into the log and changes the chat by it. Where memory fails nothing changes.
+fn push_and_change(
+    alloc: Global,
+    chat: &mut Chat,
+    log: &mut SplitLog,
+    entry: &Entry,
+    held: Held,
+) -> Result<(), AllocError>
+    requires { chat_verdict chat.old.opening chat.old.state entry.now.conn entry.now.badge entry.now.moment entry.now.cmd ≡ None }
+    ensures chat { OnOk result (chat.new ≡ record chat.old { state = record_after chat.old.opening.groups chat.old.state entry.now.conn entry.now.badge entry.now.moment entry.now.cmd }) }
+    ensures log { OnOk result (log.new ≡ log.old ++ held ∷ []) }
+    ensures err { OnErr result (chat.new ≡ chat.old) }
+    ensures err_log { OnErr result (log.new ≡ log.old) }
+{
+    log.push(held)?;
+    match chat.change(alloc, entry.conn, &entry.badge, entry.moment, &entry.cmd) {
+        Ok(()) => Ok(()),
+        Err(e) => {
+            log.take_back();
+            Err(e)
+        }
+    }
+}
+
 impl Room {
     ghost use Rattle.ps_room.specs.Openings.{IsFitOpening};
-    ghost use Rattle.ps_room.specs.Rooms.{verdict, told, after, role, head, joined};
-    ghost use Rattle.ps_room.specs.Logs.{seen_opened, seen_after, out_of, cursor_past, pulled_past, msg_lines};
+    ghost use Rattle.ps_room.specs.Rooms.{verdict, role, head};
+    ghost use Rattle.ps_room.specs.Logs.{record_in, given, seen_opened, seen_after, out_of};
+    ghost use Rattle.ps_splitlog.specs.Reads.{cursor_past, read_past, msg_lines};
 
     /// Whether a room can have this opening: where it has a battle, that can start under the configuration and the dex. Takes
     /// no memory.
@@ -443,14 +423,12 @@ impl Room {
             config.groups(),
             config.staff(),
         )?;
-        let mut logged = Vec::new(alloc);
-        let battle = open_battle(alloc, &config, dex, battle, &mut logged)?;
+        let Opened { battle, log } = open_battle(alloc, &config, dex, battle)?;
         Ok(Room {
             no,
             id,
             chat,
-            logged,
-            log: Vec::new(alloc),
+            log,
             battle,
         })
     }
@@ -458,7 +436,7 @@ impl Room {
     /// Why the entry is refused; `None` where it is allowed. Takes no memory.
     #[tactic(auto, unfolding(crate::specs::Rooms::verdict))]
     pub fn verdict(&self, entry: &Entry) -> Option<Why>
-        ensures { result ≡ verdict self.now.state entry.now }
+        ensures { result ≡ verdict (record_in self.now) entry.now }
     {
         match self
             .chat
@@ -482,14 +460,14 @@ impl Room {
 
     /// What a connection is to the room. Takes no memory.
     pub fn role(&self, conn: ConnNo) -> Role
-        ensures { result ≡ role conn self.now.state }
+        ensures { result ≡ role conn (record_in self.now) }
     {
         role_in(&self.chat, cast_in(self.battle.as_ref()), conn)
     }
 
     // What who joins is sent before the logged lines.
     fn head(&self, alloc: Global, joiner: &Present) -> Result<List<Text>, AllocError>
-        ensures { IfOk result (λ v. v ≡ head self.now.state (presents_of self.now.state ++ joiner.now ∷ [])) }
+        ensures { IfOk result (λ v. v ≡ head (record_in self.now) (presents_of (record_in self.now) ++ joiner.now ∷ [])) }
     {
         let mut lines = Vec::with_capacity(alloc, 3)?;
         lines.push(line::kind_line(alloc, self.chat.is_battle())?)?;
@@ -499,48 +477,41 @@ impl Room {
     }
 
     fn joined(&self, alloc: Global, entry: &Entry) -> Result<Option<Joined>, AllocError>
-        ensures { IfOk result (λ o. o ≡ joined_if (is_join entry.now.cmd) self.now.state entry.now) }
+        ensures { IfOk result (λ o. o ≡ join_if (is_join entry.now.cmd) (record_in self.now) entry.now) }
     {
         if matches!(&entry.cmd, Command::Join { .. }) {
             let joiner = self.chat.joiner(alloc, entry.conn, &entry.badge)?;
             Ok(Some(Joined {
-                head: self.head(alloc, &joiner)?,
-                logged: self.logged.len(),
                 role: role_of_member(cast_in(self.battle.as_ref()), &joiner),
-                request: request_for(alloc, self.battle.as_ref(), &joiner)?,
+                head: self.head(alloc, &joiner)?,
+                keep: backlog_size(cast_in(self.battle.as_ref())),
+                tail: request_for(alloc, self.battle.as_ref(), &joiner)?,
             }))
         } else {
             Ok(None)
         }
     }
 
-    /// All that the entry gives: of a refused one its one line to its sender.
-    #[tactic(auto, unfolding(crate::specs::Rooms::told))]
-    pub fn told(&self, alloc: Global, entry: &Entry) -> Result<Told, AllocError>
-        ensures { IfOk result (λ t. t ≡ told self.now.state entry.now) }
+    /// All that the entry gives, as the log will have it; of a refused one its one line to its sender.
+    pub fn given(&self, alloc: Global, entry: &Entry) -> Result<Held, AllocError>
+        ensures { IfOk result (λ h. h ≡ given (record_in self.now) entry.now) }
     {
         match self.verdict(entry) {
-            Some(why) => Ok(Told {
-                events: List::from_vec(Vec::new(alloc)),
-                lines: refused(alloc, entry.conn, why)?,
-                joined: None,
-            }),
+            Some(why) => refused(alloc, entry.conn, why),
             None => {
                 let lines = self
                     .chat
                     .told(alloc, entry.conn, &entry.badge, entry.moment, &entry.cmd)?;
-                let Happened { events, lines } = told_by_battle(
+                let join = self.joined(alloc, entry)?;
+                held(
                     alloc,
+                    entry.conn,
                     self.battle.as_ref(),
                     self.chat.member(entry.conn),
                     &entry.cmd,
                     lines,
-                )?;
-                Ok(Told {
-                    events,
-                    lines,
-                    joined: self.joined(alloc, entry)?,
-                })
+                    join,
+                )
             }
         }
     }
@@ -548,7 +519,7 @@ impl Room {
     /// Whether an entry is applied where it comes next, and the end of the battle where it ends it. Takes no memory.
     #[tactic(auto, unfolding(crate::specs::Logs::out_of))]
     pub fn out_of(&self, entry: &Entry) -> RoomOut
-        ensures { result ≡ out_of self.now.state entry.now }
+        ensures { result ≡ out_of (record_in self.now) entry.now }
     {
         match self.verdict(entry) {
             None => RoomOut {
@@ -567,22 +538,17 @@ impl Room {
     }
 
     // Keeps what a refused entry gives.
-    fn keep_refused(&mut self, alloc: Global, sender: ConnNo, given: Told) -> Result<(), AllocError>
-        ensures ok { OnOk result (self.new ≡ record self.old { log = self.old.log ++ record { sender = sender; told = given; changes = [] } ∷ [] }) }
+    fn keep_refused(&mut self, held: Held) -> Result<(), AllocError>
+        ensures ok { OnOk result (self.new ≡ record self.old { log = self.old.log ++ held ∷ [] }) }
         ensures err { OnErr result (self.new ≡ self.old) }
     {
-        self.log.push(Kept {
-            sender,
-            told: given,
-            changes: List::from_vec(Vec::new(alloc)),
-        })?;
-        Ok(())
+        self.log.push(held)
     }
 
     // Applies an entry that is allowed. Where memory fails nothing changes.
-    fn keep_applied(&mut self, alloc: Global, entry: &Entry, given: Told) -> Result<(), AllocError>
-        requires allowed { verdict self.old.state entry.now ≡ None }
-        requires given { given ≡ told self.old.state entry.now }
+    fn keep_applied(&mut self, alloc: Global, entry: &Entry, held: Held) -> Result<(), AllocError>
+        requires allowed { verdict (record_in self.old) entry.now ≡ None }
+        requires given { held ≡ given (record_in self.old) entry.now }
         ensures ok { OnOk result (self.new ≡ seen_after self.old entry.now) }
         ensures err { OnErr result (self.new ≡ self.old) }
     {
@@ -592,44 +558,30 @@ impl Room {
             self.chat.member(entry.conn),
             &entry.cmd,
         );
-        self.log.reserve(1)?;
-        apply_chat(
-            alloc,
-            &mut self.chat,
-            &mut self.logged,
-            entry,
-            given.events.as_slice(),
-            given.lines.as_slice(),
-        )?;
+        push_and_change(alloc, &mut self.chat, &mut self.log, entry, held)?;
         set_bout(&mut self.battle, bout);
         set_all_roles(&self.chat, cast_in(self.battle.as_ref()), &mut changes);
-        self.log
-            .push(Kept {
-                sender: entry.conn,
-                told: given,
-                changes: List::from_vec(changes),
-            })
-            .unwrap();
+        self.log.give_roles(List::from_vec(changes));
         Ok(())
     }
 
     /// Applies an entry, of which all that it gives is handed in. Where memory fails nothing changes.
-    pub fn keep(&mut self, alloc: Global, entry: &Entry, given: Told) -> Result<(), AllocError>
-        requires { given ≡ told self.old.state entry.now }
+    pub fn keep(&mut self, alloc: Global, entry: &Entry, held: Held) -> Result<(), AllocError>
+        requires { held ≡ given (record_in self.old) entry.now }
         ensures ok { OnOk result (self.new ≡ seen_after self.old entry.now) }
         ensures err { OnErr result (self.new ≡ self.old) }
     {
         match self.verdict(entry) {
             Some(_) => {
-                self.keep_refused(alloc, entry.conn, given)?;
+                self.keep_refused(held)?;
                 Ok(())
             }
-            None => self.keep_applied(alloc, entry, given),
+            None => self.keep_applied(alloc, entry, held),
         }
     }
 
-    /// Applies an entry, or refuses it by name. A refused one changes nothing and gives its sender one line.
-    /// All memory is taken before anything changes.
+    /// Applies an entry, or refuses it by name. A refused one changes nothing and gives its sender one line. The log's memory is
+    /// taken before the record changes; where memory fails nothing has changed.
     pub fn apply(
         &mut self,
         alloc: Global,
@@ -640,7 +592,7 @@ impl Room {
     ) -> Result<RoomOut, AllocError>
         ensures ok { OnOk result (self.new ≡ seen_after self.old (entry_of conn badge moment cmd)) }
         ensures err { OnErr result (self.new ≡ self.old) }
-        ensures out { IfOk result (λ out. out ≡ out_of self.old.state (entry_of conn badge moment cmd)) }
+        ensures out { IfOk result (λ out. out ≡ out_of (record_in self.old) (entry_of conn badge moment cmd)) }
     {
         let entry = Entry {
             conn,
@@ -649,48 +601,30 @@ impl Room {
             cmd,
         };
         let out = self.out_of(&entry);
-        let told = self.told(alloc, &entry)?;
-        self.keep(alloc, &entry, told)?;
+        let held = self.given(alloc, &entry)?;
+        self.keep(alloc, &entry, held)?;
         Ok(out)
     }
 
-    /// What a connection is sent at an entry, of which all that it gives is handed in, by its role before the entry.
+    /// What a connection is sent at an entry that comes next, of which all that it gives is handed in.
     pub fn message(
         &self,
         alloc: Global,
         conn: ConnNo,
-        sender: ConnNo,
-        told: &Told,
+        held: &Held,
     ) -> Result<List<Text>, AllocError>
-        ensures { IfOk result (λ v. v ≡ message_of conn (role conn self.now.state) sender told.now (cast_in self.now.state.battle) self.now.state.logged) }
+        ensures { IfOk result (λ v. v ≡ message_of conn (role conn (record_in self.now)) (logged_lines self.now.log) held.now) }
     {
-        let cast = cast_in(self.battle.as_ref());
-        let logged = self.logged.as_slice();
-        message(alloc, cast, conn, self.role(conn), sender, told, logged)
+        self.log.message_next(alloc, conn, self.role(conn), held)
     }
 
     /// The messages past a cursor, which moves to the end. Where memory fails the cursor stays. The cursor
     /// is one of this room.
     pub fn pull(&self, alloc: Global, cursor: &mut Cursor) -> Result<Vec<Msg>, AllocError>
-        ensures messages { IfOk result (λ v. map msg_lines v.items ≡ pulled_past cursor.old self.now) }
+        ensures messages { IfOk result (λ v. map msg_lines v.items ≡ read_past cursor.old self.now.log) }
         ensures end { OnOk result (cursor.new ≡ cursor_past cursor.old self.now.log) }
         ensures err { OnErr result (cursor.new ≡ cursor.old) }
     {
-        let mut messages = Vec::new(alloc);
-        let log = past(self.log.as_slice(), cursor.at);
-        let logged = self.logged.as_slice();
-        let cast = cast_in(self.battle.as_ref());
-        let role = push_pulled(
-            alloc,
-            &mut messages,
-            cursor.conn,
-            cursor.role,
-            cast,
-            log,
-            logged,
-        )?;
-        cursor.role = role;
-        cursor.at = self.log.len();
-        Ok(messages)
+        self.log.read_from(alloc, cursor)
     }
 }

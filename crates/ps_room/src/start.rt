@@ -1,26 +1,28 @@
 //! The battle of a room at its opening.
-ghost use Rattle.std.specs.Prelude.{◌≡◌, ◌++◌, ◌<◌, [], ◌∷◌, IfSome, IfOk, OnOk, bit_and, option_map};
+ghost use Rattle.std.specs.Prelude.{◌≡◌, ◌++◌, ◌<◌, [], ◌∷◌, IfSome, IfOk, OnOk, Some, None, bit_and, option_map};
 ghost use Rattle.std.specs.Arc.{arc_value};
 ghost use Rattle.ps_start.specs.Fits.{IsFit};
 ghost use Rattle.std.specs.Option.{option_copied};
-ghost use Rattle.ps_room.specs.Openings.{name_of_format, clauses_of_format, bout_with, fight_with};
-ghost use Rattle.ps_room.specs.Records.{logged_with, logged_events};
+ghost use Rattle.ps_room.specs.Openings.{name_of_format, clauses_of_format, fight_with};
+ghost use Rattle.ps_room.specs.Logs.{held_with, opened_log};
 
-use crate::logging::push_logged_events;
-use crate::message::push_copies;
-use crate::told::Logged;
 use ps_base::list::List;
+use ps_base::number::ConnNo;
 use ps_base::text::Text;
 use ps_bout::cast::Cast;
 use ps_bout::room_battle::RoomBattle;
 use ps_dex::dex::Dex;
-use ps_event::event::Events;
+use ps_event::event::{Event, Events};
 use ps_rules::row::Format;
+use ps_splitlog::log::SplitLog;
 use ps_valid::config::Config;
 use ps_valid::start::Start;
 use ps_view::names::Names;
 use std::alloc::{AllocError, Global};
 use std::sync::Arc;
+
+/// A battle's opening is of no connection; these are numbered from 1.
+const NOBODY: ConnNo = ConnNo(0);
 
 fn name_of_format(alloc: Global, format: Option<&Format>) -> Result<Text, AllocError>
     ensures { IfOk result (λ t. t ≡ name_of_format (option_copied format.entry)) }
@@ -42,12 +44,38 @@ fn clauses_of_format(format: Option<&Format>) -> u8
     }
 }
 
+/// The battle of a room, if it has one, and the room's log, which begins with the battle's opening.
+#[derive(Drop)]
+pub(crate) struct Opened {
+    pub(crate) battle: Option<RoomBattle>,
+    pub(crate) log: SplitLog,
+}
+
+fn push_copy(alloc: Global, copies: &mut Vec<Text>, text: &Text) -> Result<(), AllocError>
+    ensures { OnOk result (copies.new.items ≡ copies.old.items ++ text.now ∷ []) }
+{
+    let copy = text.copy(alloc)?;
+    copies.push(copy)?;
+    Ok(())
+}
+
 fn copies(alloc: Global, texts: &[Text]) -> Result<List<Text>, AllocError>
     ensures { IfOk result (λ l. l ≡ texts.now) }
 {
-    let mut copies = Vec::new(alloc);
-    push_copies(alloc, &mut copies, texts)?;
+    let mut copies = Vec::with_capacity(alloc, texts.len())?;
+    for text in texts {
+        push_copy(alloc, &mut copies, text)?;
+    }
     Ok(List::from_vec(copies))
+}
+
+// A log that begins with these events, which are of no connection.
+fn log_of(alloc: Global, cast: &Cast, told: &[Event]) -> Result<SplitLog, AllocError>
+    ensures { IfOk result (λ l. l ≡ held_with (Some cast.now) 0 (record { events = told.now; lines = []; joined = None }) [] ∷ []) }
+{
+    let mut log = SplitLog::new(alloc);
+    log.append(alloc, NOBODY, told, cast.names(), cast.dex())?;
+    Ok(log)
 }
 
 fn start_battle(
@@ -55,11 +83,10 @@ fn start_battle(
     config: &Config,
     dex: Arc<Dex>,
     start: Start,
-    logged: &mut Vec<Logged>,
-) -> Result<RoomBattle, AllocError>
+) -> Result<Opened, AllocError>
     requires { IsFit start config.now (arc_value dex) }
-    ensures battle { IfOk result (λ b. b ≡ fight_with config.now (arc_value dex) start) }
-    ensures logged { OnOk result (logged.new.items ≡ logged.old.items ++ logged_events (bout_with config.now start).told) }
+    ensures battle { IfOk result (λ o. o.battle ≡ Some (fight_with config.now (arc_value dex) start)) }
+    ensures log { IfOk result (λ o. o.log ≡ opened_log config.now (arc_value dex) (Some start)) }
 {
     let Start {
         number,
@@ -82,24 +109,29 @@ fn start_battle(
     let cast = Cast::new(names, dex);
     let mut out = Events::new();
     let battle = RoomBattle::open(number, cast, &fighters, clauses, seed, &mut out);
-    push_logged_events(logged, out.as_slice())?;
-    Ok(battle)
+    let log = log_of(alloc, battle.cast(), out.as_slice())?;
+    Ok(Opened {
+        battle: Some(battle),
+        log,
+    })
 }
 
-/// The battle of a room at its opening, if it has one. What its opening logs goes behind what is logged.
+/// The battle of a room at its opening, if it has one, and the room's log.
 pub(crate) fn open_battle(
     alloc: Global,
     config: &Config,
     dex: Arc<Dex>,
     start: Option<Start>,
-    logged: &mut Vec<Logged>,
-) -> Result<Option<RoomBattle>, AllocError>
+) -> Result<Opened, AllocError>
     requires { IfSome start (λ s. IsFit s config.now (arc_value dex)) }
-    ensures battle { IfOk result (λ b. b ≡ option_map (fight_with config.now (arc_value dex)) start) }
-    ensures logged { OnOk result (logged.new.items ≡ logged.old.items ++ logged_with config.now start) }
+    ensures battle { IfOk result (λ o. o.battle ≡ option_map (fight_with config.now (arc_value dex)) start) }
+    ensures log { IfOk result (λ o. o.log ≡ opened_log config.now (arc_value dex) start) }
 {
     match start {
-        None => Ok(None),
-        Some(start) => Ok(Some(start_battle(alloc, config, dex, start, logged)?)),
+        None => Ok(Opened {
+            battle: None,
+            log: SplitLog::new(alloc),
+        }),
+        Some(start) => start_battle(alloc, config, dex, start),
     }
 }

@@ -10,10 +10,10 @@ use ps_dex::dex::Dex;
 use ps_group::groups::Groups;
 use ps_lines::command::{Command, Parsed};
 use ps_lines::read::read_command;
-use ps_room::cursor::Cursor;
 use ps_room::opening::Opening;
 use ps_room::outcome::RoomOut;
 use ps_room::room::Room;
+use ps_splitlog::cursor::Cursor;
 use ps_valid::config::Config;
 use std::alloc::Global;
 use std::process::Abort;
@@ -174,7 +174,7 @@ const RANKS: Rows = &[
 
 // ---- playing
 
-fn command(alloc: Global, text: &str) -> Result<Command, Fail> {
+pub(crate) fn command(alloc: Global, text: &str) -> Result<Command, Fail> {
     if text == "quit" {
         return Ok(Command::Quit);
     }
@@ -184,7 +184,7 @@ fn command(alloc: Global, text: &str) -> Result<Command, Fail> {
     }
 }
 
-fn badge_of(alloc: Global, conn: u32) -> Result<Badge, Fail> {
+pub(crate) fn badge_of(alloc: Global, conn: u32) -> Result<Badge, Fail> {
     let (name, rank) = WHO.get(conn as usize).copied().unwrap_or(("Zed", 5));
     Ok(Badge {
         name: Name::new(alloc, name)?,

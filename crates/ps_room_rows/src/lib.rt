@@ -4,4 +4,6 @@
 #[cfg(test)]
 mod chat_tests;
 #[cfg(test)]
+mod plain_tests;
+#[cfg(test)]
 mod room_tests;

@@ -9,11 +9,11 @@ use ps_bout::rounds::ended;
 use ps_dex::dex::Dex;
 use ps_mon::record::Phase;
 use ps_packed::team::read_team;
-use ps_room::cursor::Cursor;
 use ps_room::opening::Opening;
 use ps_room::outcome::{Ending, RoomOut, Verdict};
 use ps_room::room::Room;
 use ps_rules::formats::resolve;
+use ps_splitlog::cursor::Cursor;
 use ps_valid::check::check_team;
 use ps_valid::config::Config;
 use ps_valid::start::{Legal, Start};
@@ -23,7 +23,8 @@ use std::sync::Arc;
 use std::test::Fail;
 
 /// The moves and species of the two teams, as `data/row/dex.json` has them.
-const DEX: &str = r#"{"types":[{"name":"Normal","special":false},{"name":"Ground","special":false},
+pub(crate) const DEX: &str =
+    r#"{"types":[{"name":"Normal","special":false},{"name":"Ground","special":false},
 {"name":"Psychic","special":true},{"name":"Ice","special":true}],"moves":[
 {"name":"Body Slam","type":"Normal","power":85,"accuracy":100,"pp":24,"priority":0,"effect":{"kind":"status","status":"par","chance":77}},
 {"name":"Hyper Beam","type":"Normal","power":150,"accuracy":90,"pp":8,"priority":0,"effect":{"kind":"recharge"}},
@@ -33,7 +34,8 @@ const DEX: &str = r#"{"types":[{"name":"Normal","special":false},{"name":"Ground
 {"name":"Tauros","types":["Normal"],"stats":[75,100,95,70,110],"learns":["bodyslam","hyperbeam","blizzard","earthquake"]},
 {"name":"Snorlax","types":["Normal"],"stats":[160,110,65,65,30],"learns":["bodyslam","rest"]}]}"#;
 
-const CONFIG: &str = r#"{"formats":[{"name":"[Gen 1] OU","rules":["speciesclause"]}],"seeds":[0]}"#;
+pub(crate) const CONFIG: &str =
+    r#"{"formats":[{"name":"[Gen 1] OU","rules":["speciesclause"]}],"seeds":[0]}"#;
 
 const TAUROS: &str = "Tauros||||bodyslam,hyperbeam,blizzard,earthquake|||||||";
 
@@ -75,7 +77,13 @@ fn own(rt: &impl Abort, alloc: Global, dex: &Dex, config: &Config, is_tired: boo
     }
 }
 
-fn start(rt: &impl Abort, alloc: Global, dex: &Dex, config: &Config, is_tired: bool) -> Start {
+pub(crate) fn start(
+    rt: &impl Abort,
+    alloc: Global,
+    dex: &Dex,
+    config: &Config,
+    is_tired: bool,
+) -> Start {
     let players = [name(rt, alloc, "Ann"), name(rt, alloc, "Bob")];
     let first = own(rt, alloc, dex, config, is_tired);
     let second = legal(rt, alloc, dex, config, SNORLAX);
@@ -101,7 +109,7 @@ fn opening(rt: &impl Abort, alloc: Global, is_tired: bool) -> Opening {
 }
 
 /// The room of Ann's Tauros and Bob's Snorlax.
-fn opened(rt: &impl Abort, alloc: Global, is_tired: bool) -> Room {
+pub(crate) fn opened(rt: &impl Abort, alloc: Global, is_tired: bool) -> Room {
     let opening = opening(rt, alloc, is_tired);
     let fit = Room::fit(&opening);
     assert!(rt; fit);
@@ -109,7 +117,7 @@ fn opened(rt: &impl Abort, alloc: Global, is_tired: bool) -> Room {
 }
 
 /// A connection and its text. 1 is Ann, 2 is Bob, and 3 is Cy, who plays no side.
-type Texts = &'static [(u32, &'static str)];
+pub(crate) type Texts = &'static [(u32, &'static str)];
 
 fn enter_all(alloc: Global, room: &mut Room, texts: Texts) -> Result<(), Fail> {
     for (conn, text) in texts {

@@ -3,7 +3,7 @@ use Rattle.std.proofs.Common.{◌≡◌, ℕ, suc, ◌+◌, ◌-◌, ◌==◌, B
 use Rattle.std.specs.List.{filter, filter_map, cons_option, slice_get}
 use Rattle.std.proofs.lemmas.Grind.{flat_map-append}
 use Rattle.std.proofs.lemmas.List.{append-nil, map-append, length-map, length-append, take-map, drop-map}
-use Rattle.std.proofs.Math.Seq.{take-append_seam, get_or-append_seam, set-append_seam}
+use Rattle.std.proofs.Math.Seq.{take-length, take-append_seam, get_or-append_seam, set-append_seam}
 use Rattle.ps_view.specs.declared.role.Role.{Role}
 use Rattle.ps_splitlog.specs.declared.stored.Stored.{Stored}
 use Rattle.ps_splitlog.specs.declared.entry.Held.{Held}
@@ -201,3 +201,13 @@ backlog_is conn role keep earlier h later starts places index =
     ∙ last_shown conn role log keep (length (logged_lines earlier))
     ∙ ap (λ ls. shown_lines conn role (last_of keep (take (length (logged_lines earlier)) ls))) (flat_map-append logged_in earlier (h ∷ later))
     ∙ ap (λ ls. shown_lines conn role (last_of keep ls)) (take-append_seam (logged_lines earlier) (logged_lines (h ∷ later)))
+
+-- what who joins by the next entry is shown of the whole log
+pub whole_backlog_is : (conn : ℕ) (role : Role) (keep : ℕ) (entries : List Held) (starts : List ℕ) (places : List Place) → IsIndex entries starts places
+    → shown_at conn role entries (last_of keep places) ≡ shown_lines conn role (last_of keep (logged_lines entries))
+whole_backlog_is conn role keep entries starts places index =
+    let n : ℕ = length (places_of 0 entries) in
+    ap (λ ps. shown_at conn role entries (last_of keep ps)) (index.places ∙ sym (take-length (places_of 0 entries)))
+    ∙ last_shown conn role entries keep n
+    ∙ ap (λ i. shown_lines conn role (last_of keep (take i (logged_lines entries)))) (count_is entries)
+    ∙ ap (λ ls. shown_lines conn role (last_of keep ls)) (take-length (logged_lines entries))

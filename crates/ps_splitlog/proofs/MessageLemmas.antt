@@ -1,5 +1,5 @@
 -- The message of an entry.
-use Rattle.std.proofs.Common.{◌≡◌, ℕ, ◌+◌, ◌<◌, List, [], ◌∷◌, ◌++◌, length, get_or, take, drop, Some, sym, ap, subst, ◌∙◌, arith}
+use Rattle.std.proofs.Common.{◌≡◌, ℕ, ◌+◌, ◌<◌, List, [], ◌∷◌, ◌++◌, length, get_or, take, drop, Some, None, sym, ap, subst, ◌∙◌, arith}
 use Rattle.std.specs.List.{slice_get}
 use Rattle.std.proofs.lemmas.List.{drop_more, take_more, take-append-drop, length-take}
 use Rattle.std.proofs.lemmas.Option.{slice_get_within, get_or_from_slice_get}
@@ -7,8 +7,9 @@ use Rattle.ps_view.specs.declared.role.Role.{Role}
 use Rattle.ps_splitlog.specs.declared.entry.Held.{Held}
 use Rattle.ps_splitlog.specs.declared.entry.Joined.{Joined}
 use Rattle.ps_splitlog.specs.declared.index.Place.{Place}
+use Rattle.ps_splitlog.specs.declared.stored.Stored.{Stored}
 use Rattle.ps_splitlog.specs.Lines.{shown_lines}
-use Rattle.ps_splitlog.specs.Entries.{changed, logged_lines, last_of, tail_texts, join_for, joined_or, first_message, message_at}
+use Rattle.ps_splitlog.specs.Entries.{changed, logged_lines, last_of, tail_texts, join_for, joined_or, first_message, message_of, message_at}
 use Rattle.ps_splitlog.specs.Reads.{sent, messages_of}
 use Rattle.ps_splitlog.specs.Indices.{IsIndex, shown_at}
 use Rattle.ps_splitlog.proofs.IndexLemmas.{backlog_is}
@@ -46,3 +47,7 @@ next_message conn role log place d lt =
     ap (messages_of conn role (take place log)) here
     ∙ ap (λ hs. sent (first_message conn role (take place log) hs) ++ messages_of conn (changed conn h.roles role) (take place log ++ h ∷ []) (drop (place + 1) log)) (sym here)
     ∙ ap (λ hs. sent (message_at conn role log place) ++ messages_of conn (changed conn h.roles role) hs (drop (place + 1) log)) (sym (take_more log place d lt))
+
+-- what isn't the joiner's is the lines that are shown
+pub plain_message : (conn : ℕ) (role : Role) (before : List Stored) (h : Held) → join_for conn h ≡ None → message_of conn role before h ≡ shown_lines conn role h.lines
+plain_message conn role before h other = ap (λ o. joined_or conn o before (shown_lines conn role h.lines)) other

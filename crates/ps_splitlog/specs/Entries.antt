@@ -1,5 +1,5 @@
 -- The log: its entries, and what a connection is sent at each.
-use Rattle.std.specs.Prelude.{ℕ, ◌-◌, List, [], ◌∷◌, ◌++◌, length, take, drop, Option, Some, None, ◌==◌, if◌then◌else◌}
+use Rattle.std.specs.Prelude.{ℕ, ◌-◌, List, [], ◌∷◌, ◌++◌, length, map, take, drop, Option, Some, None, ◌==◌, if◌then◌else◌}
 use Rattle.std.specs.List.{filter, flat_map}
 use Rattle.ps_event.specs.declared.event.Event.{Event}
 use Rattle.ps_dex.specs.declared.row.Tables.{Tables}
@@ -8,11 +8,15 @@ use Rattle.ps_view.specs.declared.role.Role.{Role}
 use Rattle.ps_splitlog.specs.declared.stored.Stored.{Stored}
 use Rattle.ps_splitlog.specs.declared.entry.Joined.{Joined}
 use Rattle.ps_splitlog.specs.declared.entry.Held.{Held}
-use Rattle.ps_splitlog.specs.Lines.{Line, stored_of, is_logged_line, shown_lines}
+use Rattle.ps_splitlog.specs.Lines.{Line, stored_of, stored_of_line, is_logged_line, shown_lines}
 
 -- what the log holds of an entry
 abbrev pub held_of : Names → Tables → ℕ → List Event → List Line → Option Joined → List (ℕ × Role) → Held
 held_of names dex conn events ls join roles = record { conn = conn; lines = stored_of names dex events ls; join = join; roles = roles }
+
+-- of an entry that tells no event and gives no role
+abbrev pub held_of_lines : ℕ → List Line → Option Joined → Held
+held_of_lines conn ls join = record { conn = conn; lines = map stored_of_line ls; join = join; roles = [] }
 
 -- ---- roles
 

@@ -2,7 +2,7 @@
 ghost use Rattle.std.specs.Prelude.{◌≡◌, ◌++◌, ◌∷◌, [], map, IfOk, OnOk};
 ghost use Rattle.std.specs.List.{filter_map};
 ghost use Rattle.ps_splitlog.specs.Lines.{stored_of_event, stored_of_line, stored_of};
-ghost use Rattle.ps_splitlog.specs.Entries.{held_of};
+ghost use Rattle.ps_splitlog.specs.Entries.{held_of, held_of_lines};
 
 use crate::stored::{Stored, stored_of_event, stored_of_line};
 use ps_base::list::List;
@@ -121,8 +121,9 @@ fn stored_of(
     Ok(List::from_vec(stored))
 }
 
-// What a log holds of an entry.
-pub(crate) fn held_of(
+/// What a log holds of an entry: of its events the lines that `line_for` gives, then its lines. The events' numbers are in the
+/// range of names and dex; another has the line that `line_for` says.
+pub fn held_of(
     alloc: Global,
     names: &Names,
     dex: &Dex,
@@ -137,5 +138,25 @@ pub(crate) fn held_of(
         lines,
         join: entry.join,
         roles: List::from_vec(roles),
+    })
+}
+
+/// What a log holds of an entry that tells no event and gives no role: such is a refused one, and at first each of a room without
+/// a battle (`SplitLog::give_roles`).
+pub fn held_of_lines(
+    alloc: Global,
+    conn: ConnNo,
+    lines: &[ChatLine<Text>],
+    join: Option<Joined>,
+) -> Result<Held, AllocError>
+    ensures { IfOk result (λ h. h ≡ held_of_lines conn lines.now join) }
+{
+    let mut stored = Vec::with_capacity(alloc, lines.len())?;
+    push_lines(alloc, &mut stored, lines)?;
+    Ok(Held {
+        conn,
+        lines: List::from_vec(stored),
+        join,
+        roles: List::from_vec(Vec::new(alloc)),
     })
 }

@@ -2,13 +2,13 @@
 ghost use Rattle.std.specs.Prelude.{◌≡◌, ◌++◌, ◌∷◌, [], length, map, None, IfOk, OnOk, OnErr};
 ghost use Rattle.std.specs.Prelude as prelude;
 ghost use Rattle.ps_splitlog.specs.declared.entry.Held.{Held};
-ghost use Rattle.ps_splitlog.specs.Entries.{held_of, message_at};
+ghost use Rattle.ps_splitlog.specs.Entries.{held_of, logged_lines, message_of};
 ghost use Rattle.ps_splitlog.specs.Reads.{cursor_past, read_past, msg_lines};
 
 use crate::cursor::Cursor;
 use crate::entry::{Entry, Held, held_of};
 use crate::index::{Index, forget, none, note};
-use crate::read::{message, push_messages};
+use crate::read::{message_next, push_messages};
 use ps_base::list::List;
 use ps_base::msg::Msg;
 use ps_base::number::ConnNo;
@@ -62,22 +62,9 @@ impl SplitLog {
         }
     }
 
-    /// How many entries it has.
-    pub fn len(&self) -> usize
-        ensures { result ≡ length self.now }
-    {
-        self.entries.len()
-    }
-
-    /// The entries, in order. What a connection is shown of a line of one tells `shown`, without a copy.
-    pub fn as_slice(&self) -> &[Held]
-        ensures { result.now ≡ self.now }
-    {
-        self.entries.as_slice()
-    }
-
-    // Puts an entry at the end. Where memory fails nothing changes.
-    fn push(&mut self, held: Held) -> Result<(), AllocError>
+    /// Puts at the end what is held of an entry and is made already: for who shows it to others first. Where memory fails
+    /// nothing changes.
+    pub fn push(&mut self, held: Held) -> Result<(), AllocError>
         ensures ok { OnOk result (self.new ≡ self.old ++ held ∷ []) }
         ensures err { OnErr result (self.new ≡ self.old) }
     {
@@ -147,23 +134,23 @@ impl SplitLog {
         set_roles(&mut self.entries, roles);
     }
 
-    /// What a connection in this role is sent at the entry in a place, from 0; past the end nothing.
-    pub fn message(
+    /// What a connection in this role is sent at an entry that comes next, of which this will be held.
+    pub fn message_next(
         &self,
         alloc: Global,
-        place: usize,
         conn: ConnNo,
         role: Role,
+        held: &Held,
     ) -> Result<List<Text>, AllocError>
-        ensures { IfOk result (λ v. v ≡ message_at conn role self.now place) }
+        ensures { IfOk result (λ v. v ≡ message_of conn role (logged_lines self.now) held.now) }
     {
-        message(
+        message_next(
             alloc,
             self.entries.as_slice(),
             &self.index,
-            place,
             conn,
             role,
+            held,
         )
     }
 

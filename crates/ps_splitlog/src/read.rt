@@ -2,7 +2,7 @@
 ghost use Rattle.std.specs.Prelude.{◌≡◌, ◌++◌, ◌∷◌, [], take, drop, map, get_or, IfOk, OnOk};
 ghost use Rattle.std.specs.Option.{option_copied};
 ghost use Rattle.ps_splitlog.specs.Lines.{shown_lines};
-ghost use Rattle.ps_splitlog.specs.Entries.{changed, last_of, tail_texts, join_for, message_at};
+ghost use Rattle.ps_splitlog.specs.Entries.{changed, logged_lines, last_of, tail_texts, join_for, message_of, message_at};
 ghost use Rattle.ps_splitlog.specs.Reads.{sent, messages_of, role_past, msg_lines};
 ghost use Rattle.ps_splitlog.specs.Indices.{shown_at, IsIndex};
 
@@ -169,8 +169,8 @@ pub fn join_for(conn: ConnNo, held: &Held) -> Option<&Joined>
     }
 }
 
-/// What a connection in this role is sent at the entry in a place.
-pub(crate) fn message(
+// What a connection in this role is sent at the entry in a place.
+fn message(
     alloc: Global,
     entries: &[Held],
     index: &Index,
@@ -187,6 +187,25 @@ pub(crate) fn message(
             None => shown_of(alloc, conn, role, held.lines.as_slice()),
             Some(joined) => init(alloc, conn, joined, entries, places_before(index, place)),
         },
+    }
+}
+
+/// What a connection in this role is sent at an entry that comes next.
+#[tactic(auto, using(crate::proofs::IndexLemmas::whole_backlog_is))]
+pub(crate) fn message_next(
+    alloc: Global,
+    entries: &[Held],
+    index: &Index,
+    conn: ConnNo,
+    role: Role,
+    held: &Held,
+) -> Result<List<Text>, AllocError>
+    requires { IsIndex entries.now index.now.starts.items index.now.places.items }
+    ensures { IfOk result (λ v. v ≡ message_of conn role (logged_lines entries.now) held.now) }
+{
+    match join_for(conn, held) {
+        None => shown_of(alloc, conn, role, held.lines.as_slice()),
+        Some(joined) => init(alloc, conn, joined, entries, index.places.as_slice()),
     }
 }
 

@@ -1,6 +1,6 @@
 //! What no clause says: a log on worked rows.
 use crate::cursor::Cursor;
-use crate::entry::{Entry, Joined};
+use crate::entry::{Entry, Held, Joined, held_of, held_of_lines};
 use crate::log::SplitLog;
 use ps_base::list::List;
 use ps_base::msg::Msg;
@@ -107,22 +107,14 @@ fn append(
 }
 
 /// The fourth connection joins, and is sent the last line that was logged.
-fn join(rt: &impl Abort, alloc: Global, log: &mut SplitLog) {
-    let names = names(rt, alloc);
-    let entry = Entry {
-        conn: ConnNo(4),
-        events: &[],
-        lines: &[],
-        join: Some(Joined {
-            role: SPECTATOR,
-            head: texts(rt, alloc, "|init|battle"),
-            keep: 1,
-            tail: None,
-        }),
-        roles: &[],
+fn join(rt: &impl Abort, alloc: Global) -> Held {
+    let joined = Joined {
+        role: SPECTATOR,
+        head: texts(rt, alloc, "|init|battle"),
+        keep: 1,
+        tail: None,
     };
-    log.append_whole(alloc, entry, &names, &Dex::empty(alloc))
-        .expect(rt, "memory");
+    held_of_lines(alloc, ConnNo(4), &[], Some(joined)).expect(rt, "memory")
 }
 
 /// Two lines, and roles from the next entry on.
@@ -176,10 +168,30 @@ fn split_line_for_each_role(rt: HostRuntime) -> Result<(), Fail> {
     Ok(())
 }
 
+/// What a connection in this role is sent at an entry that comes next.
+fn next(
+    rt: &impl Abort,
+    alloc: Global,
+    log: &SplitLog,
+    conn: u32,
+    role: Role,
+    held: &Held,
+) -> String {
+    let lines = log
+        .message_next(alloc, ConnNo(conn), role, held)
+        .expect(rt, "memory");
+    let mut out = String::new(alloc);
+    push_lines(rt, &mut out, lines.as_slice());
+    out
+}
+
 #[test]
 fn joiner_is_sent_the_last_line(rt: HostRuntime) -> Result<(), Fail> {
     let mut log = opened(&rt, rt.alloc());
-    join(&rt, rt.alloc(), &mut log);
+    let held = join(&rt, rt.alloc());
+    let told = next(&rt, rt.alloc(), &log, 4, Role::Outside, &held);
+    assert_eq!(rt; told.as_str(), "|init|battle two ");
+    log.push(held).expect(&rt, "memory");
     let sent = read_once(&rt, rt.alloc(), &log, 4);
     assert_eq!(rt; sent.as_str(), "|init|battle two \n");
     Ok(())
@@ -210,23 +222,29 @@ fn append_damage(rt: &impl Abort, alloc: Global, log: &mut SplitLog) {
         .expect(rt, "memory");
 }
 
-/// What the third connection is sent at an entry, in this role.
-fn message(rt: &impl Abort, alloc: Global, log: &SplitLog, place: usize, role: Role) -> String {
-    let lines = log
-        .message(alloc, place, ConnNo(3), role)
-        .expect(rt, "memory");
-    let mut out = String::new(alloc);
-    push_lines(rt, &mut out, lines.as_slice());
-    out
+/// The same entry, which isn't in the log yet.
+fn damage(rt: &impl Abort, alloc: Global) -> Held {
+    let names = names(rt, alloc);
+    let entry = Entry {
+        conn: ConnNo(1),
+        events: &[DAMAGE],
+        lines: &[],
+        join: None,
+        roles: &[],
+    };
+    held_of(alloc, &names, &Dex::empty(alloc), entry).expect(rt, "memory")
 }
 
 #[test]
-fn message_of_one_entry(rt: HostRuntime) -> Result<(), Fail> {
+fn next_entry_is_sent_as_it_is_read(rt: HostRuntime) -> Result<(), Fail> {
     let mut log = opened(&rt, rt.alloc());
-    append_damage(&rt, rt.alloc(), &mut log);
-    let own = message(&rt, rt.alloc(), &log, 1, PLAYER_1);
+    let held = damage(&rt, rt.alloc());
+    let own = next(&rt, rt.alloc(), &log, 3, PLAYER_1, &held);
     assert_eq!(rt; own.as_str(), "|-damage|p1a: Tauros|331/353 ");
-    let outside = message(&rt, rt.alloc(), &log, 1, Role::Outside);
+    let outside = next(&rt, rt.alloc(), &log, 3, Role::Outside, &held);
     assert_eq!(rt; outside.as_str(), "");
+    append_damage(&rt, rt.alloc(), &mut log);
+    let read = read_once(&rt, rt.alloc(), &log, 3);
+    assert_eq!(rt; read.as_str(), "|-damage|p1a: Tauros|94/100 \n");
     Ok(())
 }

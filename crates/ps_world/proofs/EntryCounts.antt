@@ -1,5 +1,5 @@
 -- What is counted of lines: their entries, and those of them that are refused.
-use Rattle.std.proofs.Common.{◌≡◌, ℕ, ◌+◌, Bool, List, [], ◌∷◌, ◌++◌, length, refl, sym, ap, ◌∙◌, arith}
+use Rattle.std.proofs.Common.{◌≡◌, ℕ, ◌+◌, List, [], ◌∷◌, ◌++◌, length, sym, ap, ◌∙◌, arith}
 use Rattle.std.proofs.lemmas.List.{length-append}
 use Rattle.std.proofs.lemmas.List.Elements.{filter_map-append}
 use Rattle.ps_script.specs.declared.item.Item.{Item}
@@ -9,12 +9,14 @@ use Rattle.ps_world.specs.declared.place.Happening.TheVariants as happening
 use Rattle.ps_world.specs.declared.transcript.Counts.{Counts}
 use Rattle.ps_world.specs.Setup.{Setup}
 use Rattle.ps_world.specs.Worlds.{World, world_after}
-use Rattle.ps_world.specs.Nows.{Now, now_of, now_after}
-use Rattle.ps_world.specs.Entries.{Run, State, state_of, run_opening, run_after, line_in, entry_in, entries_in, worlds_after, happenings_from, entries}
+use Rattle.ps_world.specs.Nows.{now_of}
+use Rattle.ps_world.specs.Houses.{House, now_in, house_after, house_of}
+use Rattle.ps_world.specs.Entries.{Run, Line, run_opening, run_after, line_in, entry_in, entries_in, worlds_after, happenings_from, entries}
 use Rattle.ps_world.specs.Counts.{is_refused, one_if, refused_from, refused}
-use Rattle.ps_world.specs.Tables.{fresh, item_after, no_counts, one_more, happenings_counts, item_counts, counts_from}
-use Rattle.ps_world.proofs.HistoryLemmas.{now_more}
-use Rattle.ps_world.proofs.TextLemmas.{state_past, fresh_is}
+use Rattle.ps_world.specs.Tables.{Desk, fresh, no_counts, one_more, happenings_counts, item_counts, counts_from}
+use Rattle.ps_world.proofs.HistoryLemmas.{house_more}
+use Rattle.ps_world.proofs.TextLemmas.{now_is, line_is, desk_of, desk_past, fresh_is}
+use Rattle.ps_world.proofs.LookLemmas.{refused_same}
 
 abbrev counts : ℕ → ℕ → Counts
 counts all some = record { entries = all; refused = some }
@@ -28,12 +30,17 @@ with_entries w ps c = record { entries = c.entries + length ps; refused = c.refu
 
 -- ---- one line
 
-pub of_happenings : (w : World) (xs : List Happening) (c : Counts) → happenings_counts (now_of w) xs c ≡ with_entries w (entries_in xs) c
+refusals : (w : World) (p : Placed) → is_refused (now_in (house_of w)) p ≡ is_refused (now_of w) p
+refusals w p = ap (λ n. is_refused n p) (now_is w) ∙ refused_same (now_of w) p
+
+pub of_happenings : (w : World) (xs : List Happening) (c : Counts) → happenings_counts (house_of w) xs c ≡ with_entries w (entries_in xs) c
 of_happenings w [] c = same c.entries c.refused (c.entries + 0) (c.refused + 0) (omega arith) (omega arith)
 of_happenings w (happening.Entry p ∷ xs) c =
     let more : Counts = one_more (is_refused (now_of w) p) c in
+    let same_more : one_more (is_refused (now_in (house_of w)) p) c ≡ more = ap (λ b. one_more b c) (refusals w p) in
     let later : ℕ = refused_from (world_after w p) (entries_in xs) in
-    ap (λ (n : Now). happenings_counts n xs more) (sym (now_more w p))
+    ap (happenings_counts (house_after (house_of w) p) xs) same_more
+    ∙ ap (λ (k : House). happenings_counts k xs more) (sym (house_more w p))
     ∙ of_happenings (world_after w p) xs more
     ∙ same (c.entries + 1 + length (entries_in xs)) (c.refused + one_if (is_refused (now_of w) p) + later) (c.entries + length (p ∷ entries_in xs)) (c.refused + (one_if (is_refused (now_of w) p) + later)) (omega arith) (omega arith)
 of_happenings w (happening.Ended conn ∷ xs) c = of_happenings w xs c
@@ -49,13 +56,14 @@ entries_behind w ps qs c =
     same (c.entries + length ps + length qs) (c.refused + refused_from w ps + refused_from (worlds_after w ps) qs) (c.entries + length (ps ++ qs)) (c.refused + refused_from w (ps ++ qs))
     (omega (arith, length-append ps qs)) (omega (arith, refused-append w ps qs))
 
-pub of_lines : (r : Run) (is : List Item) (c : Counts) → counts_from (state_of r) is c ≡ with_entries r.world (entries_in (happenings_from r is)) c
+pub of_lines : (r : Run) (is : List Item) (c : Counts) → counts_from (desk_of r) is c ≡ with_entries r.world (entries_in (happenings_from r is)) c
 of_lines r [] c = same c.entries c.refused (c.entries + 0) (c.refused + 0) (omega arith) (omega arith)
 of_lines r (i ∷ is) c =
     let first : List Happening = (line_in r i).happenings in
     let rest : List Happening = happenings_from (run_after r i) is in
-    ap (λ (s : State). counts_from s is (item_counts (state_of r) i c)) (state_past r i)
-    ∙ ap (counts_from (state_of (run_after r i)) is) (of_happenings r.world first c)
+    ap (λ (d : Desk). counts_from d is (item_counts (desk_of r) i c)) (desk_past r i)
+    ∙ ap (λ (l : Line). counts_from (desk_of (run_after r i)) is (happenings_counts (house_of r.world) l.happenings c)) (line_is r i)
+    ∙ ap (counts_from (desk_of (run_after r i)) is) (of_happenings r.world first c)
     ∙ of_lines (run_after r i) is (with_entries r.world (entries_in first) c)
     ∙ entries_behind r.world (entries_in first) (entries_in rest) c
     ∙ ap (λ (ps : List Placed). with_entries r.world ps c) (sym (filter_map-append entry_in first rest))
@@ -64,6 +72,6 @@ of_lines r (i ∷ is) c =
 
 pub counts_is : (s : Setup) (items : List Item) → counts_from (fresh s) items no_counts ≡ record { entries = length (entries s items); refused = refused s items }
 counts_is s items =
-    ap (λ (x : State). counts_from x items no_counts) (fresh_is s)
+    ap (λ (x : Desk). counts_from x items no_counts) (fresh_is s)
     ∙ of_lines (run_opening s) items no_counts
     ∙ same (0 + length (entries s items)) (0 + refused s items) (length (entries s items)) (refused s items) (omega arith) (omega arith)

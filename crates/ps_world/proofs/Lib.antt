@@ -1,4 +1,5 @@
 pub mod HistoryLemmas
+pub mod LookLemmas
 pub mod PlayLemmas
 pub mod TextLemmas
 pub mod CountLemmas

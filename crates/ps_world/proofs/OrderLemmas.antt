@@ -1,5 +1,5 @@
 -- An order that was just taken was counted to its place last.
-use Rattle.std.proofs.Common.{◌≡◌, refl}
+use Rattle.std.proofs.Common.{refl}
 use Rattle.ps_lines.specs.declared.order.Order.{Order}
 use Rattle.ps_lines.specs.declared.order.Order.TheVariants as orders
 use Rattle.ps_session.specs.Sessions.{Record as Session, counted}

@@ -112,13 +112,13 @@ begun_hall : (h : HallRecord) (o : Option Start) (w : World) → (with_battle h 
 begun_hall h None w = refl
 begun_hall h (Some start) w = refl
 
-kept_hall : (w : World) (number : ℕ) (e : Entry) (b : Bool) → (after_if w number e b).hall ≡ w.hall
-kept_hall w number e true = refl
-kept_hall w number e false = refl
+house_hall : (w : World) (number : ℕ) (e : Entry) (b : Bool) → (after_if w number e b).hall ≡ w.hall
+house_hall w number e true = refl
+house_hall w number e false = refl
 
 hall_after : (w : World) (p : Placed) → (world_after w p).hall ≡ w.hall ++ filter_map hall_entry_of (p ∷ [])
 hall_after w (Hall e) = begun_hall (hall_in w) (started_by (hall_in w) e) (with_hall w e)
-hall_after w (Room number e) = kept_hall w number e (nat_lt number first_battle) ∙ sym (append-nil w.hall)
+hall_after w (Room number e) = house_hall w number e (nat_lt number first_battle) ∙ sym (append-nil w.hall)
 
 halls_after : (w : World) (ps : List Placed) → (worlds_after w ps).hall ≡ w.hall ++ filter_map hall_entry_of ps
 halls_after w [] = sym (append-nil w.hall)

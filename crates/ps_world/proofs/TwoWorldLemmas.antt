@@ -8,7 +8,7 @@ use Rattle.ps_laws.proofs.RoomLemmas.{views_are_equal}
 use Rattle.ps_laws.proofs.HallHistoryLemmas.{hall_views_are_equal}
 use Rattle.ps_script.specs.declared.item.Item.{Item}
 use Rattle.ps_script.specs.Scripts.{IsScript}
-use Rattle.ps_world.specs.Setup.{Setup, setup_of}
+use Rattle.ps_world.specs.Setup.{setup_of}
 use Rattle.ps_world.specs.Worlds.{Place, in_hall, in_room, World, world_view}
 use Rattle.ps_world.specs.Entries.{world_of}
 use Rattle.ps_world.specs.TwoWorlds.{hall_of, AreSameIn, AreSameAt, HasEqualBlocks}

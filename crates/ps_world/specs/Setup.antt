@@ -1,5 +1,5 @@
 -- What a replay stands on: the dex, the configuration, and the ranks that the script gives.
-use Rattle.std.specs.Prelude.{ℕ, suc, ◌+◌, ◌-◌, List, [], ◌∷◌, length, map, unwrap_or, slice_index_or, Option, Some, None}
+use Rattle.std.specs.Prelude.{ℕ, suc, ◌+◌, ◌-◌, List, [], ◌∷◌, length, unwrap_or, slice_index_or, Some, None}
 use Rattle.std.specs.FinMap.{insert, empty}
 use Rattle.ps_dex.specs.declared.row.Tables.{Tables}
 use Rattle.ps_group.specs.Ranks.{rank_of}

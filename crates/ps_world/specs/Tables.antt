@@ -1,20 +1,31 @@
 -- What a replay prints and counts line by line, by the state that its code keeps in the place of histories. No statement of the top call
 -- rests on this file.
-use Rattle.std.specs.Prelude.{ℕ, zero, suc, ◌+◌, Bool, List, [], ◌∷◌, ◌++◌, length, Option}
+use Rattle.std.specs.Prelude.{ℕ, zero, suc, ◌+◌, Bool, List, [], ◌∷◌, ◌++◌, length}
 use Rattle.ps_script.specs.declared.item.Item.{Item}
 use Rattle.ps_world.specs.declared.place.Placed.{Placed}
 use Rattle.ps_world.specs.declared.place.Happening.{Happening}
 use Rattle.ps_world.specs.declared.place.Happening.TheVariants.{Entry, Ended}
 use Rattle.ps_world.specs.declared.transcript.Counts.{Counts}
 use Rattle.ps_world.specs.Setup.{Setup}
-use Rattle.ps_world.specs.Nows.{Now, now_opening, now_after, now_message, id_at}
+use Rattle.ps_session.specs.Sessions.{Record as Session}
+use Rattle.ps_world.specs.Houses.{House, now_in, house_opening, house_after, house_message, house_id}
 use Rattle.ps_world.specs.Entries.{State, Line, line_at, moment_after}
 use Rattle.ps_world.specs.Counts.{is_refused, one_if}
 use Rattle.ps_world.specs.Transcript.{printed, with_id, over_line}
 
+-- the moment, the hall and the rooms as the code keeps them, and what is known of each connection, in order from 1
+pub record Desk : Type 0 where
+  pub moment : ℕ
+  pub house : House
+  pub sessions : List Session
+
+-- what decides what a line brings about
+abbrev pub state_in : Desk → State
+state_in d = record { moment = d.moment; now = now_in d.house; sessions = d.sessions }
+
 -- before the first line
-abbrev pub fresh : Setup → State
-fresh s = record { moment = 0; now = now_opening s; sessions = [] }
+abbrev pub fresh : Setup → Desk
+fresh s = record { moment = 0; house = house_opening s; sessions = [] }
 
 -- f of each number from 1 to n, in order
 abbrev pub each_to : (ℕ → List ℕ) → ℕ → List ℕ
@@ -22,49 +33,49 @@ each_to f zero = []
 each_to f (suc n) = each_to f n ++ f (suc n)
 
 -- what is printed for a connection at an entry
-abbrev pub printed_for : Now → Placed → ℕ → List ℕ
-printed_for n p conn = printed conn (with_id (id_at n p) (now_message conn n p))
+abbrev pub printed_for : House → Placed → ℕ → List ℕ
+printed_for k p conn = printed conn (with_id (house_id k p) (house_message conn k p))
 
 -- what is printed at an entry, where so many connections have opened
-abbrev pub entry_text : ℕ → Now → Placed → List ℕ
-entry_text count n p = each_to (printed_for n p) count
+abbrev pub entry_text : ℕ → House → Placed → List ℕ
+entry_text count k p = each_to (printed_for k p) count
 
-abbrev pub happening_text : ℕ → Now → Happening → List ℕ
-happening_text count n (Entry p) = entry_text count n p
-happening_text count n (Ended conn) = over_line conn
+abbrev pub happening_text : ℕ → House → Happening → List ℕ
+happening_text count k (Entry p) = entry_text count k p
+happening_text count k (Ended conn) = over_line conn
 
-abbrev pub happening_after : Now → Happening → Now
-happening_after n (Entry p) = now_after n p
-happening_after n (Ended conn) = n
+abbrev pub happening_after : House → Happening → House
+happening_after k (Entry p) = house_after k p
+happening_after k (Ended conn) = k
 
 -- what is printed of these happenings
-abbrev pub happenings_text : ℕ → Now → List Happening → List ℕ
-happenings_text count n [] = []
-happenings_text count n (x ∷ xs) = happening_text count n x ++ happenings_text count (happening_after n x) xs
+abbrev pub happenings_text : ℕ → House → List Happening → List ℕ
+happenings_text count k [] = []
+happenings_text count k (x ∷ xs) = happening_text count k x ++ happenings_text count (happening_after k x) xs
 
 -- the hall and the rooms after them
-abbrev pub happenings_after : Now → List Happening → Now
-happenings_after n [] = n
-happenings_after n (x ∷ xs) = happenings_after (happening_after n x) xs
+abbrev pub happenings_after : House → List Happening → House
+happenings_after k [] = k
+happenings_after k (x ∷ xs) = happenings_after (happening_after k x) xs
 
-abbrev pub line_text : State → Line → List ℕ
-line_text s l = happenings_text (length l.sessions) s.now l.happenings
+abbrev pub line_text : Desk → Line → List ℕ
+line_text d l = happenings_text (length l.sessions) d.house l.happenings
 
 -- what is printed at a line
-abbrev pub item_text : State → Item → List ℕ
-item_text s i = line_text s (line_at s i)
+abbrev pub item_text : Desk → Item → List ℕ
+item_text d i = line_text d (line_at (state_in d) i)
 
-abbrev pub line_after : State → Item → Line → State
-line_after s i l = record { moment = moment_after s.moment i; now = happenings_after s.now l.happenings; sessions = l.sessions }
+abbrev pub line_after : Desk → Item → Line → Desk
+line_after d i l = record { moment = moment_after d.moment i; house = happenings_after d.house l.happenings; sessions = l.sessions }
 
--- the state after a line
-abbrev pub item_after : State → Item → State
-item_after s i = line_after s i (line_at s i)
+-- what a line leaves
+abbrev pub item_after : Desk → Item → Desk
+item_after d i = line_after d i (line_at (state_in d) i)
 
 -- what is printed at these lines
-abbrev pub text_from : State → List Item → List ℕ
-text_from s [] = []
-text_from s (i ∷ is) = item_text s i ++ text_from (item_after s i) is
+abbrev pub text_from : Desk → List Item → List ℕ
+text_from d [] = []
+text_from d (i ∷ is) = item_text d i ++ text_from (item_after d i) is
 
 -- ---- counts
 
@@ -75,20 +86,20 @@ no_counts = record { entries = 0; refused = 0 }
 abbrev pub one_more : Bool → Counts → Counts
 one_more refused c = record { entries = c.entries + 1; refused = c.refused + one_if refused }
 
-abbrev pub happening_counts : Now → Happening → Counts → Counts
-happening_counts n (Entry p) c = one_more (is_refused n p) c
-happening_counts n (Ended conn) c = c
+abbrev pub happening_counts : House → Happening → Counts → Counts
+happening_counts k (Entry p) c = one_more (is_refused (now_in k) p) c
+happening_counts k (Ended conn) c = c
 
 -- with the entries of these happenings
-abbrev pub happenings_counts : Now → List Happening → Counts → Counts
-happenings_counts n [] c = c
-happenings_counts n (x ∷ xs) c = happenings_counts (happening_after n x) xs (happening_counts n x c)
+abbrev pub happenings_counts : House → List Happening → Counts → Counts
+happenings_counts k [] c = c
+happenings_counts k (x ∷ xs) c = happenings_counts (happening_after k x) xs (happening_counts k x c)
 
 -- with the entries of a line
-abbrev pub item_counts : State → Item → Counts → Counts
-item_counts s i c = happenings_counts s.now (line_at s i).happenings c
+abbrev pub item_counts : Desk → Item → Counts → Counts
+item_counts d i c = happenings_counts d.house (line_at (state_in d) i).happenings c
 
 -- with the entries of these lines
-abbrev pub counts_from : State → List Item → Counts → Counts
-counts_from s [] c = c
-counts_from s (i ∷ is) c = counts_from (item_after s i) is (item_counts s i c)
+abbrev pub counts_from : Desk → List Item → Counts → Counts
+counts_from d [] c = c
+counts_from d (i ∷ is) c = counts_from (item_after d i) is (item_counts d i c)

@@ -7,7 +7,7 @@ use Rattle.ps_laws.specs.Same.{AreSame}
 use Rattle.ps_laws.specs.HallStories.{HallStory, hall_story}
 use Rattle.ps_laws.specs.HallSame.{AreHallsSame}
 use Rattle.ps_script.specs.declared.item.Item.{Item}
-use Rattle.ps_world.specs.Setup.{Setup, setup_of}
+use Rattle.ps_world.specs.Setup.{setup_of}
 use Rattle.ps_world.specs.Worlds.{Place, in_hall, in_room, World, story_at, world_view}
 use Rattle.ps_world.specs.Entries.{world_of}
 use Rattle.ps_world.specs.Transcript.{messages, block}

@@ -1,5 +1,5 @@
 -- The hall and the rooms together, and what their entries make of them.
-use Rattle.std.specs.Prelude.{ℕ, ◌+◌, ◌-◌, Bool, true, false, List, [], ◌∷◌, ◌++◌, map, slice_get, slice_set, nat_lt, Option, Some, None, if◌then◌else◌}
+use Rattle.std.specs.Prelude.{ℕ, ◌-◌, List, [], ◌∷◌, ◌++◌, map, slice_get, slice_set, nat_lt, Option, Some, None, if◌then◌else◌}
 use Rattle.std.specs.Option.{option_map_or, option_map}
 use Rattle.std.specs.FinMap.{insert, empty}
 use Rattle.ps_roster.specs.ById.{ById}
@@ -10,7 +10,7 @@ use Rattle.ps_hall.specs.Halls as halls
 use Rattle.ps_room.specs.declared.entry.Entry.{Entry}
 use Rattle.ps_room.specs.Openings.{Opening}
 use Rattle.ps_room.specs.Records.{Record, opened}
-use Rattle.ps_room.specs.Rooms.{run_record, message, view}
+use Rattle.ps_room.specs.Rooms.{run_record, message}
 use Rattle.ps_laws.specs.Stories.{Story, story, view_of}
 use Rattle.ps_world.specs.declared.place.Placed.{Placed}
 use Rattle.ps_world.specs.declared.place.Placed.TheVariants.{Hall, Room}

@@ -9,7 +9,9 @@ ghost use Rattle.ps_hall.specs.Looks.{badge_of};
 ghost use Rattle.ps_world.specs.declared.place.Placed.TheVariants as placed;
 ghost use Rattle.ps_world.specs.Setup.{chat_opening, chats_from, battle_opening};
 ghost use Rattle.ps_world.specs.Worlds.{with_number, numbers_from, started_by};
-ghost use Rattle.ps_world.specs.Nows.{Now, standing, opened_standing, begin, now_opening, now_after, record_at};
+ghost use Rattle.ps_room.specs.Logs.{record_in, seen_opened};
+ghost use Rattle.ps_world.specs.Nows.{record_at};
+ghost use Rattle.ps_world.specs.Houses.{House, standing, now_in, begin, house_opening, house_after};
 ghost use Rattle.ps_world.specs.Entries.{is_member, quit_of, quit_in, room_quits, named_quits, quits, hall_entry, is_open, out_at, ending_in, ending_at};
 ghost use Rattle.ps_world.specs.Counts.{is_refused};
 ghost use Rattle.ps_world.specs.Tables.{entry_text, one_more};
@@ -29,12 +31,12 @@ use ps_lines::command::{Command, HallCmd};
 use ps_room::entry::Entry;
 use ps_room::opening::Opening;
 use ps_room::outcome::{Ending, RoomOut};
-use ps_room::role::Role;
 use ps_room::room::Room;
 use ps_roster::id_map::IdMap;
 use ps_valid::config::Config;
 use ps_valid::row::ChatRoom;
 use ps_valid::start::Start;
+use ps_view::role::Role;
 use std::alloc::{AllocError, Global};
 use std::marker::Model;
 use std::sync::Arc;
@@ -61,13 +63,13 @@ impl Model for Places {
     ghost use base.Stored.{coded_unit};
     ghost use Rattle.ps_roster.specs.ById.{by_id_code};
     ghost use Rattle.ps_users.specs.ByConn.{by_conn_code};
-    ghost use Rattle.ps_world.specs.Nows.{Now, standing};
+    ghost use Rattle.ps_world.specs.Houses.{House};
 
-    ghost Value = { Now };
+    ghost Value = { House };
 
     ghost coded = { Prim.hlevel (codes, by_id_code, by_conn_code, coded_ℕ, coded_ℤ, coded_unit) };
 
-    ghost view = { λ p. record { hall = p.hall.state; chats = map standing p.chats.items; battles = map standing p.battles.items; numbers = p.numbers } };
+    ghost view = { λ p. record { hall = p.hall.state; chats = p.chats.items; battles = p.battles.items; numbers = p.numbers } };
 
     ghost invariant = { λ p. (length p.chats.items ≤ 16) × (length p.battles.items ≤ 65536) };
 }
@@ -81,7 +83,7 @@ fn open_chat(
     no: u32,
     room: &ChatRoom,
 ) -> Result<Room, AllocError>
-    ensures { IfOk result (λ r. standing r ≡ opened_standing (chat_opening (arc_value config.now) (arc_value dex.now) no room.now)) }
+    ensures { IfOk result (λ r. r ≡ seen_opened (chat_opening (arc_value config.now) (arc_value dex.now) no room.now)) }
 {
     let id = Text::copy_of(alloc, room.id.as_str())?;
     let title = room.title.copy(alloc)?;
@@ -102,7 +104,7 @@ fn open_chats(
     rooms: &[ChatRoom],
 ) -> Result<(), AllocError>
     requires { no + length rooms.now ≤ 16 }
-    ensures chats { OnOk result (map standing chats.new.items ≡ map standing chats.old.items ++ map opened_standing (chats_from (arc_value config.now) (arc_value dex.now) no rooms.now)) }
+    ensures chats { OnOk result (chats.new.items ≡ chats.old.items ++ map seen_opened (chats_from (arc_value config.now) (arc_value dex.now) no rooms.now)) }
     ensures count { OnOk result (length chats.new.items ≡ length chats.old.items + length rooms.now) }
     ensures numbers { OnOk result (numbers.new ≡ numbers_from numbers.old (chats_from (arc_value config.now) (arc_value dex.now) no rooms.now)) }
 {
@@ -143,7 +145,7 @@ fn begin(
 ) -> Result<(), AllocError>
     requires few { length battles.old.items ≤ 65536 }
     requires fit { IsFit start (arc_value config) (arc_value dex) }
-    ensures battles { OnOk result (map standing battles.new.items ≡ map standing battles.old.items ++ opened_standing (battle_opening (arc_value config) (arc_value dex) start) ∷ []) }
+    ensures battles { OnOk result (battles.new.items ≡ battles.old.items ++ seen_opened (battle_opening (arc_value config) (arc_value dex) start) ∷ []) }
     ensures count { length battles.new.items ≤ 65536 }
     ensures numbers { OnOk result (numbers.new ≡ with_number numbers.old (battle_opening (arc_value config) (arc_value dex) start)) }
 {
@@ -182,7 +184,7 @@ fn quit_of(
 }
 
 fn is_member(room: &Room, conn: ConnNo) -> bool
-    ensures { result ≡ is_member conn room.now.state }
+    ensures { result ≡ is_member conn (record_in room.now) }
 {
     match room.role(conn) {
         Role::Outside => false,
@@ -253,7 +255,7 @@ impl Places {
         dex: Arc<Dex>,
         ranks: IdMap<u8>,
     ) -> Result<Places, AllocError>
-        ensures { IfOk result (λ p. p ≡ now_opening (record { config = arc_value config; dex = arc_value dex; ranks = ranks })) }
+        ensures { IfOk result (λ p. p ≡ house_opening (record { config = arc_value config; dex = arc_value dex; ranks = ranks })) }
     {
         let mut chats = Vec::new(alloc);
         let mut numbers = IdMap::new(alloc);
@@ -277,7 +279,7 @@ impl Places {
 
     /// Whether a connection is open.
     pub fn is_open(&self, conn: ConnNo) -> bool
-        ensures { result ≡ is_open conn self.now }
+        ensures { result ≡ is_open conn (now_in self.now) }
     {
         self.hall.is_open(conn)
     }
@@ -296,7 +298,7 @@ impl Places {
         moment: Moment,
         conn: ConnNo,
     ) -> Result<Vec<Placed>, AllocError>
-        ensures { IfOk result (λ v. v.items ≡ quits moment self.now conn) }
+        ensures { IfOk result (λ v. v.items ≡ quits moment (now_in self.now) conn) }
     {
         let mut quits = Vec::new(alloc);
         match self.hall.badge(conn) {
@@ -327,9 +329,9 @@ impl Places {
         entry: &HallEntry,
         out: &mut Transcript,
     ) -> Result<Option<Badge>, AllocError>
-        ensures state { OnOk result (self.new ≡ now_after self.old (placed.Hall entry.now)) }
+        ensures state { OnOk result (self.new ≡ house_after self.old (placed.Hall entry.now)) }
         ensures text { OnOk result (string_bytes out.new.text ≡ string_bytes out.old.text ++ entry_text conns self.old (placed.Hall entry.now)) }
-        ensures counts { OnOk result (out.new.counts ≡ one_more (is_refused self.old (placed.Hall entry.now)) out.old.counts) }
+        ensures counts { OnOk result (out.new.counts ≡ one_more (is_refused (now_in self.old) (placed.Hall entry.now)) out.old.counts) }
         ensures badge { IfOk result (λ b. b ≡ (halls.out_of self.old.hall entry.now).badge) }
     {
         let config = self.hall.config().clone()?;
@@ -367,9 +369,9 @@ impl Places {
         entry: &Entry,
         out: &mut String,
     ) -> Result<Option<RoomOut>, AllocError>
-        ensures state { OnOk result (self.new ≡ now_after self.old (placed.Room no entry.now)) }
+        ensures state { OnOk result (self.new ≡ house_after self.old (placed.Room no entry.now)) }
         ensures text { OnOk result (string_bytes out.new ≡ string_bytes out.old ++ entry_text conns self.old (placed.Room no entry.now)) }
-        ensures out { IfOk result (λ o. o ≡ out_at (record_at no self.old) entry.now) }
+        ensures out { IfOk result (λ o. o ≡ out_at (record_at no (now_in self.old)) entry.now) }
     {
         if no.0 < FIRST_BATTLE {
             play::play_rooms(alloc, out, conns, &mut self.chats, no.0 as usize, entry)
@@ -389,10 +391,10 @@ impl Places {
         entry: &Entry,
         out: &mut Transcript,
     ) -> Result<Option<Ending>, AllocError>
-        ensures state { OnOk result (self.new ≡ now_after self.old (placed.Room no entry.now)) }
+        ensures state { OnOk result (self.new ≡ house_after self.old (placed.Room no entry.now)) }
         ensures text { OnOk result (string_bytes out.new.text ≡ string_bytes out.old.text ++ entry_text conns self.old (placed.Room no entry.now)) }
-        ensures counts { OnOk result (out.new.counts ≡ one_more (is_refused self.old (placed.Room no entry.now)) out.old.counts) }
-        ensures ended { IfOk result (λ o. o ≡ ending_at (record_at no self.old) entry.now) }
+        ensures counts { OnOk result (out.new.counts ≡ one_more (is_refused (now_in self.old) (placed.Room no entry.now)) out.old.counts) }
+        ensures ended { IfOk result (λ o. o ≡ ending_at (record_at no (now_in self.old)) entry.now) }
     {
         let made = self.play_room(alloc, conns, no, entry, &mut out.text)?;
         count(&mut out.counts, out_refuses(made))?;

@@ -1,15 +1,15 @@
 //! Messages as they are printed.
 ghost use Rattle.std.specs.Prelude.{◌≡◌, ◌++◌, OnOk, codes, string_bytes, None, Some};
 ghost use Rattle.std.specs.List.{flat_map};
-ghost use Rattle.ps_room.specs.Rooms.{seen_texts};
+ghost use Rattle.ps_splitlog.specs.Lines.{shown_lines};
 ghost use Rattle.ps_hall.specs.Halls.{message_of};
 ghost use Rattle.ps_world.specs.Transcript.{first_line, further_line, printed, with_id, over_line};
 
 use ps_base::number::ConnNo;
 use ps_base::text::Text;
-use ps_chat::line::ChatLine;
 use ps_hall::notice::Notice;
-use ps_room::role::{Role, sees};
+use ps_splitlog::stored::{Stored, shown};
+use ps_view::role::Role;
 use std::alloc::AllocError;
 use std::fmt::Write;
 
@@ -108,48 +108,46 @@ pub fn push_room_message(
     }
 }
 
-// Prints the lines that a connection in this role sees.
-fn push_seen_rest(
+// Prints the lines that a connection in this role is shown.
+fn push_shown_rest(
     out: &mut String,
     conn: ConnNo,
     role: Role,
-    lines: &[ChatLine],
+    lines: &[Stored],
 ) -> Result<(), AllocError>
-    ensures { OnOk result (string_bytes out.new ≡ string_bytes out.old ++ flat_map (further_line conn) (seen_texts conn role lines.now)) }
+    ensures { OnOk result (string_bytes out.new ≡ string_bytes out.old ++ flat_map (further_line conn) (shown_lines conn role lines.now)) }
 {
     match lines {
         [] => Ok(()),
-        [line, rest @ ..] => {
-            if sees(conn, role, line.audience) {
-                push_further(out, conn, line.text.as_str())?;
-                push_seen_rest(out, conn, role, rest)
-            } else {
-                push_seen_rest(out, conn, role, rest)
+        [line, rest @ ..] => match shown(conn, role, line) {
+            Some(text) => {
+                push_further(out, conn, text.as_str())?;
+                push_shown_rest(out, conn, role, rest)
             }
-        }
+            None => push_shown_rest(out, conn, role, rest),
+        },
     }
 }
 
-/// Prints to a connection in this role the lines of the room with an id that it sees, if there are any.
-pub fn push_seen(
+/// Prints to a connection in this role the lines of the room with an id that it is shown, if there are any.
+pub fn push_shown(
     out: &mut String,
     conn: ConnNo,
     id: &str,
     role: Role,
-    lines: &[ChatLine],
+    lines: &[Stored],
 ) -> Result<(), AllocError>
-    ensures { OnOk result (string_bytes out.new ≡ string_bytes out.old ++ printed conn (with_id (Some id.now) (seen_texts conn role lines.now))) }
+    ensures { OnOk result (string_bytes out.new ≡ string_bytes out.old ++ printed conn (with_id (Some id.now) (shown_lines conn role lines.now))) }
 {
     match lines {
         [] => Ok(()),
-        [line, rest @ ..] => {
-            if sees(conn, role, line.audience) {
+        [line, rest @ ..] => match shown(conn, role, line) {
+            Some(_) => {
                 push_place(out, conn, id)?;
-                push_seen_rest(out, conn, role, lines)
-            } else {
-                push_seen(out, conn, id, role, rest)
+                push_shown_rest(out, conn, role, lines)
             }
-        }
+            None => push_shown(out, conn, id, role, rest),
+        },
     }
 }
 

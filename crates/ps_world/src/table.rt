@@ -5,7 +5,7 @@ ghost use Rattle.ps_hall.specs.Halls as halls;
 ghost use Rattle.ps_session.specs.Routes.{no_room, after_no_room};
 ghost use Rattle.ps_world.specs.declared.place.Placed.TheVariants as placed;
 ghost use Rattle.ps_world.specs.declared.place.Happening.TheVariants as happening;
-ghost use Rattle.ps_world.specs.Nows.{now_opening};
+ghost use Rattle.ps_world.specs.Houses.{now_in};
 ghost use Rattle.ps_session.specs.Sessions.{begun};
 ghost use Rattle.ps_world.specs.Entries.{quits, ended, badged, report_of, entry_happenings, entry_in_room, entry_in_hall, text_entry, text_session, order_entry, order_session, sent_by, session_of, opening, IsCounted};
 ghost use Rattle.ps_world.specs.Tables.{happenings_text, happenings_after, happenings_counts};
@@ -44,13 +44,13 @@ impl Model for Table {
     ghost use base.Stored.{coded_unit};
     ghost use Rattle.ps_roster.specs.ById.{by_id_code};
     ghost use Rattle.ps_users.specs.ByConn.{by_conn_code};
-    ghost use Rattle.ps_world.specs.Entries.{State};
+    ghost use Rattle.ps_world.specs.Tables.{Desk};
 
-    ghost Value = { State };
+    ghost Value = { Desk };
 
     ghost coded = { Prim.hlevel (codes, by_id_code, by_conn_code, coded_ℕ, coded_ℤ, coded_unit) };
 
-    ghost view = { λ t. record { moment = t.moment; now = t.places; sessions = t.sessions.items } };
+    ghost view = { λ t. record { moment = t.moment; house = t.places; sessions = t.sessions.items } };
 
     ghost invariant = { λ t. length t.sessions.items ≤ 65536 };
 }
@@ -112,9 +112,9 @@ fn push_quits(
     conn: ConnNo,
     out: &mut Transcript,
 ) -> Result<(), AllocError>
-    ensures state { OnOk result (places.new ≡ happenings_after places.old (map happening.Entry (quits moment places.old conn))) }
-    ensures text { OnOk result (string_bytes out.new.text ≡ string_bytes out.old.text ++ happenings_text count places.old (map happening.Entry (quits moment places.old conn))) }
-    ensures counts { OnOk result (out.new.counts ≡ happenings_counts places.old (map happening.Entry (quits moment places.old conn)) out.old.counts) }
+    ensures state { OnOk result (places.new ≡ happenings_after places.old (map happening.Entry (quits moment (now_in places.old) conn))) }
+    ensures text { OnOk result (string_bytes out.new.text ≡ string_bytes out.old.text ++ happenings_text count places.old (map happening.Entry (quits moment (now_in places.old) conn))) }
+    ensures counts { OnOk result (out.new.counts ≡ happenings_counts places.old (map happening.Entry (quits moment (now_in places.old) conn)) out.old.counts) }
 {
     let quits = places.quits(alloc, moment, conn)?;
     push_all(alloc, places, count, &quits, out)
@@ -130,9 +130,9 @@ fn push_ended(
     conn: ConnNo,
     out: &mut Transcript,
 ) -> Result<(), AllocError>
-    ensures state { OnOk result (places.new ≡ happenings_after places.old (ended moment places.old conn)) }
-    ensures text { OnOk result (string_bytes out.new.text ≡ string_bytes out.old.text ++ happenings_text count places.old (ended moment places.old conn)) }
-    ensures counts { OnOk result (out.new.counts ≡ happenings_counts places.old (ended moment places.old conn) out.old.counts) }
+    ensures state { OnOk result (places.new ≡ happenings_after places.old (ended moment (now_in places.old) conn)) }
+    ensures text { OnOk result (string_bytes out.new.text ≡ string_bytes out.old.text ++ happenings_text count places.old (ended moment (now_in places.old) conn)) }
+    ensures counts { OnOk result (out.new.counts ≡ happenings_counts places.old (ended moment (now_in places.old) conn) out.old.counts) }
 {
     push_quits(alloc, places, moment, count, conn, out)?;
     print::push_over(&mut out.text, conn)?;
@@ -192,9 +192,9 @@ fn push_in_room(
     entry: &Entry,
     out: &mut Transcript,
 ) -> Result<(), AllocError>
-    ensures state { OnOk result (places.new ≡ happenings_after places.old (entry_happenings moment places.old entry.now.conn (Some (placed.Room no entry.now)))) }
-    ensures text { OnOk result (string_bytes out.new.text ≡ string_bytes out.old.text ++ happenings_text count places.old (entry_happenings moment places.old entry.now.conn (Some (placed.Room no entry.now)))) }
-    ensures counts { OnOk result (out.new.counts ≡ happenings_counts places.old (entry_happenings moment places.old entry.now.conn (Some (placed.Room no entry.now))) out.old.counts) }
+    ensures state { OnOk result (places.new ≡ happenings_after places.old (entry_happenings moment (now_in places.old) entry.now.conn (Some (placed.Room no entry.now)))) }
+    ensures text { OnOk result (string_bytes out.new.text ≡ string_bytes out.old.text ++ happenings_text count places.old (entry_happenings moment (now_in places.old) entry.now.conn (Some (placed.Room no entry.now)))) }
+    ensures counts { OnOk result (out.new.counts ≡ happenings_counts places.old (entry_happenings moment (now_in places.old) entry.now.conn (Some (placed.Room no entry.now))) out.old.counts) }
 {
     let end = places.push_room(alloc, count, RoomNo(no), entry, out)?;
     push_report(alloc, places, moment, count, entry.conn, end, out)
@@ -209,9 +209,9 @@ fn push_in_hall(
     entry: &HallEntry,
     out: &mut Transcript,
 ) -> Result<Option<Badge>, AllocError>
-    ensures state { OnOk result (places.new ≡ happenings_after places.old (entry_happenings moment places.old entry.now.conn (Some (placed.Hall entry.now)))) }
-    ensures text { OnOk result (string_bytes out.new.text ≡ string_bytes out.old.text ++ happenings_text count places.old (entry_happenings moment places.old entry.now.conn (Some (placed.Hall entry.now)))) }
-    ensures counts { OnOk result (out.new.counts ≡ happenings_counts places.old (entry_happenings moment places.old entry.now.conn (Some (placed.Hall entry.now))) out.old.counts) }
+    ensures state { OnOk result (places.new ≡ happenings_after places.old (entry_happenings moment (now_in places.old) entry.now.conn (Some (placed.Hall entry.now)))) }
+    ensures text { OnOk result (string_bytes out.new.text ≡ string_bytes out.old.text ++ happenings_text count places.old (entry_happenings moment (now_in places.old) entry.now.conn (Some (placed.Hall entry.now)))) }
+    ensures counts { OnOk result (out.new.counts ≡ happenings_counts places.old (entry_happenings moment (now_in places.old) entry.now.conn (Some (placed.Hall entry.now))) out.old.counts) }
     ensures badge { IfOk result (λ b. b ≡ (halls.out_of places.old.hall entry.now).badge) }
 {
     places.push_hall(alloc, count, entry, out)
@@ -229,9 +229,9 @@ fn push_to_room(
     cmd: Command,
     out: &mut Transcript,
 ) -> Result<(), AllocError>
-    ensures state { OnOk result (places.new ≡ happenings_after places.old (entry_happenings moment places.old conn (entry_in_room moment conn no cmd session.now.badge))) }
-    ensures text { OnOk result (string_bytes out.new.text ≡ string_bytes out.old.text ++ happenings_text count places.old (entry_happenings moment places.old conn (entry_in_room moment conn no cmd session.now.badge))) }
-    ensures counts { OnOk result (out.new.counts ≡ happenings_counts places.old (entry_happenings moment places.old conn (entry_in_room moment conn no cmd session.now.badge)) out.old.counts) }
+    ensures state { OnOk result (places.new ≡ happenings_after places.old (entry_happenings moment (now_in places.old) conn (entry_in_room moment conn no cmd session.now.badge))) }
+    ensures text { OnOk result (string_bytes out.new.text ≡ string_bytes out.old.text ++ happenings_text count places.old (entry_happenings moment (now_in places.old) conn (entry_in_room moment conn no cmd session.now.badge))) }
+    ensures counts { OnOk result (out.new.counts ≡ happenings_counts places.old (entry_happenings moment (now_in places.old) conn (entry_in_room moment conn no cmd session.now.badge)) out.old.counts) }
 {
     match session.badge() {
         None => push_ended(alloc, places, moment, count, conn, out),
@@ -259,10 +259,10 @@ fn push_to_none(
     out: &mut Transcript,
 ) -> Result<(), AllocError>
     requires { is_some session.old.last ≡ true }
-    ensures state { OnOk result (places.new ≡ happenings_after places.old (entry_happenings moment places.old conn (entry_in_hall moment conn (no_room session.old)))) }
+    ensures state { OnOk result (places.new ≡ happenings_after places.old (entry_happenings moment (now_in places.old) conn (entry_in_hall moment conn (no_room session.old)))) }
     ensures session { session.new ≡ after_no_room session.old }
-    ensures text { OnOk result (string_bytes out.new.text ≡ string_bytes out.old.text ++ happenings_text count places.old (entry_happenings moment places.old conn (entry_in_hall moment conn (no_room session.old)))) }
-    ensures counts { OnOk result (out.new.counts ≡ happenings_counts places.old (entry_happenings moment places.old conn (entry_in_hall moment conn (no_room session.old))) out.old.counts) }
+    ensures text { OnOk result (string_bytes out.new.text ≡ string_bytes out.old.text ++ happenings_text count places.old (entry_happenings moment (now_in places.old) conn (entry_in_hall moment conn (no_room session.old)))) }
+    ensures counts { OnOk result (out.new.counts ≡ happenings_counts places.old (entry_happenings moment (now_in places.old) conn (entry_in_hall moment conn (no_room session.old))) out.old.counts) }
 {
     match session.no_room() {
         Some(Order::Hall(cmd)) => {
@@ -286,10 +286,10 @@ fn push_order(
     out: &mut Transcript,
 ) -> Result<(), AllocError>
     requires { IsCounted order session.old }
-    ensures state { OnOk result (places.new ≡ happenings_after places.old (entry_happenings moment places.old conn (order_entry moment places.old conn (Ok order) session.old))) }
-    ensures session { OnOk result (session.new ≡ order_session moment places.old conn (Ok order) session.old) }
-    ensures text { OnOk result (string_bytes out.new.text ≡ string_bytes out.old.text ++ happenings_text count places.old (entry_happenings moment places.old conn (order_entry moment places.old conn (Ok order) session.old))) }
-    ensures counts { OnOk result (out.new.counts ≡ happenings_counts places.old (entry_happenings moment places.old conn (order_entry moment places.old conn (Ok order) session.old)) out.old.counts) }
+    ensures state { OnOk result (places.new ≡ happenings_after places.old (entry_happenings moment (now_in places.old) conn (order_entry moment (now_in places.old) conn (Ok order) session.old))) }
+    ensures session { OnOk result (session.new ≡ order_session moment (now_in places.old) conn (Ok order) session.old) }
+    ensures text { OnOk result (string_bytes out.new.text ≡ string_bytes out.old.text ++ happenings_text count places.old (entry_happenings moment (now_in places.old) conn (order_entry moment (now_in places.old) conn (Ok order) session.old))) }
+    ensures counts { OnOk result (out.new.counts ≡ happenings_counts places.old (entry_happenings moment (now_in places.old) conn (order_entry moment (now_in places.old) conn (Ok order) session.old)) out.old.counts) }
 {
     match order {
         Order::Hall(cmd) => {
@@ -317,10 +317,10 @@ fn push_text(
     text: &str,
     out: &mut Transcript,
 ) -> Result<(), AllocError>
-    ensures state { OnOk result (places.new ≡ happenings_after places.old (entry_happenings moment places.old conn (text_entry moment places.old conn text.now session.old))) }
-    ensures session { OnOk result (session.new ≡ text_session moment places.old conn text.now session.old) }
-    ensures text { OnOk result (string_bytes out.new.text ≡ string_bytes out.old.text ++ happenings_text count places.old (entry_happenings moment places.old conn (text_entry moment places.old conn text.now session.old))) }
-    ensures counts { OnOk result (out.new.counts ≡ happenings_counts places.old (entry_happenings moment places.old conn (text_entry moment places.old conn text.now session.old)) out.old.counts) }
+    ensures state { OnOk result (places.new ≡ happenings_after places.old (entry_happenings moment (now_in places.old) conn (text_entry moment (now_in places.old) conn text.now session.old))) }
+    ensures session { OnOk result (session.new ≡ text_session moment (now_in places.old) conn text.now session.old) }
+    ensures text { OnOk result (string_bytes out.new.text ≡ string_bytes out.old.text ++ happenings_text count places.old (entry_happenings moment (now_in places.old) conn (text_entry moment (now_in places.old) conn text.now session.old))) }
+    ensures counts { OnOk result (out.new.counts ≡ happenings_counts places.old (entry_happenings moment (now_in places.old) conn (text_entry moment (now_in places.old) conn text.now session.old)) out.old.counts) }
 {
     match session.take(alloc, text.as_bytes()) {
         Err(TakeFault::NoMemory) => Err(AllocError),
@@ -348,10 +348,10 @@ fn push_sent(
     out: &mut Transcript,
 ) -> Result<(), AllocError>
     requires { count ≡ length sessions.old }
-    ensures state { OnOk result (places.new ≡ happenings_after places.old (sent_by (record { moment = moment; now = places.old; sessions = sessions.old }) conn text.now (session_of conn sessions.old)).happenings) }
-    ensures sessions { OnOk result (sessions.new ≡ (sent_by (record { moment = moment; now = places.old; sessions = sessions.old }) conn text.now (session_of conn sessions.old)).sessions) }
-    ensures text { OnOk result (string_bytes out.new.text ≡ string_bytes out.old.text ++ happenings_text count places.old (sent_by (record { moment = moment; now = places.old; sessions = sessions.old }) conn text.now (session_of conn sessions.old)).happenings) }
-    ensures counts { OnOk result (out.new.counts ≡ happenings_counts places.old (sent_by (record { moment = moment; now = places.old; sessions = sessions.old }) conn text.now (session_of conn sessions.old)).happenings out.old.counts) }
+    ensures state { OnOk result (places.new ≡ happenings_after places.old (sent_by (record { moment = moment; now = now_in places.old; sessions = sessions.old }) conn text.now (session_of conn sessions.old)).happenings) }
+    ensures sessions { OnOk result (sessions.new ≡ (sent_by (record { moment = moment; now = now_in places.old; sessions = sessions.old }) conn text.now (session_of conn sessions.old)).sessions) }
+    ensures text { OnOk result (string_bytes out.new.text ≡ string_bytes out.old.text ++ happenings_text count places.old (sent_by (record { moment = moment; now = now_in places.old; sessions = sessions.old }) conn text.now (session_of conn sessions.old)).happenings) }
+    ensures counts { OnOk result (out.new.counts ≡ happenings_counts places.old (sent_by (record { moment = moment; now = now_in places.old; sessions = sessions.old }) conn text.now (session_of conn sessions.old)).happenings out.old.counts) }
 {
     let place = place_of(conn);
     if place >= sessions.len() {

@@ -1,6 +1,7 @@
 use Rattle.std.proofs.Common.{◌++◌, string_bytes, List, ℕ, map, ap, sym, ◌∙◌, append_assoc}
 use Rattle.ps_world.specs.declared.place.Happening.TheVariants as happening
 use Rattle.ps_world.specs.Entries.{quits}
+use Rattle.ps_world.specs.Houses.{now_in}
 use Rattle.ps_world.specs.Transcript.{over_line}
 use Rattle.ps_world.specs.Tables.{happenings_text}
 use Rattle.ps_world.proofs.EndLemmas.{ended_text}
@@ -8,7 +9,7 @@ use Rattle.ps_world.proofs.table.push_ended.Goals as goal
 
 pub returns-clause-text : goal.returns-clause-text
 returns-clause-text c =
-    let left = map happening.Entry (quits c.args.moment c.args.places.now c.args.conn) in
+    let left = map happening.Entry (quits c.args.moment (now_in c.args.places.now) c.args.conn) in
     c.in_ok-push_over.ensures
     ∙ ap (λ (x : List ℕ). x ++ over_line c.args.conn) c.in_ok-push_quits.ensures.text
     ∙ append_assoc (string_bytes c.args.out.now.text) (happenings_text c.args.count c.args.places.now left) (over_line c.args.conn)

@@ -1,5 +1,0 @@
-use Rattle.std.proofs.Common.{length}
-use Rattle.ps_world.proofs.print.+push_seen.Given as goal
-
-abbrev pub decreases-push_seen : goal.decreases-push_seen
-decreases-push_seen l = length l.lines.now
