@@ -89,6 +89,12 @@ def stripped(text, own, names):
     return "\n".join(out) + "\n"
 
 
+def is_whole(line, crates):
+    """Whether a crate is copied with its functions: one that waits and stands on no other crate here. Its types stand on a trait."""
+    head, _, below = line.partition(":")
+    return " " in head and not set(below.split()) & set(crates)
+
+
 def read(path):
     with open(path, encoding="utf-8") as file:
         return file.read()
@@ -116,7 +122,8 @@ def main():
         for file in files:
             names |= set(re.findall(r"^%s(?:struct|enum|type|const|static) (\w+)" % ITEM, read(file), re.M))
     lines = read(os.path.join(top, "crates.txt")).split("\n")
-    write(os.path.join(goal, "crates.txt"), "\n".join(l for l in lines if l.split(":")[0] in crates) + "\n")
+    write(os.path.join(goal, "crates.txt"), "\n".join(l for l in lines if re.split("[ :]", l)[0] in crates) + "\n")
+    whole = {re.split("[ :]", l)[0] for l in lines if is_whole(l, crates)}
     shutil.copy(os.path.join(top, "HANDLES"), goal)
     for crate in crates:
         if chosen and crate not in chosen:
@@ -124,6 +131,11 @@ def main():
         here, there = os.path.join(top, "crates", crate), os.path.join(goal, "crates", crate)
         for part in ("src", "specs", "proofs"):
             shutil.rmtree(os.path.join(there, part), ignore_errors=True)
+        if crate in whole:
+            for part in os.listdir(here):
+                if part in ("src", "specs", "proofs"):
+                    shutil.copytree(os.path.join(here, part), os.path.join(there, part))
+            continue
         modules = {os.path.splitext(os.path.relpath(f, os.path.join(here, "src")))[0].split(os.sep)[0] for f in sources[crate]}
         for file in sources[crate]:
             if "tests" not in os.path.basename(file):
