@@ -16,7 +16,8 @@ use Rattle.ps_room.proofs.PullLemmas.{run_more, seen_run-append}
 use Rattle.ps_laws.specs.Stories.{Story}
 use Rattle.ps_world.specs.declared.place.Placed.{Placed}
 use Rattle.ps_world.specs.declared.place.Placed.TheVariants.{Hall, Room}
-use Rattle.ps_world.specs.Setup.{opened_hall, first_battle}
+use Rattle.ps_openings.specs.Openings.{first_battle}
+use Rattle.ps_world.specs.Setup.{opened_hall}
 use Rattle.ps_world.specs.Worlds.{World, hall_in, record_of, more, stories_after, with_battle, started_by, with_hall, world_after, opening_in, no_story}
 use Rattle.ps_world.specs.Houses.{House, seen_of, house_of, seen_rooms_after, begin, house_hall, house_after}
 

@@ -18,7 +18,7 @@ use Rattle.ps_room.specs.declared.outcome.Ending.{Ending}
 use Rattle.ps_world.specs.declared.place.Placed.{Placed}
 use Rattle.ps_world.specs.declared.place.Placed.TheVariants.{Hall, Room}
 use Rattle.ps_world.specs.declared.place.Happening.TheVariants.{Entry, Ended}
-use Rattle.ps_world.specs.Setup.{first_battle}
+use Rattle.ps_openings.specs.Openings.{first_battle}
 use Rattle.ps_world.specs.Nows.{Standing, Now, record_at}
 use Rattle.ps_world.specs.Entries.{is_member, quit_of, quit_in, room_quits, named_quits, hall_entry, quits, ended, room_entry, entry_in_room, entry_in_hall, numbered_entry, order_entry, text_entry, report_of, ending_at, reports, entry_happenings, session_of, is_open, State, idle, sent_by, sent, closed, entry_in, entries_in}
 use Rattle.ps_world.proofs.RouteLemmas.{IsAsked, IsOfText, taken_asked}

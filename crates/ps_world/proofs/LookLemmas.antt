@@ -14,7 +14,7 @@ use Rattle.ps_session.specs.Sessions.{Record as Session}
 use Rattle.ps_world.specs.declared.place.Placed.{Placed}
 use Rattle.ps_world.specs.declared.place.Placed.TheVariants.{Hall, Room}
 use Rattle.ps_world.specs.declared.place.Happening.TheVariants as happening
-use Rattle.ps_world.specs.Setup.{first_battle}
+use Rattle.ps_openings.specs.Openings.{first_battle}
 use Rattle.ps_world.specs.Nows.{Standing, Now, room_at, record_at}
 use Rattle.ps_world.specs.Entries.{quit_in, room_quits, named_quits, quits, hall_entry, ended, report_of, out_at, ending_in, reports, entry_happenings, text_entry, text_session, session_of, is_open, idle, sent_by, sent, closed, line_at, State, Line}
 use Rattle.ps_world.specs.Counts.{is_refused, out_refuses}

@@ -18,7 +18,8 @@ use Rattle.ps_room.specs.declared.entry.Entry.{Entry}
 use Rattle.ps_laws.specs.Stories.{Story}
 use Rattle.ps_world.specs.declared.place.Placed.{Placed}
 use Rattle.ps_world.specs.declared.place.Placed.TheVariants.{Hall, Room}
-use Rattle.ps_world.specs.Setup.{Setup, chats_from, chat_opening, chat_openings, first_battle}
+use Rattle.ps_openings.specs.Openings.{chats_from, chat_opening, first_battle}
+use Rattle.ps_world.specs.Setup.{Setup, chat_openings}
 use Rattle.ps_world.specs.Worlds.{World, with_number, numbers_from, no_story, world_opening, hall_in, story_at, more, opening_in, with_battle, started_by, with_hall, with_room, world_after}
 use Rattle.ps_world.proofs.HallLemmas.{IsNext, next_start}
 use Rattle.ps_world.proofs.HistoryLemmas.{hall_more}

@@ -21,7 +21,8 @@ use Rattle.ps_world.specs.declared.place.Placed.{Placed}
 use Rattle.ps_world.specs.declared.place.Placed.TheVariants.{Hall, Room}
 use Rattle.ps_world.specs.declared.place.Happening.{Happening}
 use Rattle.ps_world.specs.declared.place.Happening.TheVariants as happening
-use Rattle.ps_world.specs.Setup.{Setup, first_battle}
+use Rattle.ps_openings.specs.Openings.{first_battle}
+use Rattle.ps_world.specs.Setup.{Setup}
 use Rattle.ps_world.specs.Worlds.{World, hall_in, with_battle, started_by, with_hall, world_after}
 use Rattle.ps_world.specs.Nows.{Now, now_of}
 use Rattle.ps_world.specs.Entries.{quits, ended, text_entry, reports, entry_happenings, session_of, is_open, idle, opening, sent_by, sent, closed, Run, state_of, run_opening, entries_in, worlds_after, line_in, run_after, run_past, happenings_from}

@@ -17,7 +17,8 @@ use Rattle.ps_script.specs.declared.item.Item.{Item}
 use Rattle.ps_script.specs.declared.item.Item.TheVariants.{Nothing, Moment, Group, Open, Send, Close}
 use Rattle.ps_world.specs.declared.place.Placed.{Placed}
 use Rattle.ps_world.specs.declared.place.Placed.TheVariants.{Hall, Room}
-use Rattle.ps_world.specs.Setup.{Setup, chat_openings, first_battle}
+use Rattle.ps_openings.specs.Openings.{first_battle}
+use Rattle.ps_world.specs.Setup.{Setup, chat_openings}
 use Rattle.ps_world.specs.Worlds.{World, no_story, world_opening, hall_in, story_at, more, stories_after, opening_in, with_battle, started_by, with_hall, with_room, world_after}
 use Rattle.ps_world.specs.Nows.{now_of, standing_of}
 use Rattle.ps_world.specs.Entries.{quits, text_entry, Run, state_of, run_opening, entry_in, entries_in, worlds_after, line_in, run_after, run_past, happenings_from, entries}

@@ -16,7 +16,8 @@ use Rattle.ps_world.specs.declared.place.Placed.{Placed}
 use Rattle.ps_world.specs.declared.place.Placed.TheVariants.{Hall, Room}
 use Rattle.ps_world.specs.declared.place.Happening.{Happening}
 use Rattle.ps_world.specs.declared.place.Happening.TheVariants as happening
-use Rattle.ps_world.specs.Setup.{Setup, first_battle, chat_openings}
+use Rattle.ps_openings.specs.Openings.{first_battle}
+use Rattle.ps_world.specs.Setup.{Setup, chat_openings}
 use Rattle.ps_world.specs.Worlds.{Place, World, place_of, hall_in, record_of, story_at, world_after, world_message, room_message, room_id, no_story}
 use Rattle.ps_world.specs.Nows.{Standing, Now, standing_of, now_of, room_at, record_at}
 use Rattle.ps_world.specs.Houses.{House, standing, now_in, seen_at, house_after, id_of, house_id, next_message, seen_message, house_message, house_opening, seen_of, house_of}

@@ -16,7 +16,8 @@ use Rattle.ps_room.specs.Rooms.{run_record, after, message, sent, view}
 use Rattle.ps_laws.specs.Stories.{Story, view_of}
 use Rattle.ps_world.specs.declared.place.Placed.{Placed}
 use Rattle.ps_world.specs.declared.place.Placed.TheVariants.{Hall, Room}
-use Rattle.ps_world.specs.Setup.{Setup, opened_hall, chat_openings, first_battle}
+use Rattle.ps_openings.specs.Openings.{first_battle}
+use Rattle.ps_world.specs.Setup.{Setup, opened_hall, chat_openings}
 use Rattle.ps_world.specs.Worlds.{Place, in_hall, in_room, place_of, World, world_opening, no_story, hall_in, record_of, more, stories_after, with_battle, started_by, with_hall, world_after, room_message, world_message, world_view}
 use Rattle.ps_world.specs.Transcript.{same_place}
 

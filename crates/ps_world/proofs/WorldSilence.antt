@@ -16,7 +16,8 @@ use Rattle.ps_room.proofs.SilenceLemmas.{IsUpTo, Housed, housed_more, housed_aft
 use Rattle.ps_laws.specs.Stories.{Story}
 use Rattle.ps_world.specs.declared.place.Placed.{Placed}
 use Rattle.ps_world.specs.declared.place.Placed.TheVariants.{Hall, Room}
-use Rattle.ps_world.specs.Setup.{Setup, chat_openings, first_battle}
+use Rattle.ps_openings.specs.Openings.{first_battle}
+use Rattle.ps_world.specs.Setup.{Setup, chat_openings}
 use Rattle.ps_world.specs.Worlds.{World, world_opening, no_story, hall_in, record_of, story_at, more, stories_after, with_battle, started_by, with_hall, world_after, room_message, world_message}
 use Rattle.ps_world.proofs.HallSilence.{AreKnown, known_more, known_after, IsUnopened, unopened_silent}
 use Rattle.ps_world.proofs.HistoryLemmas.{hall_more, story_more}

@@ -31,7 +31,8 @@ use Rattle.ps_world.specs.declared.place.Placed.{Placed}
 use Rattle.ps_world.specs.declared.place.Placed.TheVariants.{Hall, Room}
 use Rattle.ps_world.specs.declared.place.Happening.{Happening}
 use Rattle.ps_world.specs.declared.place.Happening.TheVariants.{Entry, Ended}
-use Rattle.ps_world.specs.Setup.{Setup, first_battle}
+use Rattle.ps_openings.specs.Openings.{first_battle}
+use Rattle.ps_world.specs.Setup.{Setup}
 use Rattle.ps_world.specs.Worlds.{World, world_opening, world_after}
 use Rattle.ps_world.specs.Nows.{Standing, Now, now_of, record_at}
 

@@ -16,7 +16,8 @@ use Rattle.ps_room.specs.Logs.{Seen, record_in, given, seen_opened, seen_after, 
 use Rattle.ps_laws.specs.Stories.{Story}
 use Rattle.ps_world.specs.declared.place.Placed.{Placed}
 use Rattle.ps_world.specs.declared.place.Placed.TheVariants.{Hall, Room}
-use Rattle.ps_world.specs.Setup.{Setup, opened_hall, chat_openings, first_battle}
+use Rattle.ps_openings.specs.Openings.{first_battle}
+use Rattle.ps_world.specs.Setup.{Setup, opened_hall, chat_openings}
 use Rattle.ps_world.specs.Worlds.{World, with_number, numbers_from, hall_in, opening_in, started_by}
 use Rattle.ps_world.specs.Nows.{Standing, Now}
 

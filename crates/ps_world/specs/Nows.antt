@@ -5,7 +5,7 @@ use Rattle.ps_roster.specs.ById.{ById}
 use Rattle.ps_hall.specs.Records.{Record as HallRecord}
 use Rattle.ps_room.specs.Records.{Record}
 use Rattle.ps_laws.specs.Stories.{Story}
-use Rattle.ps_world.specs.Setup.{first_battle}
+use Rattle.ps_openings.specs.Openings.{first_battle}
 use Rattle.ps_world.specs.Worlds.{World, hall_in, record_of}
 
 -- a room: its id and its record

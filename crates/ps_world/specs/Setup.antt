@@ -1,16 +1,14 @@
 -- What a replay stands on: the dex, the configuration, and the ranks that the script gives.
-use Rattle.std.specs.Prelude.{ℕ, suc, ◌+◌, ◌-◌, List, [], ◌∷◌, length, unwrap_or, slice_index_or, Some, None}
+use Rattle.std.specs.Prelude.{ℕ, ◌-◌, List, [], ◌∷◌, length, unwrap_or}
 use Rattle.std.specs.FinMap.{insert, empty}
 use Rattle.ps_dex.specs.declared.row.Tables.{Tables}
 use Rattle.ps_group.specs.Ranks.{rank_of}
 use Rattle.ps_group.specs.declared.group.Group as group
 use Rattle.ps_valid.specs.declared.row.Settings.{Settings}
-use Rattle.ps_valid.specs.declared.row.ChatRoom.{ChatRoom}
-use Rattle.ps_valid.specs.declared.start.Start.{Start}
 use Rattle.ps_roster.specs.ById.{ById}
 use Rattle.ps_hall.specs.Records.{Record as HallRecord, opened as hall_opened}
-use Rattle.ps_hall.specs.Looks.{battle_id, battle_title}
 use Rattle.ps_room.specs.Openings.{Opening}
+use Rattle.ps_openings.specs.Openings.{chats_from}
 use Rattle.ps_script.specs.declared.item.Item.{Item}
 use Rattle.ps_script.specs.declared.item.Item.TheVariants.{Group}
 
@@ -44,29 +42,6 @@ setup_of config dex items = record { config = config; dex = dex; ranks = ranks_o
 abbrev pub opened_hall : Setup → HallRecord
 opened_hall s = hall_opened s.config s.dex s.ranks
 
-abbrev pub chat_opening : Settings → Tables → ℕ → ChatRoom → Opening
-chat_opening config dex number room = record { no = number; id = room.id; title = room.title; config = config; dex = dex; battle = None }
-
--- these rooms, of which the first has this number
-abbrev pub chats_from : Settings → Tables → ℕ → List ChatRoom → List Opening
-chats_from config dex number [] = []
-chats_from config dex number (room ∷ rooms) = chat_opening config dex number room ∷ chats_from config dex (suc number) rooms
-
 -- the chat rooms, numbered from 0 in the order of the configuration; there are sixteen at the most
 abbrev pub chat_openings : Setup → List Opening
 chat_openings s = chats_from s.config s.dex 0 s.config.rooms
-
--- the number of the first battle's room, behind all numbers of chat rooms
-abbrev pub first_battle : ℕ
-first_battle = 16
-
--- the room of a battle: battle n has the number 15 + n
-abbrev pub battle_opening : Settings → Tables → Start → Opening
-battle_opening config dex start = record {
-  no = 15 + start.number;
-  id = battle_id start.format start.number;
-  title = battle_title (slice_index_or start.players 0 []) (slice_index_or start.players 1 []);
-  config = config;
-  dex = dex;
-  battle = Some start;
-}

@@ -14,7 +14,8 @@ use Rattle.ps_room.specs.Rooms.{run_record, message}
 use Rattle.ps_laws.specs.Stories.{Story, story, view_of}
 use Rattle.ps_world.specs.declared.place.Placed.{Placed}
 use Rattle.ps_world.specs.declared.place.Placed.TheVariants.{Hall, Room}
-use Rattle.ps_world.specs.Setup.{Setup, opened_hall, chat_openings, battle_opening, first_battle}
+use Rattle.ps_openings.specs.Openings.{battle_opening, first_battle}
+use Rattle.ps_world.specs.Setup.{Setup, opened_hall, chat_openings}
 
 -- ---- places
 

@@ -7,7 +7,7 @@ ghost use Rattle.ps_start.specs.Fits.{IsFit};
 ghost use Rattle.ps_hall.specs.Halls as halls;
 ghost use Rattle.ps_hall.specs.Looks.{badge_of};
 ghost use Rattle.ps_world.specs.declared.place.Placed.TheVariants as placed;
-ghost use Rattle.ps_world.specs.Setup.{chat_opening, chats_from, battle_opening};
+ghost use Rattle.ps_openings.specs.Openings.{chat_opening, chats_from, battle_opening};
 ghost use Rattle.ps_world.specs.Worlds.{with_number, numbers_from, started_by};
 ghost use Rattle.ps_room.specs.Logs.{record_in, seen_opened};
 ghost use Rattle.ps_world.specs.Nows.{record_at};
@@ -21,15 +21,13 @@ use crate::play;
 use crate::transcript::{Transcript, count, hall_refuses, out_refuses};
 use ps_base::badge::Badge;
 use ps_base::number::{ConnNo, Moment, RoomNo};
-use ps_base::text::Text;
 use ps_dex::dex::Dex;
 use ps_hall::entry::HallEntry;
-use ps_hall::game::{battle_id, battle_title};
 use ps_hall::hall::Hall;
 use ps_hall::outcome::HallOut;
 use ps_lines::command::{Command, HallCmd};
+use ps_openings::opening::{FIRST_BATTLE, battle_opening, chat_opening};
 use ps_room::entry::Entry;
-use ps_room::opening::Opening;
 use ps_room::outcome::{Ending, RoomOut};
 use ps_room::room::Room;
 use ps_roster::id_map::IdMap;
@@ -40,9 +38,6 @@ use ps_view::role::Role;
 use std::alloc::{AllocError, Global};
 use std::marker::Model;
 use std::sync::Arc;
-
-/// The number of the first battle's room.
-const FIRST_BATTLE: u32 = 16;
 
 /// As many battles as may start. The hall starts no more; past them memory is said to be wanting.
 const MOST_BATTLES: usize = 65_536;
@@ -85,12 +80,8 @@ fn open_chat(
 ) -> Result<Room, AllocError>
     ensures { IfOk result (λ r. r ≡ seen_opened (chat_opening (arc_value config.now) (arc_value dex.now) no room.now)) }
 {
-    let id = Text::copy_of(alloc, room.id.as_str())?;
-    let title = room.title.copy(alloc)?;
-    Room::new(
-        alloc,
-        Opening::new(RoomNo(no), id, title, config.clone()?, dex.clone()?, None),
-    )
+    let opening = chat_opening(alloc, config, dex, no, room)?;
+    Room::new(alloc, opening)
 }
 
 // Opens the chat rooms, of which the first has the number `no`, and notes their numbers.
@@ -116,22 +107,6 @@ fn open_chats(
             open_chats(alloc, chats, numbers, config, dex, no + 1, rest)
         }
     }
-}
-
-// The room of a battle.
-fn battle_opening(
-    alloc: Global,
-    config: Arc<Config>,
-    dex: Arc<Dex>,
-    start: Start,
-) -> Result<Opening, AllocError>
-    requires { start.number ≤ 65536 }
-    ensures { IfOk result (λ o. o ≡ battle_opening (arc_value config) (arc_value dex) start) }
-{
-    let no = RoomNo(15 + start.number);
-    let id = battle_id(alloc, &start.format, start.number)?;
-    let title = battle_title(alloc, &start.players[0], &start.players[1])?;
-    Ok(Opening::new(no, id, title, config, dex, Some(start)))
 }
 
 // Opens the room of a battle that starts.
