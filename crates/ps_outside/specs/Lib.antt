@@ -1,5 +1,11 @@
 pub mod Causes
+pub mod Clocks
+pub mod Counts
+pub mod Doors
 pub mod Files
 pub mod HostReads
+pub mod Inboxes
+pub mod Links
 pub mod Memory
 pub mod Sinks
+pub mod Spawners

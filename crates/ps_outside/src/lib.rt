@@ -5,10 +5,15 @@
 //! adapters to the real outside tell nothing that std doesn't.
 #![tactic(auto)]
 
+pub mod clock;
+pub mod door;
 pub mod files;
+pub mod host_clock;
 pub mod host_files;
+pub mod link;
 pub mod sink;
 pub mod source;
+pub mod spawner;
 
 /// A call that the outside refused.
 #[derive(Clone, Copy, Debug, PartialEq, Eq)]

@@ -1,0 +1,171 @@
+//! Where links come from.
+ghost use Rattle.std.specs.Prelude.{◌≡◌, ◌++◌, ℕ};
+ghost use Rattle.ps_outside.specs.Counts.{CountsErr};
+ghost use Rattle.ps_outside.specs.Doors.{given_after, links_of, HasAcceptCause};
+
+use crate::Failed;
+use crate::link::Link;
+use std::alloc::Global;
+use std::collections::VecDeque;
+use std::marker::Model;
+
+/// Why no link was handed out.
+#[derive(Clone, Copy, Debug, PartialEq, Eq)]
+pub enum DoorEnd {
+    /// The outside refused the call.
+    Failed,
+    /// Memory was refused.
+    NoMemory,
+}
+
+/// Where links come from, one after another.
+pub trait Door {
+    type Link: Link;
+
+    /// How often it has failed. The count stands still at the last value of a `u64`.
+    ghost faults: { Self → ℕ };
+
+    /// How many links it has handed out. The count stands still at the last value of a `u64`.
+    ghost given: { Self → ℕ };
+
+    /// Begins to listen at the address. `Failed` comes only where the count of faults rose.
+    fn open(&mut self, address: &str) -> Result<(), Failed>
+        ensures count { given self.new ≡ given self.old }
+        ensures cause { CountsErr (faults self.old) (faults self.new) result };
+
+    /// The next link. Failed comes only where the count of faults rose.
+    fn accept(&mut self) -> Result<Self::Link, DoorEnd>
+        ensures count { given self.new ≡ given_after result (given self.old) }
+        ensures cause { HasAcceptCause (faults self.old) (faults self.new) result };
+}
+
+/// A door in memory, whose calls fail at the numbers of two lists, counted from 1: one for `open`
+/// and one for `accept`. Past its last link `accept` fails too.
+#[derive(Drop)]
+pub struct MemDoor<L: Link> {
+    links: VecDeque<L>,
+    given: u64,
+    faults: u64,
+    open_calls: u64,
+    accept_calls: u64,
+    failing_open: Vec<u64>,
+    failing_accept: Vec<u64>,
+}
+
+impl<L: Link> Model for MemDoor<L> {
+    ghost use Rattle.ps_outside.specs.Doors.{MemEntry};
+
+    ghost Value = { MemEntry L };
+
+    ghost view = { λ d. record { links = d.links.items; given = d.given; faults = d.faults; open_calls = d.open_calls; accept_calls = d.accept_calls; failing_open = d.failing_open.items; failing_accept = d.failing_accept.items } };
+}
+
+impl<L: Link> MemDoor<L> {
+    /// A door that hands out these links. Takes no memory.
+    pub fn new(links: Vec<L>, failing_open: Vec<u64>, failing_accept: Vec<u64>) -> MemDoor<L>
+        ensures { result ≡ record { links = links.items; given = 0; faults = 0; open_calls = 0; accept_calls = 0; failing_open = failing_open.items; failing_accept = failing_accept.items } }
+    {
+        MemDoor {
+            links: VecDeque::from_vec(links),
+            given: 0,
+            faults: 0,
+            open_calls: 0,
+            accept_calls: 0,
+            failing_open,
+            failing_accept,
+        }
+    }
+}
+
+impl<L: Link> Door for MemDoor<L> {
+    type Link = L;
+
+    ghost faults = { λ d. d.faults };
+
+    ghost given = { λ d. d.given };
+
+    fn open(&mut self, _address: &str) -> Result<(), Failed> {
+        self.open_calls = self.open_calls.saturating_add(1);
+        if self.failing_open.contains(&self.open_calls) {
+            self.faults = self.faults.saturating_add(1);
+            return Err(Failed);
+        }
+        Ok(())
+    }
+
+    fn accept(&mut self) -> Result<L, DoorEnd>
+        ensures count { self.new.given ≡ given_after result self.old.given }
+        ensures cause { HasAcceptCause self.old.faults self.new.faults result }
+        ensures links { self.old.links ≡ links_of result ++ self.new.links }
+    {
+        self.accept_calls = self.accept_calls.saturating_add(1);
+        if self.failing_accept.contains(&self.accept_calls) {
+            self.faults = self.faults.saturating_add(1);
+            return Err(DoorEnd::Failed);
+        }
+        match self.links.pop_front() {
+            None => {
+                self.faults = self.faults.saturating_add(1);
+                Err(DoorEnd::Failed)
+            }
+            Some(link) => {
+                self.given = self.given.saturating_add(1);
+                Ok(link)
+            }
+        }
+    }
+}
+
+/// A door in memory that never fails. Past its last link `accept` answers NoMemory, as where a
+/// further link could not be made.
+#[derive(Drop)]
+pub struct SureDoor<L: Link> {
+    links: VecDeque<L>,
+    given: u64,
+}
+
+impl<L: Link> Model for SureDoor<L> {
+    ghost use Rattle.ps_outside.specs.Doors.{SureEntry};
+
+    ghost Value = { SureEntry L };
+
+    ghost view = { λ d. record { links = d.links.items; given = d.given } };
+}
+
+impl<L: Link> SureDoor<L> {
+    /// A door that hands out these links. Takes no memory.
+    pub fn new(links: Vec<L>) -> SureDoor<L>
+        ensures { result ≡ record { links = links.items; given = 0 } }
+    {
+        SureDoor {
+            links: VecDeque::from_vec(links),
+            given: 0,
+        }
+    }
+}
+
+impl<L: Link> Door for SureDoor<L> {
+    type Link = L;
+
+    ghost faults = { λ _. 0 };
+
+    ghost given = { λ d. d.given };
+
+    fn open(&mut self, _address: &str) -> Result<(), Failed> {
+        Ok(())
+    }
+
+    fn accept(&mut self) -> Result<L, DoorEnd>
+        ensures count { self.new.given ≡ given_after result self.old.given }
+        ensures cause { HasAcceptCause 0 0 result }
+        ensures links { self.old.links ≡ links_of result ++ self.new.links }
+    {
+        match self.links.pop_front() {
+            None => Err(DoorEnd::NoMemory),
+            Some(link) => {
+                self.given = self.given.saturating_add(1);
+                Ok(link)
+            }
+        }
+    }
+}
