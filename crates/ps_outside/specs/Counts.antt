@@ -1,5 +1,6 @@
 -- Counts that rise by one, and when they do.
-use Rattle.std.specs.Prelude.{◌≡◌, ℕ, ◌+◌, ◌-◌, ◌^◌, ◌≤◌, min, Result, Ok, Err}
+use Rattle.std.specs.Prelude.{◌≡◌, ◌==◌, ℕ, ◌+◌, ◌-◌, ◌^◌, ◌≤◌, min, Bool, List, Result, Ok, Err}
+use Rattle.std.specs.List.{list_any}
 use Rattle.ps_outside.specs.Causes.{Rose}
 
 -- one more, or the last value of a u64
@@ -15,3 +16,7 @@ pub record HasRisen (before now : ℕ) : Type 0 where
 abbrev pub CountsErr : {T E : Type 0} → ℕ → ℕ → Result T E → Type 0
 CountsErr before now (Ok value) = now ≡ before
 CountsErr before now (Err error) = HasRisen before now
+
+-- whether the call behind so many others is one of those that fail
+abbrev pub is_listed : ℕ → List ℕ → Bool
+is_listed calls failing = list_any (λ k. k == one_more calls) failing

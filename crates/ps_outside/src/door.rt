@@ -1,6 +1,7 @@
 //! Where links come from.
 ghost use Rattle.std.specs.Prelude.{◌≡◌, ◌++◌, ℕ};
-ghost use Rattle.ps_outside.specs.Counts.{CountsErr};
+ghost use Rattle.std.specs.Result.{is_err};
+ghost use Rattle.ps_outside.specs.Counts.{CountsErr, is_listed, one_more};
 ghost use Rattle.ps_outside.specs.Doors.{given_after, links_of, HasAcceptCause};
 
 use crate::Failed;
@@ -84,7 +85,12 @@ impl<L: Link> Door for MemDoor<L> {
 
     ghost given = { λ d. d.given };
 
-    fn open(&mut self, _address: &str) -> Result<(), Failed> {
+    fn open(&mut self, _address: &str) -> Result<(), Failed>
+        ensures count { self.new.given ≡ self.old.given }
+        ensures cause { CountsErr self.old.faults self.new.faults result }
+        ensures listed { is_err result ≡ is_listed self.old.open_calls self.old.failing_open }
+        ensures calls { self.new.open_calls ≡ one_more self.old.open_calls }
+    {
         self.open_calls = self.open_calls.saturating_add(1);
         if self.failing_open.contains(&self.open_calls) {
             self.faults = self.faults.saturating_add(1);

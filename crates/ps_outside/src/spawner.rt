@@ -1,6 +1,7 @@
 //! Leave to start jobs in threads.
-ghost use Rattle.std.specs.Prelude.{◌≡◌, ℕ, IfErr};
-ghost use Rattle.ps_outside.specs.Counts.{CountsErr};
+ghost use Rattle.std.specs.Prelude.{◌≡◌, ℕ, IfErr, IsErr};
+ghost use Rattle.std.specs.Result.{is_err};
+ghost use Rattle.ps_outside.specs.Counts.{CountsErr, is_listed, one_more};
 
 use crate::Failed;
 use std::marker::Model;
@@ -84,7 +85,11 @@ impl MemSpawner {
 impl Spawner for MemSpawner {
     ghost faults = { λ s. s.faults };
 
-    fn permit(&mut self) -> Result<(), Failed> {
+    fn permit(&mut self) -> Result<(), Failed>
+        ensures cause { CountsErr self.old.faults self.new.faults result }
+        ensures listed { is_err result ≡ is_listed self.old.calls self.old.failing }
+        ensures calls { self.new.calls ≡ one_more self.old.calls }
+    {
         self.calls = self.calls.saturating_add(1);
         if self.failing.contains(&self.calls) {
             self.faults = self.faults.saturating_add(1);
@@ -93,7 +98,10 @@ impl Spawner for MemSpawner {
         Ok(())
     }
 
-    fn refused(&mut self) -> Result<(), Failed> {
+    fn refused(&mut self) -> Result<(), Failed>
+        ensures cause { CountsErr self.old.faults self.new.faults result }
+        ensures failed { IsErr result }
+    {
         self.faults = self.faults.saturating_add(1);
         Err(Failed)
     }
@@ -145,7 +153,10 @@ impl Spawner for ThreadSpawner {
         Ok(())
     }
 
-    fn refused(&mut self) -> Result<(), Failed> {
+    fn refused(&mut self) -> Result<(), Failed>
+        ensures cause { CountsErr self.old self.new result }
+        ensures failed { IsErr result }
+    {
         self.faults = self.faults.saturating_add(1);
         Err(Failed)
     }
