@@ -1,5 +1,5 @@
 -- The rule of a lock, and what each step tells its pass.
-use Rattle.std.specs.Prelude.{◌≡◌, ◌≢◌, ◌⊎◌, ℕ, ◌+◌, ◌*◌, ◌/◌, ◌^◌, ◌<◌, ◌≤◌, true, List, [], ◌∷◌, ◌++◌, length, Option, Some, slice_index, All}
+use Rattle.std.specs.Prelude.{◌≡◌, ◌≢◌, ◌⊎◌, ℕ, ◌+◌, ◌*◌, ◌/◌, ◌^◌, ◌<◌, ◌≤◌, true, List, [], ◌∷◌, length, Option, Some, slice_index, All}
 use mathlib.Core.Option.{some}
 use mathlib.Core.List.{IsPrefix}
 use lib.ListN.{get_elem?}
@@ -26,12 +26,12 @@ module _ {O C : Type 0} where
   abbrev pub OnlyOne : List (View O C) → Type 0
   OnlyOne views = (one : ℕ) × ((by : ℕ) (v : View O C) → get_elem? views by ≡ some v → v.holds ≡ true → by ≡ one)
 
-module _ {K O C : Type 0} (origin : K → O) (story : K → List C) where
-  -- the value stands for this history
+module _ {K O C : Type 0} (origin : K → O) (stands : List C → K → Type 0) where
+  -- the value may stand for this history
   abbrev pub Stands : O → List (Entry C) → K → Type 0
-  Stands o log k = (origin k ≡ o) × (story k ≡ commands log)
+  Stands o log k = (origin k ≡ o) × stands (commands log) k
 
-  -- nobody has the turn, and the value in the slot stands for the history
+  -- nobody has the turn, and the value in the slot may stand for the history
   abbrev pub AtHome : O → List (Entry C) → State (Option K) (View O C) → Type 0
   AtHome o log s = (slice_index s.words 0 ≡ 2 * length log) × ((k : K) × (get_elem? s.homes 0 ≡ some (some (Some k))) × Stands o log k) × Nobody s.views
 
@@ -65,16 +65,16 @@ module _ {K O C : Type 0} (origin : K → O) (story : K → List C) where
   abbrev pub Meets : Step (Option K) → Mine → ℕ → Mine → Type 0
   Meets st m r m' = m' ≡ (after_meeting m.0 r, m.1)
 
-  -- The word was the one that was read, 2n: the turn is taken, and the value with it, which stands for a history of n
+  -- The word was the one that was read, 2n: the turn is taken, and the value with it, which may stand for the history of n
   -- entries. Or another word was found
   abbrev pub Seizes : Step (Option K) → Mine → ℕ → Mine → Type 0
   Seizes st m r m' =
       (r ≡ st.first → (log : List (Entry C)) × (k : K) × (st.first ≡ 2 * length log) × Extends m.0 log × Stands m.0.origin log k × (m' ≡ (holder m.0 log, (0, Some k) ∷ m.1)))
       × (r ≢ st.first → m' ≡ (after_meeting m.0 r, m.1))
 
-  -- the value goes back with one command more, which is the entry
-  abbrev pub Appends : Step (Option K) → Mine → ℕ → Mine → Type 0
-  Appends st m r m' = (c : C) × (k : K) × (m.1 ≡ (0, Some k) ∷ []) × (story k ≡ commands m.0.seen ++ c ∷ []) × (m' ≡ (after_entry m.0 c, []))
+  -- the value goes back, and the command that was written is the entry
+  abbrev pub Appends : Option C → Step (Option K) → Mine → ℕ → Mine → Type 0
+  Appends written st m r m' = (c : C) × (written ≡ Some c) × (m' ≡ (after_entry m.0 c, []))
 
   abbrev pub Releases : Step (Option K) → Mine → ℕ → Mine → Type 0
   Releases st m r m' = m' ≡ (after_turn m.0, [])

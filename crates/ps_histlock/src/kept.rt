@@ -3,9 +3,11 @@ ghost use Rattle.std.specs.Prelude.{◌≡◌, ◌<◌, ◌^◌, List, [], ◌�
 
 use std::alloc::AllocError;
 
-/// A value that stands for one list of commands, those that were applied to it, after an origin that never changes.
+/// A value that stands for a list of commands, those that were applied to it, after an origin that never changes.
 ///
-/// It stands for fewer than 2^62 entries, since it keeps at least two bytes for each.
+/// It needn't keep them: one value may stand for several lists, as where a refused command leaves it as it was, whatever
+/// the command. What a call promises it promises of every list that the value may stand for. No list grows to 2^62
+/// commands, since a value keeps at least two bytes for each.
 pub trait Kept: Drop {
     /// Plain data that no call changes, such as what the value began as. Contracts alone speak of it.
     type Origin;
@@ -25,8 +27,8 @@ pub trait Kept: Drop {
     /// The origin of this value.
     ghost origin: { Self → Self.Origin };
 
-    /// The commands that were applied so far, the oldest first.
-    ghost story: { Self → List Self.Cmd };
+    /// The value may stand for this list of commands, the oldest first.
+    ghost stands: { List Self.Cmd → Self → Type 0 };
 
     /// What `apply` may answer to a command, after an origin and a list of commands.
     ghost answers: { Self.Origin → List Self.Cmd → Self.Cmd → Self.Out → Type 0 };
@@ -37,13 +39,13 @@ pub trait Kept: Drop {
     /// Appends one entry. `AllocError` where memory is wanting: then there is no entry.
     fn apply(&mut self, cmd: Self::Cmd) -> Result<Self::Out, AllocError>
         ensures origin { origin self.new ≡ origin self.old }
-        ensures entry { IfOk result (λ out. story self.new ≡ story self.old ++ cmd ∷ []) }
-        ensures answer { IfOk result (λ out. answers (origin self.old) (story self.old) cmd out) }
-        ensures short { IfOk result (λ out. length (story self.new) < 2 ^ 62) }
-        ensures err { OnErr result (story self.new ≡ story self.old) };
+        ensures entry { IfOk result (λ out. (log : List Self.Cmd) → stands log self.old → stands (log ++ cmd ∷ []) self.new) }
+        ensures answer { IfOk result (λ out. (log : List Self.Cmd) → stands log self.old → answers (origin self.old) log cmd out) }
+        ensures short { IfOk result (λ out. (log : List Self.Cmd) → stands log self.old → length (log ++ cmd ∷ []) < 2 ^ 62) }
+        ensures err { OnErr result ((log : List Self.Cmd) → stands log self.old → stands log self.new) };
 
     /// The messages past the cursor, which it moves. `AllocError` where memory is wanting: then the cursor stays.
     fn pull(&self, cursor: &mut Self::Cursor) -> Result<Vec<Self::Msg>, AllocError>
-        ensures ok { IfOk result (λ msgs. pulls (origin self.now) (story self.now) cursor.old msgs.items cursor.new) }
+        ensures ok { IfOk result (λ msgs. (log : List Self.Cmd) → stands log self.now → pulls (origin self.now) log cursor.old msgs.items cursor.new) }
         ensures err { OnErr result (cursor.new ≡ cursor.old) };
 }

@@ -9,16 +9,18 @@ ghost use Rattle.ps_histlock.specs.declared.turn.TurnOf.TheVariants.{OwnLimit};
 ghost use Rattle.ps_histlock.specs.declared.view.Entry.{Entry};
 
 use crate::kept::Kept;
-use crate::rule::{Append, Arrive, Cut, Look, Meet, Name, Release, Rule, Seize};
+use crate::rule::{Append, Arrive, Cut, Look, Meet, Name, Release, Rule, Seize, Writes};
 use crate::turn::{Turn, TurnOf};
 use crate::view::View;
 use atomic_table::{Refused, Seat, Table};
 use std::alloc::{AllocError, Global};
-use std::marker::Model;
+use std::marker::{Brand, Model};
 use std::snapshot::Snapshot;
 use std::sync::Wait;
 use std::thread;
 
+#[cfg(test)]
+mod gate_tests;
 #[cfg(test)]
 mod tests;
 
@@ -69,7 +71,7 @@ impl<K: Kept> Model for Pass<K> {
 impl<K: Kept> HistLock<K> {
     /// A lock round a value that stands for no entry, and its first pass. `AllocError` where memory is wanting.
     pub fn new(alloc: Global, kept: K) -> Result<(HistLock<K>, Pass<K>), AllocError>
-        requires { K.story kept ≡ [] }
+        requires { K.stands [] kept }
         ensures lock { IfOk result (λ r. r.0.1 ≡ K.origin kept) }
         ensures pass { IfOk result (λ r. r.1 ≡ (r.0.0, newcomer (K.origin kept) 0)) }
     {
@@ -117,7 +119,7 @@ impl<K: Kept> HistLock<K> {
     fn seize(&self, seat: &mut Place<K>) -> Result<K, u64>
         requires { (seat.old.table_id ≡ self.now.0) × (seat.old.me.1 ≡ []) × (seat.old.me.0.named ≡ true) }
         ensures same { (seat.new.table_id ≡ seat.old.table_id) × (seat.new.id ≡ seat.old.id) }
-        ensures ok { IfOk result (λ k. (log : List (Entry K.Cmd)) × Extends seat.old.me.0 log × Stands K.origin K.story seat.old.me.0.origin log k × (seat.new.me ≡ (holder (after_meeting seat.old.me.0 (2 * length log)) log, (0, None) ∷ []))) }
+        ensures ok { IfOk result (λ k. (log : List (Entry K.Cmd)) × Extends seat.old.me.0 log × Stands K.origin K.stands seat.old.me.0.origin log k × (seat.new.me ≡ (holder (after_meeting seat.old.me.0 (2 * length log)) log, (0, None) ∷ []))) }
         ensures err { IfErr result (λ word. IsBusy seat.old.me.0 word seat.new.me.0 × (seat.new.me.1 ≡ [])) }
     {
         let shared = &self.table.shared;
@@ -132,26 +134,27 @@ impl<K: Kept> HistLock<K> {
         Ok(shared.exchange(seat, 0, None).unwrap())
     }
 
-    // Puts the value back and ends the turn with an entry.
-    fn append(&self, seat: &mut Place<K>, kept: K)
+    // Puts the value back and ends the turn with an entry, that of the command which W names.
+    fn append<W: Writes<K::Cmd>>(&self, seat: &mut Place<K>, kept: K)
         requires place { (seat.old.table_id ≡ self.now.0) × (seat.old.me.1 ≡ (0, None) ∷ []) }
         requires turn { (seat.old.me.0.holds ≡ true) × (seat.old.me.0.named ≡ true) }
         requires own { seat.old.me.0.mine ≡ entries_of seat.old.me.0.number seat.old.me.0.seen }
-        requires value { (K.origin kept ≡ seat.old.me.0.origin) × ((c : K.Cmd) × (K.story kept ≡ commands seat.old.me.0.seen ++ c ∷ [])) × (length (K.story kept) < 2 ^ 62) }
+        requires value { K.origin kept ≡ seat.old.me.0.origin }
+        requires entry { (c : K.Cmd) × (W.written ≡ Some c) × K.stands (commands seat.old.me.0.seen ++ c ∷ []) kept × (length (commands seat.old.me.0.seen ++ c ∷ []) < 2 ^ 62) }
         ensures same { (seat.new.table_id ≡ seat.old.table_id) × (seat.new.id ≡ seat.old.id) }
-        ensures entry { (c : K.Cmd) × (K.story kept ≡ commands seat.old.me.0.seen ++ c ∷ []) × (seat.new.me ≡ (after_entry seat.old.me.0 c, [])) }
+        ensures entry { (c : K.Cmd) × (W.written ≡ Some c) × (seat.new.me ≡ (after_entry seat.old.me.0 c, [])) }
         ensures rest { IsAtRest seat.new.me.0 }
     {
         let shared = &self.table.shared;
         drop(shared.exchange(seat, 0, Some(kept)));
-        shared.fetch_add::<Append>(seat, 0, 1);
+        shared.fetch_add::<Append<W>>(seat, 0, 1);
     }
 
     // Puts the value back and ends the turn without an entry.
     fn release(&self, seat: &mut Place<K>, kept: K)
         requires place { (seat.old.table_id ≡ self.now.0) × (seat.old.me.1 ≡ (0, None) ∷ []) }
         requires turn { seat.old.me.0.holds ≡ true }
-        requires value { (K.origin kept ≡ seat.old.me.0.origin) × (K.story kept ≡ commands seat.old.me.0.seen) }
+        requires value { (K.origin kept ≡ seat.old.me.0.origin) × K.stands (commands seat.old.me.0.seen) kept }
         ensures same { (seat.new.table_id ≡ seat.old.table_id) × (seat.new.id ≡ seat.old.id) }
         ensures released { seat.new.me ≡ (after_turn seat.old.me.0, []) }
     {
@@ -164,7 +167,7 @@ impl<K: Kept> HistLock<K> {
     fn read(&self, seat: &mut Place<K>, cursor: &mut K::Cursor, kept: K) -> Turn<K>
         requires place { (seat.old.table_id ≡ self.now.0) × (seat.old.me.1 ≡ (0, None) ∷ []) }
         requires turn { seat.old.me.0.holds ≡ true }
-        requires value { (K.origin kept ≡ seat.old.me.0.origin) × (K.story kept ≡ commands seat.old.me.0.seen) }
+        requires value { (K.origin kept ≡ seat.old.me.0.origin) × K.stands (commands seat.old.me.0.seen) kept }
         ensures same { (seat.new.table_id ≡ seat.old.table_id) × (seat.new.id ≡ seat.old.id) }
         ensures released { seat.new.me ≡ (after_turn seat.old.me.0, []) }
         ensures told { Read K.answers K.pulls seat.old.me.0 cursor.old result cursor.new }
@@ -177,8 +180,8 @@ impl<K: Kept> HistLock<K> {
         }
     }
 
-    // The rest of a turn that asks for an entry.
-    fn write(
+    // The rest of a turn that asks for an entry, that of the command which W names.
+    fn write<W: Writes<K::Cmd>>(
         &self,
         seat: &mut Place<K>,
         cursor: &mut K::Cursor,
@@ -188,7 +191,8 @@ impl<K: Kept> HistLock<K> {
         requires place { (seat.old.table_id ≡ self.now.0) × (seat.old.me.1 ≡ (0, None) ∷ []) }
         requires turn { (seat.old.me.0.holds ≡ true) × (seat.old.me.0.named ≡ true) }
         requires own { seat.old.me.0.mine ≡ entries_of seat.old.me.0.number seat.old.me.0.seen }
-        requires value { (K.origin kept ≡ seat.old.me.0.origin) × (K.story kept ≡ commands seat.old.me.0.seen) }
+        requires value { (K.origin kept ≡ seat.old.me.0.origin) × K.stands (commands seat.old.me.0.seen) kept }
+        requires entry { W.written ≡ Some cmd }
         ensures same { (seat.new.table_id ≡ seat.old.table_id) × (seat.new.id ≡ seat.old.id) × (seat.new.me.1 ≡ []) }
         ensures told { Written K.answers K.pulls seat.old.me.0 cursor.old cmd result seat.new.me.0 cursor.new }
         ensures rest { IsAtRest seat.new.me.0 }
@@ -196,7 +200,7 @@ impl<K: Kept> HistLock<K> {
         match kept.apply(cmd) {
             Ok(out) => {
                 let msgs = kept.pull(cursor);
-                self.append(seat, kept);
+                self.append::<W>(seat, kept);
                 match msgs {
                     Ok(msgs) => TurnOf::Done {
                         out: Some(out),
@@ -240,7 +244,7 @@ impl<K: Kept> HistLock<K> {
         match cmd {
             None => self.read(&mut pass.seat, cursor, kept),
             Some(cmd) => {
-                let turn = self.write(&mut pass.seat, cursor, kept, cmd);
+                let turn = self.write::<Brand>(&mut pass.seat, cursor, kept, cmd);
                 if let TurnOf::Done { .. } | TurnOf::Late { .. } = &turn {
                     pass.own += 1;
                 }

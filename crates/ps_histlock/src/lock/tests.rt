@@ -26,7 +26,7 @@ impl Kept for Numbers {
 
     ghost origin = { λ n. n.first };
 
-    ghost story = { λ n. n.log.items };
+    ghost stands = { λ log n. n.log.items ≡ log };
 
     ghost answers = { λ o log cmd out. out ≡ length log };
 

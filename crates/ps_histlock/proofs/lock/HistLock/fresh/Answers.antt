@@ -4,4 +4,4 @@ use Rattle.ps_histlock.proofs.lock.HistLock.fresh.Goals as goal
 
 pub load_new_seat-seat-requires : goal.load_new_seat-seat-requires
 load_new_seat-seat-requires g c =
-    let words = c.self.invariant.0 in (omega arith, arrives g.K.Kept.origin g.K.Kept.story _ _)
+    let words = c.self.invariant.0 in (omega arith, arrives g.K.Kept.origin g.K.Kept.stands _ _)

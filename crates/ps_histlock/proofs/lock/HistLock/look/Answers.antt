@@ -6,4 +6,4 @@ pub load-requires : goal.load-requires
 load-requires g c =
     let words = c.self.invariant.0 in
     let same = ap (λ p. p.0) c.pass.view_is ∙ c.requires ∙ sym (ap (λ p. p.0) c.self.view_is) in
-    (same, omega arith, looks g.K.Kept.origin g.K.Kept.story _ _ _ _)
+    (same, omega arith, looks g.K.Kept.origin g.K.Kept.stands _ _ _ _)

@@ -9,5 +9,5 @@ pub new-requires : goal.new-requires
 new-requires g c =
     let kept = c.args.kept in
     let slots = c.push_reserved.ensures.items ∙ ap (λ l. l ++ Some kept ∷ []) c.in_ok-slots.ensures.items in
-    subst (λ k. IsKept g.K.Kept.origin g.K.Kept.story (g.K.Kept.origin k) (opening (0 ∷ []) c.push_reserved.new.self.items (newcomer (g.K.Kept.origin k) 0))) (sym c.of-key.ensures)
-    (opens g.K.Kept.origin g.K.Kept.story kept _ slots c.requires)
+    subst (λ k. IsKept g.K.Kept.origin g.K.Kept.stands (g.K.Kept.origin k) (opening (0 ∷ []) c.push_reserved.new.self.items (newcomer (g.K.Kept.origin k) 0))) (sym c.of-key.ensures)
+    (opens g.K.Kept.origin g.K.Kept.stands kept _ slots c.requires)

@@ -6,7 +6,7 @@ use Rattle.ps_histlock.proofs.lock.HistLock.seize.Goals as goal
 pub load-word-requires : goal.load-word-requires
 load-word-requires g c =
     let words = c.self.invariant.0 in
-    (c.requires.0 ∙ sym (ap (λ p. p.0) c.self.view_is), omega arith, meets g.K.Kept.origin g.K.Kept.story _ _ _ _)
+    (c.requires.0 ∙ sym (ap (λ p. p.0) c.self.view_is), omega arith, meets g.K.Kept.origin g.K.Kept.stands _ _ _ _)
 
 pub compare_exchange-found-requires : goal.compare_exchange-found-requires
 compare_exchange-found-requires g c =
@@ -14,7 +14,7 @@ compare_exchange-found-requires g c =
     let word : ℕ = c.load-word.result in
     let not_odd = c.if-word-eq1.false in
     let even : word ≡ 2 * (word / 2) = omega arith in
-    (c.load-word.ensures.0 ∙ c.requires.0 ∙ sym (ap (λ p. p.0) c.self.view_is), omega arith, seizes g.K.Kept.origin g.K.Kept.story _ _ _ _ word (word / 2) even (ap (λ m. m.0.named) c.load-word.ensures.2 ∙ c.requires.2))
+    (c.load-word.ensures.0 ∙ c.requires.0 ∙ sym (ap (λ p. p.0) c.self.view_is), omega arith, seizes g.K.Kept.origin g.K.Kept.stands _ _ _ _ word (word / 2) even (ap (λ m. m.0.named) c.load-word.ensures.2 ∙ c.requires.2))
 
 pub exchange-requires : goal.exchange-requires
 exchange-requires g c =
