@@ -1,0 +1,5 @@
+pub mod TellLemmas
+pub mod StandLemmas
+pub mod GoOnLemmas
+pub mod HallLemmas
+pub mod NumberLemmas

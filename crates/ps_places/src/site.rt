@@ -1,0 +1,21 @@
+//! What a place was opened with, as contracts name it.
+use ps_dex::dex::Dex;
+use ps_valid::config::Config;
+
+/// With what a hall is opened. Contracts alone speak of it: no value of it is ever made.
+pub struct Root {
+    /// The configuration of the server.
+    pub config: Config,
+    /// The dex of the server.
+    pub dex: Dex,
+}
+
+/// The place of a room. Contracts alone speak of it: no value of it is ever made.
+pub struct Site {
+    /// Its number: a chat room's place in the configuration, from 0, or 15 and a battle's number.
+    pub number: u32,
+    /// The configuration of the server.
+    pub config: Config,
+    /// The dex of the server.
+    pub dex: Dex,
+}
