@@ -1,0 +1,127 @@
+//! Where connections over WebSocket come from.
+ghost use Rattle.std.specs.Prelude.{◌≡◌, true, false, IfOk, OnOk, OnErr, IsErr};
+ghost use Rattle.ps_outside.specs.Counts.{CountsErr};
+ghost use Rattle.ps_outside.specs.Doors.{given_after, HasAcceptCause};
+ghost use Rattle.ps_ws.specs.Sockets.{new_socket};
+
+use crate::link::WsLink;
+use crate::wire::Wire;
+use ps_outside::Failed;
+use ps_outside::door::{Door, DoorEnd};
+use std::alloc::Global;
+use std::io::ErrorKind;
+use std::marker::Model;
+use std::net::{Net, TcpListener, TcpStream};
+use std::{io, rt};
+
+/// A listening TCP socket, whose connections are WebSocket links.
+///
+/// The handshake of a link is done by the link's own first call, so a client that is slow to do it
+/// holds up nobody else.
+#[derive(Drop)]
+pub struct WsDoor<R: Net<Listener = TcpListener, Stream = TcpStream> + rt::Clock + Copy> {
+    host: R,
+    alloc: Global,
+    listener: Option<TcpListener>,
+    given: u64,
+    faults: u64,
+}
+
+impl<R: Net<Listener = TcpListener, Stream = TcpStream> + rt::Clock + Copy> Model for WsDoor<R> {
+    ghost use Rattle.ps_ws.specs.Sockets.{DoorState};
+    ghost use Rattle.std.specs.Option.{is_some};
+
+    ghost Value = { DoorState };
+
+    ghost view = { λ d. record { listens = is_some d.listener; given = d.given; faults = d.faults } };
+}
+
+impl<R: Net<Listener = TcpListener, Stream = TcpStream> + rt::Clock + Copy> WsDoor<R> {
+    /// A door that isn't open. Takes no memory.
+    pub fn new(host: R, alloc: Global) -> WsDoor<R>
+        ensures { result ≡ record { listens = false; given = 0; faults = 0 } }
+    {
+        WsDoor {
+            host,
+            alloc,
+            listener: None,
+            given: 0,
+            faults: 0,
+        }
+    }
+
+    /// The port at which it listens, where it is open and the host tells it. An address with the
+    /// port 0 lets the host choose one.
+    pub fn port(&self) -> Option<u16> {
+        match self.listener.as_ref()?.local_addr() {
+            Ok(address) => Some(address.port()),
+            Err(_) => None,
+        }
+    }
+
+    // Waits for a connection, and makes a link of it. A door that isn't open fails.
+    fn next_link(&self) -> io::Result<WsLink<R>>
+        ensures fresh { IfOk result (λ link. link ≡ new_socket) }
+        ensures shut { self.now.listens ≡ false → IsErr result }
+    {
+        let Some(listener) = &self.listener else {
+            return Err(io::Error::from(ErrorKind::NotConnected));
+        };
+        let (stream, _address) = listener.accept()?;
+        // Short texts leave at once. Where the host refuses this they come late, and no more.
+        let _ = stream.set_nodelay(true);
+        let wire = Wire::open(&self.host, self.host, self.alloc, stream)?;
+        Ok(WsLink::over(wire))
+    }
+}
+
+impl<R: Net<Listener = TcpListener, Stream = TcpStream> + rt::Clock + Copy> Door for WsDoor<R> {
+    type Link = WsLink<R>;
+
+    ghost faults = { λ d. d.faults };
+
+    ghost given = { λ d. d.given };
+
+    /// Binds a TCP listener: the address is an IP address or a host's name, and a port. Where that
+    /// fails the door is as open as it was.
+    fn open(&mut self, address: &str) -> Result<(), Failed>
+        ensures count { self.new.given ≡ self.old.given }
+        ensures cause { CountsErr self.old.faults self.new.faults result }
+        ensures opens { OnOk result (self.new.listens ≡ true) }
+        ensures same { OnErr result (self.new.listens ≡ self.old.listens) }
+    {
+        match TcpListener::bind(&self.host, address) {
+            Ok(listener) => {
+                self.listener = Some(listener);
+                Ok(())
+            }
+            Err(_) => {
+                self.faults = self.faults.saturating_add(1);
+                Err(Failed)
+            }
+        }
+    }
+
+    /// Waits for a connection. The link has counted nothing yet. A door that isn't open fails.
+    fn accept(&mut self) -> Result<WsLink<R>, DoorEnd>
+        ensures count { self.new.given ≡ given_after result self.old.given }
+        ensures cause { HasAcceptCause self.old.faults self.new.faults result }
+        ensures fresh { IfOk result (λ link. link ≡ new_socket) }
+        ensures shut { self.old.listens ≡ false → IsErr result }
+        ensures same { self.new.listens ≡ self.old.listens }
+    {
+        match self.next_link() {
+            Ok(link) => {
+                self.given = self.given.saturating_add(1);
+                Ok(link)
+            }
+            Err(error) => {
+                if error.kind() == ErrorKind::OutOfMemory {
+                    return Err(DoorEnd::NoMemory);
+                }
+                self.faults = self.faults.saturating_add(1);
+                Err(DoorEnd::Failed)
+            }
+        }
+    }
+}

@@ -1,0 +1,10 @@
+//! Links and a door over WebSocket (RFC 6455), on TCP.
+//!
+//! They tell nothing of what comes and goes, and count what they answer: the trusted edge of a server.
+#![tactic(auto)]
+
+pub mod door;
+pub mod link;
+#[cfg(test)]
+mod tests;
+mod wire;

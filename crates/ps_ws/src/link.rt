@@ -1,0 +1,138 @@
+//! A connection over WebSocket.
+ghost use Rattle.std.specs.Prelude.{◌≡◌, Option, Some, None};
+ghost use Rattle.ps_outside.specs.Links.{IsNext, after_next, after_send, HasNextCause, HasSendCause};
+
+use crate::wire::Wire;
+use ps_outside::link::{Link, Next, SendEnd};
+use std::marker::Model;
+use std::rt;
+
+/// The most bytes of a message, and of a frame, that a link takes. It is above the 8,192 bytes that
+/// a client's text may have, so that a longer text comes whole to who answers that it is too long.
+pub const MESSAGE_LIMIT: usize = 65_536;
+
+/// How a link has ended. Nothing is read and nothing sent any more.
+#[derive(Clone, Copy, Debug, PartialEq, Eq)]
+pub enum Ending {
+    /// Both sides have said that they close.
+    Closed,
+    /// The client broke the protocol or was too slow, or the connection was lost.
+    Broken,
+}
+
+/// The server's side of one WebSocket connection (RFC 6455), which tells nothing ahead.
+///
+/// - The first call does the handshake, for 10 seconds at most.
+/// - A text message and a binary message are each a Text of its bytes, whole, of at most
+///   [`MESSAGE_LIMIT`] bytes.
+/// - Quiet comes where nothing has come within 50 milliseconds, and at each ping and pong. A ping is
+///   answered.
+/// - End comes where both sides have said that they close, and from then on.
+/// - Failed comes at all else, and from then on: at a message over the limit, text that isn't UTF-8,
+///   anything that the protocol forbids, and a connection that ends without a close.
+/// - A text is sent within 10 seconds, or is Failed.
+#[derive(Drop)]
+pub struct WsLink<R: rt::Clock + Copy> {
+    wire: Wire<R>,
+    ended: Option<Ending>,
+    faults: u64,
+    quiets: u64,
+    ends: u64,
+}
+
+impl<R: rt::Clock + Copy> Model for WsLink<R> {
+    ghost use Rattle.ps_ws.specs.Sockets.{SocketState};
+
+    ghost Value = { SocketState };
+
+    ghost view = { λ l. record { counts = record { faults = l.faults; quiets = l.quiets; ends = l.ends }; ended = l.ended } };
+}
+
+impl<R: rt::Clock + Copy> WsLink<R> {
+    ghost use Rattle.ps_ws.specs.Sockets.{new_socket, first_ending};
+
+    // A link over a wire.
+    pub(crate) fn over(wire: Wire<R>) -> WsLink<R>
+        ensures { result ≡ new_socket }
+    {
+        WsLink {
+            wire,
+            ended: None,
+            faults: 0,
+            quiets: 0,
+            ends: 0,
+        }
+    }
+
+    // Lets the socket go. What has ended ends no other way.
+    fn end(&mut self, ending: Ending)
+        ensures { self.new ≡ record self.old { ended = first_ending self.old.ended ending } }
+    {
+        self.wire.shut();
+        if self.ended.is_none() {
+            self.ended = Some(ending);
+        }
+    }
+}
+
+impl<R: rt::Clock + Copy> Link for WsLink<R> {
+    ghost use Rattle.ps_ws.specs.Sockets.{ended_after, ended_after_send, IsStillEnded, SendsNothing};
+
+    ghost talk = { λ _. None };
+
+    ghost counts = { λ l. l.counts };
+
+    /// Where memory was refused nothing is skipped: the next call goes on, or the link has failed.
+    fn next(&mut self) -> Next
+        ensures told { None ≡ after_next result None }
+        ensures front { IsNext None result }
+        ensures cause { HasNextCause self.old.counts self.new.counts result }
+        ensures ended { self.new.ended ≡ ended_after result self.old.ended }
+        ensures still { IsStillEnded self.old.ended result }
+    {
+        let next = match self.ended {
+            None => self.wire.next(),
+            Some(Ending::Closed) => Next::End,
+            Some(Ending::Broken) => Next::Failed,
+        };
+        match next {
+            Next::Text(bytes) => Next::Text(bytes),
+            Next::Quiet => {
+                self.quiets = self.quiets.saturating_add(1);
+                Next::Quiet
+            }
+            Next::End => {
+                self.end(Ending::Closed);
+                self.ends = self.ends.saturating_add(1);
+                Next::End
+            }
+            Next::Failed => {
+                self.end(Ending::Broken);
+                self.faults = self.faults.saturating_add(1);
+                Next::Failed
+            }
+            Next::NoMemory => Next::NoMemory,
+        }
+    }
+
+    fn send(&mut self, text: &str) -> Result<(), SendEnd>
+        ensures told { None ≡ after_send result text.now None }
+        ensures cause { HasSendCause self.old.counts self.new.counts result }
+        ensures ended { self.new.ended ≡ ended_after_send result self.old.ended }
+        ensures still { SendsNothing self.old.ended result }
+    {
+        let sent = match self.ended {
+            None => self.wire.send(text),
+            Some(_) => Err(SendEnd::Failed),
+        };
+        match sent {
+            Ok(()) => Ok(()),
+            Err(SendEnd::NoMemory) => Err(SendEnd::NoMemory),
+            Err(SendEnd::Failed) => {
+                self.end(Ending::Broken);
+                self.faults = self.faults.saturating_add(1);
+                Err(SendEnd::Failed)
+            }
+        }
+    }
+}
