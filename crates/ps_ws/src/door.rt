@@ -1,5 +1,5 @@
 //! Where connections over WebSocket come from.
-ghost use Rattle.std.specs.Prelude.{◌≡◌, true, false, IfOk, OnOk, OnErr, IsErr};
+ghost use Rattle.std.specs.Prelude.{◌≡◌, true, false, IfOk, OnOk, OnErr, IsErr, IsNone};
 ghost use Rattle.ps_outside.specs.Counts.{CountsErr};
 ghost use Rattle.ps_outside.specs.Doors.{given_after, HasAcceptCause};
 ghost use Rattle.ps_ws.specs.Sockets.{new_socket};
@@ -52,7 +52,9 @@ impl<R: Net<Listener = TcpListener, Stream = TcpStream> + rt::Clock + Copy> WsDo
 
     /// The port at which it listens, where it is open and the host tells it. An address with the
     /// port 0 lets the host choose one.
-    pub fn port(&self) -> Option<u16> {
+    pub fn port(&self) -> Option<u16>
+        ensures shut { self.now.listens ≡ false → IsNone result }
+    {
         match self.listener.as_ref()?.local_addr() {
             Ok(address) => Some(address.port()),
             Err(_) => None,
