@@ -1,0 +1,64 @@
+-- Entering a place, from what happens to its pass.
+use Rattle.std.proofs.Common.{◌≡◌, ◌≢◌, ℕ, ◌<◌, ◌≤◌, List, ◌++◌, Option, Some, None, Err, sym, ap, ◌∙◌, subst, inl, inr}
+use Rattle.std.specs.Prelude.{slice_set}
+use Rattle.ps_room.specs.declared.outcome.RoomOut.{RoomOut}
+use Rattle.ps_places.specs.Rooms.{Answers, Pulls}
+use Rattle.ps_hub.specs.Hubs.{Hub}
+use Rattle.ps_hub.specs.Names.{Names}
+use Rattle.ps_hub.specs.Passes.{IsRoomPass, AreOf, Keeps}
+use Rattle.ps_hub.specs.Turns.{Takes}
+use Rattle.ps_hub.specs.Calls.{Held, NotHeld, HeldUp, Unheld, Holds, EntersAt, EnterFails}
+use Rattle.ps_hub.specs.declared.out.EnterFault.{EnterFault}
+use Rattle.ps_hub.specs.declared.out.EnterFault.TheVariants.{NoSuchRoom, Busy, NoMemory}
+use Rattle.ps_hub.specs.declared.pass.RoomPass.{RoomPass}
+use Rattle.ps_hub.specs.declared.passes.Passes.{Passes}
+use Rattle.ps_hub.specs.declared.taken.Taken.TheVariants.{Done}
+use Rattle.ps_hub.proofs.PassLemmas.{room_held, room_told_at_done, chat_held}
+use Rattle.ps_hub.proofs.RowLemmas.{are_set, are_kept, kept_pass, kept_then}
+
+-- ---- at one pass
+
+-- the room that the turn found has the id
+pub found_of : (hub : Hub) (conn : ℕ) (h m k : RoomPass) (id : List ℕ) (out : Option (Option RoomOut)) → 16 ≤ h.number → m.number ≡ h.number
+    → Takes Answers Pulls h.pass.1 h.cursor (h.kept.items ++ h.fresh.items) None (Done out) m.pass.1 m.cursor (m.kept.items ++ m.fresh.items) → m.cursor.id ≡ Some id → k ≡ record m { id = Some id }
+    → IsRoomPass hub conn h → IsRoomPass hub conn m → IsRoomPass hub conn k
+found_of hub conn h m k id out high number told found is p q =
+    let room = room_told_at_done hub conn h m None out high number told p in
+    room_held hub conn m k id is (room.0, room.1, room.2 ∙ found) q
+
+-- it has another, or there is none
+pub found_other : (hub : Hub) (conn : ℕ) (h m : RoomPass) (id : List ℕ) (out : Option (Option RoomOut)) → 16 ≤ h.number → h.id ≡ None → (m.at ≡ h.at) × (m.number ≡ h.number) × (m.id ≡ h.id)
+    → Takes Answers Pulls h.pass.1 h.cursor (h.kept.items ++ h.fresh.items) None (Done out) m.pass.1 m.cursor (m.kept.items ++ m.fresh.items) → m.cursor.id ≢ Some id → IsRoomPass hub conn h → NotHeld hub id h m
+found_other hub conn h m id out high free same told other p =
+    let room = room_told_at_done hub conn h m None out high same.1 told p in
+    (high, inr (free, same.2 ∙ free, same.0, (told.0, told.1, told.2), (room.0, room.1, λ e. other (sym room.2 ∙ e))))
+
+-- a chat room is held at once
+pub chat_of : (hub : Hub) (conn : ℕ) (h k : RoomPass) (id : List ℕ) → Names hub.config id h.number → h.number < 16 → k ≡ record h { id = Some id } → IsRoomPass hub conn h → IsRoomPass hub conn k
+chat_of hub conn h k id names low is p = room_held hub conn h k id is (chat_held hub h id names low) p
+
+-- a place that is held is held by the id
+pub held_id : (id : List ℕ) (h k : RoomPass) → Held id h k → k.id ≡ Some id
+held_id id h k (inl same) = ap (λ (q : RoomPass). q.id) same.1 ∙ same.0
+held_id id h k (inr (inl chat)) = ap (λ (q : RoomPass). q.id) chat.1
+held_id id h k (inr (inr turn)) = turn.1
+
+-- ---- at the row
+
+pub entered : (hub : Hub) (id : List ℕ) (number place : ℕ) (does : RoomPass → RoomPass → Type 0) (old : Passes) (h : RoomPass) (mid : Passes) (k : RoomPass) (new : Passes) → Names hub.config id number → Keeps hub number place old h mid
+    → new ≡ record mid { rooms = new.rooms } → new.rooms.items ≡ slice_set mid.rooms.items place k → k.number ≡ h.number → does h k → EntersAt hub id does old new
+entered hub id number place does old h mid k new names keeps rest row same done =
+    record { before = h; behind = k; named = subst (λ (n : ℕ). Names hub.config id n) (sym keeps.number_is) names; but = kept_then hub number place old h mid k new keeps rest row same; done = done }
+
+pub entered_fault : (hub : Hub) (id : List ℕ) (number place : ℕ) (fault : EnterFault) (old : Passes) (h : RoomPass) (mid : Passes) (k : RoomPass) (new : Passes) → Names hub.config id number → Keeps hub number place old h mid
+    → new ≡ record mid { rooms = new.rooms } → new.rooms.items ≡ slice_set mid.rooms.items place k → k.number ≡ h.number → Holds {T = ℕ} hub id h (Err fault) k → EnterFails hub id old fault new
+entered_fault hub id number place NoSuchRoom old h mid k new names keeps rest row same done = inr (entered hub id number place (NotHeld hub id) old h mid k new names keeps rest row same done)
+entered_fault hub id number place (Busy word) old h mid k new names keeps rest row same done = entered hub id number place (HeldUp word) old h mid k new names keeps rest row same done
+entered_fault hub id number place NoMemory old h mid k new names keeps rest row same done = inr (entered hub id number place Unheld old h mid k new names keeps rest row same done)
+
+-- the passes are the hub's still
+pub entered_are : (hub : Hub) (number place : ℕ) (old : Passes) (h : RoomPass) (mid : Passes) (k : RoomPass) (new : Passes) → AreOf hub old → Keeps hub number place old h mid
+    → new ≡ record mid { rooms = new.rooms } → new.rooms.items ≡ slice_set mid.rooms.items place k → ((conn : ℕ) → IsRoomPass hub conn h → IsRoomPass hub conn k) → AreOf hub new
+entered_are hub number place old h mid k new are keeps rest row on =
+    let conn : mid.conn ≡ old.conn = ap (λ (p : Passes). p.conn) keeps.rest in
+    are_set hub mid new place k (are_kept hub number place old h mid are keeps) rest row (on mid.conn (subst (λ (c : ℕ). IsRoomPass hub c h) (sym conn) (kept_pass hub number place old h mid are keeps)))

@@ -1,0 +1,11 @@
+pub mod ToldLemmas
+pub mod PassLemmas
+pub mod RowLemmas
+pub mod LockLemmas
+pub mod NameLemmas
+pub mod BadgeLemmas
+pub mod EnterLemmas
+pub mod CatchLemmas
+pub mod OrderLemmas
+pub mod QuitLemmas
+pub mod CallLemmas

@@ -1,0 +1,260 @@
+-- What keeps a pass one of a hub.
+use Rattle.std.proofs.Common.{◌≡◌, ℕ, ◌+◌, ◌<◌, ◌≤◌, true, false, List, [], ◌++◌, length, Option, Some, None, refl, sym, ap, ◌∙◌, subst, inl, inr, arith}
+use Rattle.std.specs.Prelude.{nat_lt}
+use Rattle.std.proofs.lemmas.Bool.Decides.{nat_tests}
+use Rattle.std.proofs.lemmas.Option.{none-some}
+use Rattle.ps_base.specs.declared.msg.Msg.{Msg}
+use Rattle.ps_hall.specs.declared.entry.HallEntry.{HallEntry}
+use Rattle.ps_hall.specs.declared.outcome.HallOut.{HallOut}
+use Rattle.ps_room.specs.declared.outcome.RoomOut.{RoomOut}
+use Rattle.ps_room.specs.Openings.{Opening}
+use Rattle.ps_openings.specs.Openings.{chat_opening}
+use Rattle.ps_histlock.specs.declared.view.View.{View}
+use Rattle.ps_histlock.specs.Histories.{commands}
+use Rattle.ps_histlock.specs.Seated.{TableId}
+use Rattle.ps_histlock.specs.Views.{newcomer, offspring, with_number, after_look, IsAtRest}
+use Rattle.ps_histlock.proofs.Lists.{prefix_self}
+use Rattle.ps_places.specs.declared.command.RoomCmd.{RoomCmd}
+use Rattle.ps_places.specs.declared.cursor.HallCursor.{HallCursor}
+use Rattle.ps_places.specs.declared.cursor.RoomCursor.{RoomCursor}
+use Rattle.ps_places.specs.declared.site.Root.{Root}
+use Rattle.ps_places.specs.declared.site.Site.{Site}
+use Rattle.ps_places.specs.Sites.{chat_at, Story, story, plays, TellsBy, Tells, view_told, id_told}
+use Rattle.ps_places.specs.Rooms.{cursor_of, Answers, Pulls, Shows, StandsAt}
+use Rattle.ps_places.specs.Halls.{hall_cursor, HallAnswers, HallPulls, HallShows, HallStandsAt}
+use Rattle.ps_places.proofs.GoOnLemmas.{pulls_go_on}
+use Rattle.ps_places.proofs.HallLemmas.{hall_goes_on}
+use Rattle.ps_places.proofs.TellLemmas.{tells_more, going_on}
+use Rattle.ps_hub.specs.Hubs.{Hub, root_of, site_of, lock_of}
+use Rattle.ps_hub.specs.Names.{IsChatId, Names}
+use Rattle.ps_hub.specs.Passes.{lines_of, IsTold, IsHallPass, HeldBy, IsRoomPass, IsNewPass}
+use Rattle.ps_hub.specs.declared.pass.HallPass.{HallPass}
+use Rattle.ps_hub.specs.declared.pass.RoomPass.{RoomPass}
+use Rattle.ps_hub.specs.declared.taken.Taken.{Taken}
+use Rattle.ps_hub.specs.declared.taken.Taken.TheVariants.{Done}
+use Rattle.ps_hub.specs.Turns.{Takes, TakesAtLast}
+use Rattle.ps_hub.proofs.ToldLemmas.{GoesOn, told_new, told_after, told_handed, pulled_stands, Grows, grows_self, grows_looked, commands_grow, PullsOrNot, takes_grow, takes_pull, takes_grow_at_last, takes_pull_at_last}
+
+-- ---- the hall
+
+pub hall_law : (conn : ℕ) (r : Root) → GoesOn (HallShows conn r) (HallStandsAt conn r) (HallPulls r)
+hall_law conn r before later x y ms msgs at shows p = hall_goes_on conn r before later x y ms msgs at shows p
+
+pub hall_passed : (conn : ℕ) (r : Root) (cmds : List HallEntry) (x : HallCursor) → HallStandsAt conn r cmds x → x.passed ≡ length cmds
+hall_passed conn r cmds x at = ap (λ (c : HallCursor). c.passed) at
+
+-- what follows for a pass from what a call left of it
+pub hall_stays : (hub : Hub) (conn : ℕ) (h k : HallPass) → k.pass.0 ≡ h.pass.0 → k.at ≡ h.at → IsAtRest k.pass.1 → Grows h.pass.1 k.pass.1 → PullsOrNot HallPulls h.pass.1 h.cursor (h.kept.items ++ h.fresh.items) k.pass.1 k.cursor (k.kept.items ++ k.fresh.items)
+    → IsHallPass hub conn h → IsHallPass hub conn k
+hall_stays hub conn h k lock at rest g pulls p = record {
+  lock = lock ∙ p.lock;
+  origin = g.origin ∙ p.origin;
+  rest = rest;
+  told = subst (λ (n : ℕ). IsTold (HallShows conn (root_of hub)) (HallStandsAt conn (root_of hub)) (commands k.pass.1.seen) k.cursor k.cursor.passed (lines_of (k.kept.items ++ k.fresh.items)) n) (sym at)
+      (told_after HallPulls (HallShows conn (root_of hub)) (HallStandsAt conn (root_of hub)) (λ (x : HallCursor). x.passed) (root_of hub) (hall_law conn (root_of hub)) (hall_passed conn (root_of hub)) h.pass.1 h.cursor (h.kept.items ++ h.fresh.items) k.pass.1 k.cursor (k.kept.items ++ k.fresh.items) h.at p.origin p.told g pulls);
+}
+
+-- all that was kept was handed out
+pub hall_handed : (hub : Hub) (conn : ℕ) (h k : HallPass) → k.pass ≡ h.pass → k.cursor ≡ h.cursor → k.kept.items ++ k.fresh.items ≡ [] → k.at ≡ k.cursor.passed → IsHallPass hub conn h → IsHallPass hub conn k
+hall_handed hub conn h k pass cursor none at p = record {
+  lock = ap (λ (q : TableId × View Root HallEntry). q.0) pass ∙ p.lock;
+  origin = ap (λ (q : TableId × View Root HallEntry). q.1.origin) pass ∙ p.origin;
+  rest = subst (λ (q : TableId × View Root HallEntry). IsAtRest q.1) (sym pass) p.rest;
+  told = told_handed (HallShows conn (root_of hub)) (HallStandsAt conn (root_of hub)) (λ (x : HallCursor). x.passed) h.pass.1 k.pass.1 h.cursor k.cursor (h.kept.items ++ h.fresh.items) (k.kept.items ++ k.fresh.items) h.at k.at (ap (λ (q : TableId × View Root HallEntry). q.1) pass) cursor none at p.told;
+}
+
+-- after a turn
+pub hall_taken : (hub : Hub) (conn : ℕ) (h k : HallPass) (cmd : Option HallEntry) (t : Taken HallEntry HallOut) → k.pass.0 ≡ h.pass.0 → k.at ≡ h.at → (IsAtRest h.pass.1 → IsAtRest k.pass.1)
+    → Takes HallAnswers HallPulls h.pass.1 h.cursor (h.kept.items ++ h.fresh.items) cmd t k.pass.1 k.cursor (k.kept.items ++ k.fresh.items) → IsHallPass hub conn h → IsHallPass hub conn k
+hall_taken hub conn h k cmd t lock at rest told p = hall_stays hub conn h k lock at (rest p.rest)
+    (takes_grow HallAnswers HallPulls h.pass.1 h.cursor (h.kept.items ++ h.fresh.items) cmd t k.pass.1 k.cursor (k.kept.items ++ k.fresh.items) told)
+    (takes_pull HallAnswers HallPulls h.pass.1 h.cursor (h.kept.items ++ h.fresh.items) cmd t k.pass.1 k.cursor (k.kept.items ++ k.fresh.items) told)
+    p
+
+pub hall_taken_at_last : (hub : Hub) (conn : ℕ) (h k : HallPass) (cmd : Option HallEntry) (t : Taken HallEntry HallOut) → k.pass.0 ≡ h.pass.0 → k.at ≡ h.at → (IsAtRest h.pass.1 → IsAtRest k.pass.1)
+    → TakesAtLast HallAnswers HallPulls h.pass.1 h.cursor (h.kept.items ++ h.fresh.items) cmd t k.pass.1 k.cursor (k.kept.items ++ k.fresh.items) → IsHallPass hub conn h → IsHallPass hub conn k
+hall_taken_at_last hub conn h k cmd t lock at rest told p = hall_stays hub conn h k lock at (rest p.rest)
+    (takes_grow_at_last HallAnswers HallPulls h.pass.1 h.cursor (h.kept.items ++ h.fresh.items) cmd t k.pass.1 k.cursor (k.kept.items ++ k.fresh.items) told)
+    (takes_pull_at_last HallAnswers HallPulls h.pass.1 h.cursor (h.kept.items ++ h.fresh.items) cmd t k.pass.1 k.cursor (k.kept.items ++ k.fresh.items) told)
+    p
+
+-- a look
+pub hall_looked : (hub : Hub) (conn : ℕ) (h k : HallPass) (n : ℕ) → k ≡ record h { pass = (h.pass.0, after_look h.pass.1 n) } → IsAtRest k.pass.1 → IsHallPass hub conn h → IsHallPass hub conn k
+hall_looked hub conn h k n is rest p = hall_stays hub conn h k
+    (ap (λ (q : HallPass). q.pass.0) is)
+    (ap (λ (q : HallPass). q.at) is)
+    rest
+    (subst (λ (q : HallPass). Grows h.pass.1 q.pass.1) (sym is) (grows_looked h.pass.1 n))
+    (inr (ap (λ (q : HallPass). q.cursor) is, ap (λ (q : HallPass). q.kept.items ++ q.fresh.items) is))
+    p
+
+-- a new pass
+pub hall_new : (hub : Hub) (conn n : ℕ) (k : HallPass) → k.pass ≡ (hub.hall, newcomer (root_of hub) n) → k.cursor ≡ hall_cursor conn 0 → k.kept.items ++ k.fresh.items ≡ [] → k.at ≡ 0 → IsHallPass hub conn k
+hall_new hub conn n k pass cursor none at =
+    let empty : IsTold (HallShows conn (root_of hub)) (HallStandsAt conn (root_of hub)) [] (hall_cursor conn 0) 0 [] 0 = told_new (HallShows conn (root_of hub)) (HallStandsAt conn (root_of hub)) (hall_cursor conn 0) refl refl in
+    let moved : IsTold (HallShows conn (root_of hub)) (HallStandsAt conn (root_of hub)) [] k.cursor k.cursor.passed [] 0 = subst (λ (x : HallCursor). IsTold (HallShows conn (root_of hub)) (HallStandsAt conn (root_of hub)) [] x x.passed [] 0) (sym cursor) empty in
+    let kept : IsTold (HallShows conn (root_of hub)) (HallStandsAt conn (root_of hub)) [] k.cursor k.cursor.passed (lines_of (k.kept.items ++ k.fresh.items)) k.at = subst (λ (m : ℕ). IsTold (HallShows conn (root_of hub)) (HallStandsAt conn (root_of hub)) [] k.cursor k.cursor.passed (lines_of (k.kept.items ++ k.fresh.items)) m) (sym at) (subst (λ (ms : List Msg). IsTold (HallShows conn (root_of hub)) (HallStandsAt conn (root_of hub)) [] k.cursor k.cursor.passed (lines_of ms) 0) (sym none) moved) in
+    record {
+      lock = ap (λ (q : TableId × View Root HallEntry). q.0) pass;
+      origin = ap (λ (q : TableId × View Root HallEntry). q.1.origin) pass;
+      rest = subst (λ (q : TableId × View Root HallEntry). IsAtRest q.1) (sym pass) (refl, refl, refl);
+      told = subst (λ (q : TableId × View Root HallEntry). IsTold (HallShows conn (root_of hub)) (HallStandsAt conn (root_of hub)) (commands q.1.seen) k.cursor k.cursor.passed (lines_of (k.kept.items ++ k.fresh.items)) k.at) (sym pass) kept;
+    }
+
+-- the pass of a connection, split off
+pub hall_split : (hub : Hub) (conn n : ℕ) (h k : HallPass) → k.pass ≡ (h.pass.0, with_number (offspring h.pass.1) n) → IsAtRest k.pass.1 → k.cursor ≡ h.cursor → k.kept.items ++ k.fresh.items ≡ h.kept.items ++ h.fresh.items → k.at ≡ h.at → IsHallPass hub conn h → IsHallPass hub conn k
+hall_split hub conn n h k pass rest cursor kept at p = hall_stays hub conn h k
+    (ap (λ (q : TableId × View Root HallEntry). q.0) pass)
+    at
+    rest
+    (subst (λ (q : TableId × View Root HallEntry). Grows h.pass.1 q.1) (sym pass) (record { origin = refl; seen = prefix_self h.pass.1.seen }))
+    (inr (cursor, kept))
+    p
+
+-- ---- a room
+
+pub room_law : (conn : ℕ) (site : Site) → GoesOn (Shows conn site) (StandsAt conn site) (Pulls site)
+room_law conn site before later x y ms msgs at shows p = pulls_go_on conn site before later x y ms msgs at shows p
+
+cursor_passed : (conn : ℕ) (told : Option Story) (n : ℕ) → (cursor_of conn told n).passed ≡ n
+cursor_passed conn None n = refl
+cursor_passed conn (Some s) n = refl
+
+pub room_passed : (conn : ℕ) (site : Site) (cmds : List RoomCmd) (x : RoomCursor) → StandsAt conn site cmds x → x.passed ≡ length cmds
+room_passed conn site cmds x (inl new) = ap (λ (c : RoomCursor). c.passed) new.1 ∙ sym (ap length new.0)
+room_passed conn site cmds x (inr at) = ap (λ (c : RoomCursor). c.passed) at.2 ∙ cursor_passed conn at.0 (length cmds)
+
+-- the id of a room stays
+held_further : (site : Site) (cmds later : List RoomCmd) (id : List ℕ) (told : Option Story) → Tells site cmds told → id_told told ≡ Some id → (more : Option Story) × Tells site (cmds ++ later) more × (id_told more ≡ Some id)
+held_further site cmds later id None tells is = absurd (none-some id is)
+held_further site cmds later id (Some s) tells is = (Some (going_on later s), tells_more site cmds later s tells, is)
+
+held_on : (hub : Hub) (id : Option (List ℕ)) (h k : RoomPass) → k.number ≡ h.number → Grows h.pass.1 k.pass.1 → HeldBy id hub h → HeldBy id hub k
+held_on hub None h k number g held = tt
+held_on hub (Some id) h k number g held =
+    let later = commands_grow h.pass.1 k.pass.1 g in
+    let further : (more : Option Story) × Tells (site_of hub h.number) (commands h.pass.1.seen ++ later.0) more × (id_told more ≡ Some id) = held_further (site_of hub h.number) (commands h.pass.1.seen) later.0 id held.0 held.1 held.2 in
+    let here : (more : Option Story) × Tells (site_of hub h.number) (commands k.pass.1.seen) more × (id_told more ≡ Some id) = subst (λ (l : List RoomCmd). (more : Option Story) × Tells (site_of hub h.number) l more × (id_told more ≡ Some id)) later.1 further in
+    subst (λ (n : ℕ). (more : Option Story) × Tells (site_of hub n) (commands k.pass.1.seen) more × (id_told more ≡ Some id)) (sym number) here
+
+pub room_stays : (hub : Hub) (conn : ℕ) (h k : RoomPass) → k.pass.0 ≡ h.pass.0 → k.at ≡ h.at → k.number ≡ h.number → k.id ≡ h.id → IsAtRest k.pass.1 → Grows h.pass.1 k.pass.1 → PullsOrNot Pulls h.pass.1 h.cursor (h.kept.items ++ h.fresh.items) k.pass.1 k.cursor (k.kept.items ++ k.fresh.items)
+    → IsRoomPass hub conn h → IsRoomPass hub conn k
+room_stays hub conn h k lock at number id rest g pulls p = record {
+  lock = ap (λ (n : ℕ). lock_of hub n) number ∙ p.lock ∙ ap (λ (t : TableId). Some t) (sym lock);
+  origin = g.origin ∙ p.origin ∙ ap (λ (n : ℕ). site_of hub n) (sym number);
+  rest = rest;
+  told = subst (λ (n : ℕ). IsTold (Shows conn (site_of hub k.number)) (StandsAt conn (site_of hub k.number)) (commands k.pass.1.seen) k.cursor k.cursor.passed (lines_of (k.kept.items ++ k.fresh.items)) n) (sym at)
+      (subst (λ (n : ℕ). IsTold (Shows conn (site_of hub n)) (StandsAt conn (site_of hub n)) (commands k.pass.1.seen) k.cursor k.cursor.passed (lines_of (k.kept.items ++ k.fresh.items)) h.at) (sym number)
+      (told_after Pulls (Shows conn (site_of hub h.number)) (StandsAt conn (site_of hub h.number)) (λ (x : RoomCursor). x.passed) (site_of hub h.number) (room_law conn (site_of hub h.number)) (room_passed conn (site_of hub h.number)) h.pass.1 h.cursor (h.kept.items ++ h.fresh.items) k.pass.1 k.cursor (k.kept.items ++ k.fresh.items) h.at p.origin p.told g pulls));
+  held = subst (λ (i : Option (List ℕ)). HeldBy i hub k) (sym id) (held_on hub h.id h k number g p.held);
+}
+
+-- after a turn
+pub room_taken : (hub : Hub) (conn : ℕ) (h k : RoomPass) (cmd : Option RoomCmd) (t : Taken RoomCmd (Option RoomOut)) → k.pass.0 ≡ h.pass.0 → (k.at ≡ h.at) × (k.number ≡ h.number) × (k.id ≡ h.id) → (IsAtRest h.pass.1 → IsAtRest k.pass.1)
+    → Takes Answers Pulls h.pass.1 h.cursor (h.kept.items ++ h.fresh.items) cmd t k.pass.1 k.cursor (k.kept.items ++ k.fresh.items) → IsRoomPass hub conn h → IsRoomPass hub conn k
+room_taken hub conn h k cmd t lock same rest told p = room_stays hub conn h k lock same.0 same.1 same.2 (rest p.rest)
+    (takes_grow Answers Pulls h.pass.1 h.cursor (h.kept.items ++ h.fresh.items) cmd t k.pass.1 k.cursor (k.kept.items ++ k.fresh.items) told)
+    (takes_pull Answers Pulls h.pass.1 h.cursor (h.kept.items ++ h.fresh.items) cmd t k.pass.1 k.cursor (k.kept.items ++ k.fresh.items) told)
+    p
+
+pub room_taken_at_last : (hub : Hub) (conn : ℕ) (h k : RoomPass) (cmd : Option RoomCmd) (t : Taken RoomCmd (Option RoomOut)) → k.pass.0 ≡ h.pass.0 → (k.at ≡ h.at) × (k.number ≡ h.number) × (k.id ≡ h.id) → (IsAtRest h.pass.1 → IsAtRest k.pass.1)
+    → TakesAtLast Answers Pulls h.pass.1 h.cursor (h.kept.items ++ h.fresh.items) cmd t k.pass.1 k.cursor (k.kept.items ++ k.fresh.items) → IsRoomPass hub conn h → IsRoomPass hub conn k
+room_taken_at_last hub conn h k cmd t lock same rest told p = room_stays hub conn h k lock same.0 same.1 same.2 (rest p.rest)
+    (takes_grow_at_last Answers Pulls h.pass.1 h.cursor (h.kept.items ++ h.fresh.items) cmd t k.pass.1 k.cursor (k.kept.items ++ k.fresh.items) told)
+    (takes_pull_at_last Answers Pulls h.pass.1 h.cursor (h.kept.items ++ h.fresh.items) cmd t k.pass.1 k.cursor (k.kept.items ++ k.fresh.items) told)
+    p
+
+-- a look
+pub room_looked : (hub : Hub) (conn : ℕ) (h k : RoomPass) (n : ℕ) → k ≡ record h { pass = (h.pass.0, after_look h.pass.1 n) } → IsAtRest k.pass.1 → IsRoomPass hub conn h → IsRoomPass hub conn k
+room_looked hub conn h k n is rest p = room_stays hub conn h k
+    (ap (λ (q : RoomPass). q.pass.0) is)
+    (ap (λ (q : RoomPass). q.at) is)
+    (ap (λ (q : RoomPass). q.number) is)
+    (ap (λ (q : RoomPass). q.id) is)
+    rest
+    (subst (λ (q : RoomPass). Grows h.pass.1 q.pass.1) (sym is) (grows_looked h.pass.1 n))
+    (inr (ap (λ (q : RoomPass). q.cursor) is, ap (λ (q : RoomPass). q.kept.items ++ q.fresh.items) is))
+    p
+
+pub room_handed : (hub : Hub) (conn : ℕ) (h k : RoomPass) → k.pass ≡ h.pass → k.cursor ≡ h.cursor → k.number ≡ h.number → k.id ≡ h.id → k.kept.items ++ k.fresh.items ≡ [] → k.at ≡ k.cursor.passed → IsRoomPass hub conn h → IsRoomPass hub conn k
+room_handed hub conn h k pass cursor number id none at p = record {
+  lock = ap (λ (n : ℕ). lock_of hub n) number ∙ p.lock ∙ ap (λ (q : TableId × View Site RoomCmd). Some q.0) (sym pass);
+  origin = ap (λ (q : TableId × View Site RoomCmd). q.1.origin) pass ∙ p.origin ∙ ap (λ (n : ℕ). site_of hub n) (sym number);
+  rest = subst (λ (q : TableId × View Site RoomCmd). IsAtRest q.1) (sym pass) p.rest;
+  told = subst (λ (n : ℕ). IsTold (Shows conn (site_of hub n)) (StandsAt conn (site_of hub n)) (commands k.pass.1.seen) k.cursor k.cursor.passed (lines_of (k.kept.items ++ k.fresh.items)) k.at) (sym number)
+      (told_handed (Shows conn (site_of hub h.number)) (StandsAt conn (site_of hub h.number)) (λ (x : RoomCursor). x.passed) h.pass.1 k.pass.1 h.cursor k.cursor (h.kept.items ++ h.fresh.items) (k.kept.items ++ k.fresh.items) h.at k.at (ap (λ (q : TableId × View Site RoomCmd). q.1) pass) cursor none at p.told);
+  held = subst (λ (i : Option (List ℕ)). HeldBy i hub k) (sym id) (held_on hub h.id h k number (subst (λ (q : TableId × View Site RoomCmd). Grows h.pass.1 q.1) (sym pass) (grows_self h.pass.1)) p.held);
+}
+
+-- ---- a new pass of a place
+
+shows_none : (conn : ℕ) (chat : Option Opening) (site : Site) → (told : Option Story) × TellsBy chat site [] told × ([] ≡ view_told conn told)
+shows_none conn None site = (None, refl, refl)
+shows_none conn (Some o) site = (Some (story o []), refl, refl)
+
+pub room_new : (hub : Hub) (conn number : ℕ) (k : RoomPass) → IsNewPass hub conn number k → IsRoomPass hub conn k
+room_new hub conn number k new =
+    let site : Site = site_of hub k.number in
+    let pass : k.pass ≡ (new.pass.0, newcomer (site_of hub number) new.pass.1) = new.pass.3 in
+    let empty : IsTold (Shows conn site) (StandsAt conn site) [] (cursor_of conn None 0) 0 [] 0 = told_new (Shows conn site) (StandsAt conn site) (cursor_of conn None 0) (inl (refl, refl)) (shows_none conn (chat_at site) site) in
+    let moved : IsTold (Shows conn site) (StandsAt conn site) [] k.cursor k.cursor.passed [] 0 = subst (λ (x : RoomCursor). IsTold (Shows conn site) (StandsAt conn site) [] x x.passed [] 0) (sym new.cursor) empty in
+    let kept : IsTold (Shows conn site) (StandsAt conn site) [] k.cursor k.cursor.passed (lines_of (k.kept.items ++ k.fresh.items)) k.at = subst (λ (m : ℕ). IsTold (Shows conn site) (StandsAt conn site) [] k.cursor k.cursor.passed (lines_of (k.kept.items ++ k.fresh.items)) m) (sym new.at) (subst (λ (ms : List Msg). IsTold (Shows conn site) (StandsAt conn site) [] k.cursor k.cursor.passed (lines_of ms) 0) (sym new.kept) moved) in
+    record {
+      lock = ap (λ (n : ℕ). lock_of hub n) new.number_is ∙ new.pass.2 ∙ ap (λ (q : TableId × View Site RoomCmd). Some q.0) (sym pass);
+      origin = ap (λ (q : TableId × View Site RoomCmd). q.1.origin) pass ∙ ap (λ (n : ℕ). site_of hub n) (sym new.number_is);
+      rest = subst (λ (q : TableId × View Site RoomCmd). IsAtRest q.1) (sym pass) (refl, refl, refl);
+      told = subst (λ (q : TableId × View Site RoomCmd). IsTold (Shows conn site) (StandsAt conn site) (commands q.1.seen) k.cursor k.cursor.passed (lines_of (k.kept.items ++ k.fresh.items)) k.at) (sym pass) kept;
+      held = subst (λ (i : Option (List ℕ)). HeldBy i hub k) (sym new.id) tt;
+    }
+
+-- ---- holding
+
+pub room_held : (hub : Hub) (conn : ℕ) (h k : RoomPass) (id : List ℕ) → k ≡ record h { id = Some id } → HeldBy (Some id) hub h → IsRoomPass hub conn h → IsRoomPass hub conn k
+room_held hub conn h k id is held p = subst (λ (q : RoomPass). IsRoomPass hub conn q) (sym is) (record { lock = p.lock; origin = p.origin; rest = p.rest; told = p.told; held = held })
+
+-- the place of a chat room is that of the room with its id
+chat_named : (hub : Hub) (id : List ℕ) (number : ℕ) → IsChatId hub.config id number → number < 16 → (o : Opening) × (chat_at (site_of hub number) ≡ Some o) × (o.id ≡ id)
+chat_named hub id number named low =
+    let test : nat_lt number 16 ≡ true = grind (arith, nat_tests) in
+    (chat_opening hub.config hub.dex number named.0, rw (test, named.1) refl, named.2)
+
+is_chat : (hub : Hub) (id : List ℕ) (number : ℕ) → Names hub.config id number → number < 16 → IsChatId hub.config id number
+is_chat hub id number (inl chat) low = chat.0.0
+is_chat hub id number (inr battle) low = let above : 1 ≤ battle.0 = battle.1.2 in let is : number ≡ 15 + battle.0 = battle.2 in absurd (omega arith)
+
+pub chat_held : (hub : Hub) (h : RoomPass) (id : List ℕ) → Names hub.config id h.number → h.number < 16 → HeldBy (Some id) hub h
+chat_held hub h id names low =
+    let named = chat_named hub id h.number (is_chat hub id h.number names low) low in (
+      Some (story named.0 (plays (commands h.pass.1.seen))),
+      subst (λ (c : Option Opening). TellsBy c (site_of hub h.number) (commands h.pass.1.seen) (Some (story named.0 (plays (commands h.pass.1.seen))))) (sym named.1) refl,
+      ap (λ (i : List ℕ). Some i) named.2,
+    )
+
+id_of_cursor : (conn : ℕ) (told : Option Story) (n : ℕ) → (cursor_of conn told n).id ≡ id_told told
+id_of_cursor conn None n = refl
+id_of_cursor conn (Some s) n = refl
+
+no_chat : (site : Site) → 16 ≤ site.number → chat_at site ≡ None
+no_chat site high = let test : nat_lt site.number 16 ≡ false = grind (arith, nat_tests) in rw test refl
+
+-- the id that a cursor behind the commands of a battle's place has is that of the battle
+known_id : (conn : ℕ) (site : Site) (cmds : List RoomCmd) (x : RoomCursor) → 16 ≤ site.number → StandsAt conn site cmds x → (told : Option Story) × Tells site cmds told × (id_told told ≡ x.id)
+known_id conn site cmds x high (inl new) = (None, subst (λ (l : List RoomCmd). Tells site l None) (sym new.0) (subst (λ (c : Option Opening). TellsBy c site [] None) (sym (no_chat site high)) refl), sym (ap (λ (c : RoomCursor). c.id) new.1))
+known_id conn site cmds x high (inr at) = (at.0, at.1, sym (ap (λ (c : RoomCursor). c.id) at.2 ∙ id_of_cursor conn at.0 (length cmds)))
+
+-- What a turn that was taken tells of the room of a battle's place
+pub room_told : (hub : Hub) (conn : ℕ) (h k : RoomPass) (msgs : List Msg) → 16 ≤ h.number → k.number ≡ h.number → Grows h.pass.1 k.pass.1 → Pulls h.pass.1.origin (commands k.pass.1.seen) h.cursor msgs k.cursor → IsRoomPass hub conn h
+    → (told : Option Story) × Tells (site_of hub k.number) (commands k.pass.1.seen) told × (id_told told ≡ k.cursor.id)
+room_told hub conn h k msgs high number g pulls p =
+    let later = commands_grow h.pass.1 k.pass.1 g in
+    let here : Pulls (site_of hub h.number) (commands h.pass.1.seen ++ later.0) h.cursor msgs k.cursor = subst (λ (l : List RoomCmd). Pulls (site_of hub h.number) l h.cursor msgs k.cursor) (sym later.1) (subst (λ (s : Site). Pulls s (commands k.pass.1.seen) h.cursor msgs k.cursor) p.origin pulls) in
+    let at : StandsAt conn (site_of hub h.number) (commands h.pass.1.seen ++ later.0) k.cursor = pulled_stands (Shows conn (site_of hub h.number)) (StandsAt conn (site_of hub h.number)) (Pulls (site_of hub h.number)) (room_law conn (site_of hub h.number)) (commands h.pass.1.seen) later.0 h.cursor k.cursor h.cursor.passed (lines_of (h.kept.items ++ h.fresh.items)) h.at msgs p.told here in
+    let on : StandsAt conn (site_of hub h.number) (commands k.pass.1.seen) k.cursor = subst (λ (l : List RoomCmd). StandsAt conn (site_of hub h.number) l k.cursor) later.1 at in
+    subst (λ (n : ℕ). (told : Option Story) × Tells (site_of hub n) (commands k.pass.1.seen) told × (id_told told ≡ k.cursor.id)) (sym number) (known_id conn (site_of hub h.number) (commands k.pass.1.seen) k.cursor high on)
+
+-- the same, after a turn that was taken
+pub room_told_at_done : (hub : Hub) (conn : ℕ) (h k : RoomPass) (cmd : Option RoomCmd) (out : Option (Option RoomOut)) → 16 ≤ h.number → k.number ≡ h.number
+    → Takes Answers Pulls h.pass.1 h.cursor (h.kept.items ++ h.fresh.items) cmd (Done out) k.pass.1 k.cursor (k.kept.items ++ k.fresh.items) → IsRoomPass hub conn h
+    → (told : Option Story) × Tells (site_of hub k.number) (commands k.pass.1.seen) told × (id_told told ≡ k.cursor.id)
+room_told_at_done hub conn h k cmd out high number told p = room_told hub conn h k told.4 high number
+    (takes_grow Answers Pulls h.pass.1 h.cursor (h.kept.items ++ h.fresh.items) cmd (Done out) k.pass.1 k.cursor (k.kept.items ++ k.fresh.items) told) told.5 p

@@ -1,0 +1,102 @@
+-- The Quits in the rooms of a row, one after the other.
+use Rattle.std.proofs.Common.{◌≡◌, ℕ, zero, suc, ◌+◌, ◌≤◌, List, [], ◌∷◌, ◌++◌, length, take, drop, set, Some, refl, sym, ap, ◌∙◌, subst, arith}
+use Rattle.std.specs.Prelude.{slice_get, slice_set}
+use Rattle.std.specs.List.{AllZip}
+use Rattle.std.proofs.lemmas.List.{take-append-drop, take_all, drop_at}
+use Rattle.std.proofs.lemmas.List.Elements.{length_all_zip}
+use Rattle.ps_hub.proofs.RowLemmas.{parted, get_seam, set_seam}
+
+module _ {A : Type 0} (R : A → A → Type 0) where
+  pub zip_append : (xs ys us vs : List A) → AllZip R xs ys → AllZip R us vs → AllZip R (xs ++ us) (ys ++ vs)
+  zip_append [] [] us vs a b = b
+  zip_append [] (y ∷ ys) us vs a b = absurd a
+  zip_append (x ∷ xs) [] us vs a b = absurd a
+  zip_append (x ∷ xs) (y ∷ ys) us vs a b = (a.0, zip_append xs ys us vs a.1 b)
+
+  pub zip_self : ((x : A) → R x x) → (xs : List A) → AllZip R xs xs
+  zip_self self [] = tt
+  zip_self self (x ∷ xs) = (self x, zip_self self xs)
+
+  -- a row of which a part is done: what stands behind is as it was
+  pub record IsDoneTo (i : ℕ) (old now : List A) : Type 0 where
+    pub done : AllZip R (take i old) (take i now)
+    pub rest : drop i now ≡ drop i old
+
+  pub done_none : (old : List A) → IsDoneTo 0 old old
+  done_none old = record { done = tt; rest = refl }
+
+  pub all_done : (n : ℕ) (old now : List A) → length old ≤ n → length now ≤ n → IsDoneTo n old now → AllZip R old now
+  all_done n old now long_old long_now d = subst (λ (xs : List A). AllZip R xs now) (take_all n old long_old) (subst (λ (ys : List A). AllZip R (take n old) ys) (take_all n now long_now) d.done)
+
+  -- the parts round a place that is next
+  pub record Parts (i : ℕ) (old now : List A) (h : A) : Type 0 where
+    pub front : List A
+    pub front_now : List A
+    pub back : List A
+    pub count : length front ≡ i
+    pub count_now : length front_now ≡ i
+    pub was : old ≡ front ++ h ∷ back
+    pub is : now ≡ front_now ++ h ∷ back
+    pub done : AllZip R front front_now
+
+  pub parts_of : (i : ℕ) (old now : List A) (h : A) → slice_get now i ≡ Some h → IsDoneTo i old now → Parts i old now h
+  parts_of i old now h at d =
+      let parts = parted now i h at in
+      let tail : drop i now ≡ h ∷ drop (suc i) now = ap (λ (l : List A). drop i l) parts.0 ∙ drop_at (take i now) (h ∷ drop (suc i) now) i parts.1 in
+      record {
+        front = take i old;
+        front_now = take i now;
+        back = drop (suc i) now;
+        count = length_all_zip R (take i old) (take i now) d.done ∙ parts.1;
+        count_now = parts.1;
+        was = sym (take-append-drop i old) ∙ ap (λ (l : List A). take i old ++ l) (sym d.rest ∙ tail);
+        is = parts.0;
+        done = d.done;
+      }
+
+take_seam : {A : Type 0} (xs : List A) (x : A) (ys : List A) (i : ℕ) → length xs ≡ i → take (suc i) (xs ++ x ∷ ys) ≡ xs ++ x ∷ []
+take_seam [] x ys zero e = refl
+take_seam [] x ys (suc i) e = absurd (omega arith)
+take_seam (z ∷ xs) x ys zero e = absurd (omega arith)
+take_seam (z ∷ xs) x ys (suc i) e = ap (λ l. z ∷ l) (take_seam xs x ys i (omega arith))
+
+drop_seam : {A : Type 0} (xs : List A) (x : A) (ys : List A) (i : ℕ) → length xs ≡ i → drop (suc i) (xs ++ x ∷ ys) ≡ ys
+drop_seam [] x ys zero e = refl
+drop_seam [] x ys (suc i) e = absurd (omega arith)
+drop_seam (z ∷ xs) x ys zero e = absurd (omega arith)
+drop_seam (z ∷ xs) x ys (suc i) e = drop_seam xs x ys i (omega arith)
+
+module _ {A : Type 0} (R : A → A → Type 0) where
+  -- one more is done
+  pub done_next : (i : ℕ) (old now new : List A) (h k : A) → slice_get now i ≡ Some h → new ≡ slice_set now i k → R h k → IsDoneTo R i old now → IsDoneTo R (i + 1) old new
+  done_next i old now new h k at set here d =
+      let p : Parts R i old now h = parts_of R i old now h at d in
+      let new_is : new ≡ p.front_now ++ k ∷ p.back = set ∙ ap (λ (l : List A). slice_set l i k) p.is ∙ set_seam p.front_now h k p.back i p.count_now in
+      let next : suc i ≡ i + 1 = omega arith in
+      subst (λ (n : ℕ). IsDoneTo R n old new) next (record {
+        done = subst (λ (l : List A). AllZip R (take (suc i) l) (take (suc i) new)) (sym p.was) (subst (λ (l : List A). AllZip R (take (suc i) (p.front ++ h ∷ p.back)) (take (suc i) l)) (sym new_is)
+            (subst (λ (l : List A). AllZip R l (take (suc i) (p.front_now ++ k ∷ p.back))) (sym (take_seam p.front h p.back i p.count))
+            (subst (λ (l : List A). AllZip R (p.front ++ h ∷ []) l) (sym (take_seam p.front_now k p.back i p.count_now)) (zip_append R p.front p.front_now (h ∷ []) (k ∷ []) p.done (here, tt)))));
+        rest = ap (λ (l : List A). drop (suc i) l) new_is ∙ drop_seam p.front_now k p.back i p.count_now ∙ sym (ap (λ (l : List A). drop (suc i) l) p.was ∙ drop_seam p.front h p.back i p.count);
+      })
+
+module _ {A : Type 0} (R S : A → A → Type 0) where
+  pub zip_weaker : ((x y : A) → R x y → S x y) → (xs ys : List A) → AllZip R xs ys → AllZip S xs ys
+  zip_weaker weaker [] [] a = a
+  zip_weaker weaker [] (y ∷ ys) a = absurd a
+  zip_weaker weaker (x ∷ xs) [] a = absurd a
+  zip_weaker weaker (x ∷ xs) (y ∷ ys) a = (weaker x y a.0, zip_weaker weaker xs ys a.1)
+
+  -- the row where the next one stopped short
+  pub done_stopped : ((x y : A) → R x y → S x y) → ((x : A) → S x x) → (i : ℕ) (old now new : List A) (h k : A) → slice_get now i ≡ Some h → new ≡ slice_set now i k → S h k → IsDoneTo R i old now → AllZip S old new
+  done_stopped weaker self i old now new h k at set here d =
+      let p : Parts R i old now h = parts_of R i old now h at d in
+      let new_is : new ≡ p.front_now ++ k ∷ p.back = set ∙ ap (λ (l : List A). slice_set l i k) p.is ∙ set_seam p.front_now h k p.back i p.count_now in
+      subst (λ (l : List A). AllZip S l new) (sym p.was) (subst (λ (l : List A). AllZip S (p.front ++ h ∷ p.back) l) (sym new_is)
+      (zip_append S p.front p.front_now (h ∷ p.back) (k ∷ p.back) (zip_weaker weaker p.front p.front_now p.done) (here, zip_self S self p.back)))
+
+-- what is next was there at first
+pub done_there : {A : Type 0} (R : A → A → Type 0) (i : ℕ) (old now : List A) (h : A) → slice_get now i ≡ Some h → IsDoneTo R i old now → slice_get old i ≡ Some h
+done_there {A} R i old now h at d =
+    let p : Parts R i old now h = parts_of R i old now h at d in
+    subst (λ (l : List A). slice_get l i ≡ Some h) (sym p.was) (get_seam p.front h p.back i p.count)

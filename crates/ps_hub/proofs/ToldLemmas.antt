@@ -1,0 +1,237 @@
+-- What was handed out and what is kept, when a pass sees more, pulls more and hands out.
+use Rattle.std.proofs.Common.{◌≡◌, ◌≢◌, ◌⊎◌, ℕ, ◌%◌, ◌<◌, ◌≤◌, List, [], ◌∷◌, ◌++◌, length, take, drop, Option, Some, None, refl, sym, ap, ◌∙◌, subst, inl, inr, ⊎_elim, arith, append_assoc}
+use Rattle.std.proofs.lemmas.List.{take-append-le, take-append-drop, take_all, length-append, length-map, map-append, append-nil}
+use Rattle.std.proofs.Math.Seq.{get_or-append_seam}
+use Rattle.std.specs.Prelude.{All}
+use mathlib.Core.List.{IsPrefix}
+use Rattle.ps_base.specs.declared.msg.Msg.{Msg}
+use Rattle.ps_hall.specs.Halls.{msg_lines}
+use Rattle.ps_histlock.specs.declared.view.Entry.{Entry}
+use Rattle.ps_histlock.specs.declared.view.View.{View}
+use Rattle.ps_histlock.specs.Histories.{commands, entry}
+use Rattle.ps_histlock.specs.Views.{after_meeting, after_look, Extends}
+use Rattle.ps_histlock.specs.Turns.{turned, IsBusy}
+use Rattle.ps_histlock.proofs.Lists.{prefix_self, prefix_more}
+use Rattle.ps_histlock.proofs.TurnLemmas.{commands-append}
+use Rattle.ps_hub.specs.Passes.{lines_of, IsTold}
+use Rattle.ps_hub.specs.Calls.{LooksAnd, LooksAtMost, HandsOut}
+use Rattle.ps_hub.specs.Turns.{Turns, TurnsAtLast, Takes, TakesAtLast}
+use Rattle.ps_hub.specs.declared.taken.Taken.{Taken}
+use Rattle.ps_hub.specs.declared.taken.Taken.TheVariants.{Done, Late, Busy, OwnLimit, NoMemory}
+
+module _ {C X : Type 0} (shows : List C → List (List (List ℕ)) → Type 0) (stands_at : List C → X → Type 0) where
+  pub told_new : (x : X) → stands_at [] x → shows [] [] → IsTold shows stands_at [] x 0 [] 0
+  told_new x at none = record { within = omega arith; handed_out = omega arith; cursor = at; before = []; shown_before = none; shown = none }
+
+  -- the history went on
+  pub told_more : (cmds later : List C) (x : X) (passed : ℕ) (kept : List (List (List ℕ))) (at : ℕ) → IsTold shows stands_at cmds x passed kept at → IsTold shows stands_at (cmds ++ later) x passed kept at
+  told_more cmds later x passed kept at t =
+      let within : passed ≤ length cmds = t.within in
+      let handed_out : at ≤ passed = t.handed_out in
+      let same : take passed (cmds ++ later) ≡ take passed cmds = take-append-le passed cmds later within in
+      let first : take at (cmds ++ later) ≡ take at cmds = take-append-le at cmds later (omega arith) in
+      record {
+        within = omega (arith, length-append cmds later);
+        handed_out = handed_out;
+        cursor = subst (λ (l : List C). stands_at l x) (sym same) t.cursor;
+        before = t.before;
+        shown_before = subst (λ (l : List C). shows l t.before) (sym first) t.shown_before;
+        shown = subst (λ (l : List C). shows l (t.before ++ kept)) (sym same) t.shown;
+      }
+
+  -- all that is kept was handed out
+  pub told_out : (cmds : List C) (x : X) (passed : ℕ) (kept : List (List (List ℕ))) (at : ℕ) → IsTold shows stands_at cmds x passed kept at → IsTold shows stands_at cmds x passed [] passed
+  told_out cmds x passed kept at t = record {
+    within = t.within;
+    handed_out = omega arith;
+    cursor = t.cursor;
+    before = t.before ++ kept;
+    shown_before = t.shown;
+    shown = subst (λ (ms : List (List (List ℕ))). shows (take passed cmds) ms) (sym (append-nil (t.before ++ kept))) t.shown;
+  }
+
+  module _ (pulls : List C → X → List Msg → X → Type 0) where
+    -- pulling goes on where it left off
+    abbrev pub GoesOn : Type 0
+    GoesOn = (before later : List C) (x y : X) (ms : List (List (List ℕ))) (msgs : List Msg) → stands_at before x → shows before ms → pulls (before ++ later) x msgs y
+        → shows (before ++ later) (ms ++ lines_of msgs) × stands_at (before ++ later) y
+
+    -- the cursor behind what was pulled
+    pub pulled_stands : GoesOn → (cmds later : List C) (x y : X) (passed : ℕ) (kept : List (List (List ℕ))) (at : ℕ) (msgs : List Msg) → IsTold shows stands_at cmds x passed kept at → pulls (cmds ++ later) x msgs y → stands_at (cmds ++ later) y
+    pulled_stands law cmds later x y passed kept at msgs t p =
+        let parts : take passed cmds ++ (drop passed cmds ++ later) ≡ cmds ++ later = sym (append_assoc (take passed cmds) (drop passed cmds) later) ∙ ap (λ (l : List C). l ++ later) (take-append-drop passed cmds) in
+        let on : shows (take passed cmds ++ (drop passed cmds ++ later)) ((t.before ++ kept) ++ lines_of msgs) × stands_at (take passed cmds ++ (drop passed cmds ++ later)) y =
+        law (take passed cmds) (drop passed cmds ++ later) x y (t.before ++ kept) msgs t.cursor t.shown (subst (λ (l : List C). pulls l x msgs y) (sym parts) p) in
+        subst (λ (l : List C). stands_at l y) parts on.1
+
+    -- messages were pulled of the history as it went on
+    pub told_pulled : GoesOn → (cmds later : List C) (x y : X) (passed : ℕ) (kept : List (List (List ℕ))) (at : ℕ) (msgs : List Msg) → IsTold shows stands_at cmds x passed kept at → pulls (cmds ++ later) x msgs y
+        → IsTold shows stands_at (cmds ++ later) y (length (cmds ++ later)) (kept ++ lines_of msgs) at
+    told_pulled law cmds later x y passed kept at msgs t p =
+        let within : passed ≤ length cmds = t.within in
+        let handed_out : at ≤ passed = t.handed_out in
+        let parts : take passed cmds ++ (drop passed cmds ++ later) ≡ cmds ++ later = sym (append_assoc (take passed cmds) (drop passed cmds) later) ∙ ap (λ (l : List C). l ++ later) (take-append-drop passed cmds) in
+        let first : take at (cmds ++ later) ≡ take at cmds = take-append-le at cmds later (omega arith) in
+        let all : take (length (cmds ++ later)) (cmds ++ later) ≡ cmds ++ later = take_all (length (cmds ++ later)) (cmds ++ later) (omega arith) in
+        let on : shows (take passed cmds ++ (drop passed cmds ++ later)) ((t.before ++ kept) ++ lines_of msgs) × stands_at (take passed cmds ++ (drop passed cmds ++ later)) y =
+        law (take passed cmds) (drop passed cmds ++ later) x y (t.before ++ kept) msgs t.cursor t.shown (subst (λ (l : List C). pulls l x msgs y) (sym parts) p) in
+        record {
+          within = omega arith;
+          handed_out = omega (arith, length-append cmds later);
+          cursor = subst (λ (l : List C). stands_at l y) (parts ∙ sym all) on.1;
+          before = t.before;
+          shown_before = subst (λ (l : List C). shows l t.before) (sym first) t.shown_before;
+          shown = subst (λ (ms : List (List (List ℕ))). shows (take (length (cmds ++ later)) (cmds ++ later)) ms) (append_assoc t.before kept (lines_of msgs)) (subst (λ (l : List C). shows l ((t.before ++ kept) ++ lines_of msgs)) (parts ∙ sym all) on.0);
+        }
+
+-- ---- what a turn leaves of a view
+
+-- the same origin, and it forgets nothing
+pub record Grows {O C : Type 0} (v w : View O C) : Type 0 where
+  pub origin : w.origin ≡ v.origin
+  pub seen : IsPrefix v.seen w.seen
+
+module _ {O C : Type 0} where
+  pub grows_self : (v : View O C) → Grows v v
+  grows_self v = record { origin = refl; seen = prefix_self v.seen }
+
+  pub grows_looked : (v : View O C) (n : ℕ) → Grows v (after_look v n)
+  grows_looked v n = record { origin = refl; seen = prefix_self v.seen }
+
+  turned_grows : (v : View O C) (log : List (Entry C)) (cmd : Option C) → Extends v log → Grows v (turned v log cmd)
+  turned_grows v log None found = record { origin = refl; seen = found.0 }
+  turned_grows v log (Some c) found = record { origin = refl; seen = prefix_more v.seen log (entry v.number c ∷ []) found.0 }
+
+  busy_grows : (v w : View O C) (word : ℕ) → IsBusy v word w → Grows v w
+  busy_grows v w word busy =
+      ⊎_elim
+      (λ (b : (word % 2 ≡ 1) × (w ≡ after_meeting v word)). subst (Grows v) (sym b.1) (record { origin = refl; seen = prefix_self v.seen }))
+      (λ (b : (first : ℕ) × (first ≢ word) × (w ≡ after_meeting (after_meeting v first) word)). subst (Grows v) (sym b.2) (record { origin = refl; seen = prefix_self v.seen }))
+      busy
+
+  pub turns_grow : (v : View O C) (cmd : Option C) (w : View O C) → Turns v cmd w → Grows v w
+  turns_grow v cmd w t = subst (Grows v) (sym t.2) (turned_grows v t.0 cmd t.1)
+
+  of_tries : (v w : View O C) (words : List ℕ) → Grows (record v { met = v.met ++ words }) w → Grows v w
+  of_tries v w words g = record { origin = g.origin; seen = g.seen }
+
+  pub turns_grow_at_last : (v : View O C) (cmd : Option C) (w : View O C) → TurnsAtLast v cmd w → Grows v w
+  turns_grow_at_last v cmd w t = of_tries v w t.0 (turns_grow (record v { met = v.met ++ t.0 }) cmd w t.1)
+
+  same_or_grows : (v w : View O C) → (w ≡ v) ⊎ Turns v None w → Grows v w
+  same_or_grows v w is = ⊎_elim (λ (e : w ≡ v). subst (Grows v) (sym e) (grows_self v)) (λ (t : Turns v None w). turns_grow v None w t) is
+
+  -- more commands
+  pub commands_grow : (v w : View O C) → Grows v w → (later : List C) × (commands v.seen ++ later ≡ commands w.seen)
+  commands_grow v w g = (commands g.seen.0, sym (commands-append v.seen g.seen.0) ∙ ap (λ (l : List (Entry C)). commands l) g.seen.1)
+
+module _ {O C X : Type 0} (pulls : O → List C → X → List Msg → X → Type 0) where
+  -- Either messages were pulled of all that the pass sees now and put behind those that are kept, or none
+  abbrev pub PullsOrNot : View O C → X → List Msg → View O C → X → List Msg → Type 0
+  PullsOrNot v x kept w y more = ((msgs : List Msg) × pulls v.origin (commands w.seen) x msgs y × (more ≡ kept ++ msgs)) ⊎ ((y ≡ x) × (more ≡ kept))
+
+  -- what was handed out and what is kept, after a turn
+  module _ (shows : List C → List (List (List ℕ)) → Type 0) (stands_at : List C → X → Type 0) (passed : X → ℕ) where
+    pub told_after : (o : O) → GoesOn shows stands_at (pulls o) → ((cmds : List C) (x : X) → stands_at cmds x → passed x ≡ length cmds) → (v : View O C) (x : X) (kept : List Msg) (w : View O C) (y : X) (more : List Msg) (at : ℕ)
+        → v.origin ≡ o → IsTold shows stands_at (commands v.seen) x (passed x) (lines_of kept) at → Grows v w → PullsOrNot v x kept w y more
+        → IsTold shows stands_at (commands w.seen) y (passed y) (lines_of more) at
+    told_after o law passes v x kept w y more at origin t g (inl p) =
+        let later = commands_grow v w g in
+        let pulled : pulls o (commands v.seen ++ later.0) x p.0 y = subst (λ (l : List C). pulls o l x p.0 y) (sym later.1) (subst (λ (a : O). pulls a (commands w.seen) x p.0 y) origin p.1) in
+        let after : IsTold shows stands_at (commands v.seen ++ later.0) y (length (commands v.seen ++ later.0)) (lines_of kept ++ lines_of p.0) at = told_pulled shows stands_at (pulls o) law (commands v.seen) later.0 x y (passed x) (lines_of kept) at p.0 t pulled in
+        let here : IsTold shows stands_at (commands w.seen) y (length (commands w.seen)) (lines_of kept ++ lines_of p.0) at = subst (λ (l : List C). IsTold shows stands_at l y (length l) (lines_of kept ++ lines_of p.0) at) later.1 after in
+        let all : passed y ≡ length (commands w.seen) = passes (take (length (commands w.seen)) (commands w.seen)) y here.cursor ∙ ap length (take_all (length (commands w.seen)) (commands w.seen) (omega arith)) in
+        let lines : lines_of kept ++ lines_of p.0 ≡ lines_of more = sym (map-append msg_lines kept p.0) ∙ ap (λ (ms : List Msg). lines_of ms) (sym p.2) in
+        subst (λ (n : ℕ). IsTold shows stands_at (commands w.seen) y n (lines_of more) at) (sym all) (subst (λ (ls : List (List (List ℕ))). IsTold shows stands_at (commands w.seen) y (length (commands w.seen)) ls at) lines here)
+    told_after o law passes v x kept w y more at origin t g (inr p) =
+        let later = commands_grow v w g in
+        let after : IsTold shows stands_at (commands v.seen ++ later.0) x (passed x) (lines_of kept) at = told_more shows stands_at (commands v.seen) later.0 x (passed x) (lines_of kept) at t in
+        let here : IsTold shows stands_at (commands w.seen) x (passed x) (lines_of kept) at = subst (λ (l : List C). IsTold shows stands_at l x (passed x) (lines_of kept) at) later.1 after in
+        subst (λ (z : X). IsTold shows stands_at (commands w.seen) z (passed z) (lines_of more) at) (sym p.0) (subst (λ (ms : List Msg). IsTold shows stands_at (commands w.seen) x (passed x) (lines_of ms) at) (sym p.1) here)
+
+-- ---- handing out
+
+all_last : (P : ℕ → Type 0) (xs : List ℕ) (x : ℕ) → All P (xs ++ x ∷ []) → P x
+all_last P xs x all = subst P (get_or-append_seam xs x [] 0) (all (length xs) 0 (omega (arith, length-append xs (x ∷ []))))
+
+pub length-commands : {C : Type 0} (l : List (Entry C)) → length (commands l) ≡ length l
+length-commands {C} l = length-map l (λ (e : Entry C). e.cmd)
+
+module _ {O C : Type 0} where
+  -- a look that shows no more than was passed
+  pub looks_alone : (v w : View O C) (n passed : ℕ) → w ≡ after_look v n → length v.seen ≤ n → n ≤ passed → passed ≤ length (commands v.seen) → LooksAnd v passed w × (passed ≡ length (commands w.seen))
+  looks_alone v w n passed is seen few within =
+      let same : length (commands w.seen) ≡ length v.seen = ap (λ (u : View O C). length (commands u.seen)) is ∙ length-commands v.seen in
+      let long : length w.seen ≡ length v.seen = ap (λ (u : View O C). length u.seen) is in
+      let count : length (commands v.seen) ≡ length v.seen = length-commands v.seen in
+      ((n, seen, omega arith, inl (few, is)), omega arith)
+
+  -- a look that shows more, and a turn after it
+  pub looks_and_turns : (v m w : View O C) (n passed : ℕ) → m ≡ after_look v n → length v.seen ≤ n → passed < n → TurnsAtLast m None w → LooksAnd v passed w
+  looks_and_turns v m w n passed is seen more turns =
+      let t : TurnsAtLast (after_look v n) None w = subst (λ (u : View O C). TurnsAtLast u None w) is turns in
+      let shown : n ≤ length t.1.0 = all_last (λ (k : ℕ). k ≤ length t.1.0) v.looks n t.1.1.1 in
+      let long : length w.seen ≡ length t.1.0 = ap (λ (u : View O C). length u.seen) t.1.2 in
+      (n, seen, omega arith, inr (more, t))
+
+  pub looks_at_most : (v m w : View O C) (n : ℕ) → m ≡ after_look v n → length v.seen ≤ n → (w ≡ m) ⊎ TurnsAtLast m None w → LooksAtMost v w
+  looks_at_most v m w n is seen done =
+      (n, seen, subst (λ (u : View O C). (w ≡ u) ⊎ TurnsAtLast u None w) is done)
+
+  pub looks_and_less : (v w : View O C) (passed : ℕ) → LooksAnd v passed w → LooksAtMost v w
+  looks_and_less v w passed l = (l.0, l.1, ⊎_elim (λ (a : (l.0 ≤ passed) × (w ≡ after_look v l.0)). inl a.1) (λ (b : (passed < l.0) × TurnsAtLast (after_look v l.0) None w). inr b.1) l.3)
+
+module _ {O C X : Type 0} (shows : List C → List (List (List ℕ)) → Type 0) (stands_at : List C → X → Type 0) (passed : X → ℕ) where
+  pub told_handed : (v w : View O C) (x y : X) (kept more : List Msg) (at now : ℕ) → w ≡ v → y ≡ x → more ≡ [] → now ≡ passed y → IsTold shows stands_at (commands v.seen) x (passed x) (lines_of kept) at
+      → IsTold shows stands_at (commands w.seen) y (passed y) (lines_of more) now
+  told_handed v w x y kept more at now same_view same_cursor none end t =
+      let out : IsTold shows stands_at (commands v.seen) x (passed x) [] (passed x) = told_out shows stands_at (commands v.seen) x (passed x) (lines_of kept) at t in
+      let here : IsTold shows stands_at (commands w.seen) x (passed x) [] (passed x) = subst (λ (u : View O C). IsTold shows stands_at (commands u.seen) x (passed x) [] (passed x)) (sym same_view) out in
+      let moved : IsTold shows stands_at (commands w.seen) y (passed y) [] (passed y) = subst (λ (z : X). IsTold shows stands_at (commands w.seen) z (passed z) [] (passed z)) (sym same_cursor) here in
+      let empty : IsTold shows stands_at (commands w.seen) y (passed y) (lines_of more) (passed y) = subst (λ (ms : List Msg). IsTold shows stands_at (commands w.seen) y (passed y) (lines_of ms) (passed y)) (sym none) moved in
+      subst (λ (n : ℕ). IsTold shows stands_at (commands w.seen) y (passed y) (lines_of more) n) (sym end) empty
+
+  -- what is kept past the place up to which messages were handed out, where all that the pass sees was pulled
+  pub hands_out : (v w : View O C) (x y : X) (kept more : List Msg) (at now : ℕ) → IsTold shows stands_at (commands v.seen) x (passed x) (lines_of kept) at → Grows v w → IsTold shows stands_at (commands w.seen) y (passed y) (lines_of more) at
+      → passed y ≡ length (commands w.seen) → now ≡ passed y → HandsOut shows (commands v.seen) at more (commands w.seen) now
+  hands_out v w x y kept more at now t g u all end =
+      let later = commands_grow v w g in
+      let within : passed x ≤ length (commands v.seen) = t.within in
+      let handed_out : at ≤ passed x = t.handed_out in
+      let first : take at (commands w.seen) ≡ take at (commands v.seen) = ap (take at) (sym later.1) ∙ take-append-le at (commands v.seen) later.0 (omega arith) in
+      let whole : take (passed y) (commands w.seen) ≡ commands w.seen = take_all (passed y) (commands w.seen) (omega arith) in
+      record {
+        before = u.before;
+        shown_before = subst (λ (l : List C). shows l u.before) first u.shown_before;
+        shown = subst (λ (l : List C). shows l (u.before ++ lines_of more)) whole u.shown;
+        end = end ∙ all;
+      }
+
+module _ {O C U X : Type 0} (answers : O → List C → C → U → Type 0) (pulls : O → List C → X → List Msg → X → Type 0) where
+  pub takes_grow : (v : View O C) (x : X) (kept : List Msg) (cmd : Option C) (t : Taken C U) (w : View O C) (y : X) (more : List Msg) → Takes answers pulls v x kept cmd t w y more → Grows v w
+  takes_grow v x kept cmd (Done out) w y more told = turns_grow v cmd w (told.0, told.1, told.2)
+  takes_grow v x kept cmd (Late out) w y more told = turns_grow v cmd w (told.0, told.1, told.2)
+  takes_grow v x kept cmd (Busy word back) w y more told = busy_grows v w word told.0
+  takes_grow v x kept cmd (OwnLimit back) w y more told = subst (Grows v) (sym told.3) (grows_self v)
+  takes_grow v x kept cmd NoMemory w y more told = same_or_grows v w told.0
+
+  pub takes_pull : (v : View O C) (x : X) (kept : List Msg) (cmd : Option C) (t : Taken C U) (w : View O C) (y : X) (more : List Msg) → Takes answers pulls v x kept cmd t w y more → PullsOrNot pulls v x kept w y more
+  takes_pull v x kept cmd (Done out) w y more told = inl (told.4, told.5, told.6)
+  takes_pull v x kept cmd (Late out) w y more told = inr (told.4, told.5)
+  takes_pull v x kept cmd (Busy word back) w y more told = inr (told.2, told.3)
+  takes_pull v x kept cmd (OwnLimit back) w y more told = inr (told.4, told.5)
+  takes_pull v x kept cmd NoMemory w y more told = inr (told.1, told.2)
+
+  pub takes_grow_at_last : (v : View O C) (x : X) (kept : List Msg) (cmd : Option C) (t : Taken C U) (w : View O C) (y : X) (more : List Msg) → TakesAtLast answers pulls v x kept cmd t w y more → Grows v w
+  takes_grow_at_last v x kept cmd (Done out) w y more told = of_tries v w told.0 (takes_grow (record v { met = v.met ++ told.0 }) x kept cmd (Done out) w y more told.1)
+  takes_grow_at_last v x kept cmd (Late out) w y more told = of_tries v w told.0 (takes_grow (record v { met = v.met ++ told.0 }) x kept cmd (Late out) w y more told.1)
+  takes_grow_at_last v x kept cmd (Busy word back) w y more told = absurd told
+  takes_grow_at_last v x kept cmd (OwnLimit back) w y more told = takes_grow v x kept cmd (OwnLimit back) w y more told
+  takes_grow_at_last v x kept cmd NoMemory w y more told = ⊎_elim (λ (e : w ≡ v). subst (Grows v) (sym e) (grows_self v)) (λ (t : TurnsAtLast v None w). turns_grow_at_last v None w t) told.0
+
+  pub takes_pull_at_last : (v : View O C) (x : X) (kept : List Msg) (cmd : Option C) (t : Taken C U) (w : View O C) (y : X) (more : List Msg) → TakesAtLast answers pulls v x kept cmd t w y more → PullsOrNot pulls v x kept w y more
+  takes_pull_at_last v x kept cmd (Done out) w y more told = takes_pull (record v { met = v.met ++ told.0 }) x kept cmd (Done out) w y more told.1
+  takes_pull_at_last v x kept cmd (Late out) w y more told = takes_pull (record v { met = v.met ++ told.0 }) x kept cmd (Late out) w y more told.1
+  takes_pull_at_last v x kept cmd (Busy word back) w y more told = absurd told
+  takes_pull_at_last v x kept cmd (OwnLimit back) w y more told = takes_pull v x kept cmd (OwnLimit back) w y more told
+  takes_pull_at_last v x kept cmd NoMemory w y more told = inr (told.1, told.2)

@@ -1,0 +1,30 @@
+use Rattle.std.proofs.Common.{refl, inl, inr}
+use Rattle.ps_hub.specs.Calls.{QuitsHall, QuitsHallAtMost}
+use Rattle.ps_hub.proofs.RowLemmas.{hall_of}
+use Rattle.ps_hub.proofs.OrderLemmas.{are_hall}
+use Rattle.ps_hub.proofs.CallLemmas.{hall_only}
+use Rattle.ps_hub.proofs.hub.Hub.quit_hall.Goals as goal
+
+pub returns-in-Done-clause-of : goal.returns-in-Done-clause-of
+returns-in-Done-clause-of g c = are_hall c.args.self.now c.args.passes.now _ c.turn.new.self c.requires refl (c.turn.ensures.of c.args.self.now c.args.passes.now.conn (hall_of c.args.self.now c.args.passes.now c.in-Some.hall c.requires c.in-Some.is)) refl refl
+
+pub returns-in-Done-clause-ok : goal.returns-in-Done-clause-ok
+returns-in-Done-clause-ok g c = hall_only (QuitsHall c.args.passes.now.conn c.args.moment) c.args.passes.now _ c.in-Some.hall c.turn.new.self c.in-Some.is refl refl refl refl (let told = c.in-Done.ensures.told in ((told.0, (told.1.0, told.1.1, told.1.2)), c.turn.ensures.at))
+
+pub returns-in-Late-clause-of : goal.returns-in-Late-clause-of
+returns-in-Late-clause-of g c = are_hall c.args.self.now c.args.passes.now _ c.turn.new.self c.requires refl (c.turn.ensures.of c.args.self.now c.args.passes.now.conn (hall_of c.args.self.now c.args.passes.now c.in-Some.hall c.requires c.in-Some.is)) refl refl
+
+pub returns-in-Late-clause-err : goal.returns-in-Late-clause-err
+returns-in-Late-clause-err g c = hall_only (QuitsHallAtMost c.args.passes.now.conn c.args.moment) c.args.passes.now _ c.in-Some.hall c.turn.new.self c.in-Some.is refl refl refl refl (let told = c.in-Late.ensures.told in inl ((told.0, (told.1.0, told.1.1, told.1.2)), c.turn.ensures.at))
+
+pub returns-in-OwnLimit-clause-of : goal.returns-in-OwnLimit-clause-of
+returns-in-OwnLimit-clause-of g c = are_hall c.args.self.now c.args.passes.now _ c.turn.new.self c.requires refl (c.turn.ensures.of c.args.self.now c.args.passes.now.conn (hall_of c.args.self.now c.args.passes.now c.in-Some.hall c.requires c.in-Some.is)) refl refl
+
+pub returns-in-OwnLimit-clause-err : goal.returns-in-OwnLimit-clause-err
+returns-in-OwnLimit-clause-err g c = hall_only (QuitsHallAtMost c.args.passes.now.conn c.args.moment) c.args.passes.now _ c.in-Some.hall c.turn.new.self c.in-Some.is refl refl refl refl (inr (c.turn.ensures.at, inl c.in-OwnLimit.ensures.told.3))
+
+pub returns-clause-of : goal.returns-clause-of
+returns-clause-of g c = are_hall c.args.self.now c.args.passes.now _ c.turn.new.self c.requires refl (c.turn.ensures.of c.args.self.now c.args.passes.now.conn (hall_of c.args.self.now c.args.passes.now c.in-Some.hall c.requires c.in-Some.is)) refl refl
+
+pub returns-clause-err : goal.returns-clause-err
+returns-clause-err g c = hall_only (QuitsHallAtMost c.args.passes.now.conn c.args.moment) c.args.passes.now _ c.in-Some.hall c.turn.new.self c.in-Some.is refl refl refl refl (inr (c.turn.ensures.at, c.in-NoMemory.ensures.told.0))

@@ -1,0 +1,30 @@
+use Rattle.std.proofs.Common.{◌≡◌, Some, sym, ap, ◌∙◌, inl}
+use Rattle.ps_base.specs.declared.badge.Badge.{Badge}
+use Rattle.ps_hub.proofs.CallLemmas.{quits_by, quits_short, quits_more}
+use Rattle.ps_hub.proofs.hub.Hub.quit_room.Goals as goal
+use Rattle.ps_hub.proofs.hub.Hub.quit_room.Goals.{in-Done, in-Late, in-OwnLimit, in-NoMemory}
+
+pub returns-clause-of : goal.returns-clause-of
+returns-clause-of g c = λ conn p. c.turn.ensures.of c.args.self.now conn p
+
+pub returns-clause-ok : goal.returns-clause-ok
+returns-clause-ok g c =
+    let badge : c.args.badge.now ≡ Some c.in_ok-badge-in-Some-badge.badge = c.in-Some-badge.is ∙ ap (λ (b : Badge). Some b) (sym c.in_ok-badge-in-Some-badge.ensures) in
+    elim c.match-turn.branch [
+      | in-Done w ↦ rw w.result-is (let told = w.in-Done.ensures.told in
+          quits_by c.args.badge.now c.args.conn c.args.moment c.args.pass.now c.turn.new.self c.in-Some.field-0 c.in_ok-badge-in-Some-badge.badge c.in-Some.is badge (told.0, (told.1.0, told.1.1, told.1.2)) c.turn.ensures.same)
+      | in-Late w ↦ rw w.result-is tt
+      | in-OwnLimit w ↦ rw w.result-is tt
+      | in-NoMemory w ↦ rw w.result-is tt
+    ]
+
+pub returns-clause-err : goal.returns-clause-err
+returns-clause-err g c =
+    let badge : c.args.badge.now ≡ Some c.in_ok-badge-in-Some-badge.badge = c.in-Some-badge.is ∙ ap (λ (b : Badge). Some b) (sym c.in_ok-badge-in-Some-badge.ensures) in
+    elim c.match-turn.branch [
+      | in-Done w ↦ rw w.result-is tt
+      | in-Late w ↦ rw w.result-is (let told = w.in-Late.ensures.told in
+          quits_more c.args.badge.now c.args.conn c.args.moment c.args.pass.now c.turn.new.self (quits_by c.args.badge.now c.args.conn c.args.moment c.args.pass.now c.turn.new.self c.in-Some.field-0 c.in_ok-badge-in-Some-badge.badge c.in-Some.is badge (told.0, (told.1.0, told.1.1, told.1.2)) c.turn.ensures.same))
+      | in-OwnLimit w ↦ rw w.result-is (quits_short c.args.badge.now c.args.conn c.args.moment c.args.pass.now c.turn.new.self c.turn.ensures.same (inl w.in-OwnLimit.ensures.told.3))
+      | in-NoMemory w ↦ rw w.result-is (quits_short c.args.badge.now c.args.conn c.args.moment c.args.pass.now c.turn.new.self c.turn.ensures.same w.in-NoMemory.ensures.told.0)
+    ]

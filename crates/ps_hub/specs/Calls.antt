@@ -1,0 +1,379 @@
+-- What the calls of a hub do.
+use Rattle.std.specs.Prelude.{◌≡◌, ◌≢◌, ◌⊎◌, ℕ, ◌+◌, ◌<◌, ◌≤◌, List, [], ◌∷◌, ◌++◌, length, take, slice_get, slice_set, All, IsSome, Option, Some, None, Result, Ok, Err}
+use Rattle.std.specs.List.{AllZip}
+use Rattle.std.specs.declared.vec.Vec.{Vec}
+use Rattle.std.specs.declared.alloc.Global.{Global}
+use Rattle.ps_base.specs.declared.badge.Badge.{Badge}
+use Rattle.ps_base.specs.declared.msg.Msg.{Msg}
+use Rattle.ps_lines.specs.declared.command.Command.{Command}
+use Rattle.ps_lines.specs.declared.command.Command.TheVariants as room_commands
+use Rattle.ps_lines.specs.declared.command.HallCmd.{HallCmd}
+use Rattle.ps_lines.specs.declared.command.HallCmd.TheVariants as hall_commands
+use Rattle.ps_lines.specs.declared.order.Order.{Order}
+use Rattle.ps_lines.specs.declared.order.Order.TheVariants.{Hall, Room}
+use Rattle.ps_valid.specs.declared.start.Start.{Start}
+use Rattle.ps_hall.specs.declared.entry.HallEntry.{HallEntry}
+use Rattle.ps_hall.specs.declared.outcome.HallOut.{HallOut}
+use Rattle.ps_room.specs.declared.entry.Entry.{Entry}
+use Rattle.ps_room.specs.declared.outcome.Ending.{Ending}
+use Rattle.ps_room.specs.declared.outcome.RoomOut.{RoomOut}
+use Rattle.ps_openings.specs.Openings.{first_battle}
+use Rattle.ps_histlock.specs.declared.view.Entry.{Entry as Made}
+use Rattle.ps_histlock.specs.declared.view.View.{View}
+use Rattle.ps_histlock.specs.declared.lock.TheConstants.{OWN_LIMIT}
+use Rattle.ps_histlock.specs.Histories.{commands}
+use Rattle.ps_histlock.specs.Views.{after_look, Extends}
+use Rattle.ps_histlock.specs.Turns.{turned, IsBusy}
+use Rattle.ps_places.specs.declared.command.RoomCmd.{RoomCmd}
+use Rattle.ps_places.specs.declared.command.RoomCmd.TheVariants.{Begin, Play}
+use Rattle.ps_users.specs.Refusals.{read_of}
+use Rattle.ps_places.specs.declared.site.Site.{Site}
+use Rattle.ps_places.specs.Sites.{Story, Tells, id_told}
+use Rattle.ps_places.specs.Rooms.{Answers, Shows}
+use Rattle.ps_places.specs.Halls.{HallAnswers, HallShows}
+use Rattle.ps_hub.specs.declared.out.EnterFault.{EnterFault}
+use Rattle.ps_hub.specs.declared.out.EnterFault.TheVariants as enter_faults
+use Rattle.ps_hub.specs.declared.out.HubFault.{HubFault}
+use Rattle.ps_hub.specs.declared.out.HubFault.TheVariants as hub_faults
+use Rattle.ps_hub.specs.declared.out.HubOut.{HubOut}
+use Rattle.ps_hub.specs.declared.pass.HallPass.{HallPass}
+use Rattle.ps_hub.specs.declared.pass.RoomPass.{RoomPass}
+use Rattle.ps_hub.specs.declared.passes.Passes.{Passes}
+use Rattle.ps_hub.specs.Hubs.{Hub, root_of, site_of}
+use Rattle.ps_hub.specs.Names.{Names}
+use Rattle.ps_hub.specs.Passes.{IsAsBefore, ButFor, lines_of}
+use Rattle.ps_hub.specs.Turns.{Turns, TurnsAtLast}
+
+-- ---- entries
+
+abbrev pub hall_entry : ℕ → ℕ → HallCmd → HallEntry
+hall_entry conn moment cmd = record { conn = conn; moment = moment; cmd = cmd }
+
+abbrev pub room_entry : ℕ → Badge → ℕ → Command → Entry
+room_entry conn badge moment cmd = record { conn = conn; badge = badge; moment = moment; cmd = cmd }
+
+-- the end of a battle that an entry of a room gave
+abbrev pub ended_in : Option RoomOut → Option Ending
+ended_in None = None
+ended_in (Some out) = out.ended
+
+-- the badge that a connection has after an entry that gave this one, or none
+abbrev pub badge_after : Option Badge → Option Badge → Option Badge
+badge_after old None = old
+badge_after old (Some badge) = Some badge
+
+-- ---- entering
+
+-- the room of the place, as far as the pass has seen its history, is missing or has another id
+abbrev pub Lacks : Hub → List ℕ → RoomPass → Type 0
+Lacks hub id k = (told : Option Story) × Tells (site_of hub k.number) (commands k.pass.1.seen) told × (id_told told ≢ Some id)
+
+-- A place is held by an id: it was already, and nothing changed; or it is a chat room's; or its pass took a turn, which found
+-- the room with that id.
+abbrev pub Held : List ℕ → RoomPass → RoomPass → Type 0
+Held id h k = ((h.id ≡ Some id) × (k ≡ h))
+    ⊎ ((h.number < first_battle) × (k ≡ record h { id = Some id }))
+    ⊎ ((h.id ≡ None) × (k.id ≡ Some id) × (k.at ≡ h.at) × Turns h.pass.1 None k.pass.1)
+
+-- It isn't, since no such room is there: it is held by another id, and nothing changed; or its pass took a turn, which found no
+-- room with that id. Never of a chat room.
+abbrev pub NotHeld : Hub → List ℕ → RoomPass → RoomPass → Type 0
+NotHeld hub id h k = (first_battle ≤ h.number)
+    × (((other : List ℕ) × (h.id ≡ Some other) × (other ≢ id) × (k ≡ h)) ⊎ ((h.id ≡ None) × (k.id ≡ None) × (k.at ≡ h.at) × Turns h.pass.1 None k.pass.1 × Lacks hub id k))
+
+-- somebody else had the turn. Never of a chat room.
+abbrev pub HeldUp : ℕ → RoomPass → RoomPass → Type 0
+HeldUp word h k = (first_battle ≤ h.number) × (h.id ≡ None) × (k.id ≡ None) × (k.at ≡ h.at) × IsBusy h.pass.1 word k.pass.1
+
+-- memory was wanting: at the most the pass took a turn without an entry
+abbrev pub Unheld : RoomPass → RoomPass → Type 0
+Unheld h k = (k.id ≡ h.id) × (k.at ≡ h.at) × ((k.pass.1 ≡ h.pass.1) ⊎ Turns h.pass.1 None k.pass.1)
+
+-- what a call that enters does to the pass of the place that the id names
+pub record EntersAt (hub : Hub) (id : List ℕ) (does : RoomPass → RoomPass → Type 0) (old new : Passes) : Type 0 where
+  pub before : RoomPass
+  pub behind : RoomPass
+  pub named : Names hub.config id before.number
+  pub but : ButFor hub old before behind new
+  pub done : does before behind
+
+-- the id names no place
+abbrev pub NamesNone : Hub → List ℕ → Type 0
+NamesNone hub id = (number : ℕ) → Names hub.config id number → ⊥
+
+abbrev pub EnterFails : Hub → List ℕ → Passes → EnterFault → Passes → Type 0
+EnterFails hub id old enter_faults.NoSuchRoom new = (NamesNone hub id × (new ≡ old)) ⊎ EntersAt hub id (NotHeld hub id) old new
+EnterFails hub id old (enter_faults.Busy word) new = EntersAt hub id (HeldUp word) old new
+EnterFails hub id old enter_faults.NoMemory new = IsAsBefore old new ⊎ EntersAt hub id Unheld old new
+
+-- what asking for a room by an id does to the pass of the place that it names
+abbrev pub Holds : {T : Type 0} → Hub → List ℕ → RoomPass → Result T EnterFault → RoomPass → Type 0
+Holds hub id h (Ok done) k = Held id h k
+Holds hub id h (Err enter_faults.NoSuchRoom) k = NotHeld hub id h k
+Holds hub id h (Err (enter_faults.Busy word)) k = HeldUp word h k
+Holds hub id h (Err enter_faults.NoMemory) k = Unheld h k
+
+abbrev pub Enters : {T : Type 0} → Hub → List ℕ → Passes → Result T EnterFault → Passes → Type 0
+Enters hub id old (Ok done) new = EntersAt hub id (Held id) old new
+Enters hub id old (Err fault) new = EnterFails hub id old fault new
+
+-- ---- orders to the hall
+
+-- what a call does to the pass of the hall; all else stays, but for the badge
+pub record HallGoes (does : HallPass → HallPass → Type 0) (old new : Passes) : Type 0 where
+  pub before : HallPass
+  pub behind : HallPass
+  pub was : old.hall ≡ Some before
+  pub is : new.hall ≡ Some behind
+  pub at : behind.at ≡ before.at
+  pub done : does before behind
+  pub rooms : new.rooms.items ≡ old.rooms.items
+  pub conn : new.conn ≡ old.conn
+
+-- one entry of the hall by the connection's pass, what it gave, and the badge that is kept
+pub record HallOrdered (hub : Hub) (cmd : HallCmd) (moment : ℕ) (old : Passes) (out : HubOut) (new : Passes) : Type 0 where
+  pub log : List (Made HallEntry)
+  pub gave : HallOut
+  pub goes : HallGoes (λ h k. Extends h.pass.1 log × (k.pass.1 ≡ turned h.pass.1 log (Some (hall_entry old.conn moment cmd))) × (length h.pass.1.mine ≢ OWN_LIMIT)) old new
+  pub answer : HallAnswers (root_of hub) (commands log) (hall_entry old.conn moment cmd) gave
+  pub badge_out : out.badge ≡ gave.badge
+  pub start : out.start ≡ gave.start
+  pub ended : out.ended ≡ None
+  pub badge : new.badge ≡ badge_after old.badge gave.badge
+
+-- the badge is as before
+abbrev pub HallFails : Hub → HallCmd → ℕ → Passes → HubFault → Passes → Type 0
+HallFails hub cmd moment old (hub_faults.OwnLimit room) new = (room ≡ None) × (new.badge ≡ old.badge) × HallGoes (λ h k. (length h.pass.1.mine ≡ OWN_LIMIT) × (k.pass ≡ h.pass)) old new
+HallFails hub cmd moment old hub_faults.NoSuchRoom new = ⊥
+HallFails hub cmd moment old (hub_faults.Busy word order) new = (order ≡ Hall cmd) × (new.badge ≡ old.badge) × HallGoes (λ h k. IsBusy h.pass.1 word k.pass.1 × (length h.pass.1.mine ≢ OWN_LIMIT)) old new
+HallFails hub cmd moment old hub_faults.NoMemory new = (new.badge ≡ old.badge) × HallGoes (λ h k. (k.pass.1 ≡ h.pass.1) ⊎ Turns h.pass.1 None k.pass.1 ⊎ Turns h.pass.1 (Some (hall_entry old.conn moment cmd)) k.pass.1) old new
+
+-- what a turn with this entry does to the pass of the hall
+abbrev pub HallTakes : HallEntry → HallPass → Result HallOut HubFault → HallPass → Type 0
+HallTakes e h (Ok gave) k = (log : List (Made HallEntry)) × Extends h.pass.1 log × (k.pass.1 ≡ turned h.pass.1 log (Some e)) × HallAnswers h.pass.1.origin (commands log) e gave × (length h.pass.1.mine ≢ OWN_LIMIT)
+HallTakes e h (Err (hub_faults.OwnLimit room)) k = (room ≡ None) × (length h.pass.1.mine ≡ OWN_LIMIT) × (k.pass ≡ h.pass)
+HallTakes e h (Err hub_faults.NoSuchRoom) k = ⊥
+HallTakes e h (Err (hub_faults.Busy word order)) k = (order ≡ Hall e.cmd) × IsBusy h.pass.1 word k.pass.1 × (length h.pass.1.mine ≢ OWN_LIMIT)
+HallTakes e h (Err hub_faults.NoMemory) k = (k.pass.1 ≡ h.pass.1) ⊎ Turns h.pass.1 None k.pass.1 ⊎ Turns h.pass.1 (Some e) k.pass.1
+
+-- the name that a command asks for, if it asks for one
+abbrev pub name_asked : HallCmd → Option (List ℕ)
+name_asked (hall_commands.Name name assertion) = read_of name
+name_asked other = None
+
+-- ---- orders to a room
+
+-- what a call does to the pass of a place that is held by an id
+pub record RoomGoes (hub : Hub) (id : List ℕ) (does : RoomPass → RoomPass → Type 0) (old new : Passes) : Type 0 where
+  pub before : RoomPass
+  pub behind : RoomPass
+  pub named : Names hub.config id before.number
+  pub held : before.id ≡ Some id
+  pub held_on : behind.id ≡ Some id
+  pub at : behind.at ≡ before.at
+  pub but : ButFor hub old before behind new
+  pub done : does before behind
+
+-- one entry of the room by the connection's pass, with the badge that is kept, and what it gave
+pub record RoomOrdered (hub : Hub) (id : List ℕ) (cmd : Command) (moment : ℕ) (old : Passes) (out : HubOut) (new : Passes) : Type 0 where
+  pub badge : Badge
+  pub badge_is : old.badge ≡ Some badge
+  pub number : ℕ
+  pub log : List (Made RoomCmd)
+  pub gave : Option RoomOut
+  pub goes : RoomGoes hub id (λ h k. (h.number ≡ number) × Extends h.pass.1 log × (k.pass.1 ≡ turned h.pass.1 log (Some (Play (room_entry old.conn badge moment cmd)))) × (length h.pass.1.mine ≢ OWN_LIMIT)) old new
+  pub answer : Answers (site_of hub number) (commands log) (Play (room_entry old.conn badge moment cmd)) gave
+  pub no_badge : out.badge ≡ None
+  pub start : out.start ≡ None
+  pub ended : out.ended ≡ ended_in gave
+
+-- what a turn with this entry does to the pass of a place that is held by this id
+abbrev pub RoomTakes : Site → List ℕ → Entry → RoomPass → Result HubOut HubFault → RoomPass → Type 0
+RoomTakes site id e h (Ok out) k =
+    (log : List (Made RoomCmd)) × (gave : Option RoomOut) × Extends h.pass.1 log × (k.pass.1 ≡ turned h.pass.1 log (Some (Play e))) × Answers site (commands log) (Play e) gave × (out ≡ record { badge = None; start = None; ended = ended_in gave }) × (length h.pass.1.mine ≢ OWN_LIMIT)
+RoomTakes site id e h (Err (hub_faults.OwnLimit room)) k = (room ≡ Some id) × (length h.pass.1.mine ≡ OWN_LIMIT) × (k.pass ≡ h.pass)
+RoomTakes site id e h (Err hub_faults.NoSuchRoom) k = ⊥
+RoomTakes site id e h (Err (hub_faults.Busy word order)) k = (order ≡ Room id e.cmd) × IsBusy h.pass.1 word k.pass.1 × (length h.pass.1.mine ≢ OWN_LIMIT)
+RoomTakes site id e h (Err hub_faults.NoMemory) k = (k.pass.1 ≡ h.pass.1) ⊎ Turns h.pass.1 None k.pass.1 ⊎ Turns h.pass.1 (Some (Play e)) k.pass.1
+
+-- after the place is held
+abbrev pub RoomFails : Hub → List ℕ → Command → ℕ → Passes → HubFault → Passes → Type 0
+RoomFails hub id cmd moment old (hub_faults.OwnLimit room) new = (room ≡ Some id) × RoomGoes hub id (λ h k. (length h.pass.1.mine ≡ OWN_LIMIT) × (k.pass ≡ h.pass)) old new
+RoomFails hub id cmd moment old hub_faults.NoSuchRoom new = ⊥
+RoomFails hub id cmd moment old (hub_faults.Busy word order) new = (order ≡ Room id cmd) × RoomGoes hub id (λ h k. IsBusy h.pass.1 word k.pass.1 × (length h.pass.1.mine ≢ OWN_LIMIT)) old new
+RoomFails hub id cmd moment old hub_faults.NoMemory new =
+    RoomGoes hub id (λ h k. (k.pass.1 ≡ h.pass.1) ⊎ Turns h.pass.1 None k.pass.1 ⊎ ((badge : Badge) × (old.badge ≡ Some badge) × Turns h.pass.1 (Some (Play (room_entry old.conn badge moment cmd))) k.pass.1)) old new
+
+-- while the place isn't held
+abbrev pub EntryFails : Hub → List ℕ → Command → Passes → HubFault → Passes → Type 0
+EntryFails hub id cmd old (hub_faults.OwnLimit room) new = ⊥
+EntryFails hub id cmd old hub_faults.NoSuchRoom new = EnterFails hub id old enter_faults.NoSuchRoom new
+EntryFails hub id cmd old (hub_faults.Busy word order) new = (order ≡ Room id cmd) × EnterFails hub id old (enter_faults.Busy word) new
+EntryFails hub id cmd old hub_faults.NoMemory new = EnterFails hub id old enter_faults.NoMemory new
+
+-- What an order does: to a room it enters the place first, as `enter`, which changes nothing where the place is held by that id.
+abbrev pub Orders : Hub → Order → ℕ → Passes → Result HubOut HubFault → Passes → Type 0
+Orders hub (Hall cmd) moment old (Ok out) new = HallOrdered hub cmd moment old out new
+Orders hub (Hall cmd) moment old (Err fault) new = HallFails hub cmd moment old fault new
+Orders hub (Room id cmd) moment old (Ok out) new = (mid : Passes) × EntersAt hub id (Held id) old mid × RoomOrdered hub id cmd moment mid out new
+Orders hub (Room id cmd) moment old (Err fault) new = EntryFails hub id cmd old fault new ⊎ ((mid : Passes) × EntersAt hub id (Held id) old mid × RoomFails hub id cmd moment mid fault new)
+
+-- ---- the begin of a battle
+
+-- the place of a battle, by a pass of it that is kept or made
+pub record BeginsAt (hub : Hub) (start : Start) (does : RoomPass → RoomPass → Type 0) (old new : Passes) : Type 0 where
+  pub before : RoomPass
+  pub behind : RoomPass
+  pub number : before.number ≡ 15 + start.number
+  pub id : behind.id ≡ before.id
+  pub at : behind.at ≡ before.at
+  pub but : ButFor hub old before behind new
+  pub done : does before behind
+
+-- where memory was wanting, or the pass had made as many entries as it may: at the most the Begin, or a turn without an entry
+abbrev pub BeginsAtMost : Start → RoomPass → RoomPass → Type 0
+BeginsAtMost start h k = (k.pass.1 ≡ h.pass.1) ⊎ TurnsAtLast h.pass.1 None k.pass.1 ⊎ TurnsAtLast h.pass.1 (Some (Begin start)) k.pass.1
+
+abbrev pub Starts : {T E : Type 0} → Hub → Start → Passes → Result T E → Passes → Type 0
+Starts hub start old (Ok done) new = BeginsAt hub start (λ h k. TurnsAtLast h.pass.1 (Some (Begin start)) k.pass.1) old new
+Starts hub start old (Err fault) new = IsAsBefore old new ⊎ BeginsAt hub start (BeginsAtMost start) old new
+
+-- ---- the begin of a connection
+
+-- Its pass of the hall was split off from one that made the Open and nothing else: it has seen that, and has no entry of its own.
+pub record Admits (hub : Hub) (conn moment : ℕ) (new : Passes) : Type 0 where
+  pub pass : HallPass
+  pub hall : new.hall ≡ Some pass
+  pub before : List (Made HallEntry)
+  pub opener : ℕ
+  pub seen : pass.pass.1.seen ≡ before ++ record { by = opener; cmd = hall_entry conn moment hall_commands.Open } ∷ []
+  pub mine : pass.pass.1.mine ≡ []
+  pub looks : pass.pass.1.looks ≡ []
+  pub turns : pass.pass.1.turns ≡ 0
+  pub at : pass.at ≡ 0
+  pub rooms : new.rooms.items ≡ []
+  pub badge : new.badge ≡ None
+  pub conn_is : new.conn ≡ conn
+
+-- what an order needs: one to a room a badge
+abbrev pub NeedsBadge : Order → Passes → Type 0
+NeedsBadge (Hall cmd) passes = Unit {0}
+NeedsBadge (Room id cmd) passes = IsSome passes.badge
+
+-- ---- catching up
+
+-- A look, and a turn without an entry where it showed more than the cursor had passed. Then all of the history that the pass
+-- has seen was handed out.
+abbrev pub LooksAnd : {O C : Type 0} → View O C → ℕ → View O C → Type 0
+LooksAnd v passed w = (n : ℕ) × (length v.seen ≤ n) × (n ≤ length w.seen) × (((n ≤ passed) × (w ≡ after_look v n)) ⊎ ((passed < n) × TurnsAtLast (after_look v n) None w))
+
+-- a look, and at the most a turn without an entry
+abbrev pub LooksAtMost : {O C : Type 0} → View O C → View O C → Type 0
+LooksAtMost v w = (n : ℕ) × (length v.seen ≤ n) × ((w ≡ after_look v n) ⊎ TurnsAtLast (after_look v n) None w)
+
+-- The messages that are handed out are those past the place up to which they were; and that is now the end of what the pass has seen.
+module _ {C : Type 0} (shows : List C → List (List (List ℕ)) → Type 0) where
+  pub record HandsOut (cmds : List C) (at : ℕ) (msgs : List Msg) (more : List C) (now : ℕ) : Type 0 where
+    pub before : List (List (List ℕ))
+    pub shown_before : shows (take at cmds) before
+    pub shown : shows more (before ++ lines_of msgs)
+    pub end : now ≡ length more
+
+abbrev pub HallCaught : Hub → ℕ → List Msg → HallPass → HallPass → Type 0
+HallCaught hub conn msgs h k = LooksAnd h.pass.1 h.cursor.passed k.pass.1 × HandsOut (HallShows conn (root_of hub)) (commands h.pass.1.seen) h.at msgs (commands k.pass.1.seen) k.at
+
+-- what a call does to the pass of the hall, and to nothing else
+pub record HallOnly (does : HallPass → HallPass → Type 0) (old new : Passes) : Type 0 where
+  pub before : HallPass
+  pub behind : HallPass
+  pub was : old.hall ≡ Some before
+  pub is : new.hall ≡ Some behind
+  pub done : does before behind
+  pub rooms : new.rooms.items ≡ old.rooms.items
+  pub conn : new.conn ≡ old.conn
+  pub badge : new.badge ≡ old.badge
+
+abbrev pub CatchesUpHall : {E : Type 0} → Hub → Passes → Result (Vec Msg Global) E → Passes → Type 0
+CatchesUpHall hub old (Ok msgs) new = HallOnly (HallCaught hub old.conn msgs.items) old new
+CatchesUpHall hub old (Err e) new = HallOnly (λ h k. LooksAtMost h.pass.1 k.pass.1 × (k.at ≡ h.at)) old new
+
+abbrev pub Caught : Hub → ℕ → List Msg → RoomPass → RoomPass → Type 0
+Caught hub conn msgs h k = LooksAnd h.pass.1 h.cursor.passed k.pass.1 × HandsOut (Shows conn (site_of hub h.number)) (commands h.pass.1.seen) h.at msgs (commands k.pass.1.seen) k.at
+
+-- what a call does to the pass that stands at a place of the row, and to nothing else
+pub record RoomOnly (place : ℕ) (does : RoomPass → RoomPass → Type 0) (old new : Passes) : Type 0 where
+  pub before : RoomPass
+  pub behind : RoomPass
+  pub was : slice_get old.rooms.items place ≡ Some before
+  pub rooms : new.rooms.items ≡ slice_set old.rooms.items place behind
+  pub number : behind.number ≡ before.number
+  pub id : behind.id ≡ before.id
+  pub done : does before behind
+  pub conn : new.conn ≡ old.conn
+  pub badge : new.badge ≡ old.badge
+  pub hall : new.hall ≡ old.hall
+
+abbrev pub CatchesUp : {E : Type 0} → Hub → ℕ → Passes → Result (Vec Msg Global) E → Passes → Type 0
+CatchesUp hub place old (Ok msgs) new = RoomOnly place (Caught hub old.conn msgs.items) old new
+CatchesUp hub place old (Err e) new = RoomOnly place (λ h k. LooksAtMost h.pass.1 k.pass.1 × (k.at ≡ h.at)) old new
+
+-- the hall, or a room that is held by this id
+abbrev pub IsHeldBy : Option (List ℕ) → Passes → Type 0
+IsHeldBy None passes = Unit {0}
+IsHeldBy (Some id) passes = (place : ℕ) × (k : RoomPass) × (slice_get passes.rooms.items place ≡ Some k) × (k.id ≡ Some id)
+
+abbrev pub Catches : {E : Type 0} → Hub → Option (List ℕ) → Passes → Result (Vec Msg Global) E → Passes → Type 0
+Catches hub None old result new = CatchesUpHall hub old result new
+Catches hub (Some id) old result new = (place : ℕ) × (k : RoomPass) × (slice_get old.rooms.items place ≡ Some k) × (k.id ≡ Some id) × CatchesUp hub place old result new
+
+-- ---- counting
+
+-- a look alone
+abbrev pub LooksHall : ℕ → HallPass → HallPass → Type 0
+LooksHall n h k = (length h.pass.1.seen ≤ n) × (k ≡ record h { pass = (h.pass.0, after_look h.pass.1 n) })
+
+abbrev pub LooksRoom : ℕ → RoomPass → RoomPass → Type 0
+LooksRoom n h k = (length h.pass.1.seen ≤ n) × (k ≡ record h { pass = (h.pass.0, after_look h.pass.1 n) })
+
+abbrev pub Counts : Option (List ℕ) → Passes → ℕ → Passes → Type 0
+Counts None old n new = HallOnly (LooksHall n) old new
+Counts (Some id) old n new = (place : ℕ) × (k : RoomPass) × (slice_get old.rooms.items place ≡ Some k) × (k.id ≡ Some id) × RoomOnly place (LooksRoom n) old new
+
+-- ---- the end of a connection
+
+-- the entries of the end can be made: a badge is kept where a room is held
+abbrev pub MayQuit : Passes → Type 0
+MayQuit passes = All (λ (k : RoomPass). IsSome k.id → IsSome passes.badge) passes.rooms.items
+
+-- the Quit in the hall
+abbrev pub QuitsHall : ℕ → ℕ → HallPass → HallPass → Type 0
+QuitsHall conn moment h k = TurnsAtLast h.pass.1 (Some (hall_entry conn moment hall_commands.Quit)) k.pass.1 × (k.at ≡ h.at)
+
+-- the Quit in a room, where it is held
+abbrev pub QuitsBy : Option (List ℕ) → Option Badge → ℕ → ℕ → RoomPass → RoomPass → Type 0
+QuitsBy None badge conn moment h k = k ≡ h
+QuitsBy (Some id) badge conn moment h k = (b : Badge) × (badge ≡ Some b) × TurnsAtLast h.pass.1 (Some (Play (room_entry conn b moment room_commands.Quit))) k.pass.1 × (k.at ≡ h.at) × (k.number ≡ h.number) × (k.id ≡ h.id)
+
+abbrev pub QuitsRoom : Option Badge → ℕ → ℕ → RoomPass → RoomPass → Type 0
+QuitsRoom badge conn moment h k = QuitsBy h.id badge conn moment h k
+
+-- where memory was wanting: at the most the Quit, or a turn without an entry
+abbrev pub QuitsAtMost : Option Badge → ℕ → ℕ → RoomPass → RoomPass → Type 0
+QuitsAtMost badge conn moment h k = QuitsRoom badge conn moment h k ⊎ ((k.number ≡ h.number) × (k.id ≡ h.id) × (k.at ≡ h.at) × ((k.pass.1 ≡ h.pass.1) ⊎ TurnsAtLast h.pass.1 None k.pass.1))
+
+abbrev pub QuitsHallAtMost : ℕ → ℕ → HallPass → HallPass → Type 0
+QuitsHallAtMost conn moment h k = QuitsHall conn moment h k ⊎ ((k.at ≡ h.at) × ((k.pass.1 ≡ h.pass.1) ⊎ TurnsAtLast h.pass.1 None k.pass.1))
+
+pub record QuitsWith (room : RoomPass → RoomPass → Type 0) (hall : HallPass → HallPass → Type 0) (old new : Passes) : Type 0 where
+  pub rooms : AllZip room old.rooms.items new.rooms.items
+  pub before : HallPass
+  pub behind : HallPass
+  pub was : old.hall ≡ Some before
+  pub is : new.hall ≡ Some behind
+  pub done : hall before behind
+  pub conn : new.conn ≡ old.conn
+  pub badge : new.badge ≡ old.badge
+
+abbrev pub Quits : {T E : Type 0} → Hub → ℕ → Passes → Result T E → Passes → Type 0
+Quits hub moment old (Ok done) new = QuitsWith (QuitsRoom old.badge old.conn moment) (QuitsHall old.conn moment) old new
+Quits hub moment old (Err e) new = QuitsWith (QuitsAtMost old.badge old.conn moment) (QuitsHallAtMost old.conn moment) old new

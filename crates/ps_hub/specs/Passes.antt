@@ -1,0 +1,96 @@
+-- What a connection has of the places of a hub.
+use Rattle.std.specs.Prelude.{◌≡◌, ◌≢◌, ◌⊎◌, ℕ, ◌≤◌, List, [], ◌∷◌, ◌++◌, map, length, take, All, Option, Some, None}
+use Rattle.ps_base.specs.declared.msg.Msg.{Msg}
+use Rattle.ps_hall.specs.Halls.{msg_lines}
+use Rattle.ps_histlock.specs.Histories.{commands}
+use Rattle.ps_histlock.specs.Seated.{TableId}
+use Rattle.ps_histlock.specs.Views.{newcomer, IsAtRest}
+use Rattle.ps_places.specs.Sites.{Story, Tells, id_told}
+use Rattle.ps_places.specs.Rooms.{cursor_of, Shows, StandsAt}
+use Rattle.ps_places.specs.Halls.{HallShows, HallStandsAt}
+use Rattle.ps_hub.specs.Hubs.{Hub, root_of, site_of, lock_of}
+use Rattle.ps_hub.specs.declared.pass.HallPass.{HallPass}
+use Rattle.ps_hub.specs.declared.pass.RoomPass.{RoomPass}
+use Rattle.ps_hub.specs.declared.passes.Passes.{Passes}
+
+-- the lines of messages
+abbrev pub lines_of : List Msg → List (List (List ℕ))
+lines_of msgs = map msg_lines msgs
+
+module _ {C X : Type 0} (shows : List C → List (List (List ℕ)) → Type 0) (stands_at : List C → X → Type 0) where
+  -- Of the history that a pass has seen the messages of the first `passed` entries were pulled, and those of the first `at`
+  -- were handed out; what is kept lies between.
+  pub record IsTold (cmds : List C) (x : X) (passed : ℕ) (kept : List (List (List ℕ))) (at : ℕ) : Type 0 where
+    pub within : passed ≤ length cmds
+    pub handed_out : at ≤ passed
+    pub cursor : stands_at (take passed cmds) x
+    pub before : List (List (List ℕ))
+    pub shown_before : shows (take at cmds) before
+    pub shown : shows (take passed cmds) (before ++ kept)
+
+-- a pass of the hall of this hub
+pub record IsHallPass (hub : Hub) (conn : ℕ) (h : HallPass) : Type 0 where
+  pub lock : h.pass.0 ≡ hub.hall
+  pub origin : h.pass.1.origin ≡ root_of hub
+  pub rest : IsAtRest h.pass.1
+  pub told : IsTold (HallShows conn (root_of hub)) (HallStandsAt conn (root_of hub)) (commands h.pass.1.seen) h.cursor h.cursor.passed (lines_of (h.kept.items ++ h.fresh.items)) h.at
+
+-- the room by whose id a place is held is that of the pass's history
+abbrev pub HeldBy : Option (List ℕ) → Hub → RoomPass → Type 0
+HeldBy None hub k = Unit {0}
+HeldBy (Some id) hub k = (told : Option Story) × Tells (site_of hub k.number) (commands k.pass.1.seen) told × (id_told told ≡ Some id)
+
+-- a pass of the place of a room of this hub
+pub record IsRoomPass (hub : Hub) (conn : ℕ) (k : RoomPass) : Type 0 where
+  pub lock : lock_of hub k.number ≡ Some k.pass.0
+  pub origin : k.pass.1.origin ≡ site_of hub k.number
+  pub rest : IsAtRest k.pass.1
+  pub told : IsTold (Shows conn (site_of hub k.number)) (StandsAt conn (site_of hub k.number)) (commands k.pass.1.seen) k.cursor k.cursor.passed (lines_of (k.kept.items ++ k.fresh.items)) k.at
+  pub held : HeldBy k.id hub k
+
+-- passes that come from a hub: the hall is held, and each is a pass of the lock that the hub has at that place
+pub record AreOf (hub : Hub) (passes : Passes) : Type 0 where
+  pub hall_pass : HallPass
+  pub hall : passes.hall ≡ Some hall_pass
+  pub hall_is : IsHallPass hub passes.conn hall_pass
+  pub rooms : All (IsRoomPass hub passes.conn) passes.rooms.items
+
+-- ---- looking into passes
+
+-- all is as it was; the row may have got room
+abbrev pub IsAsBefore : Passes → Passes → Type 0
+IsAsBefore old new = (new ≡ record old { rooms = new.rooms }) × (new.rooms.items ≡ old.rooms.items)
+
+-- a pass more, at this place in the row
+abbrev pub IsAdded : Passes → ℕ → RoomPass → Passes → Type 0
+IsAdded old place k new = (xs ys : List RoomPass) × (old.rooms.items ≡ xs ++ ys) × (length xs ≡ place) × (new ≡ record old { rooms = new.rooms }) × (new.rooms.items ≡ xs ++ k ∷ ys)
+
+-- a new pass of a place, which was told nothing and isn't held
+pub record IsNewPass (hub : Hub) (conn number : ℕ) (k : RoomPass) : Type 0 where
+  pub number_is : k.number ≡ number
+  pub id : k.id ≡ None
+  pub pass : (lock : TableId) × (by : ℕ) × (lock_of hub number ≡ Some lock) × (k.pass ≡ (lock, newcomer (site_of hub number) by))
+  pub cursor : k.cursor ≡ cursor_of conn None 0
+  pub kept : k.kept.items ++ k.fresh.items ≡ []
+  pub at : k.at ≡ 0
+
+-- The pass of a place, which is there already or is added as a new one, at this place in the row; all else is as it was
+pub record Keeps (hub : Hub) (number place : ℕ) (old : Passes) (k : RoomPass) (new : Passes) : Type 0 where
+  pub before : List RoomPass
+  pub behind : List RoomPass
+  pub was : (old.rooms.items ≡ before ++ k ∷ behind) ⊎ ((old.rooms.items ≡ before ++ behind) × All (λ other. other.number ≢ number) old.rooms.items × IsNewPass hub old.conn number k)
+  pub is : new.rooms.items ≡ before ++ k ∷ behind
+  pub stands : length before ≡ place
+  pub number_is : k.number ≡ number
+  pub rest : new ≡ record old { rooms = new.rooms }
+
+-- The pass of one place became another, or is there from now on; all else is as it was.
+pub record ButFor (hub : Hub) (old : Passes) (h k : RoomPass) (new : Passes) : Type 0 where
+  pub before : List RoomPass
+  pub behind : List RoomPass
+  pub was : (old.rooms.items ≡ before ++ h ∷ behind) ⊎ ((old.rooms.items ≡ before ++ behind) × All (λ other. other.number ≢ h.number) old.rooms.items × IsNewPass hub old.conn h.number h)
+  pub is : new.rooms.items ≡ before ++ k ∷ behind
+  pub same_place : k.number ≡ h.number
+  pub conn : new.conn ≡ old.conn
+  pub badge : new.badge ≡ old.badge
+  pub hall : new.hall ≡ old.hall

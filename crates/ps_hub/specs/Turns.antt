@@ -1,0 +1,44 @@
+-- What a turn leaves of a pass, its cursor and the messages that are kept.
+use Rattle.std.specs.Prelude.{◌≡◌, ◌⊎◌, ℕ, List, ◌++◌, length, Option, None, IsSome}
+use Rattle.ps_base.specs.declared.msg.Msg.{Msg}
+use Rattle.ps_histlock.specs.declared.view.Entry.{Entry}
+use Rattle.ps_histlock.specs.declared.view.View.{View}
+use Rattle.ps_histlock.specs.declared.lock.TheConstants.{OWN_LIMIT}
+use Rattle.ps_histlock.specs.Histories.{commands}
+use Rattle.ps_histlock.specs.Views.{Extends}
+use Rattle.ps_histlock.specs.Turns.{turned, IsBusy, Answered}
+use Rattle.ps_hub.specs.declared.taken.Taken.{Taken}
+use Rattle.ps_hub.specs.declared.taken.Taken.TheVariants.{Done, Late, Busy, OwnLimit, NoMemory}
+
+module _ {O C : Type 0} where
+  -- a turn that found a history, which begins with what the pass had seen
+  abbrev pub Turns : View O C → Option C → View O C → Type 0
+  Turns v cmd w = (log : List (Entry C)) × Extends v log × (w ≡ turned v log cmd)
+
+  -- the same after tries in vain, which met these words
+  abbrev pub TurnsAtLast : View O C → Option C → View O C → Type 0
+  TurnsAtLast v cmd w = (words : List ℕ) × Turns (record v { met = v.met ++ words }) cmd w
+
+module _ {O C U X : Type 0} (answers : O → List C → C → U → Type 0) (pulls : O → List C → X → List Msg → X → Type 0) where
+  -- Of the view, the cursor, the messages kept and the command before, the answer, and the three after
+  abbrev pub Takes : View O C → X → List Msg → Option C → Taken C U → View O C → X → List Msg → Type 0
+  Takes v x kept cmd (Done out) w y more = (log : List (Entry C)) × Extends v log × (w ≡ turned v log cmd) × Answered answers pulls v.origin log cmd out × (msgs : List Msg) × pulls v.origin (commands w.seen) x msgs y × (more ≡ kept ++ msgs)
+  Takes v x kept cmd (Late out) w y more = (log : List (Entry C)) × Extends v log × (w ≡ turned v log cmd) × Answered answers pulls v.origin log cmd out × (y ≡ x) × (more ≡ kept)
+  Takes v x kept cmd (Busy word back) w y more = IsBusy v word w × (back ≡ cmd) × (y ≡ x) × (more ≡ kept)
+  Takes v x kept cmd (OwnLimit back) w y more = IsSome cmd × (length v.mine ≡ OWN_LIMIT) × (back ≡ cmd) × (w ≡ v) × (y ≡ x) × (more ≡ kept)
+  Takes v x kept cmd NoMemory w y more = ((w ≡ v) ⊎ Turns v None w) × (y ≡ x) × (more ≡ kept)
+
+  -- the same after tries in vain, which met these words. It isn't busy then; at its limit, or without memory at once, it tries nothing
+  abbrev pub TakesAtLast : View O C → X → List Msg → Option C → Taken C U → View O C → X → List Msg → Type 0
+  TakesAtLast v x kept cmd (Done out) w y more = (words : List ℕ) × Takes (record v { met = v.met ++ words }) x kept cmd (Done out) w y more
+  TakesAtLast v x kept cmd (Late out) w y more = (words : List ℕ) × Takes (record v { met = v.met ++ words }) x kept cmd (Late out) w y more
+  TakesAtLast v x kept cmd (Busy word back) w y more = ⊥
+  TakesAtLast v x kept cmd (OwnLimit back) w y more = Takes v x kept cmd (OwnLimit back) w y more
+  TakesAtLast v x kept cmd NoMemory w y more = ((w ≡ v) ⊎ TurnsAtLast v None w) × (y ≡ x) × (more ≡ kept)
+
+module _ {C U : Type 0} where
+  -- no entry was made, since the pass may make no more, or since memory was wanting
+  abbrev pub IsLimited : Taken C U → Type 0
+  IsLimited (OwnLimit back) = Unit {0}
+  IsLimited NoMemory = Unit {0}
+  IsLimited other = ⊥

@@ -1,0 +1,156 @@
+//! The hub.
+ghost use Rattle.std.specs.Prelude.{◌≡◌, ◌≢◌, ◌+◌, ◌≤◌, None, Some, IfOk, IfSome, IfNone, length, slice_get};
+ghost use Rattle.std.specs.Arc.{arc_value};
+ghost use Rattle.ps_hub.specs.Hubs.{site_of, root_of, lock_of, most_battles, AreAt};
+ghost use Rattle.ps_hub.specs.Names.{Names};
+ghost use Rattle.ps_hub.specs.Calls.{NamesNone};
+
+use crate::name::{MOST_BATTLES, place_named};
+use ps_dex::dex::Dex;
+use ps_histlock::HistLock;
+use ps_openings::opening::FIRST_BATTLE;
+use ps_places::hall_place::HallPlace;
+use ps_places::room_place::RoomPlace;
+use ps_valid::config::Config;
+use ps_valid::row::ChatRoom;
+use std::alloc::{AllocError, Global};
+use std::marker::Model;
+use std::sync::Arc;
+
+/// The places of a server, each behind a lock of its own: the hall, the chat rooms of the configuration, and 65,536 battles,
+/// which are empty until somebody begins them. Threads share it by reference.
+#[derive(Drop)]
+pub struct Hub {
+    pub(crate) alloc: Global,
+    pub(crate) config: Arc<Config>,
+    pub(crate) dex: Arc<Dex>,
+    pub(crate) hall: HistLock<HallPlace>,
+    chats: Vec<HistLock<RoomPlace>>,
+    battles: Vec<HistLock<RoomPlace>>,
+}
+
+impl Model for Hub {
+    ghost use Rattle.std.specs.Prelude.{◌≡◌, ◌≤◌, map, length};
+    ghost use Rattle.std.specs.Arc.{arc_value};
+    ghost use Rattle.ps_hub.specs.Hubs.{Hub as Seen, name_of, most_battles, AreAt};
+
+    ghost Value = { Seen };
+
+    ghost view = { λ h. record { config = arc_value h.config; dex = arc_value h.dex; hall = h.hall.0; chats = map name_of h.chats.items; battles = map name_of h.battles.items } };
+
+    ghost invariant = { λ h. (h.hall.1 ≡ record { config = arc_value h.config; dex = arc_value h.dex }) × AreAt (arc_value h.config) (arc_value h.dex) 0 h.chats.items × AreAt (arc_value h.config) (arc_value h.dex) 16 h.battles.items × (length h.chats.items ≡ length (arc_value h.config).rooms) × (length h.battles.items ≡ most_battles) };
+}
+
+// The locks of the chat rooms.
+fn chats(
+    alloc: Global,
+    config: &Arc<Config>,
+    dex: &Arc<Dex>,
+    rooms: &[ChatRoom],
+) -> Result<Vec<HistLock<RoomPlace>>, AllocError>
+    requires { (rooms.now ≡ (arc_value config.now).rooms) × (length rooms.now ≤ 16) }
+    ensures at { IfOk result (λ v. AreAt (arc_value config.now) (arc_value dex.now) 0 v.items) }
+    ensures count { IfOk result (λ v. length v.items ≡ length rooms.now) }
+{
+    let mut locks = Vec::with_capacity(alloc, rooms.len())?;
+    for number in 0..rooms.len() {
+        let place = RoomPlace::chat(
+            alloc,
+            config.clone()?,
+            dex.clone()?,
+            number as u32,
+            &rooms[number],
+        )?;
+        let (lock, _) = HistLock::new(alloc, place)?;
+        locks.push(lock)?;
+    }
+    Ok(locks)
+}
+
+// The locks of all battles.
+fn battles(
+    alloc: Global,
+    config: &Arc<Config>,
+    dex: &Arc<Dex>,
+) -> Result<Vec<HistLock<RoomPlace>>, AllocError>
+    ensures at { IfOk result (λ v. AreAt (arc_value config.now) (arc_value dex.now) 16 v.items) }
+    ensures count { IfOk result (λ v. length v.items ≡ most_battles) }
+{
+    let mut locks = Vec::with_capacity(alloc, MOST_BATTLES as usize)?;
+    for n in 0..MOST_BATTLES {
+        let place = RoomPlace::battle(alloc, config.clone()?, dex.clone()?, FIRST_BATTLE + n);
+        let (lock, _) = HistLock::new(alloc, place)?;
+        locks.push(lock)?;
+    }
+    Ok(locks)
+}
+
+// The lock at this place of a row.
+fn lock_at(locks: &[HistLock<RoomPlace>], place: usize) -> Option<&HistLock<RoomPlace>>
+    ensures found { IfSome result (λ l. slice_get locks.now place ≡ Some l.now) }
+    ensures none { IfNone result (slice_get locks.now place ≡ None) }
+{
+    locks.get(place)
+}
+
+impl Hub {
+    /// The hub of a server with this configuration and this dex. Nobody is connected, the chat rooms are open and no battle
+    /// has begun. `AllocError` where memory is wanting.
+    pub fn new(alloc: Global, config: Arc<Config>, dex: Arc<Dex>) -> Result<Hub, AllocError>
+        ensures config { IfOk result (λ h. h.config ≡ arc_value config) }
+        ensures dex { IfOk result (λ h. h.dex ≡ arc_value dex) }
+        ensures chats { IfOk result (λ h. length h.chats ≡ length (arc_value config).rooms) }
+        ensures battles { IfOk result (λ h. length h.battles ≡ most_battles) }
+    {
+        let place = HallPlace::new(alloc, config.clone()?, dex.clone()?)?;
+        let (hall, _) = HistLock::new(alloc, place)?;
+        let chats = chats(alloc, &config, &dex, config.rooms())?;
+        let battles = battles(alloc, &config, &dex)?;
+        Ok(Hub {
+            alloc,
+            config,
+            dex,
+            hall,
+            chats,
+            battles,
+        })
+    }
+
+    /// The lock of the hall.
+    pub(crate) fn hall_lock(&self) -> &HistLock<HallPlace>
+        ensures name { result.now.0 ≡ self.now.hall }
+        ensures origin { result.now.1 ≡ root_of self.now }
+    {
+        &self.hall
+    }
+
+    /// The place that an id names.
+    pub(crate) fn place_of(&self, id: &str) -> Option<u32>
+        ensures found { IfSome result (λ number. Names self.now.config id.now number × (lock_of self.now number ≢ None)) }
+        ensures none { IfNone result (NamesNone self.now id.now) }
+    {
+        place_named(&self.config, id)
+    }
+
+    /// The place of the battle with this number.
+    pub(crate) fn place_of_battle(&self, number: u32) -> u32
+        requires { (1 ≤ number) × (number ≤ most_battles) }
+        ensures value { result ≡ 15 + number }
+        ensures there { lock_of self.now result ≢ None }
+    {
+        let _battles = &self.battles;
+        FIRST_BATTLE - 1 + number
+    }
+
+    /// The lock of a room's place.
+    pub(crate) fn lock(&self, number: u32) -> Option<&HistLock<RoomPlace>>
+        ensures found { IfSome result (λ l. (lock_of self.now number ≡ Some l.now.0) × (l.now.1 ≡ site_of self.now number)) }
+        ensures none { IfNone result (lock_of self.now number ≡ None) }
+    {
+        if number < FIRST_BATTLE {
+            lock_at(&self.chats, number as usize)
+        } else {
+            lock_at(&self.battles, (number - FIRST_BATTLE) as usize)
+        }
+    }
+}

@@ -1,0 +1,230 @@
+//! Entries of a connection.
+ghost use Rattle.std.specs.Prelude.{◌≡◌, ℕ, IfOk, IsSome, Some};
+ghost use Rattle.ps_base.specs.declared.badge.Badge.{Badge};
+ghost use Rattle.ps_lines.specs.declared.order.Order.TheVariants.{Hall, Room};
+ghost use Rattle.ps_hub.specs.Hubs.{Hub, site_of};
+ghost use Rattle.ps_hub.specs.Passes.{AreOf, IsHallPass, IsRoomPass};
+ghost use Rattle.ps_hub.specs.Calls.{Orders, HallTakes, RoomTakes, NeedsBadge, name_asked, badge_after, ended_in};
+
+use crate::hub::Hub;
+use crate::out::{EnterFault, HubFault, HubOut};
+use crate::pass::{HallPass, RoomPass};
+use crate::passes::Passes;
+use crate::taken::Taken;
+use ps_base::badge::Badge;
+use ps_base::name::Name;
+use ps_base::number::Moment;
+use ps_base::text::Text;
+use ps_hall::entry::HallEntry;
+use ps_hall::outcome::HallOut;
+use ps_histlock::HistLock;
+use ps_lines::command::{Command, HallCmd};
+use ps_lines::order::Order;
+use ps_places::command::RoomCmd;
+use ps_places::hall_place::HallPlace;
+use ps_room::entry::Entry;
+use ps_room::outcome::{Ending, RoomOut};
+use ps_users::read::read_of;
+use std::alloc::{AllocError, Global};
+
+// The name that a command asks for, made before the entry: then keeping the badge takes no memory.
+fn name_of(alloc: Global, cmd: &HallCmd) -> Result<Option<Name>, AllocError>
+    ensures { IfOk result (λ name. name ≡ name_asked cmd.now) }
+{
+    match cmd {
+        HallCmd::Name { name, assertion: _ } => read_of(alloc, name.as_str()),
+        _ => Ok(None),
+    }
+}
+
+// Keeps the badge that an entry gave, with the name that was made before.
+fn keep_badge(kept: &mut Option<Badge>, gave: &HallOut, name: Option<Name>)
+    requires { (badge : Badge) → gave.now.badge ≡ Some badge → name ≡ Some badge.name }
+    ensures { kept.new ≡ badge_after kept.old gave.now.badge }
+{
+    match &gave.badge {
+        None => {}
+        Some(badge) => match name {
+            None => unreachable!(),
+            Some(name) => {
+                *kept = Some(Badge {
+                    name,
+                    rank: badge.rank,
+                });
+            }
+        },
+    }
+}
+
+// The end of a battle that an entry of a room gave.
+fn ended_in(gave: Option<RoomOut>) -> Option<Ending>
+    ensures { result ≡ ended_in gave }
+{
+    match gave {
+        None => None,
+        Some(out) => out.ended,
+    }
+}
+
+impl HallPass {
+    // One entry of the hall.
+    fn enter(&mut self, lock: &HistLock<HallPlace>, entry: HallEntry) -> Result<HallOut, HubFault>
+        requires { self.old.pass.0 ≡ lock.now.0 }
+        ensures of { (hub : Hub) (conn : ℕ) → IsHallPass hub conn self.old → IsHallPass hub conn self.new }
+        ensures told { HallTakes entry self.old result self.new }
+        ensures at { self.new.at ≡ self.old.at }
+    {
+        match self.try_turn(lock, Some(entry)) {
+            Taken::Done { out } => match out {
+                None => unreachable!(),
+                Some(out) => Ok(out),
+            },
+            Taken::Late { out: _ } => Err(HubFault::NoMemory),
+            Taken::Busy { word, cmd } => match cmd {
+                None => unreachable!(),
+                Some(entry) => Err(HubFault::Busy {
+                    word,
+                    order: Order::Hall(entry.cmd),
+                }),
+            },
+            Taken::OwnLimit { cmd: _ } => Err(HubFault::OwnLimit { room: None }),
+            Taken::NoMemory => Err(HubFault::NoMemory),
+        }
+    }
+}
+
+impl Hub {
+    /// Makes one entry of the connection at the place that the order names, with the badge that the passes keep. An order to
+    /// a room that isn't held by the order's id enters it first, as `enter` does.
+    ///
+    /// What the entry gave is answered. Its messages, and all that the connection wasn't told before, stay in the passes until
+    /// `catch_up` hands them out. A badge that a Name gave is kept from now on.
+    ///
+    /// `NoSuchRoom` and `Busy` come as of `enter`, and then there is no entry. `Busy` also comes where the turn of the entry
+    /// met an odd word, or two words that differ; the order comes back. `OwnLimit` comes exactly where the connection's pass
+    /// has made 4,353 entries at the place. After `NoMemory` the entry stands only where memory was wanting for its messages.
+    /// It waits for nobody.
+    pub fn order(
+        &self,
+        passes: &mut Passes,
+        order: Order,
+        moment: Moment,
+    ) -> Result<HubOut, HubFault>
+        requires of { AreOf self.now passes.old }
+        requires badge { NeedsBadge order passes.old }
+        ensures of { AreOf self.now passes.new }
+        ensures told { Orders self.now order moment passes.old result passes.new }
+    {
+        match order {
+            Order::Hall(cmd) => self.order_hall(passes, cmd, moment),
+            Order::Room { id, cmd } => self.order_room(passes, id, cmd, moment),
+        }
+    }
+
+    // An order to the hall.
+    fn order_hall(
+        &self,
+        passes: &mut Passes,
+        cmd: HallCmd,
+        moment: Moment,
+    ) -> Result<HubOut, HubFault>
+        requires { AreOf self.now passes.old }
+        ensures of { AreOf self.now passes.new }
+        ensures told { Orders self.now (Hall cmd) moment passes.old result passes.new }
+    {
+        let Ok(name) = name_of(self.alloc, &cmd) else {
+            return Err(HubFault::NoMemory);
+        };
+        let entry = HallEntry {
+            conn: passes.conn,
+            moment,
+            cmd,
+        };
+        let Some(hall) = &mut passes.hall else {
+            unreachable!()
+        };
+        let gave = match hall.enter(self.hall_lock(), entry) {
+            Ok(gave) => gave,
+            Err(fault) => return Err(fault),
+        };
+        keep_badge(&mut passes.badge, &gave, name);
+        Ok(HubOut {
+            badge: gave.badge,
+            start: gave.start,
+            ended: None,
+        })
+    }
+
+    // An order to a room.
+    fn order_room(
+        &self,
+        passes: &mut Passes,
+        id: Text,
+        cmd: Command,
+        moment: Moment,
+    ) -> Result<HubOut, HubFault>
+        requires of { AreOf self.now passes.old }
+        requires badge { IsSome passes.old.badge }
+        ensures of { AreOf self.now passes.new }
+        ensures told { Orders self.now (Room id cmd) moment passes.old result passes.new }
+    {
+        let badge = match &passes.badge {
+            None => unreachable!(),
+            Some(badge) => match badge.copy(self.alloc) {
+                Ok(badge) => badge,
+                Err(_) => return Err(HubFault::NoMemory),
+            },
+        };
+        let place = match self.enter_at(passes, id.as_str()) {
+            Ok(place) => place,
+            Err(EnterFault::NoSuchRoom) => return Err(HubFault::NoSuchRoom),
+            Err(EnterFault::Busy { word }) => {
+                return Err(HubFault::Busy {
+                    word,
+                    order: Order::Room { id, cmd },
+                });
+            }
+            Err(EnterFault::NoMemory) => return Err(HubFault::NoMemory),
+        };
+        let entry = Entry {
+            conn: passes.conn,
+            badge,
+            moment,
+            cmd,
+        };
+        self.play(&mut passes.rooms[place], id, entry)
+    }
+
+    // One entry at a place that is held by this id.
+    fn play(&self, pass: &mut RoomPass, id: Text, entry: Entry) -> Result<HubOut, HubFault>
+        requires { (conn : ℕ) × IsRoomPass self.now conn pass.old }
+        ensures of { (conn : ℕ) → IsRoomPass self.now conn pass.old → IsRoomPass self.now conn pass.new }
+        ensures told { RoomTakes (site_of self.now pass.old.number) id entry pass.old result pass.new }
+        ensures same { (pass.new.at ≡ pass.old.at) × (pass.new.number ≡ pass.old.number) × (pass.new.id ≡ pass.old.id) }
+    {
+        let lock = match self.lock(pass.number) {
+            None => unreachable!(),
+            Some(lock) => lock,
+        };
+        match pass.try_turn(lock, Some(RoomCmd::Play(entry))) {
+            Taken::Done { out } => match out {
+                None => unreachable!(),
+                Some(gave) => Ok(HubOut {
+                    badge: None,
+                    start: None,
+                    ended: ended_in(gave),
+                }),
+            },
+            Taken::Late { out: _ } => Err(HubFault::NoMemory),
+            Taken::Busy { word, cmd } => match cmd {
+                Some(RoomCmd::Play(entry)) => Err(HubFault::Busy {
+                    word,
+                    order: Order::Room { id, cmd: entry.cmd },
+                }),
+                _ => unreachable!(),
+            },
+            Taken::OwnLimit { cmd: _ } => Err(HubFault::OwnLimit { room: Some(id) }),
+            Taken::NoMemory => Err(HubFault::NoMemory),
+        }
+    }
+}

@@ -1,0 +1,42 @@
+//! What the calls of a hub answer.
+use ps_base::badge::Badge;
+use ps_base::text::Text;
+use ps_lines::order::Order;
+use ps_room::outcome::Ending;
+use ps_valid::start::Start;
+
+/// What an entry gave.
+#[derive(Debug, Drop)]
+pub struct HubOut {
+    /// The badge that the connection has from now on, where it took a name.
+    pub badge: Option<Badge>,
+    /// What the battle starts with that an entry of the hall starts.
+    pub start: Option<Start>,
+    /// The end of a battle, where an entry of its room ended it.
+    pub ended: Option<Ending>,
+}
+
+/// Why a room isn't held.
+#[derive(Clone, Copy, Debug, PartialEq, Eq)]
+pub enum EnterFault {
+    /// No room has the id, as far as the place tells that it names.
+    NoSuchRoom,
+    /// Somebody else has the turn at that place, or took one in between. `word` is the last word that was met.
+    Busy { word: u64 },
+    /// Want of memory.
+    NoMemory,
+}
+
+/// Why there is no entry.
+#[derive(Debug, Drop)]
+pub enum HubFault {
+    /// The connection has made as many entries at that place as a pass may.
+    OwnLimit { room: Option<Text> },
+    /// No room has the id, as far as the place tells that it names.
+    NoSuchRoom,
+    /// Somebody else has the turn at that place, or took one in between. `word` is the last word that was met, and the order
+    /// is the one that was handed in.
+    Busy { word: u64, order: Order },
+    /// Want of memory.
+    NoMemory,
+}

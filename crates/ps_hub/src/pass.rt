@@ -1,0 +1,379 @@
+//! What a connection has of one place.
+ghost use Rattle.std.specs.Prelude.{◌≡◌, ◌≢◌, ◌≤◌, None, Some, IsTrue, IsFalse, ◌++◌, ◌∷◌, ℕ, [], List, IfOk, OnErr, IsSome, length};
+ghost use Rattle.ps_histlock.specs.Views.{newcomer, offspring, with_number, after_look, IsAtRest};
+ghost use Rattle.ps_histlock.specs.declared.lock.TheConstants.{OWN_LIMIT};
+ghost use Rattle.ps_places.specs.Halls.{hall_cursor, HallAnswers, HallPulls};
+ghost use Rattle.ps_places.specs.Rooms.{cursor_of, Answers, Pulls};
+ghost use Rattle.ps_hub.specs.Hubs.{Hub, root_of, lock_of, site_of};
+ghost use Rattle.ps_hub.specs.Turns.{Takes, TakesAtLast, IsLimited};
+ghost use Rattle.ps_hub.specs.Passes.{IsHallPass, IsRoomPass, IsNewPass};
+
+use crate::taken::Taken;
+use ps_base::msg::Msg;
+use ps_base::number::ConnNo;
+use ps_base::text::Text;
+use ps_hall::entry::HallEntry;
+use ps_hall::outcome::HallOut;
+use ps_histlock::{HistLock, Pass, TurnOf};
+use ps_places::command::RoomCmd;
+use ps_places::cursor::{HallCursor, RoomCursor};
+use ps_places::hall_place::HallPlace;
+use ps_places::room_place::RoomPlace;
+use ps_room::outcome::RoomOut;
+use std::alloc::{AllocError, Global};
+use std::mem;
+use std::sync::Wait;
+
+/// What a connection has of the hall.
+#[derive(Drop)]
+pub struct HallPass {
+    /// Its pass.
+    pub pass: Pass<HallPlace>,
+    /// How far messages were pulled.
+    pub cursor: HallCursor,
+    /// Messages that were pulled and not handed out, in order.
+    pub kept: Vec<Msg>,
+    /// Those that the last turn pulled, which stand behind `kept`: to put them there takes memory, and a turn that was taken
+    /// has its messages without.
+    pub fresh: Vec<Msg>,
+    /// How many entries' messages were handed out.
+    pub at: u64,
+}
+
+/// What a connection has of the place of a room.
+#[derive(Drop)]
+pub struct RoomPass {
+    /// The number of the place.
+    pub number: u32,
+    /// The id by which the place is held. `None` where it was only asked, or a battle was begun there.
+    pub id: Option<Text>,
+    /// The pass.
+    pub pass: Pass<RoomPlace>,
+    /// How far messages were pulled.
+    pub cursor: RoomCursor,
+    /// Messages that were pulled and not handed out, in order.
+    pub kept: Vec<Msg>,
+    /// Those that the last turn pulled, which stand behind `kept`.
+    pub fresh: Vec<Msg>,
+    /// How many commands' messages were handed out.
+    pub at: u64,
+}
+
+/// Whether a pass holds its place by this id.
+pub(crate) fn is_held(pass: &RoomPass, id: &str) -> bool
+    ensures held { IsTrue result → pass.now.id ≡ Some id.now }
+    ensures other { IsFalse result → pass.now.id ≢ Some id.now }
+{
+    match &pass.id {
+        None => false,
+        Some(held) => held.as_str() == id,
+    }
+}
+
+// All messages that are kept. Where memory fails they stay.
+fn hand_out(
+    alloc: Global,
+    kept: &mut Vec<Msg>,
+    fresh: &mut Vec<Msg>,
+) -> Result<Vec<Msg>, AllocError>
+    ensures ok { IfOk result (λ v. (v.items ≡ kept.old.items ++ fresh.old.items) × (kept.new.items ≡ []) × (fresh.new.items ≡ [])) }
+    ensures err { OnErr result ((kept.new.items ≡ kept.old.items) × (fresh.new.items ≡ fresh.old.items)) }
+{
+    kept.append(fresh)?;
+    Ok(mem::replace(kept, Vec::new(alloc)))
+}
+
+impl HallPass {
+    /// A pass that has seen nothing and was told nothing. Takes no memory.
+    pub(crate) fn new(alloc: Global, conn: ConnNo, lock: &HistLock<HallPlace>) -> HallPass
+        ensures pass { (n : ℕ) × (result.pass ≡ (lock.now.0, newcomer lock.now.1 n)) }
+        ensures cursor { result.cursor ≡ hall_cursor conn 0 }
+        ensures kept { result.kept.items ++ result.fresh.items ≡ [] }
+        ensures at { result.at ≡ 0 }
+        ensures of { (hub : Hub) → lock.now.0 ≡ hub.hall → lock.now.1 ≡ root_of hub → IsHallPass hub conn result }
+    {
+        HallPass {
+            pass: lock.fresh(),
+            cursor: HallCursor::new(conn),
+            kept: Vec::new(alloc),
+            fresh: Vec::new(alloc),
+            at: 0,
+        }
+    }
+
+    /// The pass of the connection, split off from this one: it has seen as much, and has made no entry. It has all messages.
+    pub(crate) fn split(self, lock: &HistLock<HallPlace>) -> HallPass
+        requires { self.pass.0 ≡ lock.now.0 }
+        ensures of { (hub : Hub) (conn : ℕ) → IsHallPass hub conn self → IsHallPass hub conn result }
+        ensures pass { (n : ℕ) × (result.pass ≡ (lock.now.0, with_number (offspring self.pass.1) n)) }
+        ensures rest { IsAtRest result.pass.1 }
+        ensures cursor { result.cursor ≡ self.cursor }
+        ensures kept { result.kept.items ++ result.fresh.items ≡ self.kept.items ++ self.fresh.items }
+        ensures at { result.at ≡ self.at }
+    {
+        let HallPass {
+            mut pass,
+            cursor,
+            kept,
+            fresh,
+            at,
+        } = self;
+        HallPass {
+            pass: lock.split(&mut pass),
+            cursor,
+            kept,
+            fresh,
+            at,
+        }
+    }
+
+    /// One turn, whose messages are kept. Waits for nobody.
+    pub(crate) fn try_turn(
+        &mut self,
+        lock: &HistLock<HallPlace>,
+        cmd: Option<HallEntry>,
+    ) -> Taken<HallEntry, HallOut>
+        requires { self.old.pass.0 ≡ lock.now.0 }
+        ensures lock { self.new.pass.0 ≡ self.old.pass.0 }
+        ensures told { Takes HallAnswers HallPulls self.old.pass.1 self.old.cursor (self.old.kept.items ++ self.old.fresh.items) cmd result self.new.pass.1 self.new.cursor (self.new.kept.items ++ self.new.fresh.items) }
+        ensures limit { IsSome cmd → length self.old.pass.1.mine ≡ OWN_LIMIT → IsLimited result }
+        ensures of { (hub : Hub) (conn : ℕ) → IsHallPass hub conn self.old → IsHallPass hub conn self.new }
+        ensures at { self.new.at ≡ self.old.at }
+    {
+        self.take(lock, cmd)
+    }
+
+    // The same, and no more than that turn tells.
+    fn take(
+        &mut self,
+        lock: &HistLock<HallPlace>,
+        cmd: Option<HallEntry>,
+    ) -> Taken<HallEntry, HallOut>
+        requires { self.old.pass.0 ≡ lock.now.0 }
+        ensures lock { self.new.pass.0 ≡ self.old.pass.0 }
+        ensures told { Takes HallAnswers HallPulls self.old.pass.1 self.old.cursor (self.old.kept.items ++ self.old.fresh.items) cmd result self.new.pass.1 self.new.cursor (self.new.kept.items ++ self.new.fresh.items) }
+        ensures limit { IsSome cmd → length self.old.pass.1.mine ≡ OWN_LIMIT → IsLimited result }
+        ensures rest { IsAtRest self.old.pass.1 → IsAtRest self.new.pass.1 }
+        ensures at { self.new.at ≡ self.old.at }
+    {
+        if self.kept.append(&mut self.fresh).is_err() {
+            return Taken::NoMemory;
+        }
+        match lock.try_turn(&mut self.pass, &mut self.cursor, cmd) {
+            TurnOf::Done { out, msgs } => {
+                self.fresh = msgs;
+                Taken::Done { out }
+            }
+            TurnOf::Late { out } => Taken::Late { out },
+            TurnOf::Busy { word, cmd } => Taken::Busy { word, cmd },
+            TurnOf::OwnLimit { cmd } => Taken::OwnLimit { cmd },
+            TurnOf::NoMemory => Taken::NoMemory,
+        }
+    }
+
+    /// One turn, whose messages are kept, after waiting for it.
+    pub(crate) fn turn<R: Wait>(
+        &mut self,
+        rt: &R,
+        lock: &HistLock<HallPlace>,
+        cmd: Option<HallEntry>,
+    ) -> Taken<HallEntry, HallOut>
+        requires { self.old.pass.0 ≡ lock.now.0 }
+        ensures lock { self.new.pass.0 ≡ self.old.pass.0 }
+        ensures told { TakesAtLast HallAnswers HallPulls self.old.pass.1 self.old.cursor (self.old.kept.items ++ self.old.fresh.items) cmd result self.new.pass.1 self.new.cursor (self.new.kept.items ++ self.new.fresh.items) }
+        ensures limit { IsSome cmd → length self.old.pass.1.mine ≡ OWN_LIMIT → IsLimited result }
+        ensures of { (hub : Hub) (conn : ℕ) → IsHallPass hub conn self.old → IsHallPass hub conn self.new }
+        ensures at { self.new.at ≡ self.old.at }
+    {
+        self.take_at_last(rt, lock, cmd)
+    }
+
+    // The same, and no more than that turn tells.
+    fn take_at_last<R: Wait>(
+        &mut self,
+        rt: &R,
+        lock: &HistLock<HallPlace>,
+        cmd: Option<HallEntry>,
+    ) -> Taken<HallEntry, HallOut>
+        requires { self.old.pass.0 ≡ lock.now.0 }
+        ensures lock { self.new.pass.0 ≡ self.old.pass.0 }
+        ensures told { TakesAtLast HallAnswers HallPulls self.old.pass.1 self.old.cursor (self.old.kept.items ++ self.old.fresh.items) cmd result self.new.pass.1 self.new.cursor (self.new.kept.items ++ self.new.fresh.items) }
+        ensures limit { IsSome cmd → length self.old.pass.1.mine ≡ OWN_LIMIT → IsLimited result }
+        ensures rest { IsAtRest self.old.pass.1 → IsAtRest self.new.pass.1 }
+        ensures at { self.new.at ≡ self.old.at }
+    {
+        if self.kept.append(&mut self.fresh).is_err() {
+            return Taken::NoMemory;
+        }
+        match lock.turn(rt, &mut self.pass, &mut self.cursor, cmd) {
+            TurnOf::Done { out, msgs } => {
+                self.fresh = msgs;
+                Taken::Done { out }
+            }
+            TurnOf::Late { out } => Taken::Late { out },
+            TurnOf::Busy { word: _, cmd: _ } => unreachable!(),
+            TurnOf::OwnLimit { cmd } => Taken::OwnLimit { cmd },
+            TurnOf::NoMemory => Taken::NoMemory,
+        }
+    }
+
+    /// How many entries the hall has.
+    pub(crate) fn look(&mut self, lock: &HistLock<HallPlace>) -> u64
+        requires { self.old.pass.0 ≡ lock.now.0 }
+        ensures told { self.new ≡ record self.old { pass = (self.old.pass.0, after_look self.old.pass.1 result) } }
+        ensures seen { length self.old.pass.1.seen ≤ result }
+        ensures of { (hub : Hub) (conn : ℕ) → IsHallPass hub conn self.old → IsHallPass hub conn self.new }
+    {
+        lock.look(&mut self.pass)
+    }
+
+    /// All messages that are kept: now they are handed out. Where memory fails they stay.
+    pub(crate) fn hand_out(&mut self, alloc: Global) -> Result<Vec<Msg>, AllocError>
+        ensures ok { IfOk result (λ v. v.items ≡ self.old.kept.items ++ self.old.fresh.items) }
+        ensures none { IfOk result (λ v. self.new.kept.items ++ self.new.fresh.items ≡ []) }
+        ensures at { IfOk result (λ v. self.new.at ≡ self.new.cursor.passed) }
+        ensures err { OnErr result ((self.new.kept.items ++ self.new.fresh.items ≡ self.old.kept.items ++ self.old.fresh.items) × (self.new.at ≡ self.old.at)) }
+        ensures same { (self.new.pass ≡ self.old.pass) × (self.new.cursor ≡ self.old.cursor) }
+        ensures of { (hub : Hub) (conn : ℕ) → IsHallPass hub conn self.old → IsHallPass hub conn self.new }
+    {
+        let msgs = hand_out(alloc, &mut self.kept, &mut self.fresh)?;
+        self.at = self.cursor.passed;
+        Ok(msgs)
+    }
+}
+
+impl RoomPass {
+    /// A pass that has seen nothing and was told nothing. Takes no memory.
+    pub(crate) fn new(
+        alloc: Global,
+        conn: ConnNo,
+        number: u32,
+        lock: &HistLock<RoomPlace>,
+    ) -> RoomPass
+        ensures { (hub : Hub) → lock_of hub number ≡ Some lock.now.0 → lock.now.1 ≡ site_of hub number → IsNewPass hub conn number result }
+    {
+        RoomPass {
+            number,
+            id: None,
+            pass: lock.fresh(),
+            cursor: RoomCursor::new(conn),
+            kept: Vec::new(alloc),
+            fresh: Vec::new(alloc),
+            at: 0,
+        }
+    }
+
+    /// One turn, whose messages are kept. Waits for nobody.
+    pub(crate) fn try_turn(
+        &mut self,
+        lock: &HistLock<RoomPlace>,
+        cmd: Option<RoomCmd>,
+    ) -> Taken<RoomCmd, Option<RoomOut>>
+        requires { self.old.pass.0 ≡ lock.now.0 }
+        ensures lock { self.new.pass.0 ≡ self.old.pass.0 }
+        ensures told { Takes Answers Pulls self.old.pass.1 self.old.cursor (self.old.kept.items ++ self.old.fresh.items) cmd result self.new.pass.1 self.new.cursor (self.new.kept.items ++ self.new.fresh.items) }
+        ensures limit { IsSome cmd → length self.old.pass.1.mine ≡ OWN_LIMIT → IsLimited result }
+        ensures of { (hub : Hub) (conn : ℕ) → IsRoomPass hub conn self.old → IsRoomPass hub conn self.new }
+        ensures same { (self.new.at ≡ self.old.at) × (self.new.number ≡ self.old.number) × (self.new.id ≡ self.old.id) }
+    {
+        self.take(lock, cmd)
+    }
+
+    // The same, and no more than that turn tells.
+    fn take(
+        &mut self,
+        lock: &HistLock<RoomPlace>,
+        cmd: Option<RoomCmd>,
+    ) -> Taken<RoomCmd, Option<RoomOut>>
+        requires { self.old.pass.0 ≡ lock.now.0 }
+        ensures lock { self.new.pass.0 ≡ self.old.pass.0 }
+        ensures told { Takes Answers Pulls self.old.pass.1 self.old.cursor (self.old.kept.items ++ self.old.fresh.items) cmd result self.new.pass.1 self.new.cursor (self.new.kept.items ++ self.new.fresh.items) }
+        ensures limit { IsSome cmd → length self.old.pass.1.mine ≡ OWN_LIMIT → IsLimited result }
+        ensures rest { IsAtRest self.old.pass.1 → IsAtRest self.new.pass.1 }
+        ensures same { (self.new.at ≡ self.old.at) × (self.new.number ≡ self.old.number) × (self.new.id ≡ self.old.id) }
+    {
+        if self.kept.append(&mut self.fresh).is_err() {
+            return Taken::NoMemory;
+        }
+        match lock.try_turn(&mut self.pass, &mut self.cursor, cmd) {
+            TurnOf::Done { out, msgs } => {
+                self.fresh = msgs;
+                Taken::Done { out }
+            }
+            TurnOf::Late { out } => Taken::Late { out },
+            TurnOf::Busy { word, cmd } => Taken::Busy { word, cmd },
+            TurnOf::OwnLimit { cmd } => Taken::OwnLimit { cmd },
+            TurnOf::NoMemory => Taken::NoMemory,
+        }
+    }
+
+    /// One turn, whose messages are kept, after waiting for it.
+    pub(crate) fn turn<R: Wait>(
+        &mut self,
+        rt: &R,
+        lock: &HistLock<RoomPlace>,
+        cmd: Option<RoomCmd>,
+    ) -> Taken<RoomCmd, Option<RoomOut>>
+        requires { self.old.pass.0 ≡ lock.now.0 }
+        ensures lock { self.new.pass.0 ≡ self.old.pass.0 }
+        ensures told { TakesAtLast Answers Pulls self.old.pass.1 self.old.cursor (self.old.kept.items ++ self.old.fresh.items) cmd result self.new.pass.1 self.new.cursor (self.new.kept.items ++ self.new.fresh.items) }
+        ensures limit { IsSome cmd → length self.old.pass.1.mine ≡ OWN_LIMIT → IsLimited result }
+        ensures of { (hub : Hub) (conn : ℕ) → IsRoomPass hub conn self.old → IsRoomPass hub conn self.new }
+        ensures same { (self.new.at ≡ self.old.at) × (self.new.number ≡ self.old.number) × (self.new.id ≡ self.old.id) }
+    {
+        self.take_at_last(rt, lock, cmd)
+    }
+
+    // The same, and no more than that turn tells.
+    fn take_at_last<R: Wait>(
+        &mut self,
+        rt: &R,
+        lock: &HistLock<RoomPlace>,
+        cmd: Option<RoomCmd>,
+    ) -> Taken<RoomCmd, Option<RoomOut>>
+        requires { self.old.pass.0 ≡ lock.now.0 }
+        ensures lock { self.new.pass.0 ≡ self.old.pass.0 }
+        ensures told { TakesAtLast Answers Pulls self.old.pass.1 self.old.cursor (self.old.kept.items ++ self.old.fresh.items) cmd result self.new.pass.1 self.new.cursor (self.new.kept.items ++ self.new.fresh.items) }
+        ensures limit { IsSome cmd → length self.old.pass.1.mine ≡ OWN_LIMIT → IsLimited result }
+        ensures rest { IsAtRest self.old.pass.1 → IsAtRest self.new.pass.1 }
+        ensures same { (self.new.at ≡ self.old.at) × (self.new.number ≡ self.old.number) × (self.new.id ≡ self.old.id) }
+    {
+        if self.kept.append(&mut self.fresh).is_err() {
+            return Taken::NoMemory;
+        }
+        match lock.turn(rt, &mut self.pass, &mut self.cursor, cmd) {
+            TurnOf::Done { out, msgs } => {
+                self.fresh = msgs;
+                Taken::Done { out }
+            }
+            TurnOf::Late { out } => Taken::Late { out },
+            TurnOf::Busy { word: _, cmd: _ } => unreachable!(),
+            TurnOf::OwnLimit { cmd } => Taken::OwnLimit { cmd },
+            TurnOf::NoMemory => Taken::NoMemory,
+        }
+    }
+
+    /// How many commands the place has taken.
+    pub(crate) fn look(&mut self, lock: &HistLock<RoomPlace>) -> u64
+        requires { self.old.pass.0 ≡ lock.now.0 }
+        ensures told { self.new ≡ record self.old { pass = (self.old.pass.0, after_look self.old.pass.1 result) } }
+        ensures seen { length self.old.pass.1.seen ≤ result }
+        ensures of { (hub : Hub) (conn : ℕ) → IsRoomPass hub conn self.old → IsRoomPass hub conn self.new }
+    {
+        lock.look(&mut self.pass)
+    }
+
+    /// All messages that are kept: now they are handed out. Where memory fails they stay.
+    pub(crate) fn hand_out(&mut self, alloc: Global) -> Result<Vec<Msg>, AllocError>
+        ensures ok { IfOk result (λ v. v.items ≡ self.old.kept.items ++ self.old.fresh.items) }
+        ensures none { IfOk result (λ v. self.new.kept.items ++ self.new.fresh.items ≡ []) }
+        ensures at { IfOk result (λ v. self.new.at ≡ self.new.cursor.passed) }
+        ensures err { OnErr result ((self.new.kept.items ++ self.new.fresh.items ≡ self.old.kept.items ++ self.old.fresh.items) × (self.new.at ≡ self.old.at)) }
+        ensures same { (self.new.pass ≡ self.old.pass) × (self.new.cursor ≡ self.old.cursor) × (self.new.number ≡ self.old.number) × (self.new.id ≡ self.old.id) }
+        ensures of { (hub : Hub) (conn : ℕ) → IsRoomPass hub conn self.old → IsRoomPass hub conn self.new }
+    {
+        let msgs = hand_out(alloc, &mut self.kept, &mut self.fresh)?;
+        self.at = self.cursor.passed;
+        Ok(msgs)
+    }
+}

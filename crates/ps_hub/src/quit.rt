@@ -1,0 +1,132 @@
+//! The end of a connection.
+ghost use Rattle.std.specs.Prelude.{◌≡◌, ℕ, All, IsSome, OnOk, OnErr};
+ghost use Rattle.std.specs.List.{AllZip};
+ghost use Rattle.ps_hub.specs.Passes.{AreOf, IsRoomPass};
+ghost use Rattle.ps_hub.specs.Calls.{Quits, MayQuit, QuitsRoom, QuitsAtMost, QuitsHall, QuitsHallAtMost, HallOnly};
+
+use crate::hub::Hub;
+use crate::pass::RoomPass;
+use crate::passes::Passes;
+use crate::taken::Taken;
+use ps_base::badge::Badge;
+use ps_base::number::{ConnNo, Moment};
+use ps_hall::entry::HallEntry;
+use ps_lines::command::{Command, HallCmd};
+use ps_places::command::RoomCmd;
+use ps_room::entry::Entry;
+use std::alloc::AllocError;
+use std::sync::Wait;
+
+impl Hub {
+    /// Makes the entries of the end of a connection: a Quit in each room that it holds, by rising numbers, and then one in the
+    /// hall. `AllocError` where memory is wanting, or a pass has made as many entries as it may: the Quits that were made
+    /// before stand.
+    pub fn quit<R: Wait>(
+        &self,
+        rt: &R,
+        passes: &mut Passes,
+        moment: Moment,
+    ) -> Result<(), AllocError>
+        requires of { AreOf self.now passes.old }
+        requires may { MayQuit passes.old }
+        ensures of { AreOf self.now passes.new }
+        ensures told { Quits self.now moment passes.old result passes.new }
+    {
+        let conn = passes.conn;
+        self.quit_rooms(rt, &mut passes.rooms, conn, &passes.badge, moment)?;
+        self.quit_hall(rt, passes, moment)
+    }
+
+    // The Quits in the rooms that are held.
+    fn quit_rooms<R: Wait>(
+        &self,
+        rt: &R,
+        rooms: &mut [RoomPass],
+        conn: ConnNo,
+        badge: &Option<Badge>,
+        moment: Moment,
+    ) -> Result<(), AllocError>
+        requires of { All (IsRoomPass self.now conn) rooms.old }
+        requires may { All (λ k. IsSome k.id → IsSome badge.now) rooms.old }
+        ensures of { All (IsRoomPass self.now conn) rooms.new }
+        ensures ok { OnOk result (AllZip (QuitsRoom badge.now conn moment) rooms.old rooms.new) }
+        ensures err { OnErr result (AllZip (QuitsAtMost badge.now conn moment) rooms.old rooms.new) }
+    {
+        for place in 0..rooms.len() {
+            self.quit_room(rt, &mut rooms[place], conn, badge, moment)?;
+        }
+        Ok(())
+    }
+
+    // The Quit in the room of this pass, if it is held.
+    fn quit_room<R: Wait>(
+        &self,
+        rt: &R,
+        pass: &mut RoomPass,
+        conn: ConnNo,
+        badge: &Option<Badge>,
+        moment: Moment,
+    ) -> Result<(), AllocError>
+        requires of { (conn : ℕ) × IsRoomPass self.now conn pass.old }
+        requires may { IsSome pass.old.id → IsSome badge.now }
+        ensures of { (conn : ℕ) → IsRoomPass self.now conn pass.old → IsRoomPass self.now conn pass.new }
+        ensures ok { OnOk result (QuitsRoom badge.now conn moment pass.old pass.new) }
+        ensures err { OnErr result (QuitsAtMost badge.now conn moment pass.old pass.new) }
+    {
+        match &pass.id {
+            None => return Ok(()),
+            Some(_) => {}
+        }
+        let badge = match badge {
+            None => unreachable!(),
+            Some(badge) => badge.copy(self.alloc)?,
+        };
+        let entry = Entry {
+            conn,
+            badge,
+            moment,
+            cmd: Command::Quit,
+        };
+        let lock = match self.lock(pass.number) {
+            None => unreachable!(),
+            Some(lock) => lock,
+        };
+        match pass.turn(rt, lock, Some(RoomCmd::Play(entry))) {
+            Taken::Done { out: _ } => Ok(()),
+            Taken::Late { out: _ } => Err(AllocError),
+            Taken::Busy { word: _, cmd: _ } => unreachable!(),
+            Taken::OwnLimit { cmd: _ } => Err(AllocError),
+            Taken::NoMemory => Err(AllocError),
+        }
+    }
+
+    // The Quit in the hall.
+    fn quit_hall<R: Wait>(
+        &self,
+        rt: &R,
+        passes: &mut Passes,
+        moment: Moment,
+    ) -> Result<(), AllocError>
+        requires { AreOf self.now passes.old }
+        ensures of { AreOf self.now passes.new }
+        ensures ok { OnOk result (HallOnly (QuitsHall passes.old.conn moment) passes.old passes.new) }
+        ensures err { OnErr result (HallOnly (QuitsHallAtMost passes.old.conn moment) passes.old passes.new) }
+    {
+        let entry = HallEntry {
+            conn: passes.conn,
+            moment,
+            cmd: HallCmd::Quit,
+        };
+        let hall = match &mut passes.hall {
+            None => unreachable!(),
+            Some(hall) => hall,
+        };
+        match hall.turn(rt, self.hall_lock(), Some(entry)) {
+            Taken::Done { out: _ } => Ok(()),
+            Taken::Late { out: _ } => Err(AllocError),
+            Taken::Busy { word: _, cmd: _ } => unreachable!(),
+            Taken::OwnLimit { cmd: _ } => Err(AllocError),
+            Taken::NoMemory => Err(AllocError),
+        }
+    }
+}

@@ -1,0 +1,58 @@
+//! The begin of a battle.
+ghost use Rattle.std.specs.Prelude.{◌≡◌, ◌≤◌, ℕ, Some, OnOk, OnErr};
+ghost use Rattle.ps_start.specs.Fits.{IsFit};
+ghost use Rattle.ps_places.specs.declared.command.RoomCmd.TheVariants.{Begin};
+ghost use Rattle.ps_hub.specs.Turns.{TurnsAtLast};
+ghost use Rattle.ps_hub.specs.Passes.{AreOf, IsRoomPass};
+ghost use Rattle.ps_hub.specs.Calls.{Starts, BeginsAtMost};
+
+use crate::hub::Hub;
+use crate::pass::RoomPass;
+use crate::passes::Passes;
+use crate::taken::Taken;
+use ps_places::command::RoomCmd;
+use ps_valid::start::Start;
+use std::alloc::AllocError;
+use std::sync::Wait;
+
+impl Hub {
+    /// Begins a battle at the place of its number, by the connection's pass of it, which is kept or made. `AllocError` where
+    /// memory is wanting; the Begin then stands only where it was wanting for the messages. The same is answered where the pass
+    /// has made as many entries as it may, and then there is no Begin.
+    pub fn start<R: Wait>(
+        &self,
+        rt: &R,
+        passes: &mut Passes,
+        start: Start,
+    ) -> Result<(), AllocError>
+        requires of { AreOf self.now passes.old }
+        requires number { (1 ≤ start.number) × (start.number ≤ 65536) }
+        requires fit { IsFit start self.now.config self.now.dex }
+        ensures of { AreOf self.now passes.new }
+        ensures told { Starts self.now start passes.old result passes.new }
+    {
+        let place = self.keep(passes, self.place_of_battle(start.number))?;
+        self.begin(rt, &mut passes.rooms[place], start)
+    }
+
+    // The Begin, by the pass of a place.
+    fn begin<R: Wait>(&self, rt: &R, pass: &mut RoomPass, start: Start) -> Result<(), AllocError>
+        requires { (conn : ℕ) × IsRoomPass self.now conn pass.old }
+        ensures of { (conn : ℕ) → IsRoomPass self.now conn pass.old → IsRoomPass self.now conn pass.new }
+        ensures ok { OnOk result (TurnsAtLast pass.old.pass.1 (Some (Begin start)) pass.new.pass.1) }
+        ensures err { OnErr result (BeginsAtMost start pass.old pass.new) }
+        ensures same { (pass.new.at ≡ pass.old.at) × (pass.new.number ≡ pass.old.number) × (pass.new.id ≡ pass.old.id) }
+    {
+        let lock = match self.lock(pass.number) {
+            None => unreachable!(),
+            Some(lock) => lock,
+        };
+        match pass.turn(rt, lock, Some(RoomCmd::Begin(start))) {
+            Taken::Done { out: _ } => Ok(()),
+            Taken::Late { out: _ } => Err(AllocError),
+            Taken::Busy { word: _, cmd: _ } => unreachable!(),
+            Taken::OwnLimit { cmd: _ } => Err(AllocError),
+            Taken::NoMemory => Err(AllocError),
+        }
+    }
+}

@@ -1,0 +1,16 @@
+//! What a turn of a pass gave, but for its messages, which are kept.
+
+/// As `ps_histlock::TurnOf`, without the messages.
+#[derive(Drop)]
+pub(crate) enum Taken<C, U> {
+    /// The turn was taken.
+    Done { out: Option<U> },
+    /// Memory was wanting for the messages. The entry stands.
+    Late { out: Option<U> },
+    /// Somebody else has the turn. The command comes back.
+    Busy { word: u64, cmd: Option<C> },
+    /// The pass has made as many entries as it may. The command comes back.
+    OwnLimit { cmd: Option<C> },
+    /// Memory was wanting: there is no entry.
+    NoMemory,
+}
