@@ -1,0 +1,122 @@
+-- The pass of the hall while an order is obeyed, and what acts were answered.
+use Rattle.std.proofs.Common.{◌≡◌, ℕ, ◌≤◌, List, [], ◌∷◌, ◌++◌, length, sym, ap, ◌∙◌, subst, inl, inr, ⊎_elim, arith, append-nil, Some, None, Contains}
+use mathlib.Core.List.{IsPrefix}
+use Rattle.ps_openings.specs.Openings.{first_battle}
+use Rattle.ps_lines.specs.declared.command.HallCmd.TheVariants.{Open}
+use Rattle.ps_lines.specs.declared.command.Command.{Command}
+use Rattle.ps_hall.specs.declared.entry.HallEntry.{HallEntry}
+use Rattle.ps_histlock.specs.Histories.{commands, entry, entries_of}
+use Rattle.ps_places.specs.declared.command.RoomCmd.TheVariants.{Play}
+use Rattle.ps_places.specs.Halls.{HallShows}
+use Rattle.ps_hub.specs.Hubs.{Hub, root_of}
+use Rattle.ps_hub.specs.Names.{Names}
+use Rattle.ps_hub.specs.Calls.{hall_entry, room_entry, NamesNone}
+use Rattle.ps_hub.specs.declared.pass.HallPass.{HallPass}
+use Rattle.ps_hub.specs.declared.pass.RoomPass.{RoomPass}
+use Rattle.ps_serve.specs.Acts.{Made, in_hall, in_room, nowhere, Act, quiet, heard, since, hall_entries, room_cmds}
+use Rattle.ps_serve.specs.Sendings.{Sending, AreLooksAnswered}
+use Rattle.ps_serve.specs.Sittings.{IsSent, RoomGave, IsUnfound, IsOthers, GaveMade, Gave, AreGiven}
+use Rattle.ps_serve.proofs.Prefixes.{prefix_trans, prefix_commands, prefix_longer, sent_grows, looks_grow}
+use Rattle.ps_serve.proofs.Rows.{IsKin, Grows}
+use Rattle.ps_serve.proofs.Moves.{Moves}
+
+-- ---- the pass of the hall
+
+pub record IsHall (hub : Hub) (conn open_at : ℕ) (made : List HallEntry) (looked : ℕ) (ss : List Sending) (h : HallPass) : Type 0 where
+  pub entries : commands h.pass.1.mine ≡ made
+  pub count : length h.pass.1.looks ≡ looked
+  pub looks : AreLooksAnswered (HallShows conn (root_of hub)) (commands h.pass.1.seen) None None ss 1 h.pass.1.looks
+  pub told : IsSent (HallShows conn (root_of hub)) (commands h.pass.1.seen) h.at None None ss
+  pub within : h.at ≤ length (commands h.pass.1.seen)
+  pub opened : (before : List HallEntry) × IsPrefix (before ++ hall_entry conn open_at Open ∷ []) (commands h.pass.1.seen)
+
+pub hall_moved : (hub : Hub) (conn open_at : ℕ) (made : List HallEntry) (looked : ℕ) (ss : List Sending) (h : HallPass) (more : List HallEntry) (k : HallPass) → k.at ≡ h.at → Moves h.pass.1 more k.pass.1 → IsHall hub conn open_at made looked ss h → IsHall hub conn open_at (made ++ more) looked ss k
+hall_moved hub conn open_at made looked ss h more k at m p =
+    let grown : IsPrefix (commands h.pass.1.seen) (commands k.pass.1.seen) = prefix_commands h.pass.1.seen k.pass.1.seen m.seen in
+    let longer : length (commands h.pass.1.seen) ≤ length (commands k.pass.1.seen) = prefix_longer _ _ grown in
+    let within : h.at ≤ length (commands h.pass.1.seen) = p.within in
+    record {
+      entries = m.mine ∙ ap (λ l. l ++ more) p.entries;
+      count = ap length m.looks ∙ p.count;
+      looks = subst (λ (l : List ℕ). AreLooksAnswered (HallShows conn (root_of hub)) (commands k.pass.1.seen) None None ss 1 l) (sym m.looks) (looks_grow (HallShows conn (root_of hub)) (commands h.pass.1.seen) (commands k.pass.1.seen) None None ss 1 h.pass.1.looks grown p.looks);
+      told = subst (λ (n : ℕ). IsSent (HallShows conn (root_of hub)) (commands k.pass.1.seen) n None None ss) (sym at) (sent_grows (HallShows conn (root_of hub)) (commands h.pass.1.seen) (commands k.pass.1.seen) h.at None None ss p.within grown p.told);
+      within = omega arith;
+      opened = (p.opened.0, prefix_trans _ _ _ p.opened.1 grown);
+    }
+
+pub hall_same : (hub : Hub) (conn open_at : ℕ) (made : List HallEntry) (looked : ℕ) (ss : List Sending) (h k : HallPass) → k.at ≡ h.at → Moves h.pass.1 [] k.pass.1 → IsHall hub conn open_at made looked ss h → IsHall hub conn open_at made looked ss k
+hall_same hub conn open_at made looked ss h k at m p = subst (λ (l : List HallEntry). IsHall hub conn open_at l looked ss k) (append-nil made) (hall_moved hub conn open_at made looked ss h [] k at m p)
+
+pub hall_as : (hub : Hub) (conn open_at : ℕ) (made all : List HallEntry) (looked : ℕ) (ss : List Sending) (h : HallPass) → made ≡ all → IsHall hub conn open_at made looked ss h → IsHall hub conn open_at all looked ss h
+hall_as hub conn open_at made all looked ss h e p = subst (λ (l : List HallEntry). IsHall hub conn open_at l looked ss h) e p
+
+-- ---- what acts were answered, as passes see more
+
+pub record IsHallKin (h k : HallPass) : Type 0 where
+  pub number : k.pass.1.number ≡ h.pass.1.number
+  pub seen : IsPrefix h.pass.1.seen k.pass.1.seen
+
+pub hall_kin_trans : (h j k : HallPass) → IsHallKin h j → IsHallKin j k → IsHallKin h k
+hall_kin_trans h j k a b = record { number = b.number ∙ a.number; seen = prefix_trans _ _ _ a.seen b.seen }
+
+module _ (hub : Hub) (conn : ℕ) (done : List Act) (h k : HallPass) (old new : List RoomPass) (kin : IsHallKin h k) (grows : Grows old new) where
+  room_gave_grows : (moment number : ℕ) (id : List ℕ) (cmd : Command) (badge : _) (ended : _) (j l : RoomPass) → IsKin j l → RoomGave hub conn done moment number id cmd badge ended j → RoomGave hub conn done moment number id cmd badge ended l
+  room_gave_grows moment number id cmd badge ended j l r g = record {
+    place = r.place ∙ g.place;
+    held = r.id id g.held;
+    before = g.before;
+    out = g.out;
+    there = prefix_trans _ _ _ (subst (λ (n : ℕ). IsPrefix (g.before ++ entry n (Play (room_entry conn badge moment cmd)) ∷ []) j.pass.1.seen) (sym r.number) g.there) r.seen;
+    own = subst (λ (n : ℕ). length (entries_of n g.before) ≡ length (room_cmds conn number done)) (sym r.number) g.own;
+    answer = g.answer;
+    ended_is = g.ended_is;
+  }
+
+  unfound_grows : (number : ℕ) (id : List ℕ) (j l : RoomPass) → IsKin j l → IsUnfound hub conn done number id j → IsUnfound hub conn done number id l
+  unfound_grows number id j l r g = record {
+    place = r.place ∙ g.place;
+    named = g.named;
+    battle = g.battle;
+    unjoined = g.unjoined;
+    before = g.before;
+    there = prefix_trans _ _ _ g.there r.seen;
+    own = subst (λ (n : ℕ). length (entries_of n g.before) ≡ length (room_cmds conn number done)) (sym r.number) g.own;
+    told = g.told;
+    tells = g.tells;
+    lacks = g.lacks;
+  }
+
+  others_grow : (id : List ℕ) (j l : RoomPass) → IsKin j l → IsOthers hub done id j → IsOthers hub done id l
+  others_grow id j l r g = record {
+    named = subst (λ (n : ℕ). Names hub.config id n) (sym r.place) g.named;
+    battle = subst (λ (n : ℕ). first_battle ≤ n) (sym r.place) g.battle;
+    joined = subst (λ (n : ℕ). 1 ≤ length (since n done)) (sym r.place) g.joined;
+    other = g.other;
+    held = r.id g.other g.held;
+    differs = g.differs;
+  }
+
+  made_grows : (moment : ℕ) (made : Made) → GaveMade hub conn done moment made h old → GaveMade hub conn done moment made k new
+  made_grows moment (in_hall cmd badge start) g = record {
+    before = g.before;
+    out = g.out;
+    there = prefix_trans _ _ _ (subst (λ (n : ℕ). IsPrefix (g.before ++ entry n (hall_entry conn moment cmd) ∷ []) h.pass.1.seen) (sym kin.number) g.there) kin.seen;
+    own = subst (λ (n : ℕ). length (entries_of n g.before) ≡ length (hall_entries conn done)) (sym kin.number) g.own;
+    answer = g.answer;
+    badge_is = g.badge_is;
+    start_is = g.start_is;
+  }
+  made_grows moment (in_room number id cmd badge ended) g = (let l = grows g.0 g.1 in (l.0, l.1, room_gave_grows moment number id cmd badge ended g.0 l.0 l.2 g.2))
+  made_grows moment (nowhere None id cmd) g = ⊎_elim
+      (λ (n : NamesNone hub id). inl n)
+      (λ (o : (j : RoomPass) × Contains old j × IsOthers hub done id j). inr (let l = grows o.0 o.1 in (l.0, l.1, others_grow id o.0 l.0 l.2 o.2)))
+      g
+  made_grows moment (nowhere (Some number) id cmd) g = (let l = grows g.0 g.1 in (l.0, l.1, unfound_grows number id g.0 l.0 l.2 g.2))
+
+  pub gave_grows : (a : Act) → Gave hub conn done a h old → Gave hub conn done a k new
+  gave_grows quiet g = tt
+  gave_grows (heard bytes moment made) g = made_grows moment made g
+
+pub given_grows : (hub : Hub) (conn : ℕ) (done acts : List Act) (h k : HallPass) (old new : List RoomPass) → IsHallKin h k → Grows old new → AreGiven hub conn done acts h old → AreGiven hub conn done acts k new
+given_grows hub conn done [] h k old new kin grows g = tt
+given_grows hub conn done (a ∷ acts) h k old new kin grows g = (gave_grows hub conn done h k old new kin grows a g.0, given_grows hub conn (done ++ a ∷ []) acts h k old new kin grows g.1)

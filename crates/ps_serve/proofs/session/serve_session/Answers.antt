@@ -1,0 +1,38 @@
+use Rattle.ps_serve.proofs.CountLemmas.{complete_of}
+use Rattle.ps_serve.proofs.session.serve_session.Goals as goal
+
+pub returns-clause-sent_is_the_view : goal.returns-clause-sent_is_the_view
+returns-clause-sent_is_the_view g c = let s = c.serve.ensures.served in (s.0, s.1.told, s.1.sent)
+
+pub returns-clause-labels : goal.returns-clause-labels
+returns-clause-labels g c = let s = c.serve.ensures.served in (s.0, s.1.told, s.1.labels)
+
+pub returns-clause-entries_of_the_texts : goal.returns-clause-entries_of_the_texts
+returns-clause-entries_of_the_texts g c = let s = c.serve.ensures.served in (s.0, s.1.told, s.1.entries)
+
+pub returns-clause-answers : goal.returns-clause-answers
+returns-clause-answers g c = let s = c.serve.ensures.served in (s.0, s.1.told, s.1.answers)
+
+pub returns-clause-opened : goal.returns-clause-opened
+returns-clause-opened g c = let s = c.serve.ensures.served in (s.0, s.1.told, s.1.opened)
+
+pub returns-clause-moments : goal.returns-clause-moments
+returns-clause-moments g c = let s = c.serve.ensures.served in (s.0, s.1.told, s.1.moments)
+
+pub returns-clause-looks_are_answered : goal.returns-clause-looks_are_answered
+returns-clause-looks_are_answered g c = let s = c.serve.ensures.served in (s.0, s.1.told, s.1.looks)
+
+pub returns-clause-one_history : goal.returns-clause-one_history
+returns-clause-one_history g c = let s = c.serve.ensures.served in s.1.history
+
+pub returns-clause-one_begin : goal.returns-clause-one_begin
+returns-clause-one_begin g c = let s = c.serve.ensures.served in (s.0, s.1.told, s.1.begin)
+
+pub returns-clause-two_worlds : goal.returns-clause-two_worlds
+returns-clause-two_worlds g c = let s = c.serve.ensures.served in (s.0, s.1.told, s.1.worlds)
+
+pub returns-clause-cause : goal.returns-clause-cause
+returns-clause-cause g c = let s = c.serve.ensures.served in (s.0, s.1.told, s.1.cause)
+
+pub returns-clause-complete : goal.returns-clause-complete
+returns-clause-complete g c = λ talk is within sound. (let s = c.serve.ensures.served in complete_of c.serve.result.end c.args.conn s.0 talk (g.L.Link.talk c.args.link.now) (g.L.Link.talk c.serve.new.link) (g.L.Link.counts c.args.link.now) (g.L.Link.counts c.serve.new.link) is s.1.told s.1.cause within sound)

@@ -1,0 +1,414 @@
+-- What a session promises at its end.
+use Rattle.std.specs.Prelude.{◌≡◌, ◌≢◌, ◌⊎◌, ℕ, ◌+◌, ◌-◌, ◌≤◌, Bool, true, false, List, [], ◌∷◌, ◌++◌, length, take, map, All, Contains, Option, Some, None, Ok, Err, IfSome}
+use Rattle.std.specs.List.{filter_map}
+use mathlib.Core.List.{IsPrefix}
+use Rattle.ps_base.specs.declared.badge.Badge.{Badge}
+use Rattle.ps_lines.specs.Clients.{client}
+use Rattle.ps_lines.specs.declared.client.ClientFault.TheVariants as client_faults
+use Rattle.ps_lines.specs.declared.command.Command.{Command}
+use Rattle.ps_lines.specs.declared.command.Command.TheVariants as room_commands
+use Rattle.ps_lines.specs.declared.command.HallCmd.TheVariants as hall_commands
+use Rattle.ps_lines.specs.declared.order.Order.TheVariants.{Room}
+use Rattle.ps_valid.specs.declared.start.Start.{Start}
+use Rattle.ps_hall.specs.declared.entry.HallEntry.{HallEntry}
+use Rattle.ps_histlock.specs.Histories.{commands, entries_of}
+use Rattle.ps_histlock.specs.Seated.{TableId}
+use Rattle.ps_histlock.specs.Views.{IsAtRest}
+use Rattle.ps_histlock.specs.declared.view.View.{View}
+use Rattle.ps_session.specs.Sessions.{begun, is_full, counted}
+use Rattle.ps_session.specs.Routes.{taken}
+use Rattle.ps_session.specs.Texts.{behind}
+use Rattle.ps_session.specs.declared.session.TakeFault.TheVariants as take_faults
+use Rattle.ps_outside.specs.Causes.{Rose}
+use Rattle.ps_outside.specs.Links.{Talk, LinkCounts}
+use Rattle.ps_outside.specs.declared.link.Arrival.{Arrival}
+use Rattle.ps_outside.specs.declared.link.Arrival.TheVariants as arrivals
+use Rattle.ps_laws.specs.Same.{AreSame}
+use Rattle.ps_laws.specs.Stories.{Story as World, story as world, view_of}
+use Rattle.ps_laws.specs.HallSame.{AreHallsSame}
+use Rattle.ps_laws.specs.HallStories.{HallStory, hall_story, hall_view_of}
+use Rattle.ps_places.specs.declared.command.RoomCmd.{RoomCmd}
+use Rattle.ps_places.specs.declared.command.RoomCmd.TheVariants.{Begin, Play}
+use Rattle.ps_places.specs.Sites.{Story, Tells}
+use Rattle.ps_places.specs.Rooms.{Shows}
+use Rattle.ps_places.specs.Halls.{HallShows}
+use Rattle.std.specs.FinMap.{empty}
+use Rattle.ps_hub.specs.Hubs.{Hub, root_of, site_of, lock_of}
+use Rattle.ps_hub.specs.Names.{Names}
+use Rattle.ps_hub.specs.Calls.{hall_entry, room_entry}
+use Rattle.ps_hub.specs.declared.pass.HallPass.{HallPass}
+use Rattle.ps_hub.specs.declared.pass.RoomPass.{RoomPass}
+use Rattle.ps_hub.specs.declared.passes.Passes.{Passes}
+use Rattle.ps_serve.specs.declared.closed.End.{End}
+use Rattle.ps_serve.specs.declared.closed.End.TheVariants as ends
+use Rattle.ps_serve.specs.Acts.{Act, after_acts, AreActs, arrival_of, moments_of, hall_entries, room_cmds, since, all_begun}
+use Rattle.ps_serve.specs.Sendings.{Sending, sent_text, texts_from, message_texts, AreLooksAnswered}
+use Rattle.ps_serve.specs.Sittings.{IsSent, IsPartSent, AreAlmostAnswered, AreGiven, RoomWaits, AreApart}
+use Rattle.ps_serve.specs.Steps.{Hours, Asked}
+
+-- What a session did and sent: of each answer of the link, in order, what came of it; what was sent; the text that ended the
+-- session and became nothing, if there was one; and the moments of its Open, of such a text, if one was asked for it, and of its
+-- Quits.
+pub record Told : Type 0 where
+  pub acts : List Act
+  pub sendings : List Sending
+  pub rest : List (List ℕ)
+  pub opened : ℕ
+  pub extra : List ℕ
+  pub left : ℕ
+
+-- memory was wanting
+abbrev pub is_short : End → Bool
+is_short ends.NoMemory = true
+is_short other = false
+
+-- or the link failed: what was going on broke off
+abbrev pub is_broken : End → Bool
+is_broken ends.LinkFault = true
+is_broken ends.NoMemory = true
+is_broken other = false
+
+-- ---- the link
+
+abbrev pub text_item : List ℕ → Arrival
+text_item bytes = arrivals.Text bytes
+
+-- where the link tells its talk: the acts are what it gave, in order and each once, and the sendings what it was sent
+pub record IsTalk (t : Told) (old new : Talk) : Type 0 where
+  pub given : old.inbox ≡ map arrival_of t.acts ++ (map text_item t.rest ++ new.inbox)
+  pub answers : new.answers ≡ old.answers + (length t.acts + length t.rest)
+  pub sent : new.sent ≡ old.sent ++ map (sent_text old.answers) t.sendings
+
+abbrev pub AreOfLink : Told → Option Talk → Option Talk → Type 0
+AreOfLink t None None = Unit {0}
+AreOfLink t (Some old) (Some new) = IsTalk t old new
+AreOfLink t old new = ⊥
+
+-- each text became what the way of texts makes of it
+abbrev pub AreOfWay : ℕ → Told → Type 0
+AreOfWay conn t = AreActs (begun conn) t.acts
+
+-- the session of a connection over a link
+abbrev pub AreTold : ℕ → Told → Option Talk → Option Talk → Type 0
+AreTold conn t old new = AreOfLink t old new × AreOfWay conn t
+
+-- ---- sent is the view
+
+-- The texts that were sent from a place are the whole view over the entries that were handed out; where the session broke off, a
+-- prefix of it.
+module _ {C : Type 0} (shows : List C → List (List (List ℕ)) → Type 0) where
+  abbrev pub IsSentSo : Bool → List C → ℕ → Option (List ℕ) → Option ℕ → List Sending → Type 0
+  IsSentSo true cmds at room place ss = IsPartSent shows cmds at room place ss
+  IsSentSo false cmds at room place ss = IsSent shows cmds at room place ss
+
+abbrev pub HallSent : Bool → Hub → ℕ → Told → HallPass → Type 0
+HallSent broken hub conn t h = IsSentSo (HallShows conn (root_of hub)) broken (commands h.pass.1.seen) h.at None None t.sendings
+
+abbrev pub RoomSent : Bool → Hub → ℕ → Told → RoomPass → Type 0
+RoomSent broken hub conn t k = IsSentSo (Shows conn (site_of hub k.number)) broken (commands k.pass.1.seen) k.at k.id (Some k.number) t.sendings
+
+pub record SentIsView (end : End) (hub : Hub) (conn : ℕ) (t : Told) (passes : Passes) : Type 0 where
+  pub hall : IfSome passes.hall (HallSent (is_broken end) hub conn t)
+  pub rooms : All (RoomSent (is_broken end) hub conn t) passes.rooms.items
+
+-- ---- labels
+
+-- A text that was sent from a room begins with `>`, the id by which the room is held, and its lines, each behind a newline.
+pub record IsOfRoom (hub : Hub) (rooms : List RoomPass) (number : ℕ) (text : List ℕ) : Type 0 where
+  pub pass : RoomPass
+  pub there : Contains rooms pass
+  pub place : pass.number ≡ number
+  pub id : List ℕ
+  pub held : pass.id ≡ Some id
+  pub named : Names hub.config id number
+  pub lines : List (List ℕ)
+  pub text_is : text ≡ (62 ∷ id) ++ behind lines
+
+-- one that was sent from the hall begins with `|`
+abbrev pub IsOfHall : List ℕ → Type 0
+IsOfHall text = (rest : List ℕ) × (text ≡ 124 ∷ rest)
+
+abbrev pub IsLabelledBy : Option ℕ → Hub → List RoomPass → List ℕ → Type 0
+IsLabelledBy None hub rooms text = IsOfHall text
+IsLabelledBy (Some number) hub rooms text = IsOfRoom hub rooms number text
+
+abbrev pub IsLabelled : Hub → List RoomPass → Sending → Type 0
+IsLabelled hub rooms s = IsLabelledBy s.place hub rooms s.text
+
+-- ---- entries of the texts
+
+abbrev pub hall_quit : ℕ → ℕ → List HallEntry
+hall_quit conn moment = hall_entry conn moment hall_commands.Quit ∷ []
+
+abbrev pub room_quit : ℕ → Badge → ℕ → List RoomCmd
+room_quit conn badge moment = Play (room_entry conn badge moment room_commands.Quit) ∷ []
+
+-- All entries, and then the Quit; where memory was wanting, a prefix of the entries, with a Quit behind it or without.
+abbrev pub AllThenQuit : {C : Type 0} → Bool → List C → List C → List C → Type 0
+AllThenQuit {C} true made all quit = (part : List C) × IsPrefix part all × ((made ≡ part) ⊎ (made ≡ part ++ quit))
+AllThenQuit {C} false made all quit = made ≡ all ++ quit
+
+abbrev pub AllOrPart : {C : Type 0} → Bool → List C → List C → Type 0
+AllOrPart true made all = IsPrefix made all
+AllOrPart false made all = made ≡ all
+
+-- The pass of the hall has made the entries of the texts, in order and each once, and then one Quit.
+abbrev pub HallMade : Bool → ℕ → Told → HallPass → Type 0
+HallMade short conn t h = AllThenQuit short (commands h.pass.1.mine) (hall_entries conn t.acts) (hall_quit conn t.left)
+
+-- so has the pass of a place that is held, the Quit with the badge that is kept; at one that isn't there are Begins alone
+abbrev pub RoomMadeBy : Option (List ℕ) → Bool → ℕ → Option Badge → Told → RoomPass → Type 0
+RoomMadeBy None short conn badge t k = AllOrPart short (commands k.pass.1.mine) (room_cmds conn k.number t.acts)
+RoomMadeBy (Some id) short conn badge t k = (b : Badge) × (badge ≡ Some b) × AllThenQuit short (commands k.pass.1.mine) (room_cmds conn k.number t.acts) (room_quit conn b t.left)
+
+abbrev pub RoomMade : Bool → ℕ → Option Badge → Told → RoomPass → Type 0
+RoomMade short conn badge t k = RoomMadeBy k.id short conn badge t k
+
+-- all but the Quit stand among what was handed out
+abbrev pub HallGiven : Bool → ℕ → Told → HallPass → Type 0
+HallGiven true conn t h = Unit {0}
+HallGiven false conn t h = commands (entries_of h.pass.1.number (take h.at h.pass.1.seen)) ≡ hall_entries conn t.acts
+
+abbrev pub RoomGivenBy : Option (List ℕ) → Bool → ℕ → Told → RoomPass → Type 0
+RoomGivenBy (Some id) false conn t k = commands (entries_of k.pass.1.number (take k.at k.pass.1.seen)) ≡ room_cmds conn k.number t.acts
+RoomGivenBy id broken conn t k = Unit {0}
+
+abbrev pub RoomGiven : Bool → ℕ → Told → RoomPass → Type 0
+RoomGiven broken conn t k = RoomGivenBy k.id broken conn t k
+
+-- the badge that is kept is that of the connection's own Name
+abbrev pub HasBadge : Bool → ℕ → Told → Option Badge → Type 0
+HasBadge true conn t badge = Unit {0}
+HasBadge false conn t badge = badge ≡ (after_acts (begun conn) t.acts).badge
+
+pub record EntriesAreMade (end : End) (conn : ℕ) (t : Told) (passes : Passes) : Type 0 where
+  pub hall : IfSome passes.hall (HallMade (is_short end) conn t)
+  pub hall_given : IfSome passes.hall (HallGiven (is_broken end) conn t)
+  pub rooms : All (RoomMade (is_short end) conn passes.badge t) passes.rooms.items
+  pub rooms_given : All (RoomGiven (is_broken end) conn t) passes.rooms.items
+  pub badge : HasBadge (is_short end) conn t passes.badge
+
+-- ---- answers
+
+-- What each act made is what its place answered: the badge of the connection's own Name, the battle that an entry started, the end
+-- of a battle, and that no such room was there.
+abbrev pub AreAnswers : Bool → Hub → ℕ → Told → List RoomPass → HallPass → Type 0
+AreAnswers true hub conn t rooms h = Unit {0}
+AreAnswers false hub conn t rooms h = AreGiven hub conn [] t.acts h rooms
+
+-- A place that isn't held took one turn for each text that asked for it in vain, and one for each battle that was begun there.
+abbrev pub IsAskedBy : Option (List ℕ) → Hub → Told → RoomPass → Type 0
+IsAskedBy None hub t k = RoomWaits hub t.acts k
+IsAskedBy (Some id) hub t k = Unit {0}
+
+abbrev pub IsAsked : End → Hub → Told → RoomPass → Type 0
+IsAsked ends.NoMemory hub t k = Unit {0}
+IsAsked (ends.OwnLimit room) hub t k = Unit {0}
+IsAsked end hub t k = IsAskedBy k.id hub t k
+
+pub record AnswersAreKept (end : End) (hub : Hub) (conn : ℕ) (t : Told) (passes : Passes) : Type 0 where
+  pub made : IfSome passes.hall (AreAnswers (is_short end) hub conn t passes.rooms.items)
+  pub asked : All (IsAsked end hub t) passes.rooms.items
+
+-- the Open stands in what the pass of the hall has seen
+abbrev pub HasOpen : ℕ → Told → HallPass → Type 0
+HasOpen conn t h = (before : List HallEntry) × IsPrefix (before ++ hall_entry conn t.opened hall_commands.Open ∷ []) (commands h.pass.1.seen)
+
+-- The hall is held, and the Open stands in it. Where memory was wanting for the Open, nothing is held, and nothing came of the link.
+abbrev pub IsOpen : Bool → ℕ → Told → Passes → Option HallPass → Type 0
+IsOpen short conn t passes (Some h) = HasOpen conn t h
+IsOpen true conn t passes None = (passes.rooms.items ≡ []) × (t.acts ≡ []) × (t.rest ≡ []) × (t.sendings ≡ [])
+IsOpen false conn t passes None = ⊥
+
+-- ---- moments
+
+-- the clock told one moment for the Open, one for each text that became an order, and one for the Quits
+abbrev pub moments_in : Told → List ℕ
+moments_in t = t.opened ∷ (moments_of t.acts ++ (t.extra ++ t.left ∷ []))
+
+-- where memory was wanting, also for the Open alone, if that wasn't made
+abbrev pub TellsMoments : End → Told → Option HallPass → Hours → Hours → Type 0
+TellsMoments ends.NoMemory t None old new = Asked old (t.opened ∷ []) new
+TellsMoments ends.NoMemory t (Some h) old new = (length t.extra ≤ 1) × Asked old (moments_in t) new
+TellsMoments (ends.OwnLimit room) t hall old new = Asked old (moments_in t) new
+TellsMoments end t hall old new = (t.extra ≡ []) × Asked old (moments_in t) new
+
+-- ---- looks are answered
+
+-- There is a look for each of so many answers, in order, each was answered before the link answered again, and all that they showed
+-- was handed out; where the session broke off, the last may be missing, or not answered.
+module _ {C : Type 0} (shows : List C → List (List (List ℕ)) → Type 0) where
+  abbrev pub AreLooksSo : Bool → List C → ℕ → Option (List ℕ) → Option ℕ → List Sending → ℕ → ℕ → List ℕ → Type 0
+  AreLooksSo true cmds at room place ss first count looks = AreAlmostAnswered shows cmds room place ss first (count - 1) count looks
+  AreLooksSo false cmds at room place ss first count looks = (length looks ≡ count) × AreLooksAnswered shows cmds room place ss first looks × All (λ n. n ≤ at) looks
+
+abbrev pub HallLooks : Bool → Hub → ℕ → Told → HallPass → Type 0
+HallLooks broken hub conn t h = AreLooksSo (HallShows conn (root_of hub)) broken (commands h.pass.1.seen) h.at None None t.sendings 1 (length t.acts) h.pass.1.looks
+
+-- a place that isn't held has no look
+abbrev pub RoomLooksBy : Option (List ℕ) → Bool → Hub → ℕ → Told → RoomPass → Type 0
+RoomLooksBy None broken hub conn t k = k.pass.1.looks ≡ []
+RoomLooksBy (Some id) broken hub conn t k = AreLooksSo (Shows conn (site_of hub k.number)) broken (commands k.pass.1.seen) k.at (Some id) (Some k.number) t.sendings (length t.acts - length (since k.number t.acts) + 1) (length (since k.number t.acts)) k.pass.1.looks
+
+abbrev pub RoomLooks : Bool → Hub → ℕ → Told → RoomPass → Type 0
+RoomLooks broken hub conn t k = RoomLooksBy k.id broken hub conn t k
+
+pub record LooksAreAnswered (end : End) (hub : Hub) (conn : ℕ) (t : Told) (passes : Passes) : Type 0 where
+  pub hall : IfSome passes.hall (HallLooks (is_broken end) hub conn t)
+  pub rooms : All (RoomLooks (is_broken end) hub conn t) passes.rooms.items
+
+-- ---- one history
+
+-- a pass of this lock, whose own entries are all that stand with its number in the history that it has seen
+pub record IsOfLock {O C : Type 0} (lock : TableId) (origin : O) (pass : TableId × View O C) : Type 0 where
+  pub lock_is : pass.0 ≡ lock
+  pub origin_is : pass.1.origin ≡ origin
+  pub own : IsAtRest pass.1
+
+abbrev pub IsHallOf : Hub → HallPass → Type 0
+IsHallOf hub h = IsOfLock hub.hall (root_of hub) h.pass
+
+abbrev pub IsRoomOf : Hub → RoomPass → Type 0
+IsRoomOf hub k = (lock : TableId) × (lock_of hub k.number ≡ Some lock) × IsOfLock lock (site_of hub k.number) k.pass
+
+pub record OneHistory (hub : Hub) (conn : ℕ) (passes : Passes) : Type 0 where
+  pub conn_is : passes.conn ≡ conn
+  pub hall : IfSome passes.hall (IsHallOf hub)
+  pub rooms : All (IsRoomOf hub) passes.rooms.items
+  pub apart : AreApart passes.rooms.items
+
+-- ---- one begin
+
+abbrev pub start_in : RoomCmd → Option Start
+start_in (Begin start) = Some start
+start_in (Play e) = None
+
+-- the battles that these commands begin
+abbrev pub starts_in : List RoomCmd → List Start
+starts_in cmds = filter_map start_in cmds
+
+-- the Begin of this battle, once and no other; where memory was wanting, the Begin
+abbrev pub HasBegin : Bool → Start → List RoomCmd → Type 0
+HasBegin true start cmds = Contains (starts_in cmds) start
+HasBegin false start cmds = starts_in cmds ≡ start ∷ []
+
+-- the pass that is kept at its place begins it
+pub record IsBegunBy (short : Bool) (rooms : List RoomPass) (start : Start) : Type 0 where
+  pub pass : RoomPass
+  pub there : Contains rooms pass
+  pub place : pass.number ≡ 15 + start.number
+  pub begin : HasBegin short start (commands pass.pass.1.mine)
+
+-- all acts; where memory was wanting, all but the last
+abbrev pub AreSure : Bool → List Act → List Act → Type 0
+AreSure true sure acts = (last : List Act) × (acts ≡ sure ++ last) × (length last ≤ 1)
+AreSure false sure acts = sure ≡ acts
+
+-- it was started by an entry of the connection, and has the number of the place
+pub record IsOwnStart (t : Told) (number : ℕ) (start : Start) : Type 0 where
+  pub started : Contains (all_begun t.acts) start
+  pub place : number ≡ 15 + start.number
+
+-- Each battle that an entry of the connection started was begun, once, and no pass has another Begin. Where memory was wanting, the
+-- last Begin may be missing.
+pub record OneBegin (end : End) (t : Told) (rooms : List RoomPass) : Type 0 where
+  pub sure : List Act
+  pub are_sure : AreSure (is_short end) sure t.acts
+  pub begun : All (IsBegunBy (is_short end) rooms) (all_begun sure)
+  pub own : All (λ (k : RoomPass). All (IsOwnStart t k.number) (starts_in (commands k.pass.1.mine))) rooms
+
+-- ---- two worlds
+
+abbrev pub IsTextsOf : Bool → Option (List ℕ) → Option ℕ → List Sending → List (List (List ℕ)) → Type 0
+IsTextsOf true room place ss view = IsPrefix (texts_from place ss) (message_texts room view)
+IsTextsOf false room place ss view = texts_from place ss ≡ message_texts room view
+
+-- the world of the hall after the entries that were handed out
+abbrev pub hall_world : Hub → HallPass → HallStory
+hall_world hub h = hall_story (record { config = hub.config; dex = hub.dex; ranks = empty }) (take h.at (commands h.pass.1.seen))
+
+-- what was sent from a place is the view over every world that is the same to the connection
+abbrev pub HallElsewhere : Bool → Hub → ℕ → Told → HallPass → Type 0
+HallElsewhere broken hub conn t h = (other : HallStory) → AreHallsSame conn (hall_world hub h) other → IsTextsOf broken None None t.sendings (hall_view_of conn other)
+
+abbrev pub RoomElsewhere : Bool → Hub → ℕ → Told → RoomPass → Type 0
+RoomElsewhere broken hub conn t k = (s : Story) (other : World) → Tells (site_of hub k.number) (take k.at (commands k.pass.1.seen)) (Some s) → AreSame conn (world s.opening s.history) other → IsTextsOf broken k.id (Some k.number) t.sendings (view_of conn other)
+
+pub record TwoWorlds (end : End) (hub : Hub) (conn : ℕ) (t : Told) (passes : Passes) : Type 0 where
+  pub hall : IfSome passes.hall (HallElsewhere (is_broken end) hub conn t)
+  pub rooms : All (RoomElsewhere (is_broken end) hub conn t) passes.rooms.items
+
+-- ---- the ends
+
+-- Closed only where the link's count of End rose, and LinkFault only where its count of faults rose; no other end but want of memory
+-- raises any of both
+abbrev pub HasCountCause : End → LinkCounts → LinkCounts → Type 0
+HasCountCause ends.Closed old new = Rose old.ends new.ends × (new.faults ≡ old.faults)
+HasCountCause ends.LinkFault old new = Rose old.faults new.faults × (new.ends ≡ old.ends)
+HasCountCause ends.NoMemory old new = Unit {0}
+HasCountCause other old new = (new.faults ≡ old.faults) × (new.ends ≡ old.ends)
+
+-- where it is told, Closed only at an empty inbox
+abbrev pub HasEmptyInbox : End → Option Talk → Type 0
+HasEmptyInbox ends.Closed (Some talk) = talk.inbox ≡ []
+HasEmptyInbox end talk = Unit {0}
+
+-- A text more than its place takes, where the place is that of the order, or the hall since no such room was there.
+abbrev pub IsTooMany : Option (List ℕ) → ℕ → Told → List ℕ → Type 0
+IsTooMany room conn t bytes =
+    ((taken (after_acts (begun conn) t.acts) bytes ≡ Err (take_faults.Limit room)) × (t.extra ≡ []))
+    ⊎ ((room ≡ None) × (id : List ℕ) × (cmd : Command) × (taken (after_acts (begun conn) t.acts) bytes ≡ Ok (Room id cmd)) × (is_full None (counted (Some id) (after_acts (begun conn) t.acts)) ≡ true) × (length t.extra ≡ 1))
+
+-- BadText and OwnLimit only by the text that came last, and what it is taken for after the acts; at the other ends but want of memory
+-- each text that came is an act.
+abbrev pub HasTextCause : End → ℕ → Told → Type 0
+HasTextCause (ends.BadText bytes) conn t = (t.rest ≡ bytes.items ∷ []) × (taken (after_acts (begun conn) t.acts) bytes.items ≡ Err take_faults.BadText)
+HasTextCause (ends.OwnLimit room) conn t = (bytes : List ℕ) × (t.rest ≡ bytes ∷ []) × IsTooMany room conn t bytes
+HasTextCause ends.NoMemory conn t = length t.rest ≤ 1
+HasTextCause end conn t = t.rest ≡ []
+
+pub record HasCause (end : End) (conn : ℕ) (t : Told) (talk : Option Talk) (old new : LinkCounts) : Type 0 where
+  pub counts : HasCountCause end old new
+  pub inbox : HasEmptyInbox end talk
+  pub text : HasTextCause end conn t
+
+-- ---- completeness
+
+abbrev pub text_in : Arrival → Option (List ℕ)
+text_in (arrivals.Text bytes) = Some bytes
+text_in arrivals.Quiet = None
+
+-- the texts that a link holds
+abbrev pub texts_in : List Arrival → List (List ℕ)
+texts_in inbox = filter_map text_in inbox
+
+-- a text of at most 8,192 bytes of UTF-8
+abbrev pub IsReadable : List ℕ → Type 0
+IsReadable bytes = (client bytes ≢ Err client_faults.NotUtf8) × ((size : ℕ) → client bytes ≢ Err (client_faults.Long size))
+
+-- the texts are within the limits
+pub record IsWithin (inbox : List Arrival) : Type 0 where
+  pub readable : All IsReadable (texts_in inbox)
+  pub few : length (texts_in inbox) ≤ 4096
+
+-- the client ended the session, or memory was wanting
+abbrev pub EndsWell : End → Type 0
+EndsWell ends.Closed = Unit {0}
+EndsWell ends.NoMemory = Unit {0}
+EndsWell other = ⊥
+
+-- ---- all of it
+
+pub record Served (end : End) (hub : Hub) (conn : ℕ) (t : Told) (passes : Passes) (old_talk talk : Option Talk) (old_counts counts : LinkCounts) (old_hours hours : Hours) : Type 0 where
+  pub told : AreTold conn t old_talk talk
+  pub sent : SentIsView end hub conn t passes
+  pub labels : All (IsLabelled hub passes.rooms.items) t.sendings
+  pub entries : EntriesAreMade end conn t passes
+  pub answers : AnswersAreKept end hub conn t passes
+  pub opened : IsOpen (is_short end) conn t passes passes.hall
+  pub moments : TellsMoments end t passes.hall old_hours hours
+  pub looks : LooksAreAnswered end hub conn t passes
+  pub history : OneHistory hub conn passes
+  pub begin : OneBegin end t passes.rooms.items
+  pub worlds : TwoWorlds end hub conn t passes
+  pub cause : HasCause end conn t talk old_counts counts

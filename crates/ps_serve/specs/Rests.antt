@@ -1,0 +1,86 @@
+-- For the code of a session: where it stands between two answers of its link, and what it has at its end before its Quits.
+use Rattle.std.specs.Prelude.{◌≡◌, ℕ, ◌≤◌, Bool, List, [], ◌++◌, length, All, IfSome, Option, Some, IsSome}
+use Rattle.std.specs.declared.vec.Vec.{Vec}
+use Rattle.std.specs.declared.alloc.Global.{Global}
+use mathlib.Core.List.{IsPrefix}
+use Rattle.ps_histlock.specs.Histories.{commands}
+use Rattle.ps_session.specs.Sessions.{Record}
+use Rattle.ps_outside.specs.Links.{Talk, LinkCounts}
+use Rattle.ps_hub.specs.Hubs.{Hub}
+use Rattle.ps_hub.specs.Names.{Names}
+use Rattle.ps_hub.specs.Passes.{AreOf}
+use Rattle.ps_hub.specs.declared.pass.HallPass.{HallPass}
+use Rattle.ps_hub.specs.declared.pass.RoomPass.{RoomPass}
+use Rattle.ps_hub.specs.declared.passes.Passes.{Passes}
+use Rattle.ps_serve.specs.declared.closed.End.{End}
+use Rattle.ps_serve.specs.declared.closed.End.TheVariants as ends
+use Rattle.ps_serve.specs.declared.obey.Stop.{Stop}
+use Rattle.ps_serve.specs.declared.obey.Stop.TheVariants as stops
+use Rattle.ps_serve.specs.Acts.{Act, moments_of, hall_entries, room_cmds, all_begun}
+use Rattle.ps_serve.specs.Sendings.{Sending}
+use Rattle.ps_serve.specs.Sittings.{Sits, AreApart, IsFrom, IsBegun}
+use Rattle.ps_serve.specs.Steps.{Hours, Asked, Stands}
+use Rattle.ps_serve.specs.Ends.{Told, is_short, is_broken, AreTold, AllOrPart, HallGiven, RoomGiven, HallLooks, RoomLooks, HallSent, RoomSent, HasBadge, AreAnswers, IsAsked, HasOpen, AreSure, HasCause}
+
+-- the end of a session that these bytes stopped
+abbrev pub end_after : Stop → Vec ℕ Global → End
+end_after stops.BadText bytes = ends.BadText bytes
+end_after (stops.OwnLimit room) bytes = ends.OwnLimit room
+end_after stops.NoMemory bytes = ends.NoMemory
+
+-- a session between two answers of its link, whatever it has done
+abbrev pub IsSitting : Hub → Record → Passes → Type 0
+IsSitting hub session passes = (conn : ℕ) × (open_at : ℕ) × (acts : List Act) × (ss : List Sending) × Sits hub conn open_at acts (length acts) ss session passes
+
+-- it has gone on, and stands again
+abbrev pub GoesOn : Hub → ℕ → ℕ → Record → Passes → Option Talk → Option Talk → LinkCounts → LinkCounts → Hours → Hours → Type 0
+GoesOn hub conn open_at session passes old_talk talk old_counts counts old_hours hours = (acts : List Act) × (ss : List Sending) × Stands hub conn open_at acts ss session passes old_talk talk old_counts counts old_hours hours
+
+-- ---- before the Quits
+
+pub record HallRests (broken short : Bool) (hub : Hub) (conn : ℕ) (t : Told) (h : HallPass) : Type 0 where
+  pub entries : AllOrPart short (commands h.pass.1.mine) (hall_entries conn t.acts)
+  pub given : HallGiven broken conn t h
+  pub looks : HallLooks broken hub conn t h
+  pub sent : HallSent broken hub conn t h
+
+pub record RoomRests (broken short : Bool) (hub : Hub) (conn : ℕ) (t : Told) (k : RoomPass) : Type 0 where
+  pub entries : AllOrPart short (commands k.pass.1.mine) (room_cmds conn k.number t.acts)
+  pub given : RoomGiven broken conn t k
+  pub looks : RoomLooks broken hub conn t k
+  pub sent : RoomSent broken hub conn t k
+  pub named : IfSome k.id (λ id. Names hub.config id k.number)
+
+-- the moments that were asked for a text which is no act
+abbrev pub HasExtra : End → List ℕ → Type 0
+HasExtra ends.NoMemory extra = length extra ≤ 1
+HasExtra (ends.OwnLimit room) extra = Unit {0}
+HasExtra end extra = extra ≡ []
+
+-- what a session did, sent and has at this end, before its Quits
+pub record Rests (end : End) (hub : Hub) (conn : ℕ) (t : Told) (passes : Passes) (old_talk talk : Option Talk) (old_counts counts : LinkCounts) (old_hours hours : Hours) : Type 0 where
+  pub are : AreOf hub passes
+  pub conn_is : passes.conn ≡ conn
+  pub told : AreTold conn t old_talk talk
+  pub hall_pass : HallPass
+  pub hall : passes.hall ≡ Some hall_pass
+  pub hall_rests : HallRests (is_broken end) (is_short end) hub conn t hall_pass
+  pub rooms : All (RoomRests (is_broken end) (is_short end) hub conn t) passes.rooms.items
+  pub asked : All (IsAsked end hub t) passes.rooms.items
+  pub apart : AreApart passes.rooms.items
+  pub from : All (IsFrom passes.rooms.items) t.sendings
+  pub named : All (λ k. IsSome k.id → IsSome passes.badge) passes.rooms.items
+  pub badge : HasBadge (is_short end) conn t passes.badge
+  pub gave : AreAnswers (is_short end) hub conn t passes.rooms.items hall_pass
+  pub sure : List Act
+  pub are_sure : AreSure (is_short end) sure t.acts
+  pub begun : All (IsBegun passes.rooms.items) (all_begun sure)
+  pub early : All (λ (k : RoomPass). IsPrefix (room_cmds conn k.number sure) (commands k.pass.1.mine)) passes.rooms.items
+  pub opened : HasOpen conn t hall_pass
+  pub cause : HasCause end conn t talk old_counts counts
+  pub extra : HasExtra end t.extra
+  pub asked_for : Asked old_hours (moments_of t.acts ++ t.extra) hours
+
+-- with any moment for the Quits
+abbrev pub ComesToRest : End → Hub → ℕ → ℕ → ℕ → Passes → Option Talk → Option Talk → LinkCounts → LinkCounts → Hours → Hours → Type 0
+ComesToRest end hub conn open_at left passes old_talk talk old_counts counts old_hours hours = (t : Told) × (t.opened ≡ open_at) × (t.left ≡ left) × Rests end hub conn t passes old_talk talk old_counts counts old_hours hours

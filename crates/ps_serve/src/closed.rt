@@ -1,0 +1,27 @@
+//! How a session ended.
+use ps_base::text::Text;
+use ps_hub::passes::Passes;
+
+/// Why a session ended.
+#[derive(Debug, Drop)]
+pub enum End {
+    /// The client closed the link.
+    Closed,
+    /// The link failed.
+    LinkFault,
+    /// A text more than 4,096 came for a room, which is named by its id, or for the hall (`None`).
+    OwnLimit { room: Option<Text> },
+    /// A text of more than 8,192 bytes, or one that is no UTF-8, came: its bytes.
+    BadText { bytes: Vec<u8> },
+    /// Memory was wanting.
+    NoMemory,
+}
+
+/// The end of a session.
+#[derive(Drop)]
+pub struct Closed {
+    /// Why it ended.
+    pub end: End,
+    /// What the connection had of the hub, after its Quits.
+    pub passes: Passes,
+}

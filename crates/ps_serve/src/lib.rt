@@ -1,0 +1,7 @@
+//! Serving connections: one session over a link, from its Open to its Quits.
+#![tactic(auto)]
+
+pub mod closed;
+mod obey;
+mod send;
+pub mod session;

@@ -1,0 +1,138 @@
+//! Telling a connection what happened.
+ghost use Rattle.std.specs.Option.{option_copied};
+ghost use Rattle.std.specs.Prelude.{◌≡◌, ℕ, ◌<◌, List, [], ◌∷◌, ◌++◌, length, take, IfNone, IfSome};
+ghost use Rattle.ps_hub.specs.Passes.{AreOf};
+ghost use Rattle.ps_serve.specs.Acts.{Act};
+ghost use Rattle.ps_serve.specs.Sendings.{Sending};
+ghost use Rattle.ps_serve.specs.Sittings.{Sits};
+ghost use Rattle.ps_serve.specs.Steps.{Tells, TellsPart, IsBreak};
+ghost use Rattle.ps_serve.specs.Tellings.{after_texts, TellsHall, TellsHallPart, TellsRoom, TellsRoomPart};
+
+use crate::closed::End;
+use crate::session::Sitting;
+use ps_base::text::Text;
+use ps_hub::hub::Hub;
+use ps_hub::pass::RoomPass;
+use ps_outside::link::{Link, SendEnd};
+use std::alloc::Global;
+use std::sync::Wait;
+
+// Sends texts in order, up to the first that fails.
+fn send_all<L: Link>(link: &mut L, texts: &[Text]) -> Option<End>
+    ensures counts { IfNone result (L.counts link.new ≡ L.counts link.old) }
+    ensures cause { IfSome result (λ end. IsBreak end (L.counts link.old) (L.counts link.new)) }
+    ensures told { IfNone result (L.talk link.new ≡ after_texts texts.now (L.talk link.old)) }
+    ensures broke { IfSome result (λ end. (count : ℕ) × (L.talk link.new ≡ after_texts (take count texts.now) (L.talk link.old))) }
+{
+    for text in texts {
+        match link.send(text.as_str()) {
+            Ok(()) => {}
+            Err(SendEnd::Failed) => return Some(End::LinkFault),
+            Err(SendEnd::NoMemory) => return Some(End::NoMemory),
+        }
+    }
+    None
+}
+
+// The id by which a place is held.
+fn held_by(pass: &RoomPass) -> Option<&str>
+    ensures { option_copied result ≡ pass.now.id }
+{
+    match &pass.id {
+        None => None,
+        Some(id) => Some(id.as_str()),
+    }
+}
+
+impl Sitting {
+    /// Looks once at the hall and at each room that is held, by rising numbers, and sends what wasn't sent yet. `None` where the
+    /// session goes on.
+    pub(crate) fn catch_up<R: Wait, L: Link>(
+        &mut self,
+        alloc: Global,
+        rt: &R,
+        hub: &Hub,
+        link: &mut L,
+    ) -> Option<End>
+        requires { AreOf hub.now self.old.passes }
+        ensures of { AreOf hub.now self.new.passes }
+        ensures same { (self.new.session ≡ self.old.session) × (self.new.passes.badge ≡ self.old.passes.badge) }
+        ensures counts { IfNone result (L.counts link.new ≡ L.counts link.old) }
+        ensures cause { IfSome result (λ end. IsBreak end (L.counts link.old) (L.counts link.new)) }
+        ensures told { IfNone result ((conn open_at : ℕ) (acts : List Act) (a : Act) (ss : List Sending) → Sits hub.now conn open_at (acts ++ a ∷ []) (length acts) ss self.old.session self.old.passes → Tells hub.now conn open_at acts a ss self.old.session (L.talk link.old) (L.talk link.new) self.new.passes) }
+        ensures broke { IfSome result (λ end. (conn open_at : ℕ) (acts : List Act) (a : Act) (ss : List Sending) → Sits hub.now conn open_at (acts ++ a ∷ []) (length acts) ss self.old.session self.old.passes → TellsPart end hub.now conn open_at acts a ss (L.talk link.old) (L.talk link.new) self.new.passes) }
+    {
+        match self.tell_hall(alloc, rt, hub, link) {
+            Some(end) => return Some(end),
+            None => {}
+        }
+        for place in 0..self.passes.rooms.len() {
+            match self.tell_room(alloc, rt, hub, link, place) {
+                Some(end) => return Some(end),
+                None => {}
+            }
+        }
+        None
+    }
+
+    // What the hall tells.
+    fn tell_hall<R: Wait, L: Link>(
+        &mut self,
+        alloc: Global,
+        rt: &R,
+        hub: &Hub,
+        link: &mut L,
+    ) -> Option<End>
+        requires { AreOf hub.now self.old.passes }
+        ensures of { AreOf hub.now self.new.passes }
+        ensures session { self.new.session ≡ self.old.session }
+        ensures badge { self.new.passes.badge ≡ self.old.passes.badge }
+        ensures counts { IfNone result (L.counts link.new ≡ L.counts link.old) }
+        ensures cause { IfSome result (λ end. IsBreak end (L.counts link.old) (L.counts link.new)) }
+        ensures told { IfNone result (TellsHall hub.now self.old.passes self.new.passes (L.talk link.old) (L.talk link.new)) }
+        ensures broke { IfSome result (λ end. TellsHallPart hub.now self.old.passes self.new.passes (L.talk link.old) (L.talk link.new)) }
+    {
+        match hub.catch_up_hall(rt, &mut self.passes) {
+            Err(_) => Some(End::NoMemory),
+            Ok(msgs) => match self.session.give(alloc, None, msgs.as_slice()) {
+                Err(_) => Some(End::NoMemory),
+                Ok(texts) => send_all(link, texts.as_slice()),
+            },
+        }
+    }
+
+    // What the room at a place of the row tells, if it is held.
+    fn tell_room<R: Wait, L: Link>(
+        &mut self,
+        alloc: Global,
+        rt: &R,
+        hub: &Hub,
+        link: &mut L,
+        place: usize,
+    ) -> Option<End>
+        requires of { AreOf hub.now self.old.passes }
+        requires there { place < length self.old.passes.rooms.items }
+        ensures of { AreOf hub.now self.new.passes }
+        ensures session { self.new.session ≡ self.old.session }
+        ensures badge { self.new.passes.badge ≡ self.old.passes.badge }
+        ensures row { length self.new.passes.rooms.items ≡ length self.old.passes.rooms.items }
+        ensures counts { IfNone result (L.counts link.new ≡ L.counts link.old) }
+        ensures cause { IfSome result (λ end. IsBreak end (L.counts link.old) (L.counts link.new)) }
+        ensures told { IfNone result (TellsRoom hub.now place self.old.passes self.new.passes (L.talk link.old) (L.talk link.new)) }
+        ensures broke { IfSome result (λ end. TellsRoomPart hub.now place self.old.passes self.new.passes (L.talk link.old) (L.talk link.new)) }
+    {
+        if held_by(&self.passes.rooms[place]).is_none() {
+            return None;
+        }
+        match hub.catch_up_at(rt, &mut self.passes, place) {
+            Err(_) => Some(End::NoMemory),
+            Ok(msgs) => {
+                let room = held_by(&self.passes.rooms[place]);
+                match self.session.give(alloc, room, msgs.as_slice()) {
+                    Err(_) => Some(End::NoMemory),
+                    Ok(texts) => send_all(link, texts.as_slice()),
+                }
+            }
+        }
+    }
+}

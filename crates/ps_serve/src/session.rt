@@ -1,0 +1,157 @@
+//! One session.
+ghost use Rattle.std.specs.Prelude.{◌≡◌, ◌⊎◌, ℕ, List, [], ◌∷◌, ◌++◌, length, All, IfSome, IfNone, Option, Some, None};
+ghost use Rattle.ps_hub.specs.Passes.{AreOf};
+ghost use Rattle.ps_outside.specs.Causes.{Rose};
+ghost use Rattle.ps_outside.specs.Links.{Talk, LinkCounts};
+ghost use Rattle.ps_serve.specs.Acts.{Act};
+ghost use Rattle.ps_serve.specs.Sendings.{Sending};
+ghost use Rattle.ps_serve.specs.Sittings.{Sits};
+ghost use Rattle.ps_serve.specs.Steps.{Hours, Stands};
+ghost use Rattle.ps_serve.specs.Ends.{Told, AreTold, SentIsView, IsLabelled, EntriesAreMade, AnswersAreKept, IsOpen, TellsMoments, LooksAreAnswered, OneHistory, OneBegin, TwoWorlds, HasCause, IsWithin, EndsWell, Served, is_short};
+ghost use Rattle.ps_serve.specs.Rests.{end_after, IsSitting, GoesOn, ComesToRest};
+
+use crate::closed::{Closed, End};
+use crate::obey::Stop;
+use ps_base::number::ConnNo;
+use ps_hub::hub::Hub;
+use ps_hub::passes::Passes;
+use ps_outside::clock::Clock;
+use ps_outside::link::{Link, Next};
+use ps_session::session::Session;
+use std::alloc::Global;
+use std::sync::Wait;
+
+/// A session between two answers of its link: what is known of the connection, and what it has of the hub.
+#[derive(Drop)]
+pub(crate) struct Sitting {
+    pub(crate) session: Session,
+    pub(crate) passes: Passes,
+}
+
+// The end of a session that these bytes stopped.
+fn end_by(stop: Stop, bytes: Vec<u8>) -> End
+    ensures { result ≡ end_after stop bytes }
+{
+    match stop {
+        Stop::BadText => End::BadText { bytes },
+        Stop::OwnLimit { room } => End::OwnLimit { room },
+        Stop::NoMemory => End::NoMemory,
+    }
+}
+
+impl Sitting {
+    // Takes one answer of the link: obeys a text, and then looks at all that is held and sends what wasn't told yet. `None` where
+    // the session goes on.
+    fn take<R: Wait, L: Link, C: Clock>(
+        &mut self,
+        alloc: Global,
+        rt: &R,
+        hub: &Hub,
+        link: &mut L,
+        clock: &mut C,
+    ) -> Option<End>
+        requires { IsSitting hub.now self.old.session self.old.passes }
+        ensures sits { IfNone result (IsSitting hub.now self.new.session self.new.passes) }
+        ensures goes_on { IfNone result ((talk0 : Option Talk) (counts0 : LinkCounts) (hours0 : Hours) (conn open_at : ℕ) (acts : List Act) (ss : List Sending) → Stands hub.now conn open_at acts ss self.old.session self.old.passes talk0 (L.talk link.old) counts0 (L.counts link.old) hours0 (C.hours clock.old) → GoesOn hub.now conn open_at self.new.session self.new.passes talk0 (L.talk link.new) counts0 (L.counts link.new) hours0 (C.hours clock.new)) }
+        ensures rests { IfSome result (λ end. (talk0 : Option Talk) (counts0 : LinkCounts) (hours0 : Hours) (conn open_at left : ℕ) (acts : List Act) (ss : List Sending) → Stands hub.now conn open_at acts ss self.old.session self.old.passes talk0 (L.talk link.old) counts0 (L.counts link.old) hours0 (C.hours clock.old) → ComesToRest end hub.now conn open_at left self.new.passes talk0 (L.talk link.new) counts0 (L.counts link.new) hours0 (C.hours clock.new)) }
+    {
+        match link.next() {
+            Next::Text(bytes) => match self.hear(alloc, rt, hub, bytes.as_slice(), clock) {
+                None => self.catch_up(alloc, rt, hub, link),
+                Some(stop) => Some(end_by(stop, bytes)),
+            },
+            Next::Quiet => self.catch_up(alloc, rt, hub, link),
+            Next::End => Some(End::Closed),
+            Next::Failed => Some(End::LinkFault),
+            Next::NoMemory => Some(End::NoMemory),
+        }
+    }
+
+    // Takes answers of the link until one ends the session.
+    fn sit<R: Wait, L: Link, C: Clock>(
+        &mut self,
+        alloc: Global,
+        rt: &R,
+        hub: &Hub,
+        link: &mut L,
+        clock: &mut C,
+    ) -> End
+        requires { IsSitting hub.now self.old.session self.old.passes }
+        ensures rests { (talk0 : Option Talk) (counts0 : LinkCounts) (hours0 : Hours) (conn open_at left : ℕ) (acts : List Act) (ss : List Sending) → Stands hub.now conn open_at acts ss self.old.session self.old.passes talk0 (L.talk link.old) counts0 (L.counts link.old) hours0 (C.hours clock.old) → ComesToRest result hub.now conn open_at left self.new.passes talk0 (L.talk link.new) counts0 (L.counts link.new) hours0 (C.hours clock.new) }
+    {
+        for _ in rt.forever() {
+            match self.take(alloc, rt, hub, link, clock) {
+                Some(end) => return end,
+                None => {}
+            }
+        }
+        unreachable!()
+    }
+}
+
+// The whole session: its Open, the answers of the link, and its Quits.
+fn serve<R: Wait, L: Link, C: Clock>(
+    alloc: Global,
+    rt: &R,
+    hub: &Hub,
+    conn: ConnNo,
+    link: &mut L,
+    clock: &mut C,
+) -> Closed
+    ensures served { (t : Told) × Served result.end hub.now conn t result.passes (L.talk link.old) (L.talk link.new) (L.counts link.old) (L.counts link.new) (C.hours clock.old) (C.hours clock.new) }
+{
+    let Ok(passes) = hub.admit(rt, conn, clock.now()) else {
+        return Closed {
+            end: End::NoMemory,
+            passes: Passes::none(alloc, conn),
+        };
+    };
+    let mut sitting = Sitting {
+        session: Session::new(alloc, conn),
+        passes,
+    };
+    let end = sitting.sit(alloc, rt, hub, link, clock);
+    let Sitting {
+        session: _,
+        mut passes,
+    } = sitting;
+    match hub.quit(rt, &mut passes, clock.now()) {
+        Ok(()) => Closed { end, passes },
+        Err(_) => Closed {
+            end: End::NoMemory,
+            passes,
+        },
+    }
+}
+
+/// Serves one connection over its link: makes its Open, takes each text of the link as one order, tells it after each answer of
+/// the link what happened in the hall and in the rooms that it holds, and makes its Quits at the end.
+///
+/// `served` says all that follows of one and the same account of the session: what came of each answer of the link, what was
+/// sent, and the moments. `LinkFault` and `Closed` come only where the link's count of them rose, `BadText` and `OwnLimit` only
+/// by the text that came last, and `NoMemory` where memory was wanting, for the Quits too. A link that doesn't fail, and whose
+/// texts are UTF-8 and within the limits, gives `Closed` or `NoMemory`.
+pub fn serve_session<R: Wait, L: Link, C: Clock>(
+    alloc: Global,
+    rt: &R,
+    hub: &Hub,
+    conn: ConnNo,
+    link: &mut L,
+    clock: &mut C,
+) -> Closed
+    ensures served { (t : Told) × Served result.end hub.now conn t result.passes (L.talk link.old) (L.talk link.new) (L.counts link.old) (L.counts link.new) (C.hours clock.old) (C.hours clock.new) }
+    ensures sent_is_the_view { (t : Told) × AreTold conn t (L.talk link.old) (L.talk link.new) × SentIsView result.end hub.now conn t result.passes }
+    ensures labels { (t : Told) × AreTold conn t (L.talk link.old) (L.talk link.new) × All (IsLabelled hub.now result.passes.rooms.items) t.sendings }
+    ensures entries_of_the_texts { (t : Told) × AreTold conn t (L.talk link.old) (L.talk link.new) × EntriesAreMade result.end conn t result.passes }
+    ensures answers { (t : Told) × AreTold conn t (L.talk link.old) (L.talk link.new) × AnswersAreKept result.end hub.now conn t result.passes }
+    ensures opened { (t : Told) × AreTold conn t (L.talk link.old) (L.talk link.new) × IsOpen (is_short result.end) conn t result.passes result.passes.hall }
+    ensures moments { (t : Told) × AreTold conn t (L.talk link.old) (L.talk link.new) × TellsMoments result.end t result.passes.hall (C.hours clock.old) (C.hours clock.new) }
+    ensures looks_are_answered { (t : Told) × AreTold conn t (L.talk link.old) (L.talk link.new) × LooksAreAnswered result.end hub.now conn t result.passes }
+    ensures one_history { OneHistory hub.now conn result.passes }
+    ensures one_begin { (t : Told) × AreTold conn t (L.talk link.old) (L.talk link.new) × OneBegin result.end t result.passes.rooms.items }
+    ensures two_worlds { (t : Told) × AreTold conn t (L.talk link.old) (L.talk link.new) × TwoWorlds result.end hub.now conn t result.passes }
+    ensures cause { (t : Told) × AreTold conn t (L.talk link.old) (L.talk link.new) × HasCause result.end conn t (L.talk link.new) (L.counts link.old) (L.counts link.new) }
+    ensures complete { (talk : Talk) → L.talk link.old ≡ Some talk → IsWithin talk.inbox → (Rose (L.counts link.old).faults (L.counts link.new).faults → ⊥) → EndsWell result.end }
+{
+    serve(alloc, rt, hub, conn, link, clock)
+}
