@@ -1,0 +1,169 @@
+//! A link that waits.
+ghost use Rattle.std.specs.Prelude.{◌≡◌, None};
+
+use ps_outside::link::{Link, Next, SendEnd};
+use std::alloc::Global;
+use std::sync::atomic::{AtomicBool, Ordering};
+use std::thread;
+
+/// The begin of a text, and what the client says once it was sent such a text. The first two rows are the log-in, and an
+/// empty begin stands for nothing more than the row before. At the end of the table the client closes.
+pub(crate) type Steps = &'static [(&'static str, &'static str)];
+
+/// After so many rows of its table the client waits until the other one has its name.
+const NAMED: usize = 2;
+
+/// How often a link is quiet before it gives up.
+const MOST_QUIETS: u64 = 1_000_000;
+
+/// How often a client asks again for a room that isn't there yet.
+const MOST_AGAIN: u32 = 4_000;
+
+/// The link of a client that says each of its texts when it was sent what the text needs, and says its last one again where
+/// the room wasn't there yet. Until then it is quiet.
+#[derive(Drop)]
+pub(crate) struct Waiting<'a> {
+    alloc: Global,
+    steps: Steps,
+    reached: usize,
+    said: usize,
+    asks_again: bool,
+    left_again: u32,
+    is_named: &'a AtomicBool,
+    other_is_named: &'a AtomicBool,
+    quiets: u64,
+    ends: u64,
+}
+
+/// What a client does next.
+enum Move {
+    Say(&'static str),
+    Wait,
+    Close,
+}
+
+impl<'a> Waiting<'a> {
+    pub(crate) fn new(
+        alloc: Global,
+        steps: Steps,
+        is_named: &'a AtomicBool,
+        other_is_named: &'a AtomicBool,
+    ) -> Waiting<'a> {
+        Waiting {
+            alloc,
+            steps,
+            reached: 0,
+            said: 0,
+            asks_again: false,
+            left_again: MOST_AGAIN,
+            is_named,
+            other_is_named,
+            quiets: 0,
+            ends: 0,
+        }
+    }
+
+    /// Whether it was sent all that its table waits for.
+    pub(crate) fn was_told_all(&self) -> bool {
+        self.reached >= self.steps.len()
+    }
+
+    // The text of a row, if there is one.
+    fn text_at(&self, place: usize) -> &'static str {
+        match self.steps.get(place) {
+            None => "",
+            Some((_, text)) => text,
+        }
+    }
+
+    // Whether what a row needs was just sent.
+    fn is_met(&self, place: usize, text: &str) -> bool {
+        match self.steps.get(place) {
+            None => false,
+            Some((begin, _)) => text.starts_with(begin),
+        }
+    }
+
+    // Whether a row needs nothing more than the one before.
+    fn is_free(&self, place: usize) -> bool {
+        match self.steps.get(place) {
+            None => false,
+            Some((begin, _)) => begin.is_empty(),
+        }
+    }
+
+    // Takes note of a text that was sent.
+    fn hear(&mut self, text: &str)
+        ensures quiets { self.new.quiets ≡ self.old.quiets }
+        ensures ends { self.new.ends ≡ self.old.ends }
+    {
+        if text.starts_with("|popup|[NoSuchRoom]") {
+            self.asks_again = self.left_again > 0;
+            self.left_again = self.left_again.saturating_sub(1);
+        }
+        if self.is_met(self.reached, text) {
+            self.reached = self.reached.saturating_add(1);
+        }
+        if self.is_free(self.reached) {
+            self.reached = self.reached.saturating_add(1);
+        }
+        if self.reached >= NAMED {
+            self.is_named.store(true, Ordering::SeqCst);
+        }
+    }
+
+    // What the client does now.
+    fn next_move(&mut self) -> Move
+        ensures quiets { self.new.quiets ≡ self.old.quiets }
+        ensures ends { self.new.ends ≡ self.old.ends }
+    {
+        if self.quiets >= MOST_QUIETS {
+            return Move::Close;
+        }
+        if self.asks_again {
+            self.asks_again = false;
+            return Move::Say(self.text_at(self.said.saturating_sub(1)));
+        }
+        if self.said >= self.reached {
+            return Move::Wait;
+        }
+        if self.said == NAMED && !self.other_is_named.load(Ordering::SeqCst) {
+            return Move::Wait;
+        }
+        let text = self.text_at(self.said);
+        if text.is_empty() {
+            return Move::Close;
+        }
+        self.said = self.said.saturating_add(1);
+        Move::Say(text)
+    }
+}
+
+impl<'a> Link for Waiting<'a> {
+    ghost talk = { λ _. None };
+
+    ghost counts = { λ l. record { faults = 0; quiets = l.quiets; ends = l.ends } };
+
+    fn next(&mut self) -> Next {
+        match self.next_move() {
+            Move::Say(text) => match text.as_bytes().to_vec(self.alloc) {
+                Ok(bytes) => Next::Text(bytes),
+                Err(_) => Next::NoMemory,
+            },
+            Move::Wait => {
+                thread::yield_now();
+                self.quiets = self.quiets.saturating_add(1);
+                Next::Quiet
+            }
+            Move::Close => {
+                self.ends = self.ends.saturating_add(1);
+                Next::End
+            }
+        }
+    }
+
+    fn send(&mut self, text: &str) -> Result<(), SendEnd> {
+        self.hear(text);
+        Ok(())
+    }
+}
