@@ -21,6 +21,7 @@ pub enum DoorEnd {
 
 /// Where links come from, one after another.
 pub trait Door {
+    /// The links that it hands out, one for each connection.
     type Link: Link;
 
     /// How often it has failed. The count stands still at the last value of a `u64`.
