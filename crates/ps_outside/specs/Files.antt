@@ -1,5 +1,5 @@
 -- Files by their names, and when a call on them may answer what.
-use Rattle.std.specs.Prelude.{◌≡◌, ℕ, ◌<◌, ◌≤◌, List, [], ◌∷◌, length, Option, Some, None, Result, Ok, Err, IfSome, if◌then◌else◌}
+use Rattle.std.specs.Prelude.{◌≡◌, ℕ, ◌<◌, ◌≤◌, List, [], ◌∷◌, length, Option, Some, None, Result, Ok, Err, IfSome, Bool, true, false, if◌then◌else◌}
 use Rattle.std.specs.Option.{IsSomeAnd}
 use Rattle.std.specs.Str.{bytes_eq}
 use Rattle.ps_outside.specs.Causes.{Rose}
@@ -48,6 +48,14 @@ HasFileCause old new (Err Missing) = OnlyRose old.missing new.missing old.long n
 HasFileCause old new (Err TooLong) = OnlyRose old.long new.long old.missing new.missing old.faults new.faults
 HasFileCause old new (Err Failed) = OnlyRose old.faults new.faults old.missing new.missing old.long new.long
 HasFileCause old new (Err NoMemory) = new ≡ old
+
+-- whether an answer is Failed
+abbrev pub has_file_failed : {T : Type 0} → Result T FileEnd → Bool
+has_file_failed (Ok bytes) = false
+has_file_failed (Err Missing) = false
+has_file_failed (Err TooLong) = false
+has_file_failed (Err Failed) = true
+has_file_failed (Err NoMemory) = false
 
 -- what files in memory hold, how often they were called, and the calls that fail
 pub record Shelf : Type 0 where

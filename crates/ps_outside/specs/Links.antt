@@ -1,5 +1,5 @@
 -- What a link holds, what its calls make of it, and when they may answer what.
-use Rattle.std.specs.Prelude.{◌≡◌, ℕ, ◌+◌, List, [], ◌∷◌, ◌++◌, Option, Some, None, Result, Ok, Err}
+use Rattle.std.specs.Prelude.{◌≡◌, ℕ, ◌+◌, List, [], ◌∷◌, ◌++◌, Option, Some, None, Result, Ok, Err, Bool, true, false}
 use Rattle.ps_outside.specs.Files.{OnlyRose}
 use Rattle.ps_outside.specs.declared.link.Next.{Next}
 use Rattle.ps_outside.specs.declared.link.Next.TheVariants.{Text, Quiet, End, Failed, NoMemory}
@@ -86,6 +86,19 @@ abbrev pub HasSendCause : {T : Type 0} → LinkCounts → LinkCounts → Result 
 HasSendCause old new (Ok done) = new ≡ old
 HasSendCause old new (Err SendFailed) = OnlyRose old.faults new.faults old.quiets new.quiets old.ends new.ends
 HasSendCause old new (Err SendNoMemory) = new ≡ old
+
+-- whether an answer is Failed
+abbrev pub has_failed : Next → Bool
+has_failed (Text bytes) = false
+has_failed Quiet = false
+has_failed End = false
+has_failed Failed = true
+has_failed NoMemory = false
+
+abbrev pub has_send_failed : {T : Type 0} → Result T SendEnd → Bool
+has_send_failed (Ok done) = false
+has_send_failed (Err SendFailed) = true
+has_send_failed (Err SendNoMemory) = false
 
 -- what a link in memory that never fails holds
 pub record SureTalk : Type 0 where

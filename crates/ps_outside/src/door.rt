@@ -1,5 +1,5 @@
 //! Where links come from.
-ghost use Rattle.std.specs.Prelude.{◌≡◌, ◌++◌, ℕ};
+ghost use Rattle.std.specs.Prelude.{◌≡◌, ◌++◌, ◌||◌, ◌==◌, ℕ, length};
 ghost use Rattle.std.specs.Result.{is_err};
 ghost use Rattle.ps_outside.specs.Counts.{CountsErr, is_listed, one_more};
 ghost use Rattle.ps_outside.specs.Doors.{given_after, links_of, HasAcceptCause};
@@ -104,6 +104,8 @@ impl<L: Link> Door for MemDoor<L> {
         ensures count { self.new.given ≡ given_after result self.old.given }
         ensures cause { HasAcceptCause self.old.faults self.new.faults result }
         ensures links { self.old.links ≡ links_of result ++ self.new.links }
+        ensures fails { is_err result ≡ (is_listed self.old.accept_calls self.old.failing_accept || length self.old.links == 0) }
+        ensures calls { self.new.accept_calls ≡ one_more self.old.accept_calls }
     {
         self.accept_calls = self.accept_calls.saturating_add(1);
         if self.failing_accept.contains(&self.accept_calls) {

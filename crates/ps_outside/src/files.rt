@@ -1,7 +1,8 @@
 //! Files that are read whole.
 ghost use Rattle.std.specs.Prelude.{◌≡◌, ℕ, ◌+◌, ◌<◌, ◌≤◌, ◌^◌, List, [], Option, Some, None, length, IfOk, IfSome};
 ghost use Rattle.std.specs.Option.{option_copied};
-ghost use Rattle.ps_outside.specs.Files.{FileCounts, no_counts, look_up, IsFile, IsFileEnd, HasFileCause};
+ghost use Rattle.ps_outside.specs.Counts.{is_listed, one_more};
+ghost use Rattle.ps_outside.specs.Files.{FileCounts, no_counts, look_up, IsFile, IsFileEnd, HasFileCause, has_file_failed};
 
 use ps_base::list::List;
 use ps_base::text::Text;
@@ -98,7 +99,16 @@ impl Files for MemFiles {
 
     ghost counts = { λ f. f.counts };
 
-    fn read(&mut self, alloc: Global, name: &str, limit: u32) -> Result<Vec<u8>, FileEnd> {
+    /// Fails exactly at the calls that are listed.
+    fn read(&mut self, alloc: Global, name: &str, limit: u32) -> Result<Vec<u8>, FileEnd>
+        ensures same { self.new.files ≡ self.old.files }
+        ensures found { IfOk result (λ v. IfSome (Some (look_up self.old.files)) (IsFile name.now limit v.items)) }
+        ensures few { IfOk result (λ v. length v.items ≤ limit) }
+        ensures end { IsFileEnd (Some (look_up self.old.files)) name.now limit result }
+        ensures cause { HasFileCause self.old.counts self.new.counts result }
+        ensures listed { has_file_failed result ≡ is_listed self.old.calls self.old.failing }
+        ensures calls { self.new.calls ≡ one_more self.old.calls }
+    {
         self.calls = self.calls.saturating_add(1);
         if self.failing.contains(&self.calls) {
             self.faults = self.faults.saturating_add(1);

@@ -1,6 +1,7 @@
 //! Connections: what comes from a client, and the texts that are sent to it.
 ghost use Rattle.std.specs.Prelude.{◌≡◌, ℕ, List, Option, Some};
-ghost use Rattle.ps_outside.specs.Links.{Talk, LinkCounts, IsNext, after_next, after_send, HasNextCause, HasSendCause, new_talk, no_link_counts};
+ghost use Rattle.ps_outside.specs.Counts.{is_listed, one_more};
+ghost use Rattle.ps_outside.specs.Links.{Talk, LinkCounts, IsNext, after_next, after_send, HasNextCause, HasSendCause, has_failed, has_send_failed, new_talk, no_link_counts};
 ghost use Rattle.ps_outside.specs.Inboxes.{IsTaken};
 
 use ps_base::list::List;
@@ -229,7 +230,14 @@ impl Link for MemLink {
 
     ghost counts = { λ l. l.counts };
 
-    fn next(&mut self) -> Next {
+    /// Fails exactly at the calls that are listed.
+    fn next(&mut self) -> Next
+        ensures told { Some self.new.talk ≡ after_next result (Some self.old.talk) }
+        ensures front { IsNext (Some self.old.talk) result }
+        ensures cause { HasNextCause self.old.counts self.new.counts result }
+        ensures listed { has_failed result ≡ is_listed self.old.next_calls self.old.failing_next }
+        ensures calls { self.new.next_calls ≡ one_more self.old.next_calls }
+    {
         self.next_calls = self.next_calls.saturating_add(1);
         if self.failing_next.contains(&self.next_calls) {
             self.faults = self.faults.saturating_add(1);
@@ -244,7 +252,13 @@ impl Link for MemLink {
         }
     }
 
-    fn send(&mut self, text: &str) -> Result<(), SendEnd> {
+    /// Fails exactly at the calls that are listed.
+    fn send(&mut self, text: &str) -> Result<(), SendEnd>
+        ensures told { Some self.new.talk ≡ after_send result text.now (Some self.old.talk) }
+        ensures cause { HasSendCause self.old.counts self.new.counts result }
+        ensures listed { has_send_failed result ≡ is_listed self.old.send_calls self.old.failing_send }
+        ensures calls { self.new.send_calls ≡ one_more self.old.send_calls }
+    {
         self.send_calls = self.send_calls.saturating_add(1);
         if self.failing_send.contains(&self.send_calls) {
             self.faults = self.faults.saturating_add(1);
