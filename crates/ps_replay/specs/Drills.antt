@@ -18,12 +18,12 @@ use Rattle.ps_world.specs.Counts.{refused}
 use Rattle.ps_world.specs.Transcript.{output}
 use Rattle.ps_drill.specs.Drills.{drill_text}
 use Rattle.ps_drill.specs.Messages.{messages_in}
-use Rattle.ps_replay.specs.declared.status.Status.{Status}
-use Rattle.ps_replay.specs.declared.status.Status.TheVariants.{Done, Usage, FileMissing, FileFault, FileLong, BadDex, BadConfig, BadScript, ScriptLong, ReadFault, WriteFault, BadTeam, NoMemory, UnknownFormat, BadPack}
-use Rattle.ps_replay.specs.Words.{Options, Drilled}
-use Rattle.ps_replay.specs.Steps.{IsFaultOf, dex_in, config_in}
-use Rattle.ps_replay.specs.Outcomes.{HasSetup, IsOption, symbols_of, AreGood, IsSettled}
-use Rattle.ps_replay.specs.Checks.{Then}
+use Rattle.ps_setup.specs.declared.status.Status.{Status}
+use Rattle.ps_setup.specs.declared.status.Status.TheVariants.{Done, Usage, FileMissing, FileFault, FileLong, BadDex, BadConfig, BadScript, ScriptLong, ReadFault, WriteFault, BadTeam, NoMemory, UnknownFormat, BadPack}
+use Rattle.ps_setup.specs.Words.{Options, Drilled}
+use Rattle.ps_setup.specs.Steps.{IsFaultOf, dex_in, config_in}
+use Rattle.ps_setup.specs.Setups.{HasSetup, IsOption, AreGood, IsSettled, Then}
+use Rattle.ps_replay.specs.Outcomes.{symbols_of}
 
 -- ---- the summary
 
