@@ -11,7 +11,7 @@ use Rattle.ps_dex.specs.declared.row.Tables.{Tables}
 use Rattle.ps_rules.specs.declared.row.RuleTable.{RuleTable}
 use Rattle.ps_valid.specs.TeamRows.{legal_in}
 use Rattle.ps_setup.specs.declared.status.Status.{Status}
-use Rattle.ps_setup.specs.declared.status.Status.TheVariants.{Done, Usage, FileMissing, FileFault, FileLong, BadDex, BadConfig, BadScript, ScriptLong, ReadFault, WriteFault, BadTeam, NoMemory, UnknownFormat, BadPack}
+use Rattle.ps_setup.specs.declared.status.Status.TheVariants.{Done, Usage, FileMissing, FileFault, FileLong, BadDex, BadConfig, BadScript, ScriptLong, ReadFault, WriteFault, BadTeam, NoMemory, DoorFault, UnknownFormat, BadPack}
 use Rattle.ps_setup.specs.Words.{Checked}
 use Rattle.ps_setup.specs.Steps.{IsFaultOf, dex_in, config_in}
 use Rattle.ps_setup.specs.Setups.{IsSettled, Then, Told}
@@ -34,6 +34,7 @@ Harmless (BadScript line kind) = ⊥
 Harmless (ScriptLong count) = ⊥
 Harmless ReadFault = ⊥
 Harmless (BadTeam set rule subject) = ⊥
+Harmless DoorFault = ⊥
 Harmless (UnknownFormat id) = ⊥
 Harmless (BadPack at kind) = ⊥
 
@@ -80,6 +81,7 @@ only_text dex rules text (BadConfig path kind) legal h = absurd h
 only_text dex rules text (BadScript line kind) legal h = absurd h
 only_text dex rules text (ScriptLong count) legal h = absurd h
 only_text dex rules text ReadFault legal h = absurd h
+only_text dex rules text DoorFault legal h = absurd h
 only_text dex rules text (UnknownFormat id) legal h = absurd h
 
 only_end : (look : List ℕ → Option (List ℕ)) (words : Checked) (status : Status) → CheckEnds look words Done → CheckEnds look words status → Harmless status
@@ -104,6 +106,7 @@ harmless_settles one old new write_fault (BadScript line kind) cause wrote files
 harmless_settles one old new write_fault (ScriptLong count) cause wrote files sink h = absurd h
 harmless_settles one old new write_fault ReadFault cause wrote files sink h = absurd h
 harmless_settles one old new write_fault (BadTeam set rule subject) cause wrote files sink h = absurd h
+harmless_settles one old new write_fault DoorFault cause wrote files sink h = absurd h
 harmless_settles one old new write_fault (UnknownFormat id) cause wrote files sink h = absurd h
 harmless_settles one old new write_fault (BadPack at kind) cause wrote files sink h = absurd h
 

@@ -22,7 +22,7 @@ use Rattle.ps_valid.specs.declared.row.Settings.{Settings}
 use Rattle.ps_valid.specs.declared.start.Legal.{Legal}
 use Rattle.ps_valid.specs.TeamRows.{legal_in}
 use Rattle.ps_setup.specs.declared.status.Status.{Status}
-use Rattle.ps_setup.specs.declared.status.Status.TheVariants.{Done, Usage, FileMissing, FileFault, FileLong, BadDex, BadConfig, BadScript, ScriptLong, ReadFault, WriteFault, BadTeam, NoMemory, UnknownFormat, BadPack}
+use Rattle.ps_setup.specs.declared.status.Status.TheVariants.{Done, Usage, FileMissing, FileFault, FileLong, BadDex, BadConfig, BadScript, ScriptLong, ReadFault, WriteFault, BadTeam, NoMemory, DoorFault, UnknownFormat, BadPack}
 use Rattle.ps_setup.specs.Words.{Checked}
 use Rattle.ps_setup.specs.Steps.{IsFaultOf, within, from_file, dex_in, config_in}
 use Rattle.ps_setup.specs.Setups.{Then, IsSettled}
@@ -84,6 +84,7 @@ TextEnds dex rules text (BadScript line kind) = ⊥
 TextEnds dex rules text (ScriptLong count) = ⊥
 TextEnds dex rules text ReadFault = ⊥
 TextEnds dex rules text NoMemory = ⊥
+TextEnds dex rules text DoorFault = ⊥
 TextEnds dex rules text (UnknownFormat id) = ⊥
 
 -- from the team's file on
@@ -121,6 +122,7 @@ CheckCause named old new ReadFault = ⊥
 CheckCause named old new WriteFault = Unit {0}
 CheckCause named old new (BadTeam set rule subject) = Unit {0}
 CheckCause named old new NoMemory = Unit {0}
+CheckCause named old new DoorFault = ⊥
 CheckCause named old new (UnknownFormat id) = Unit {0}
 CheckCause named old new (BadPack at kind) = Unit {0}
 
@@ -145,6 +147,7 @@ WritesLegal old new (ScriptLong count) = Keeps old new
 WritesLegal old new ReadFault = Keeps old new
 WritesLegal old new (BadTeam set rule subject) = Keeps old new
 WritesLegal old new NoMemory = Keeps old new
+WritesLegal old new DoorFault = Keeps old new
 WritesLegal old new (UnknownFormat id) = Keeps old new
 WritesLegal old new (BadPack at kind) = Keeps old new
 

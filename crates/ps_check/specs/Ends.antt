@@ -5,7 +5,7 @@ use Rattle.ps_packed.specs.declared.fault.PackFault.TheVariants as pack_faults
 use Rattle.ps_valid.specs.declared.verdict.Verdict.{Verdict}
 use Rattle.ps_valid.specs.declared.start.Legal.{Legal}
 use Rattle.ps_setup.specs.declared.status.Status.{Status}
-use Rattle.ps_setup.specs.declared.status.Status.TheVariants.{Done, Usage, FileMissing, FileFault, FileLong, BadDex, BadConfig, BadScript, ScriptLong, ReadFault, WriteFault, BadTeam, NoMemory, UnknownFormat, BadPack}
+use Rattle.ps_setup.specs.declared.status.Status.TheVariants.{Done, Usage, FileMissing, FileFault, FileLong, BadDex, BadConfig, BadScript, ScriptLong, ReadFault, WriteFault, BadTeam, NoMemory, DoorFault, UnknownFormat, BadPack}
 use Rattle.ps_check.specs.Checks.{IsUnpacked}
 
 -- the statuses by which the look-up of a format ends a check
@@ -24,6 +24,7 @@ FormatCause (ScriptLong count) = ⊥
 FormatCause ReadFault = ⊥
 FormatCause WriteFault = ⊥
 FormatCause (BadTeam set rule subject) = ⊥
+FormatCause DoorFault = ⊥
 FormatCause (BadPack at kind) = ⊥
 
 -- the statuses of a text that was checked
@@ -42,6 +43,7 @@ IsOfText (BadConfig path kind) = ⊥
 IsOfText (BadScript line kind) = ⊥
 IsOfText (ScriptLong count) = ⊥
 IsOfText ReadFault = ⊥
+IsOfText DoorFault = ⊥
 IsOfText (UnknownFormat id) = ⊥
 
 -- why the bytes of a text have no team; want of memory may come in its place
@@ -65,4 +67,5 @@ RulesEnd found (BadConfig path kind) = ⊥
 RulesEnd found (BadScript line kind) = ⊥
 RulesEnd found (ScriptLong count) = ⊥
 RulesEnd found ReadFault = ⊥
+RulesEnd found DoorFault = ⊥
 RulesEnd found (UnknownFormat id) = ⊥

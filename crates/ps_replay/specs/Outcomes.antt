@@ -19,7 +19,7 @@ use Rattle.ps_world.specs.Transcript.{messages, output, block}
 use Rattle.ps_world.specs.OneEntry.{HasOneEntryEach, AreHistories}
 use Rattle.ps_world.specs.TwoWorlds.{HasEqualBlocks}
 use Rattle.ps_setup.specs.declared.status.Status.{Status}
-use Rattle.ps_setup.specs.declared.status.Status.TheVariants.{Done, Usage, FileMissing, FileFault, FileLong, BadDex, BadConfig, BadScript, ScriptLong, ReadFault, WriteFault, BadTeam, NoMemory, UnknownFormat, BadPack}
+use Rattle.ps_setup.specs.declared.status.Status.TheVariants.{Done, Usage, FileMissing, FileFault, FileLong, BadDex, BadConfig, BadScript, ScriptLong, ReadFault, WriteFault, BadTeam, NoMemory, DoorFault, UnknownFormat, BadPack}
 use Rattle.ps_setup.specs.Words.{Options}
 use Rattle.ps_setup.specs.Setups.{HasSetup, IsGood, Stops, IsOption, IsSettled, AreGood}
 
@@ -56,6 +56,7 @@ KeepsInput old new ReadFault = Unit {0}
 KeepsInput old new WriteFault = Unit {0}
 KeepsInput old new (BadTeam set rule subject) = new ≡ old
 KeepsInput old new NoMemory = Unit {0}
+KeepsInput old new DoorFault = new ≡ old
 KeepsInput old new (UnknownFormat id) = new ≡ old
 KeepsInput old new (BadPack at kind) = new ≡ old
 
@@ -107,6 +108,7 @@ WritesPrefix held o left old new ReadFault = Keeps old new
 WritesPrefix held o left old new WriteFault = HasSetup held o (λ config dex. FrontOf config dex left old new)
 WritesPrefix held o left old new (BadTeam set rule subject) = Keeps old new
 WritesPrefix held o left old new NoMemory = Keeps old new ⊎ HasSetup held o (λ config dex. FrontOf config dex left old new)
+WritesPrefix held o left old new DoorFault = Keeps old new
 WritesPrefix held o left old new (UnknownFormat id) = Keeps old new
 WritesPrefix held o left old new (BadPack at kind) = Keeps old new
 
@@ -127,6 +129,7 @@ ReplayCause held o left old new ReadFault = HasSetup held o IsGood
 ReplayCause held o left old new WriteFault = HasSetup held o IsGood
 ReplayCause held o left old new (BadTeam set rule subject) = ⊥
 ReplayCause held o left old new NoMemory = Unit {0}
+ReplayCause held o left old new DoorFault = ⊥
 ReplayCause held o left old new (UnknownFormat id) = ⊥
 ReplayCause held o left old new (BadPack at kind) = ⊥
 
@@ -158,6 +161,7 @@ IsOfInput ReadFault = Unit {0}
 IsOfInput WriteFault = Unit {0}
 IsOfInput (BadTeam set rule subject) = ⊥
 IsOfInput NoMemory = Unit {0}
+IsOfInput DoorFault = ⊥
 IsOfInput (UnknownFormat id) = ⊥
 IsOfInput (BadPack at kind) = ⊥
 
@@ -176,6 +180,7 @@ InputCause groups left ReadFault = Unit {0}
 InputCause groups left WriteFault = Unit {0}
 InputCause groups left (BadTeam set rule subject) = Unit {0}
 InputCause groups left NoMemory = Unit {0}
+InputCause groups left DoorFault = Unit {0}
 InputCause groups left (UnknownFormat id) = Unit {0}
 InputCause groups left (BadPack at kind) = Unit {0}
 

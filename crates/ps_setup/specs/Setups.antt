@@ -8,8 +8,8 @@ use Rattle.ps_outside.specs.declared.files.FileEnd.TheVariants as file_ends
 use Rattle.ps_dex.specs.declared.row.Tables.{Tables}
 use Rattle.ps_valid.specs.declared.row.Settings.{Settings}
 use Rattle.ps_setup.specs.declared.status.Status.{Status}
-use Rattle.ps_setup.specs.declared.status.Status.TheVariants.{Done, Usage, FileMissing, FileFault, FileLong, BadDex, BadConfig, BadScript, ScriptLong, ReadFault, WriteFault, BadTeam, NoMemory, UnknownFormat, BadPack}
-use Rattle.ps_setup.specs.Words.{Options, words_in}
+use Rattle.ps_setup.specs.declared.status.Status.TheVariants.{Done, Usage, FileMissing, FileFault, FileLong, BadDex, BadConfig, BadScript, ScriptLong, ReadFault, WriteFault, BadTeam, NoMemory, DoorFault, UnknownFormat, BadPack}
+use Rattle.ps_setup.specs.Words.{Options, words_in, serve_words_in}
 use Rattle.ps_setup.specs.Steps.{IsFaultOf, dex_in, config_in}
 
 -- ---- the words
@@ -22,6 +22,10 @@ usage_in (Err word) = Some word
 -- the place that is told of a faulty word of `run`
 abbrev pub usage_of : List (List ℕ) → Option ℕ
 usage_of words = usage_in (words_in words)
+
+-- and of `serve`
+abbrev pub serve_usage_of : List (List ℕ) → Option ℕ
+serve_usage_of words = usage_in (serve_words_in words)
 
 abbrev pub usage_told : Status → Option ℕ
 usage_told (Usage word) = Some word
@@ -37,6 +41,7 @@ usage_told ReadFault = None
 usage_told WriteFault = None
 usage_told (BadTeam set rule subject) = None
 usage_told NoMemory = None
+usage_told DoorFault = None
 usage_told (UnknownFormat id) = None
 usage_told (BadPack at kind) = None
 
@@ -103,6 +108,7 @@ IsSettled ReadFault = ⊥
 IsSettled WriteFault = ⊥
 IsSettled (BadTeam set rule subject) = ⊥
 IsSettled NoMemory = Unit {0}
+IsSettled DoorFault = ⊥
 IsSettled (UnknownFormat id) = ⊥
 IsSettled (BadPack at kind) = ⊥
 
@@ -143,6 +149,7 @@ NoFile name limit held old new (ScriptLong count) = ⊥
 NoFile name limit held old new ReadFault = ⊥
 NoFile name limit held old new WriteFault = ⊥
 NoFile name limit held old new (BadTeam set rule subject) = ⊥
+NoFile name limit held old new DoorFault = ⊥
 NoFile name limit held old new (UnknownFormat id) = ⊥
 NoFile name limit held old new (BadPack at kind) = ⊥
 
@@ -161,6 +168,7 @@ StepCause named old new (ScriptLong count) = ⊥
 StepCause named old new ReadFault = ⊥
 StepCause named old new WriteFault = ⊥
 StepCause named old new (BadTeam set rule subject) = ⊥
+StepCause named old new DoorFault = ⊥
 StepCause named old new (UnknownFormat id) = ⊥
 StepCause named old new (BadPack at kind) = ⊥
 

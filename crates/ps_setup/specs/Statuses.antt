@@ -1,7 +1,7 @@
 -- The numbers of the statuses.
 use Rattle.std.specs.Prelude.{ℕ}
 use Rattle.ps_setup.specs.declared.status.Status.{Status}
-use Rattle.ps_setup.specs.declared.status.Status.TheVariants.{Done, Usage, FileMissing, FileFault, FileLong, BadDex, BadConfig, BadScript, ScriptLong, ReadFault, WriteFault, BadTeam, NoMemory, UnknownFormat, BadPack}
+use Rattle.ps_setup.specs.declared.status.Status.TheVariants.{Done, Usage, FileMissing, FileFault, FileLong, BadDex, BadConfig, BadScript, ScriptLong, ReadFault, WriteFault, BadTeam, NoMemory, DoorFault, UnknownFormat, BadPack}
 
 abbrev pub number_of : Status → ℕ
 number_of Done = 0
@@ -17,5 +17,6 @@ number_of ReadFault = 10
 number_of WriteFault = 11
 number_of (BadTeam set rule subject) = 12
 number_of NoMemory = 13
+number_of DoorFault = 14
 number_of (UnknownFormat id) = 15
 number_of (BadPack at kind) = 16

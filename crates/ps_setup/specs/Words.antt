@@ -6,6 +6,7 @@ use Rattle.ps_base.specs.Numbers.{number_in}
 use Rattle.ps_setup.specs.declared.words.CheckWords.{CheckWords}
 use Rattle.ps_setup.specs.declared.words.DrillWords.{DrillWords}
 use Rattle.ps_setup.specs.declared.words.OptionWords.{OptionWords}
+use Rattle.ps_setup.specs.declared.words.ServeWords.{ServeWords}
 use Rattle.ps_setup.specs.declared.words.Command.{Command}
 use Rattle.ps_setup.specs.declared.words.Command.TheVariants as commands
 
@@ -26,7 +27,13 @@ pub record Drilled : Type 0 where
   pub steps : ℕ
   pub options : Options
 
--- what the words ask for
+-- what a server is asked for: so many connections at an address, with these files
+pub record Serves : Type 0 where
+  pub address : List ℕ
+  pub count : ℕ
+  pub options : Options
+
+-- what the words of `run` ask for
 pub data Asked : Type 0 where
   Replays : Options → Asked
   Drills : Drilled → Asked
@@ -127,8 +134,45 @@ abbrev pub check_in : List (List ℕ) → Result Asked ℕ
 check_in [] = Err 1
 check_in (format ∷ words) = if is_name format then team_in format words else Err 1
 
+-- ---- serve
+
+abbrev pub most_count : ℕ
+most_count = 1024
+
+abbrev pub within_count : Option ℕ → Option ℕ
+within_count None = None
+within_count (Some n) = if nat_le 1 n && nat_le n most_count then Some n else None
+
+-- the number of connections, 1 to 1,024, as its one decimal text
+abbrev pub count_in : List ℕ → Option ℕ
+count_in word = within_count (number_in word)
+
+abbrev pub serves : List ℕ → ℕ → Result Options ℕ → Result Serves ℕ
+serves address count (Ok options) = Ok (record { address = address; count = count; options = options })
+serves address count (Err at) = Err at
+
+abbrev pub serves_so_many : List ℕ → Option ℕ → List (List ℕ) → Result Serves ℕ
+serves_so_many address None words = Err 2
+serves_so_many address (Some count) words = serves address count (options_in 3 words)
+
+-- behind the address: the number of connections
+abbrev pub counted_in : List ℕ → List (List ℕ) → Result Serves ℕ
+counted_in address [] = Err 2
+counted_in address (number ∷ words) = serves_so_many address (count_in number) words
+
+-- behind `serve`: the address
+abbrev pub serve_in : List (List ℕ) → Result Serves ℕ
+serve_in [] = Err 1
+serve_in (address ∷ words) = if is_name address then counted_in address words else Err 1
+
 -- ---- all of it
 
+-- the words of `serve`
+abbrev pub serve_words_in : List (List ℕ) → Result Serves ℕ
+serve_words_in [] = Err 0
+serve_words_in (word ∷ words) = if bytes_eq word (codes "serve") then serve_in words else Err 0
+
+-- the words of `run`, which doesn't take `serve`
 abbrev pub words_in : List (List ℕ) → Result Asked ℕ
 words_in [] = Err 0
 words_in (word ∷ words) =
@@ -168,6 +212,9 @@ drilled_of w = record { steps = w.steps; options = options_of w.options }
 abbrev pub checked_of : CheckWords → Checked
 checked_of w = record { format = w.format.now; team = w.team.now; dex = option_copied w.dex; config = option_copied w.config }
 
+abbrev pub serves_of : ServeWords → Serves
+serves_of w = record { address = w.address.now; count = w.count; options = options_of w.options }
+
 abbrev pub asked_of : Command → Asked
 asked_of (commands.Replay options) = Replays (options_of options)
 asked_of (commands.Drill words) = Drills (drilled_of words)
@@ -178,3 +225,7 @@ abbrev pub HasFewSteps : Command → Type 0
 HasFewSteps (commands.Replay options) = Unit {0}
 HasFewSteps (commands.Drill words) = words.steps ≤ most_steps
 HasFewSteps (commands.Check words) = Unit {0}
+
+-- a server takes 1 to 1,024 connections
+abbrev pub IsCount : ℕ → Type 0
+IsCount n = (1 ≤ n) × (n ≤ most_count)

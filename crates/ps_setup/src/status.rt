@@ -66,6 +66,8 @@ pub enum Status {
     },
     /// Memory was refused; a front of the output was written.
     NoMemory,
+    /// The door failed: it could not listen, or hand out a connection.
+    DoorFault,
     /// No format of the configuration has the id.
     UnknownFormat {
         id: Id,
@@ -98,6 +100,7 @@ impl Status {
             Status::WriteFault => 11,
             Status::BadTeam { .. } => 12,
             Status::NoMemory => 13,
+            Status::DoorFault => 14,
             Status::UnknownFormat { .. } => 15,
             Status::BadPack { .. } => 16,
         }
@@ -122,6 +125,7 @@ impl fmt::Display for Status {
                 write!(f, "BadTeam set={set} rule={rule:?} subject={subject}")
             }
             Status::NoMemory => write!(f, "NoMemory"),
+            Status::DoorFault => write!(f, "DoorFault"),
             Status::UnknownFormat { id } => write!(f, "UnknownFormat id={id}"),
             Status::BadPack { at, kind } => write!(f, "BadPack at={at} kind={kind:?}"),
         }

@@ -1,12 +1,15 @@
 //! The words of a command.
 ghost use Rattle.std.specs.Prelude.{◌≡◌, ◌<◌, ◌≤◌, IfOk, IfSome, Ok, Err, map, string_bytes, MatchResult};
 ghost use Rattle.std.specs.Option.{option_copied};
-ghost use Rattle.ps_setup.specs.Words.{is_name, last_name, last_option, dex_first, config_first, options_in, replay_in, steps_in, drill_in, checks, team_in, check_in, words_in, options_of, asked_of, HasFewSteps};
+ghost use Rattle.ps_setup.specs.Words.{is_name, last_name, last_option, dex_first, config_first, options_in, replay_in, steps_in, drill_in, checks, team_in, check_in, words_in, count_in, counted_in, serve_in, serve_words_in, options_of, asked_of, serves_of, HasFewSteps, IsCount};
 
 use ps_base::decimal::read_u32;
 
 /// The most steps of a drill.
 pub const MOST_STEPS: u32 = 4_000;
+
+/// The most connections of a run of `serve`.
+pub const MOST_COUNT: u32 = 1_024;
 
 /// The files that options name.
 #[derive(Clone, Copy, Debug)]
@@ -39,7 +42,18 @@ pub struct CheckWords<'a> {
     pub config: Option<&'a str>,
 }
 
-/// What the words ask for.
+/// What `serve` is asked for.
+#[derive(Clone, Copy, Debug)]
+pub struct ServeWords<'a> {
+    /// The address at which connections are taken.
+    pub address: &'a str,
+    /// How many connections are taken, 1 to 1,024.
+    pub count: u32,
+    /// The files that options name.
+    pub options: OptionWords<'a>,
+}
+
+/// What the words of `run` ask for.
 #[derive(Clone, Copy, Debug)]
 pub enum Command<'a> {
     /// To replay a script, with the files of these names.
@@ -275,6 +289,77 @@ pub fn read_words(words: &[String]) -> Result<Command<'_>, u32>
             }
             if word.as_str() == "check" {
                 return check_in(rest);
+            }
+            Err(0)
+        }
+    }
+}
+
+// How many connections a word says.
+fn count_in(word: &str) -> Option<u32>
+    ensures value { result ≡ count_in word.now }
+    ensures few { IfSome result IsCount }
+{
+    match read_u32(word.as_bytes()) {
+        None => None,
+        Some(count) => {
+            if count >= 1 && count <= MOST_COUNT {
+                return Some(count);
+            }
+            None
+        }
+    }
+}
+
+fn counted_in<'a>(address: &'a str, words: &'a [String]) -> Result<ServeWords<'a>, u32>
+    ensures read { MatchResult result (λ w. counted_in address.now (map string_bytes words.now) ≡ Ok (serves_of w)) (λ n. counted_in address.now (map string_bytes words.now) ≡ Err n) }
+    ensures few { IfOk result (λ w. IsCount w.count) }
+{
+    match words {
+        [] => Err(2),
+        [number, rest @ ..] => match count_in(number.as_str()) {
+            None => Err(2),
+            Some(count) => match options_in(3, rest) {
+                Err(at) => Err(at),
+                Ok(options) => Ok(ServeWords {
+                    address,
+                    count,
+                    options,
+                }),
+            },
+        },
+    }
+}
+
+fn serve_in(words: &[String]) -> Result<ServeWords<'_>, u32>
+    ensures read { MatchResult result (λ w. serve_in (map string_bytes words.now) ≡ Ok (serves_of w)) (λ n. serve_in (map string_bytes words.now) ≡ Err n) }
+    ensures few { IfOk result (λ w. IsCount w.count) }
+{
+    match words {
+        [] => Err(1),
+        [address, rest @ ..] => {
+            if is_name(address.as_str()) {
+                counted_in(address.as_str(), rest)
+            } else {
+                Err(1)
+            }
+        }
+    }
+}
+
+/// Reads the words of a server: `serve ADDRESS COUNT`, and then `--dex NAME` and `--config NAME`, each at most once, in either
+/// order. COUNT is 1 to 1,024, without a sign or leading zeros; a name or an address is a word that isn't empty and doesn't
+/// begin with `-`. The error is the place of the first word that can't stand, counted from 0, or how many there are where one
+/// is missing.
+pub fn read_serve_words(words: &[String]) -> Result<ServeWords<'_>, u32>
+    ensures read { MatchResult result (λ w. serve_words_in (map string_bytes words.now) ≡ Ok (serves_of w)) (λ n. serve_words_in (map string_bytes words.now) ≡ Err n) }
+    ensures few { IfOk result (λ w. IsCount w.count) }
+{
+    match words {
+        [] => Err(0),
+        [word, rest @ ..] => {
+            if word.as_str() == "serve" {
+                return serve_in(rest);
             }
             Err(0)
         }
