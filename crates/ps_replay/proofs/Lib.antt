@@ -1,6 +1,5 @@
-pub mod CheckLemmas
 pub mod FlowLemmas
+pub mod InputLemmas
 pub mod OutcomeLemmas
-pub mod SetupLemmas
 pub mod SymbolLemmas
 pub mod RunLemmas

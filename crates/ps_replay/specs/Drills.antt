@@ -18,12 +18,12 @@ use Rattle.ps_world.specs.Counts.{refused}
 use Rattle.ps_world.specs.Transcript.{output}
 use Rattle.ps_drill.specs.Drills.{drill_text}
 use Rattle.ps_drill.specs.Messages.{messages_in}
-use Rattle.ps_replay.specs.declared.status.Status.{Status}
-use Rattle.ps_replay.specs.declared.status.Status.TheVariants.{Done, Usage, FileMissing, FileFault, FileLong, BadDex, BadConfig, BadScript, ScriptLong, ReadFault, WriteFault, BadTeam, NoMemory, UnknownFormat, BadPack}
-use Rattle.ps_replay.specs.Words.{Options, Drilled}
-use Rattle.ps_replay.specs.Steps.{IsFaultOf, dex_in, config_in}
-use Rattle.ps_replay.specs.Outcomes.{HasSetup, IsOption, symbols_of, AreGood, IsSettled}
-use Rattle.ps_replay.specs.Checks.{Then}
+use Rattle.ps_setup.specs.declared.status.Status.{Status}
+use Rattle.ps_setup.specs.declared.status.Status.TheVariants.{Done, Usage, FileMissing, FileFault, FileLong, BadDex, BadConfig, BadScript, ScriptLong, ReadFault, WriteFault, BadTeam, NoMemory, DoorFault, UnknownFormat, BadPack}
+use Rattle.ps_setup.specs.Words.{Options, Drilled}
+use Rattle.ps_setup.specs.Steps.{IsFaultOf, dex_in, config_in}
+use Rattle.ps_setup.specs.Setups.{HasSetup, IsOption, AreGood, IsSettled, Then}
+use Rattle.ps_replay.specs.Outcomes.{symbols_of}
 
 -- ---- the summary
 
@@ -85,6 +85,7 @@ WritesDrill held words old new (ScriptLong count) = Keeps old new
 WritesDrill held words old new ReadFault = Keeps old new
 WritesDrill held words old new (BadTeam set rule subject) = Keeps old new
 WritesDrill held words old new NoMemory = Keeps old new
+WritesDrill held words old new DoorFault = Keeps old new
 WritesDrill held words old new (UnknownFormat id) = Keeps old new
 WritesDrill held words old new (BadPack at kind) = Keeps old new
 
@@ -105,6 +106,7 @@ RunEnds (ScriptLong count) = ⊥
 RunEnds ReadFault = ⊥
 RunEnds (BadTeam set rule subject) = ⊥
 RunEnds NoMemory = ⊥
+RunEnds DoorFault = ⊥
 RunEnds (UnknownFormat id) = ⊥
 RunEnds (BadPack at kind) = ⊥
 
@@ -134,6 +136,7 @@ DrillCause options old new ReadFault = ⊥
 DrillCause options old new WriteFault = Unit {0}
 DrillCause options old new (BadTeam set rule subject) = ⊥
 DrillCause options old new NoMemory = Unit {0}
+DrillCause options old new DoorFault = ⊥
 DrillCause options old new (UnknownFormat id) = ⊥
 DrillCause options old new (BadPack at kind) = ⊥
 
@@ -157,6 +160,7 @@ IsOfRun (BadScript line kind) = ⊥
 IsOfRun (ScriptLong count) = ⊥
 IsOfRun ReadFault = ⊥
 IsOfRun (BadTeam set rule subject) = ⊥
+IsOfRun DoorFault = ⊥
 IsOfRun (UnknownFormat id) = ⊥
 IsOfRun (BadPack at kind) = ⊥
 

@@ -1,10 +1,5 @@
-pub mod Words
-pub mod Statuses
-pub mod Steps
 pub mod Outcomes
-pub mod Checks
 pub mod Drills
 pub mod Writes
 pub mod Runs
-pub mod Files
 pub mod Flow

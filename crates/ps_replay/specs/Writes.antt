@@ -1,11 +1,11 @@
 -- What was written, by what the words ask for.
 use Rattle.std.specs.Prelude.{ℕ, List, Option, Result, Ok, Err}
 use Rattle.std.specs.Io.KnownBytes.{Keeps}
-use Rattle.ps_replay.specs.declared.status.Status.{Status}
-use Rattle.ps_replay.specs.Words.{Asked, Replays, Drills, Checks}
+use Rattle.ps_setup.specs.declared.status.Status.{Status}
+use Rattle.ps_setup.specs.Words.{Asked, Replays, Drills, Checks}
+use Rattle.ps_check.specs.Checks.{WritesLegal}
 use Rattle.ps_replay.specs.Outcomes.{WritesPrefix}
 use Rattle.ps_replay.specs.Drills.{WritesDrill}
-use Rattle.ps_replay.specs.Checks.{WritesLegal}
 
 -- at a status other than Done; of a check, at Done too
 abbrev pub Writes : Result Asked ℕ → Option (List ℕ → Option (List ℕ)) → Option (List ℕ) → Option (List ℕ) → Option (List ℕ) → Status → Type 0

@@ -1,14 +1,8 @@
-//! Replays a recorded script of connections, and checks teams.
+//! Replays a recorded script of connections, runs drills, and does all else that the words of the program ask for.
 #![tactic(auto)]
 
-pub mod check;
-pub mod config;
-pub mod dex;
 mod drill;
-pub mod file;
 pub mod replay;
 pub mod run;
-pub mod status;
 mod summary;
 pub mod symbols;
-pub mod words;

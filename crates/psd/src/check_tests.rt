@@ -5,7 +5,7 @@ use ps_base::text::Text;
 use ps_outside::files::{MemFiles, NamedFile};
 use ps_outside::sink::MemSink;
 use ps_outside::source::MemSource;
-use ps_replay::status::Status;
+use ps_setup::status::Status;
 use std::alloc::{AllocError, Global};
 use std::test::Fail;
 

@@ -5,7 +5,7 @@ use ps_outside::host_files::HostFiles;
 use ps_outside::sink::StdSink;
 use ps_outside::source::StdSource;
 use ps_replay::run::run;
-use ps_replay::status::Status;
+use ps_setup::status::Status;
 use std::process::ExitCode;
 use std::{env, io};
 

@@ -5,7 +5,7 @@ use ps_outside::files::{Files, NamedFile, SureFiles};
 use ps_outside::sink::{MemSink, Sink};
 use ps_outside::source::{Source, SureSource};
 use ps_replay::run::run;
-use ps_replay::status::Status;
+use ps_setup::status::Status;
 use std::alloc::{AllocError, Global};
 
 /// How a run ends, and nothing of what else it promises: a row compares what was written with a text, and the proofs of

@@ -1,5 +1,5 @@
-use Rattle.ps_replay.specs.Words.{options_of}
-use Rattle.ps_replay.proofs.SetupLemmas.{files_settle}
+use Rattle.ps_setup.specs.Words.{options_of}
+use Rattle.ps_setup.proofs.SetupLemmas.{files_settle}
 use Rattle.ps_replay.proofs.drill.drill_config.Goals as goal
 
 pub returns-in-Err-clause-settles : goal.returns-in-Err-clause-settles

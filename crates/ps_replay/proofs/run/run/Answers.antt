@@ -1,6 +1,6 @@
 use Rattle.std.proofs.Common.{◌≡◌, map, string_bytes, Ok}
 use Rattle.ps_outside.specs.Causes.{Rose}
-use Rattle.ps_replay.specs.Words.{Replays, words_in, options_of}
+use Rattle.ps_setup.specs.Words.{Replays, words_in, options_of}
 use Rattle.ps_replay.specs.Outcomes.{Settles}
 use Rattle.ps_replay.proofs.OutcomeLemmas.{replays}
 use Rattle.ps_replay.proofs.run.run.Goals as goal

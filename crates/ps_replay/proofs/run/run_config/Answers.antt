@@ -1,8 +1,9 @@
 use Rattle.std.specs.Arc.{arc_value}
 use Rattle.ps_outside.specs.Causes.{Rose}
-use Rattle.ps_replay.specs.Words.{options_of}
-use Rattle.ps_replay.specs.Outcomes.{IsSetUp}
-use Rattle.ps_replay.proofs.SetupLemmas.{set_up, config_settles, input_settles, input_cause}
+use Rattle.ps_setup.specs.Words.{options_of}
+use Rattle.ps_setup.specs.Setups.{IsSetUp}
+use Rattle.ps_setup.proofs.SetupLemmas.{set_up}
+use Rattle.ps_replay.proofs.InputLemmas.{config_settles, input_settles, input_cause}
 use Rattle.ps_replay.proofs.run.run_config.Goals as goal
 
 pub returns-in-Err-clause-complete : goal.returns-in-Err-clause-complete

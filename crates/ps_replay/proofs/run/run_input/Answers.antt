@@ -1,7 +1,7 @@
 use Rattle.std.proofs.Common.{◌≡◌, subst}
 use Rattle.std.specs.Arc.{arc_value}
-use Rattle.ps_replay.proofs.OutcomeLemmas.{not_long, input_is}
 use Rattle.ps_replay.specs.Outcomes.{HasOneEntryEachText, HasEqualWorlds}
+use Rattle.ps_replay.proofs.OutcomeLemmas.{not_long, input_is}
 use Rattle.ps_replay.proofs.run.run_input.Goals as goal
 
 pub returns-in-Err-Long-clause-settles : goal.returns-in-Err-Long-clause-settles

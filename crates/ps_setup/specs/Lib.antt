@@ -1,0 +1,4 @@
+pub mod Words
+pub mod Statuses
+pub mod Steps
+pub mod Setups
