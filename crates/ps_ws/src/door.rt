@@ -14,6 +14,29 @@ use std::marker::Model;
 use std::net::{Net, TcpListener, TcpStream};
 use std::{io, rt};
 
+// Whether a connection was lost on its way, before it was taken from the queue of those that wait.
+fn is_lost(error: &io::Error) -> bool {
+    matches!(
+        error.kind(),
+        ErrorKind::ConnectionAborted | ErrorKind::ConnectionReset | ErrorKind::Interrupted
+    )
+}
+
+// Waits for a connection. One that is lost on its way is passed over: it is no fault of the door's, and stops nobody.
+fn next_stream(listener: &TcpListener) -> io::Result<TcpStream> {
+    for _ in 0..u64::MAX {
+        match listener.accept() {
+            Ok((stream, _address)) => return Ok(stream),
+            Err(error) => {
+                if !is_lost(&error) {
+                    return Err(error);
+                }
+            }
+        }
+    }
+    Err(io::Error::from(ErrorKind::ConnectionAborted))
+}
+
 /// A listening TCP socket, whose connections are WebSocket links.
 ///
 /// The handshake of a link is done by the link's own first call, so a client that is slow to do it
@@ -69,7 +92,7 @@ impl<R: Net<Listener = TcpListener, Stream = TcpStream> + rt::Clock + Copy> WsDo
         let Some(listener) = &self.listener else {
             return Err(io::Error::from(ErrorKind::NotConnected));
         };
-        let (stream, _address) = listener.accept()?;
+        let stream = next_stream(listener)?;
         // Short texts leave at once. Where the host refuses this they come late, and no more.
         let _ = stream.set_nodelay(true);
         let wire = Wire::open(&self.host, self.host, self.alloc, stream)?;
