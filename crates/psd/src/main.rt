@@ -1,13 +1,21 @@
 //! The program.
 #![tactic(auto)]
 
+use ps_outside::host_clock::HostClock;
 use ps_outside::host_files::HostFiles;
 use ps_outside::sink::StdSink;
 use ps_outside::source::StdSource;
+use ps_outside::spawner::ThreadSpawner;
 use ps_replay::run::run;
+use ps_server::serve::serve;
 use ps_setup::status::Status;
+use ps_ws::door::WsDoor;
+use std::alloc::Global;
+use std::net::{Net, TcpListener, TcpStream};
 use std::process::ExitCode;
-use std::{env, io};
+use std::sync::Wait;
+use std::thread::Threads;
+use std::{env, io, rt};
 
 #[cfg(test)]
 mod check_tests;
@@ -37,6 +45,9 @@ Usage:
   psd check FORMAT TEAMFILE [--dex NAME] [--config NAME]
       checks the packed team of a file against the rules of a format, and prints
       `legal`, or ends with the first rule that the team breaks
+  psd serve ADDRESS COUNT [--dex NAME] [--config NAME]
+      listens at the address, as 127.0.0.1:8000, and serves the next COUNT
+      connections over WebSocket, 1 to 1024; ends when all of them have ended
   psd --help
       prints this help
   psd --version
@@ -87,7 +98,35 @@ fn told(words: &[String]) -> Option<&'static str> {
     }
 }
 
-fn status_of(rt: &HostRuntime, words: &[String]) -> Status {
+/// Whether the words are those of a server.
+fn is_serve(words: &[String]) -> bool {
+    match words {
+        [] => false,
+        [first, ..] => first.as_str() == "serve",
+    }
+}
+
+fn serve_status<R>(host: R, alloc: Global, words: &[String]) -> Status
+where
+    R: Threads + Wait + rt::Files + rt::Clock + Copy + Send + Drop + 'static,
+    R: Net<Listener = TcpListener, Stream = TcpStream>,
+{
+    let mut files = HostFiles::new(&host);
+    let mut door = WsDoor::new(host, alloc);
+    let mut clock = HostClock::new(host);
+    let mut spawner = ThreadSpawner::new();
+    serve(
+        host,
+        alloc,
+        words,
+        &mut files,
+        &mut door,
+        &mut clock,
+        &mut spawner,
+    )
+}
+
+fn run_status(rt: &HostRuntime, words: &[String]) -> Status {
     let mut files = HostFiles::new(rt);
     let mut input = StdSource::new(rt.reader());
     let mut out = StdSink::new(io::writer(rt));
@@ -104,7 +143,13 @@ fn main(rt: HostRuntime) -> ExitCode {
                     Err(_) => ExitCode::from(Status::WriteFault.number()),
                 };
             }
-            None => status_of(&rt, &words),
+            None => {
+                if is_serve(&words) {
+                    serve_status(rt, rt.alloc(), &words)
+                } else {
+                    run_status(&rt, &words)
+                }
+            }
         },
     };
     match &status {
