@@ -1,22 +1,27 @@
 -- The other calls, from what happens to one pass.
-use Rattle.std.proofs.Common.{◌≡◌, ◌⊎◌, ℕ, ◌+◌, List, Option, Some, None, Result, Ok, Err, refl, sym, ap, ◌∙◌, subst, inl, inr, Vec, Global}
-use Rattle.std.specs.Prelude.{slice_get, slice_set, IsErr, IfOk, OnOk, OnErr}
+use Rattle.std.proofs.Common.{◌≡◌, ◌⊎◌, ℕ, ◌+◌, List, [], ◌∷◌, ◌++◌, Option, Some, None, Result, Ok, Err, refl, sym, ap, ◌∙◌, subst, inl, inr, ⊎_elim, Vec, Global}
+use Rattle.std.specs.Prelude.{slice_get, slice_set, IsSome, IsErr, IfOk, OnOk, OnErr}
 use Rattle.std.specs.List.{AllZip}
+use Rattle.std.proofs.lemmas.List.{map-append}
 use Rattle.std.proofs.lemmas.Bool.{false≢true}
 use Rattle.ps_base.specs.declared.badge.Badge.{Badge}
 use Rattle.ps_base.specs.declared.msg.Msg.{Msg}
 use Rattle.ps_lines.specs.declared.command.Command.TheVariants as room_commands
+use Rattle.ps_lines.specs.declared.command.HallCmd.TheVariants as hall_commands
 use Rattle.ps_valid.specs.declared.start.Start.{Start}
 use Rattle.ps_places.specs.declared.command.RoomCmd.TheVariants.{Begin, Play}
-use Rattle.ps_hub.specs.Hubs.{Hub}
-use Rattle.ps_hub.specs.Passes.{IsHallPass, IsRoomPass, AreOf, Keeps}
-use Rattle.ps_hub.specs.Turns.{TurnsAtLast}
-use Rattle.ps_hub.specs.Calls.{room_entry, BeginsAt, BeginsAtMost, Starts, LooksAtMost, HallCaught, Caught, HallOnly, CatchesUpHall, CatchesUp, LooksHall, LooksRoom, Counts, QuitsBy, QuitsRoom, QuitsAtMost, QuitsHall, QuitsHallAtMost, Quits}
+use Rattle.ps_places.specs.Halls.{HallAnswers}
+use Rattle.ps_places.specs.Rooms.{Answers}
+use Rattle.ps_hub.specs.Hubs.{Hub, root_of, site_of}
+use Rattle.ps_hub.specs.Passes.{IsHallPass, IsRoomPass, numbers, AreOf, Keeps}
+use Rattle.ps_hub.specs.Turns.{TurnsAtLast, FallsShortAtLast}
+use Rattle.ps_hub.specs.Calls.{hall_entry, room_entry, BeginsAt, BeginsAtMost, Starts, LooksAtMost, HallCaught, Caught, HallOnly, CatchesUpHall, CatchesUp, LooksHall, LooksRoom, Counts, QuitsBy, QuitsRoom, QuitsRoomAtMost, QuitsHall, QuitsHallAtMost, QuitsUpTo, QuitsWith, Quits}
 use Rattle.ps_hub.specs.declared.pass.HallPass.{HallPass}
 use Rattle.ps_hub.specs.declared.pass.RoomPass.{RoomPass}
 use Rattle.ps_hub.specs.declared.passes.Passes.{Passes}
-use Rattle.ps_hub.proofs.QuitLemmas.{zip_weaker}
-use Rattle.ps_hub.proofs.RowLemmas.{kept_then}
+use Rattle.ps_hub.proofs.QuitLemmas.{zip_weaker, zip_append, zip_self, IsDoneTo, parts_of}
+use Rattle.ps_hub.proofs.RowLemmas.{kept_then, set_seam}
+use Rattle.ps_hub.proofs.ShortLemmas.{short_turns_at_last}
 
 -- ---- the begin of a battle
 
@@ -27,9 +32,9 @@ begun hub start number place does old h mid k new is keeps rest row same done =
 
 pub started : {T E : Type 0} (hub : Hub) (start : Start) (number place : ℕ) (old : Passes) (h : RoomPass) (mid : Passes) (k : RoomPass) (new : Passes) (result : Result T E) → number ≡ 15 + start.number → Keeps hub number place old h mid
     → new ≡ record mid { rooms = new.rooms } → new.rooms.items ≡ slice_set mid.rooms.items place k → (k.at ≡ h.at) × (k.number ≡ h.number) × (k.id ≡ h.id)
-    → OnOk result (TurnsAtLast h.pass.1 (Some (Begin start)) k.pass.1) → OnErr result (BeginsAtMost start h k) → Starts hub start old result new
+    → OnOk result (TurnsAtLast h.pass.1 (Some (Begin start)) k.pass.1) → OnErr result (BeginsAtMost hub start h k) → Starts hub start old result new
 started hub start number place old h mid k new (Ok done) is keeps rest row same ok err = begun hub start number place _ old h mid k new is keeps rest row same ok
-started hub start number place old h mid k new (Err e) is keeps rest row same ok err = inr (begun hub start number place (BeginsAtMost start) old h mid k new is keeps rest row same err)
+started hub start number place old h mid k new (Err e) is keeps rest row same ok err = inr (begun hub start number place (BeginsAtMost hub start) old h mid k new is keeps rest row same err)
 
 -- ---- catching up
 
@@ -68,19 +73,30 @@ hall_only does old new h k was is rows conn badge done = record { before = h; be
 pub quits_by : (badge : Option Badge) (conn moment : ℕ) (h k : RoomPass) (id : List ℕ) (b : Badge) → h.id ≡ Some id → badge ≡ Some b → TurnsAtLast h.pass.1 (Some (Play (room_entry conn b moment room_commands.Quit))) k.pass.1 → (k.at ≡ h.at) × (k.number ≡ h.number) × (k.id ≡ h.id) → QuitsRoom badge conn moment h k
 quits_by badge conn moment h k id b held is turns same = subst (λ (i : Option (List ℕ)). QuitsBy i badge conn moment h k) (sym held) (b, is, turns, same.0, same.1, same.2)
 
-pub quits_short : (badge : Option Badge) (conn moment : ℕ) (h k : RoomPass) → (k.at ≡ h.at) × (k.number ≡ h.number) × (k.id ≡ h.id) → (k.pass.1 ≡ h.pass.1) ⊎ TurnsAtLast h.pass.1 None k.pass.1 → QuitsAtMost badge conn moment h k
-quits_short badge conn moment h k same done = inr (same.1, same.2, same.0, done)
+-- and fell short
+pub quits_short : (hub : Hub) (badge : Option Badge) (conn moment : ℕ) (h k : RoomPass) (id : List ℕ) (b : Badge) → h.id ≡ Some id → badge ≡ Some b → (k.at ≡ h.at) × (k.number ≡ h.number) × (k.id ≡ h.id)
+    → FallsShortAtLast (Answers (site_of hub h.number)) h.pass.1 h.cursor (Play (room_entry conn b moment room_commands.Quit)) k.pass.1 k.cursor → QuitsRoomAtMost hub badge conn moment h k
+quits_short hub badge conn moment h k id b held is same done = (subst IsSome (sym held) refl, b, is, done, same.0, same.1, same.2)
 
--- a pass that is as it was
-pub quits_not : (badge : Option Badge) (conn moment : ℕ) (h : RoomPass) → QuitsAtMost badge conn moment h h
-quits_not badge conn moment h = inr (refl, refl, refl, inl refl)
-
-pub quits_more : (badge : Option Badge) (conn moment : ℕ) (h k : RoomPass) → QuitsRoom badge conn moment h k → QuitsAtMost badge conn moment h k
-quits_more badge conn moment h k done = inl done
+-- the row where the next one fell short
+pub quits_up_to : (hub : Hub) (badge : Option Badge) (conn moment place : ℕ) (old now new : List RoomPass) (h k : RoomPass) → slice_get now place ≡ Some h → new ≡ slice_set now place k → QuitsRoomAtMost hub badge conn moment h k → IsDoneTo (QuitsRoom badge conn moment) place old now → QuitsUpTo hub badge conn moment old new
+quits_up_to hub badge conn moment place old now new h k there set short done =
+    let p = parts_of (QuitsRoom badge conn moment) place old now h there done in
+    record {
+      front = p.front;
+      quitted = p.front_now;
+      before = h;
+      behind = k;
+      back = p.back;
+      was = p.was;
+      is = set ∙ ap (λ (l : List RoomPass). slice_set l place k) p.is ∙ set_seam p.front_now h k p.back place p.count_now;
+      done = p.done;
+      short = short;
+    }
 
 -- the Quits in the rooms were made, and the one in the hall as this tells
 pub quits_all : {T E : Type 0} (hub : Hub) (moment : ℕ) (old mid new : Passes) (result : Result T E) → mid ≡ record old { rooms = mid.rooms } → AllZip (QuitsRoom old.badge old.conn moment) old.rooms.items mid.rooms.items
-    → OnOk result (HallOnly (QuitsHall mid.conn moment) mid new) → OnErr result (HallOnly (QuitsHallAtMost mid.conn moment) mid new) → Quits hub moment old result new
+    → OnOk result (HallOnly (QuitsHall mid.conn moment) mid new) → OnErr result (HallOnly (QuitsHallAtMost hub mid.conn moment) mid new) → Quits hub moment old result new
 quits_all hub moment old mid new (Ok done) rest rooms ok err =
     let conn : mid.conn ≡ old.conn = ap (λ (p : Passes). p.conn) rest in
     record {
@@ -95,27 +111,103 @@ quits_all hub moment old mid new (Ok done) rest rooms ok err =
     }
 quits_all hub moment old mid new (Err e) rest rooms ok err =
     let conn : mid.conn ≡ old.conn = ap (λ (p : Passes). p.conn) rest in
-    record {
-      rooms = subst (λ (l : List RoomPass). AllZip (QuitsAtMost old.badge old.conn moment) old.rooms.items l) (sym err.rooms) (zip_weaker (QuitsRoom old.badge old.conn moment) (QuitsAtMost old.badge old.conn moment) (quits_more old.badge old.conn moment) old.rooms.items mid.rooms.items rooms);
+    inr record {
+      rooms = subst (λ (l : List RoomPass). AllZip (QuitsRoom old.badge old.conn moment) old.rooms.items l) (sym err.rooms) rooms;
       before = err.before;
       behind = err.behind;
       was = sym (ap (λ (p : Passes). p.hall) rest) ∙ err.was;
       is = err.is;
-      done = subst (λ (c : ℕ). QuitsHallAtMost c moment err.before err.behind) conn err.done;
+      done = subst (λ (c : ℕ). QuitsHallAtMost hub c moment err.before err.behind) conn err.done;
       conn = err.conn ∙ conn;
       badge = err.badge ∙ ap (λ (p : Passes). p.badge) rest;
     }
 
--- it stopped before the hall
-pub quits_stopped : {T E : Type 0} (hub : Hub) (moment : ℕ) (old new : Passes) (result : Result T E) → AreOf hub old → IsErr result → new ≡ record old { rooms = new.rooms } → AllZip (QuitsAtMost old.badge old.conn moment) old.rooms.items new.rooms.items → Quits hub moment old result new
-quits_stopped hub moment old new (Ok done) are is rest rooms = absurd (false≢true is)
-quits_stopped hub moment old new (Err e) are is rest rooms = record {
-  rooms = rooms;
+quit_number : (badge : Option Badge) (conn moment : ℕ) (h k : RoomPass) (id : Option (List ℕ)) → QuitsBy id badge conn moment h k → k.number ≡ h.number
+quit_number badge conn moment h k None q = ap (λ (p : RoomPass). p.number) q
+quit_number badge conn moment h k (Some id) q = q.4
+
+-- the row has the same places after Quits
+pub quit_numbers : (badge : Option Badge) (conn moment : ℕ) (old new : List RoomPass) → AllZip (QuitsRoom badge conn moment) old new → numbers new ≡ numbers old
+quit_numbers badge conn moment [] [] all = refl
+quit_numbers badge conn moment [] (k ∷ ks) all = absurd all
+quit_numbers badge conn moment (h ∷ hs) [] all = absurd all
+quit_numbers badge conn moment (h ∷ hs) (k ∷ ks) all =
+    ap (λ (n : ℕ). n ∷ numbers ks) (quit_number badge conn moment h k h.id all.0) ∙ ap (λ (l : List ℕ). h.number ∷ l) (quit_numbers badge conn moment hs ks all.1)
+
+pub quit_numbers_up_to : (hub : Hub) (badge : Option Badge) (conn moment : ℕ) (old new : List RoomPass) → QuitsUpTo hub badge conn moment old new → numbers new ≡ numbers old
+quit_numbers_up_to hub badge conn moment old new q =
+    let parts : (front : List RoomPass) (k : RoomPass) → numbers (front ++ k ∷ q.back) ≡ numbers front ++ k.number ∷ numbers q.back = λ front k. map-append (λ (p : RoomPass). p.number) front (k ∷ q.back) in
+    ap (λ (l : List RoomPass). numbers l) q.is ∙ parts q.quitted q.behind ∙ ap (λ (l : List ℕ). l ++ q.behind.number ∷ numbers q.back) (quit_numbers badge conn moment q.front q.quitted q.done)
+    ∙ ap (λ (n : ℕ). numbers q.front ++ n ∷ numbers q.back) q.short.5 ∙ sym (ap (λ (l : List RoomPass). numbers l) q.was ∙ parts q.front q.before)
+
+-- one in a room fell short
+pub quits_stopped : {T E : Type 0} (hub : Hub) (moment : ℕ) (old new : Passes) (result : Result T E) → IsErr result → new ≡ record old { rooms = new.rooms } → QuitsUpTo hub old.badge old.conn moment old.rooms.items new.rooms.items → Quits hub moment old result new
+quits_stopped hub moment old new (Ok done) is rest rooms = absurd (false≢true is)
+quits_stopped hub moment old new (Err e) is rest rooms = inl (rest, rooms)
+
+-- ---- the end of a connection, at each pass by itself
+
+-- the Quit, or at the most a turn without it
+abbrev pub RoomEndsAtMost : Option Badge → ℕ → ℕ → RoomPass → RoomPass → Type 0
+RoomEndsAtMost badge conn moment h k = QuitsRoom badge conn moment h k ⊎ ((k.number ≡ h.number) × (k.id ≡ h.id) × (k.at ≡ h.at) × ((k.pass.1 ≡ h.pass.1) ⊎ TurnsAtLast h.pass.1 None k.pass.1))
+
+abbrev pub HallEndsAtMost : ℕ → ℕ → HallPass → HallPass → Type 0
+HallEndsAtMost conn moment h k = QuitsHall conn moment h k ⊎ ((k.at ≡ h.at) × ((k.pass.1 ≡ h.pass.1) ⊎ TurnsAtLast h.pass.1 None k.pass.1))
+
+held_by_some : {A : Type 0} (o : Option A) → IsSome o → (x : A) × (o ≡ Some x)
+held_by_some None is = absurd (false≢true is)
+held_by_some (Some x) is = (x, refl)
+
+room_ends : (hub : Hub) (badge : Option Badge) (conn moment : ℕ) (h k : RoomPass) → QuitsRoomAtMost hub badge conn moment h k → RoomEndsAtMost badge conn moment h k
+room_ends hub badge conn moment h k q =
+    let quit = Play (room_entry conn q.1 moment room_commands.Quit) in
+    let held = held_by_some h.id q.0 in
+    ⊎_elim
+    (λ (e : k.pass.1 ≡ h.pass.1). inr (q.5, q.6, q.4, inl e))
+    (λ (rest : TurnsAtLast h.pass.1 None k.pass.1 ⊎ TurnsAtLast h.pass.1 (Some quit) k.pass.1). ⊎_elim
+    (λ (t : TurnsAtLast h.pass.1 None k.pass.1). inr (q.5, q.6, q.4, inr t))
+    (λ (t : TurnsAtLast h.pass.1 (Some quit) k.pass.1). inl (quits_by badge conn moment h k held.0 q.1 held.1 q.2 t (q.4, q.5, q.6)))
+    rest)
+    (short_turns_at_last (Answers (site_of hub h.number)) h.pass.1 h.cursor quit k.pass.1 k.cursor q.3)
+
+hall_ends : (hub : Hub) (conn moment : ℕ) (h k : HallPass) → QuitsHallAtMost hub conn moment h k → HallEndsAtMost conn moment h k
+hall_ends hub conn moment h k q =
+    let quit = hall_entry conn moment hall_commands.Quit in
+    ⊎_elim
+    (λ (e : k.pass.1 ≡ h.pass.1). inr (q.1, inl e))
+    (λ (rest : TurnsAtLast h.pass.1 None k.pass.1 ⊎ TurnsAtLast h.pass.1 (Some quit) k.pass.1). ⊎_elim
+    (λ (t : TurnsAtLast h.pass.1 None k.pass.1). inr (q.1, inr t))
+    (λ (t : TurnsAtLast h.pass.1 (Some quit) k.pass.1). inl (t, q.1))
+    rest)
+    (short_turns_at_last (HallAnswers (root_of hub)) h.pass.1 h.cursor quit k.pass.1 k.cursor q.0)
+
+rooms_end : (hub : Hub) (badge : Option Badge) (conn moment : ℕ) (old new : List RoomPass) → QuitsUpTo hub badge conn moment old new → AllZip (RoomEndsAtMost badge conn moment) old new
+rooms_end hub badge conn moment old new q =
+    let R : RoomPass → RoomPass → Type 0 = RoomEndsAtMost badge conn moment in
+    let front : AllZip R q.front q.quitted = zip_weaker (QuitsRoom badge conn moment) R (λ h k done. inl done) q.front q.quitted q.done in
+    let back : AllZip R q.back q.back = zip_self R (λ h. inr (refl, refl, refl, inl refl)) q.back in
+    subst (λ (l : List RoomPass). AllZip R l new) (sym q.was) (subst (λ (l : List RoomPass). AllZip R (q.front ++ q.before ∷ q.back) l) (sym q.is)
+    (zip_append R q.front q.quitted (q.before ∷ q.back) (q.behind ∷ q.back) front (room_ends hub badge conn moment q.before q.behind q.short, back)))
+
+pub quits_each : {T E : Type 0} (hub : Hub) (moment : ℕ) (old new : Passes) (result : Result T E) → AreOf hub old → IsErr result → Quits hub moment old result new → QuitsWith (RoomEndsAtMost old.badge old.conn moment) (HallEndsAtMost old.conn moment) old new
+quits_each hub moment old new (Ok done) are is q = absurd (false≢true is)
+quits_each hub moment old new (Err e) are is (inl stopped) = record {
+  rooms = rooms_end hub old.badge old.conn moment old.rooms.items new.rooms.items stopped.1;
   before = are.hall_pass;
   behind = are.hall_pass;
   was = are.hall;
-  is = ap (λ (p : Passes). p.hall) rest ∙ are.hall;
+  is = ap (λ (p : Passes). p.hall) stopped.0 ∙ are.hall;
   done = inr (refl, inl refl);
-  conn = ap (λ (p : Passes). p.conn) rest;
-  badge = ap (λ (p : Passes). p.badge) rest;
+  conn = ap (λ (p : Passes). p.conn) stopped.0;
+  badge = ap (λ (p : Passes). p.badge) stopped.0;
+}
+quits_each hub moment old new (Err e) are is (inr q) = record {
+  rooms = zip_weaker (QuitsRoom old.badge old.conn moment) (RoomEndsAtMost old.badge old.conn moment) (λ h k done. inl done) old.rooms.items new.rooms.items q.rooms;
+  before = q.before;
+  behind = q.behind;
+  was = q.was;
+  is = q.is;
+  done = hall_ends hub old.conn moment q.before q.behind q.done;
+  conn = q.conn;
+  badge = q.badge;
 }

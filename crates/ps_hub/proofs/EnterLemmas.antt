@@ -1,12 +1,12 @@
 -- Entering a place, from what happens to its pass.
-use Rattle.std.proofs.Common.{◌≡◌, ◌≢◌, ℕ, ◌<◌, ◌≤◌, List, ◌++◌, Option, Some, None, Err, sym, ap, ◌∙◌, subst, inl, inr}
+use Rattle.std.proofs.Common.{◌≡◌, ◌≢◌, ◌⊎◌, ℕ, ◌<◌, ◌≤◌, List, ◌++◌, Option, Some, None, Err, sym, ap, ◌∙◌, subst, inl, inr, ⊎_elim}
 use Rattle.std.specs.Prelude.{slice_set}
 use Rattle.ps_room.specs.declared.outcome.RoomOut.{RoomOut}
 use Rattle.ps_places.specs.Rooms.{Answers, Pulls}
 use Rattle.ps_hub.specs.Hubs.{Hub}
 use Rattle.ps_hub.specs.Names.{Names}
 use Rattle.ps_hub.specs.Passes.{IsRoomPass, AreOf, Keeps}
-use Rattle.ps_hub.specs.Turns.{Takes}
+use Rattle.ps_hub.specs.Turns.{Turns, Takes}
 use Rattle.ps_hub.specs.Calls.{Held, NotHeld, HeldUp, Unheld, Holds, EntersAt, EnterFails}
 use Rattle.ps_hub.specs.declared.out.EnterFault.{EnterFault}
 use Rattle.ps_hub.specs.declared.out.EnterFault.TheVariants.{NoSuchRoom, Busy, NoMemory}
@@ -14,7 +14,7 @@ use Rattle.ps_hub.specs.declared.pass.RoomPass.{RoomPass}
 use Rattle.ps_hub.specs.declared.passes.Passes.{Passes}
 use Rattle.ps_hub.specs.declared.taken.Taken.TheVariants.{Done}
 use Rattle.ps_hub.proofs.PassLemmas.{room_held, room_told_at_done, chat_held}
-use Rattle.ps_hub.proofs.RowLemmas.{are_set, are_kept, kept_pass, kept_then}
+use Rattle.ps_hub.proofs.RowLemmas.{are_set, are_kept, kept_pass, kept_at, kept_then}
 
 -- ---- at one pass
 
@@ -33,6 +33,10 @@ found_other hub conn h m id out high free same told other p =
     let room = room_told_at_done hub conn h m None out high same.1 told p in
     (high, inr (free, same.2 ∙ free, same.0, (told.0, told.1, told.2), (room.0, room.1, λ e. other (sym room.2 ∙ e))))
 
+-- memory was wanting
+pub unheld_of : (h k : RoomPass) → 16 ≤ h.number → h.id ≡ None → (k.at ≡ h.at) × (k.number ≡ h.number) × (k.id ≡ h.id) → k.cursor ≡ h.cursor → (k.pass.1 ≡ h.pass.1) ⊎ Turns h.pass.1 None k.pass.1 → Unheld h k
+unheld_of h k high free same cursor done = (same.2, same.0, cursor, ⊎_elim (λ (e : k.pass.1 ≡ h.pass.1). inl e) (λ (t : Turns h.pass.1 None k.pass.1). inr (high, free, t)) done)
+
 -- a chat room is held at once
 pub chat_of : (hub : Hub) (conn : ℕ) (h k : RoomPass) (id : List ℕ) → Names hub.config id h.number → h.number < 16 → k ≡ record h { id = Some id } → IsRoomPass hub conn h → IsRoomPass hub conn k
 chat_of hub conn h k id names low is p = room_held hub conn h k id is (chat_held hub h id names low) p
@@ -41,7 +45,7 @@ chat_of hub conn h k id names low is p = room_held hub conn h k id is (chat_held
 pub held_id : (id : List ℕ) (h k : RoomPass) → Held id h k → k.id ≡ Some id
 held_id id h k (inl same) = ap (λ (q : RoomPass). q.id) same.1 ∙ same.0
 held_id id h k (inr (inl chat)) = ap (λ (q : RoomPass). q.id) chat.1
-held_id id h k (inr (inr turn)) = turn.1
+held_id id h k (inr (inr turn)) = turn.2
 
 -- ---- at the row
 
@@ -58,7 +62,7 @@ entered_fault hub id number place NoMemory old h mid k new names keeps rest row 
 
 -- the passes are the hub's still
 pub entered_are : (hub : Hub) (number place : ℕ) (old : Passes) (h : RoomPass) (mid : Passes) (k : RoomPass) (new : Passes) → AreOf hub old → Keeps hub number place old h mid
-    → new ≡ record mid { rooms = new.rooms } → new.rooms.items ≡ slice_set mid.rooms.items place k → ((conn : ℕ) → IsRoomPass hub conn h → IsRoomPass hub conn k) → AreOf hub new
-entered_are hub number place old h mid k new are keeps rest row on =
+    → new ≡ record mid { rooms = new.rooms } → new.rooms.items ≡ slice_set mid.rooms.items place k → k.number ≡ h.number → ((conn : ℕ) → IsRoomPass hub conn h → IsRoomPass hub conn k) → AreOf hub new
+entered_are hub number place old h mid k new are keeps rest row same on =
     let conn : mid.conn ≡ old.conn = ap (λ (p : Passes). p.conn) keeps.rest in
-    are_set hub mid new place k (are_kept hub number place old h mid are keeps) rest row (on mid.conn (subst (λ (c : ℕ). IsRoomPass hub c h) (sym conn) (kept_pass hub number place old h mid are keeps)))
+    are_set hub mid new place h k (are_kept hub number place old h mid are keeps) (kept_at hub number place old h mid keeps) same rest row (on mid.conn (subst (λ (c : ℕ). IsRoomPass hub c h) (sym conn) (kept_pass hub number place old h mid are keeps)))

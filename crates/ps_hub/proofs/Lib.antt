@@ -9,3 +9,5 @@ pub mod CatchLemmas
 pub mod OrderLemmas
 pub mod QuitLemmas
 pub mod CallLemmas
+pub mod ShortLemmas
+pub mod AdmitLemmas

@@ -12,7 +12,8 @@ use Rattle.ps_openings.specs.Openings.{chat_opening}
 use Rattle.ps_places.specs.Sites.{chat_at}
 use Rattle.ps_histlock.specs.Seated.{TableId}
 use Rattle.ps_hub.specs.Hubs.{Hub, site_of, lock_of, name_of, AreAt}
-use Rattle.ps_hub.specs.Names.{Names}
+use Rattle.ps_hub.specs.Names.{IsNoChat, IsBattleId, Names}
+use Rattle.ps_hub.specs.Calls.{NamesNone}
 
 site_at : Settings → Tables → ℕ → Site
 site_at config dex number = record { number = number; config = config; dex = dex }
@@ -115,5 +116,5 @@ named_place hub config read chats battles id number same_config same_read are_ch
           (ap length are_battles ∙ length-map battles name_of ∙ count_battles) here,
     )
 
-pub named_nowhere : (hub : Hub) (config read : Settings) (id : List ℕ) → hub.config ≡ config → read ≡ config → ((number : ℕ) → Names read id number → ⊥) → (number : ℕ) → Names hub.config id number → ⊥
-named_nowhere hub config read id same_config same_read none number names = none number (subst (λ (s : Settings). Names s id number) (same_config ∙ sym same_read) names)
+pub named_nowhere : (hub : Hub) (config read : Settings) (id : List ℕ) → hub.config ≡ config → read ≡ config → IsNoChat read id × ((n : ℕ) → IsBattleId id n → ⊥) → NamesNone hub id
+named_nowhere hub config read id same_config same_read none = (subst (λ (s : Settings). IsNoChat s id) (same_read ∙ sym same_config) none.0, none.1)

@@ -1,5 +1,5 @@
 -- Orders, from what a turn does to one pass.
-use Rattle.std.proofs.Common.{◌≡◌, ◌⊎◌, ℕ, List, Some, None, Result, Ok, Err, refl, sym, ap, ◌∙◌, subst, inl, inr, ⊎_elim}
+use Rattle.std.proofs.Common.{◌≡◌, ℕ, List, Some, None, Result, Ok, Err, refl, sym, ap, ◌∙◌, subst, inl, inr}
 use Rattle.std.specs.Prelude.{slice_get, slice_set, All}
 use Rattle.ps_base.specs.declared.badge.Badge.{Badge}
 use Rattle.ps_lines.specs.declared.command.Command.{Command}
@@ -7,13 +7,12 @@ use Rattle.ps_lines.specs.declared.command.HallCmd.{HallCmd}
 use Rattle.ps_lines.specs.declared.order.Order.TheVariants.{Room}
 use Rattle.ps_hall.specs.declared.outcome.HallOut.{HallOut}
 use Rattle.ps_histlock.specs.Histories.{commands}
-use Rattle.ps_places.specs.declared.command.RoomCmd.TheVariants.{Play}
 use Rattle.ps_places.specs.declared.site.Root.{Root}
 use Rattle.ps_places.specs.Halls.{HallAnswers}
 use Rattle.ps_hub.specs.Hubs.{Hub, site_of}
 use Rattle.ps_hub.specs.Names.{Names}
-use Rattle.ps_hub.specs.Passes.{IsHallPass, IsRoomPass, AreOf}
-use Rattle.ps_hub.specs.Turns.{Turns}
+use Rattle.ps_hub.specs.Passes.{IsHallPass, IsRoomPass, numbers, IsRising, AreOf}
+use Rattle.ps_hub.specs.Turns.{FallsShort}
 use Rattle.ps_hub.specs.Calls.{hall_entry, room_entry, badge_after, Held, EntersAt, HallGoes, HallOrdered, HallFails, HallTakes, RoomGoes, RoomTakes, Orders}
 use Rattle.ps_hub.specs.declared.out.HubFault.{HubFault}
 use Rattle.ps_hub.specs.declared.out.HubFault.TheVariants.{OwnLimit, NoSuchRoom, Busy, NoMemory}
@@ -32,6 +31,7 @@ are_hall hub old new k are is here rows conn = record {
   hall = is;
   hall_is = subst (λ (c : ℕ). IsHallPass hub c k) (sym conn) here;
   rooms = subst (λ (c : ℕ). All (IsRoomPass hub c) new.rooms.items) (sym conn) (subst (All (IsRoomPass hub old.conn)) (sym rows) are.rooms);
+  rising = subst (λ (l : List RoomPass). IsRising (numbers l)) (sym rows) are.rising;
 }
 
 hall_goes : (does : HallPass → HallPass → Type 0) (old new : Passes) (h k : HallPass) → old.hall ≡ Some h → new.hall ≡ Some k → k.at ≡ h.at → new.rooms.items ≡ old.rooms.items → new.conn ≡ old.conn → does h k → HallGoes does old new
@@ -50,16 +50,17 @@ hall_ordered hub cmd moment old new h k gave out p was is at rows conn badge mad
   badge = badge;
 }
 
-pub hall_failed : (hub : Hub) (cmd : HallCmd) (moment : ℕ) (old new : Passes) (h k : HallPass) (fault : HubFault) → old.hall ≡ Some h → new.hall ≡ Some k → k.at ≡ h.at → new.rooms.items ≡ old.rooms.items → new.conn ≡ old.conn → new.badge ≡ old.badge
+pub hall_failed : (hub : Hub) (cmd : HallCmd) (moment : ℕ) (old new : Passes) (h k : HallPass) (fault : HubFault) → IsHallPass hub old.conn h → old.hall ≡ Some h → new.hall ≡ Some k → k.at ≡ h.at → new.rooms.items ≡ old.rooms.items → new.conn ≡ old.conn → new.badge ≡ old.badge
     → HallTakes (hall_entry old.conn moment cmd) h (Err fault) k → HallFails hub cmd moment old fault new
-hall_failed hub cmd moment old new h k (OwnLimit room) was is at rows conn badge t = (t.0, badge, hall_goes _ old new h k was is at rows conn (t.1, t.2))
-hall_failed hub cmd moment old new h k NoSuchRoom was is at rows conn badge t = absurd t
-hall_failed hub cmd moment old new h k (Busy word order) was is at rows conn badge t = (t.0, badge, hall_goes _ old new h k was is at rows conn (t.1, t.2))
-hall_failed hub cmd moment old new h k NoMemory was is at rows conn badge t = (badge, hall_goes _ old new h k was is at rows conn t)
+hall_failed hub cmd moment old new h k (OwnLimit room) p was is at rows conn badge t = (t.0, badge, hall_goes _ old new h k was is at rows conn (t.1, t.2))
+hall_failed hub cmd moment old new h k NoSuchRoom p was is at rows conn badge t = absurd t
+hall_failed hub cmd moment old new h k (Busy word order) p was is at rows conn badge t = (t.0, badge, hall_goes _ old new h k was is at rows conn (t.1, t.2))
+hall_failed hub cmd moment old new h k NoMemory p was is at rows conn badge t =
+    (badge, hall_goes _ old new h k was is at rows conn (subst (λ (r : Root). FallsShort (HallAnswers r) h.pass.1 h.cursor (hall_entry old.conn moment cmd) k.pass.1 k.cursor) p.origin t))
 
 -- memory was wanting before the turn
 pub hall_untried : (hub : Hub) (cmd : HallCmd) (moment : ℕ) (old : Passes) → AreOf hub old → HallFails hub cmd moment old NoMemory old
-hall_untried hub cmd moment old are = (refl, hall_goes _ old old are.hall_pass are.hall_pass are.hall are.hall refl refl refl (inl refl))
+hall_untried hub cmd moment old are = (refl, hall_goes _ old old are.hall_pass are.hall_pass are.hall are.hall refl refl refl (refl, inl refl))
 
 -- ---- a room
 
@@ -93,16 +94,4 @@ room_orders hub id cmd moment start mid place h k new badge (Err NoSuchRoom) ent
 room_orders hub id cmd moment start mid place h k new badge (Err (Busy word order)) entered there named held rest row same is t =
     inr (mid, entered, (t.0, room_goes hub id _ place mid h k new there named held rest row same (t.1, t.2)))
 room_orders hub id cmd moment start mid place h k new badge (Err NoMemory) entered there named held rest row same is t =
-    inr (
-      mid,
-      entered,
-      room_goes hub id _ place mid h k new there named held rest row same
-          (⊎_elim
-          (λ (e : k.pass.1 ≡ h.pass.1). inl e)
-          (λ (more : Turns h.pass.1 None k.pass.1 ⊎ Turns h.pass.1 (Some (Play (room_entry mid.conn badge moment cmd))) k.pass.1).
-          ⊎_elim
-          (λ (a : Turns h.pass.1 None k.pass.1). inr (inl a))
-          (λ (b : Turns h.pass.1 (Some (Play (room_entry mid.conn badge moment cmd))) k.pass.1). inr (inr (badge, is, b)))
-          more)
-          t),
-    )
+    inr (mid, entered, (badge, is, room_goes hub id _ place mid h k new there named held rest row same t))

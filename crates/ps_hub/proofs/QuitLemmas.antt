@@ -87,14 +87,6 @@ module _ {A : Type 0} (R S : A → A → Type 0) where
   zip_weaker weaker (x ∷ xs) [] a = absurd a
   zip_weaker weaker (x ∷ xs) (y ∷ ys) a = (weaker x y a.0, zip_weaker weaker xs ys a.1)
 
-  -- the row where the next one stopped short
-  pub done_stopped : ((x y : A) → R x y → S x y) → ((x : A) → S x x) → (i : ℕ) (old now new : List A) (h k : A) → slice_get now i ≡ Some h → new ≡ slice_set now i k → S h k → IsDoneTo R i old now → AllZip S old new
-  done_stopped weaker self i old now new h k at set here d =
-      let p : Parts R i old now h = parts_of R i old now h at d in
-      let new_is : new ≡ p.front_now ++ k ∷ p.back = set ∙ ap (λ (l : List A). slice_set l i k) p.is ∙ set_seam p.front_now h k p.back i p.count_now in
-      subst (λ (l : List A). AllZip S l new) (sym p.was) (subst (λ (l : List A). AllZip S (p.front ++ h ∷ p.back) l) (sym new_is)
-      (zip_append S p.front p.front_now (h ∷ p.back) (k ∷ p.back) (zip_weaker weaker p.front p.front_now p.done) (here, zip_self S self p.back)))
-
 -- what is next was there at first
 pub done_there : {A : Type 0} (R : A → A → Type 0) (i : ℕ) (old now : List A) (h : A) → slice_get now i ≡ Some h → IsDoneTo R i old now → slice_get old i ≡ Some h
 done_there {A} R i old now h at d =

@@ -1,11 +1,12 @@
 -- The row of passes, when one pass becomes another or is added.
-use Rattle.std.proofs.Common.{◌≡◌, ◌≢◌, ℕ, zero, suc, List, [], ◌∷◌, ◌++◌, length, take, drop, get_or, Some, Result, Ok, Err, refl, sym, ap, ◌∙◌, subst, inl, inr, ⊎_elim, arith}
+use Rattle.std.proofs.Common.{◌≡◌, ◌≢◌, ℕ, zero, suc, ◌<◌, ◌≤◌, List, [], ◌∷◌, ◌++◌, length, take, drop, get_or, Some, Result, Ok, Err, refl, sym, ap, ◌∙◌, subst, inl, inr, ⊎_elim, arith}
 use Rattle.std.specs.Prelude.{slice_get, slice_set, All, IfOk, OnOk, OnErr}
+use Rattle.std.proofs.lemmas.Bool.Decides.{nat_tests}
 use Rattle.std.proofs.lemmas.List.{take_at, take_all, drop_at, drop_all, append-nil}
-use Rattle.std.proofs.lemmas.List.Elements.{All-append, All-cons, All-head, All-take, All-drop, All-set}
+use Rattle.std.proofs.lemmas.List.Elements.{All-nil, All-append, All-cons, All-head, All-tail, All-take, All-drop, All-set}
 use Rattle.std.proofs.lemmas.Option.{none-some, same_Some, get_or_from_slice_get}
 use Rattle.ps_hub.specs.Hubs.{Hub}
-use Rattle.ps_hub.specs.Passes.{IsHallPass, IsRoomPass, AreOf, IsAsBefore, IsAdded, IsNewPass, Keeps, ButFor}
+use Rattle.ps_hub.specs.Passes.{IsHallPass, IsRoomPass, numbers, IsRising, AreOf, IsAsBefore, IsGap, IsAdded, IsNewPass, Keeps, ButFor}
 use Rattle.ps_hub.specs.declared.pass.HallPass.{HallPass}
 use Rattle.ps_hub.specs.declared.pass.RoomPass.{RoomPass}
 use Rattle.ps_hub.specs.declared.passes.Passes.{Passes}
@@ -55,28 +56,58 @@ at_place P xs i x e all =
 pub after_set : {A : Type 0} (P : A → Type 0) (xs : List A) (i : ℕ) (y : A) → P y → All P xs → All P (slice_set xs i y)
 after_set P xs i y here all = All-set P xs i y here all
 
+-- ---- by rising numbers
+
+pub numbers_set : (xs : List RoomPass) (i : ℕ) (h k : RoomPass) → slice_get xs i ≡ Some h → k.number ≡ h.number → numbers (slice_set xs i k) ≡ numbers xs
+numbers_set [] i h k there same = absurd (none-some h there)
+numbers_set (x ∷ xs) zero h k there same = ap (λ (n : ℕ). n ∷ numbers xs) (same ∙ ap (λ (q : RoomPass). q.number) (sym (same_Some x h there)))
+numbers_set (x ∷ xs) (suc i) h k there same = ap (λ (l : List ℕ). x.number ∷ l) (numbers_set xs i h k there same)
+
+all_numbers_seam : (P : ℕ → Type 0) (xs ys : List RoomPass) (k : RoomPass) → All P (numbers (xs ++ ys)) → P k.number → All P (numbers (xs ++ k ∷ ys))
+all_numbers_seam P [] ys k all here = All-cons P k.number (numbers ys) here all
+all_numbers_seam P (x ∷ xs) ys k all here =
+    All-cons P x.number (numbers (xs ++ k ∷ ys)) (All-head P x.number (numbers (xs ++ ys)) all) (all_numbers_seam P xs ys k (All-tail P x.number (numbers (xs ++ ys)) all) here)
+
+-- a pass more, before the first of a higher place
+gap_rises : (xs ys : List RoomPass) (k : RoomPass) (place : ℕ) → length xs ≡ place → IsGap k.number place (xs ++ ys) → All (λ (other : RoomPass). other.number ≢ k.number) (xs ++ ys) → IsRising (numbers (xs ++ ys)) → IsRising (numbers (xs ++ k ∷ ys))
+gap_rises [] [] k place long gap others rising = (All-nil (λ (m : ℕ). k.number < m), tt)
+gap_rises [] (y ∷ ys) k zero long gap others rising =
+    let above : k.number < y.number = gap.1 y refl in
+    (All-cons (λ (m : ℕ). k.number < m) y.number (numbers ys) above (λ i d within. let more : y.number < get_or (numbers ys) i d = rising.0 i d within in omega arith), rising)
+gap_rises [] (y ∷ ys) k (suc place) long gap others rising = absurd (omega arith)
+gap_rises (x ∷ xs) ys k zero long gap others rising = absurd (omega arith)
+gap_rises (x ∷ xs) ys k (suc place) long gap others rising =
+    let low : x.number ≤ k.number = gap.0 zero x (omega arith) (omega arith) in
+    let other : x.number ≢ k.number = All-head (λ (q : RoomPass). q.number ≢ k.number) x (xs ++ ys) others in
+    let below : x.number < k.number = grind (arith, nat_tests) in (
+      all_numbers_seam (λ (m : ℕ). x.number < m) xs ys k rising.0 below,
+      gap_rises xs ys k place (omega arith) (λ i d from within. gap.0 (suc i) d (omega arith) (omega arith), gap.1) (All-tail (λ (q : RoomPass). q.number ≢ k.number) x (xs ++ ys) others) rising.1,
+    )
+
 -- ---- the row of a hub's passes
 
 -- one pass of the row became another of the hub
-pub are_set : (hub : Hub) (old new : Passes) (i : ℕ) (k : RoomPass) → AreOf hub old → new ≡ record old { rooms = new.rooms } → new.rooms.items ≡ slice_set old.rooms.items i k → IsRoomPass hub old.conn k → AreOf hub new
-are_set hub old new i k are rest row here =
+pub are_set : (hub : Hub) (old new : Passes) (i : ℕ) (h k : RoomPass) → AreOf hub old → slice_get old.rooms.items i ≡ Some h → k.number ≡ h.number → new ≡ record old { rooms = new.rooms } → new.rooms.items ≡ slice_set old.rooms.items i k → IsRoomPass hub old.conn k → AreOf hub new
+are_set hub old new i h k are there same rest row here =
     let conn : new.conn ≡ old.conn = ap (λ (p : Passes). p.conn) rest in
     record {
       hall_pass = are.hall_pass;
       hall = ap (λ (p : Passes). p.hall) rest ∙ are.hall;
       hall_is = subst (λ (c : ℕ). IsHallPass hub c are.hall_pass) (sym conn) are.hall_is;
       rooms = subst (λ (c : ℕ). All (IsRoomPass hub c) new.rooms.items) (sym conn) (subst (All (IsRoomPass hub old.conn)) (sym row) (after_set (IsRoomPass hub old.conn) old.rooms.items i k here are.rooms));
+      rising = subst IsRising (sym (ap (λ (l : List RoomPass). numbers l) row ∙ numbers_set old.rooms.items i h k there same)) are.rising;
     }
 
 -- all passes of the row became others of the hub
-pub are_rooms : (hub : Hub) (old new : Passes) → AreOf hub old → new ≡ record old { rooms = new.rooms } → All (IsRoomPass hub old.conn) new.rooms.items → AreOf hub new
-are_rooms hub old new are rest rooms =
+pub are_rooms : (hub : Hub) (old new : Passes) → AreOf hub old → new ≡ record old { rooms = new.rooms } → All (IsRoomPass hub old.conn) new.rooms.items → numbers new.rooms.items ≡ numbers old.rooms.items → AreOf hub new
+are_rooms hub old new are rest rooms same =
     let conn : new.conn ≡ old.conn = ap (λ (p : Passes). p.conn) rest in
     record {
       hall_pass = are.hall_pass;
       hall = ap (λ (p : Passes). p.hall) rest ∙ are.hall;
       hall_is = subst (λ (c : ℕ). IsHallPass hub c are.hall_pass) (sym conn) are.hall_is;
       rooms = subst (λ (c : ℕ). All (IsRoomPass hub c) new.rooms.items) (sym conn) rooms;
+      rising = subst IsRising (sym same) are.rising;
     }
 
 -- a row that was lent as a slice has what was written to it
@@ -94,6 +125,7 @@ are_as_before hub old new are same =
       hall = ap (λ (p : Passes). p.hall) same.0 ∙ are.hall;
       hall_is = subst (λ (c : ℕ). IsHallPass hub c are.hall_pass) (sym conn) are.hall_is;
       rooms = subst (λ (c : ℕ). All (IsRoomPass hub c) new.rooms.items) (sym conn) (subst (All (IsRoomPass hub old.conn)) (sym same.1) are.rooms);
+      rising = subst (λ (l : List RoomPass). IsRising (numbers l)) (sym same.1) are.rising;
     }
 
 -- the pass that is kept or added is one of the hub
@@ -122,6 +154,7 @@ are_kept hub number place old k new are keeps =
       hall = ap (λ (p : Passes). p.hall) keeps.rest ∙ are.hall;
       hall_is = subst (λ (c : ℕ). IsHallPass hub c are.hall_pass) (sym conn) are.hall_is;
       rooms = subst (λ (c : ℕ). All (IsRoomPass hub c) new.rooms.items) (sym conn) (kept_rooms hub number place old k new are keeps);
+      rising = keeps.rising are.rising;
     }
 
 -- the pass of the hall
@@ -149,12 +182,23 @@ kept_read hub number place old k x new keeps is = subst (λ (q : RoomPass). Keep
 pub keeps_there : (hub : Hub) (number place : ℕ) (old : Passes) (k : RoomPass) → slice_get old.rooms.items place ≡ Some k → k.number ≡ number → Keeps hub number place old k old
 keeps_there hub number place old k there is =
     let parts = parted old.rooms.items place k there in
-    record { before = take place old.rooms.items; behind = drop (suc place) old.rooms.items; was = inl parts.0; is = parts.0; stands = parts.1; number_is = is; rest = refl }
+    record { before = take place old.rooms.items; behind = drop (suc place) old.rooms.items; was = inl parts.0; is = parts.0; stands = parts.1; number_is = is; rising = λ r. r; rest = refl }
 
 -- a pass that is added
 pub keeps_added : (hub : Hub) (number place : ℕ) (old : Passes) (k : RoomPass) (new : Passes) → All (λ (other : RoomPass). other.number ≢ number) old.rooms.items → IsNewPass hub old.conn number k → IsAdded old place k new → Keeps hub number place old k new
 keeps_added hub number place old k new others is added =
-    record { before = added.0; behind = added.1; was = inr (added.2, others, is); is = added.5; stands = added.3; number_is = is.number_is; rest = added.4 }
+    let apart : All (λ (other : RoomPass). other.number ≢ k.number) old.rooms.items = subst (λ (n : ℕ). All (λ (other : RoomPass). other.number ≢ n) old.rooms.items) (sym is.number_is) others in
+    record {
+      before = added.0;
+      behind = added.1;
+      was = inr (added.2, others, is);
+      is = added.5;
+      stands = added.3;
+      number_is = is.number_is;
+      rising = λ r. subst (λ (l : List RoomPass). IsRising (numbers l)) (sym added.5)
+          (gap_rises added.0 added.1 k place added.3 (subst (IsGap k.number place) added.2 added.6) (subst (All (λ (other : RoomPass). other.number ≢ k.number)) added.2 apart) (subst (λ (l : List RoomPass). IsRising (numbers l)) added.2 r));
+      rest = added.4;
+    }
 
 -- and then it became another
 pub kept_then : (hub : Hub) (number place : ℕ) (old : Passes) (h : RoomPass) (mid : Passes) (k : RoomPass) (new : Passes) → Keeps hub number place old h mid → new ≡ record mid { rooms = new.rooms } → new.rooms.items ≡ slice_set mid.rooms.items place k → k.number ≡ h.number → ButFor hub old h k new

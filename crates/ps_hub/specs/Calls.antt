@@ -22,11 +22,12 @@ use Rattle.ps_histlock.specs.declared.view.Entry.{Entry as Made}
 use Rattle.ps_histlock.specs.declared.view.View.{View}
 use Rattle.ps_histlock.specs.declared.lock.TheConstants.{OWN_LIMIT}
 use Rattle.ps_histlock.specs.Histories.{commands}
-use Rattle.ps_histlock.specs.Views.{after_look, Extends}
+use Rattle.ps_histlock.specs.Views.{after_look, newcomer, offspring, with_number, Extends}
 use Rattle.ps_histlock.specs.Turns.{turned, IsBusy}
 use Rattle.ps_places.specs.declared.command.RoomCmd.{RoomCmd}
 use Rattle.ps_places.specs.declared.command.RoomCmd.TheVariants.{Begin, Play}
 use Rattle.ps_users.specs.Refusals.{read_of}
+use Rattle.ps_places.specs.declared.site.Root.{Root}
 use Rattle.ps_places.specs.declared.site.Site.{Site}
 use Rattle.ps_places.specs.Sites.{Story, Tells, id_told}
 use Rattle.ps_places.specs.Rooms.{Answers, Shows}
@@ -40,9 +41,9 @@ use Rattle.ps_hub.specs.declared.pass.HallPass.{HallPass}
 use Rattle.ps_hub.specs.declared.pass.RoomPass.{RoomPass}
 use Rattle.ps_hub.specs.declared.passes.Passes.{Passes}
 use Rattle.ps_hub.specs.Hubs.{Hub, root_of, site_of}
-use Rattle.ps_hub.specs.Names.{Names}
+use Rattle.ps_hub.specs.Names.{IsNoChat, IsBattleId, Names}
 use Rattle.ps_hub.specs.Passes.{IsAsBefore, ButFor, lines_of}
-use Rattle.ps_hub.specs.Turns.{Turns, TurnsAtLast}
+use Rattle.ps_hub.specs.Turns.{Turns, TurnsAtLast, FallsShort, FallsShortAtLast}
 
 -- ---- entries
 
@@ -68,12 +69,12 @@ badge_after old (Some badge) = Some badge
 abbrev pub Lacks : Hub → List ℕ → RoomPass → Type 0
 Lacks hub id k = (told : Option Story) × Tells (site_of hub k.number) (commands k.pass.1.seen) told × (id_told told ≢ Some id)
 
--- A place is held by an id: it was already, and nothing changed; or it is a chat room's; or its pass took a turn, which found
--- the room with that id.
+-- A place is held by an id: it was already, and nothing changed; or it is a chat room's, and nothing else changed; or it is a
+-- battle's, which was free, and its pass took a turn, which found the room with that id.
 abbrev pub Held : List ℕ → RoomPass → RoomPass → Type 0
 Held id h k = ((h.id ≡ Some id) × (k ≡ h))
     ⊎ ((h.number < first_battle) × (k ≡ record h { id = Some id }))
-    ⊎ ((h.id ≡ None) × (k.id ≡ Some id) × (k.at ≡ h.at) × Turns h.pass.1 None k.pass.1)
+    ⊎ ((first_battle ≤ h.number) × (h.id ≡ None) × (k.id ≡ Some id) × (k.at ≡ h.at) × Turns h.pass.1 None k.pass.1)
 
 -- It isn't, since no such room is there: it is held by another id, and nothing changed; or its pass took a turn, which found no
 -- room with that id. Never of a chat room.
@@ -85,9 +86,10 @@ NotHeld hub id h k = (first_battle ≤ h.number)
 abbrev pub HeldUp : ℕ → RoomPass → RoomPass → Type 0
 HeldUp word h k = (first_battle ≤ h.number) × (h.id ≡ None) × (k.id ≡ None) × (k.at ≡ h.at) × IsBusy h.pass.1 word k.pass.1
 
--- memory was wanting: at the most the pass took a turn without an entry
+-- Memory was wanting: at the most the pass took a turn without an entry, and that only at the place of a battle which isn't
+-- held. No message was pulled, so the cursor stands where it stood.
 abbrev pub Unheld : RoomPass → RoomPass → Type 0
-Unheld h k = (k.id ≡ h.id) × (k.at ≡ h.at) × ((k.pass.1 ≡ h.pass.1) ⊎ Turns h.pass.1 None k.pass.1)
+Unheld h k = (k.id ≡ h.id) × (k.at ≡ h.at) × (k.cursor ≡ h.cursor) × ((k.pass.1 ≡ h.pass.1) ⊎ ((first_battle ≤ h.number) × (h.id ≡ None) × Turns h.pass.1 None k.pass.1))
 
 -- what a call that enters does to the pass of the place that the id names
 pub record EntersAt (hub : Hub) (id : List ℕ) (does : RoomPass → RoomPass → Type 0) (old new : Passes) : Type 0 where
@@ -97,9 +99,9 @@ pub record EntersAt (hub : Hub) (id : List ℕ) (does : RoomPass → RoomPass �
   pub but : ButFor hub old before behind new
   pub done : does before behind
 
--- the id names no place
+-- the id names no place: no chat room of the configuration has it, and it is no `battle-FORMAT-n` with n from 1 to 65,536
 abbrev pub NamesNone : Hub → List ℕ → Type 0
-NamesNone hub id = (number : ℕ) → Names hub.config id number → ⊥
+NamesNone hub id = IsNoChat hub.config id × ((n : ℕ) → IsBattleId id n → ⊥)
 
 abbrev pub EnterFails : Hub → List ℕ → Passes → EnterFault → Passes → Type 0
 EnterFails hub id old enter_faults.NoSuchRoom new = (NamesNone hub id × (new ≡ old)) ⊎ EntersAt hub id (NotHeld hub id) old new
@@ -146,7 +148,7 @@ abbrev pub HallFails : Hub → HallCmd → ℕ → Passes → HubFault → Passe
 HallFails hub cmd moment old (hub_faults.OwnLimit room) new = (room ≡ None) × (new.badge ≡ old.badge) × HallGoes (λ h k. (length h.pass.1.mine ≡ OWN_LIMIT) × (k.pass ≡ h.pass)) old new
 HallFails hub cmd moment old hub_faults.NoSuchRoom new = ⊥
 HallFails hub cmd moment old (hub_faults.Busy word order) new = (order ≡ Hall cmd) × (new.badge ≡ old.badge) × HallGoes (λ h k. IsBusy h.pass.1 word k.pass.1 × (length h.pass.1.mine ≢ OWN_LIMIT)) old new
-HallFails hub cmd moment old hub_faults.NoMemory new = (new.badge ≡ old.badge) × HallGoes (λ h k. (k.pass.1 ≡ h.pass.1) ⊎ Turns h.pass.1 None k.pass.1 ⊎ Turns h.pass.1 (Some (hall_entry old.conn moment cmd)) k.pass.1) old new
+HallFails hub cmd moment old hub_faults.NoMemory new = (new.badge ≡ old.badge) × HallGoes (λ h k. FallsShort (HallAnswers (root_of hub)) h.pass.1 h.cursor (hall_entry old.conn moment cmd) k.pass.1 k.cursor) old new
 
 -- what a turn with this entry does to the pass of the hall
 abbrev pub HallTakes : HallEntry → HallPass → Result HallOut HubFault → HallPass → Type 0
@@ -154,7 +156,7 @@ HallTakes e h (Ok gave) k = (log : List (Made HallEntry)) × Extends h.pass.1 lo
 HallTakes e h (Err (hub_faults.OwnLimit room)) k = (room ≡ None) × (length h.pass.1.mine ≡ OWN_LIMIT) × (k.pass ≡ h.pass)
 HallTakes e h (Err hub_faults.NoSuchRoom) k = ⊥
 HallTakes e h (Err (hub_faults.Busy word order)) k = (order ≡ Hall e.cmd) × IsBusy h.pass.1 word k.pass.1 × (length h.pass.1.mine ≢ OWN_LIMIT)
-HallTakes e h (Err hub_faults.NoMemory) k = (k.pass.1 ≡ h.pass.1) ⊎ Turns h.pass.1 None k.pass.1 ⊎ Turns h.pass.1 (Some e) k.pass.1
+HallTakes e h (Err hub_faults.NoMemory) k = FallsShort (HallAnswers h.pass.1.origin) h.pass.1 h.cursor e k.pass.1 k.cursor
 
 -- the name that a command asks for, if it asks for one
 abbrev pub name_asked : HallCmd → Option (List ℕ)
@@ -194,7 +196,7 @@ RoomTakes site id e h (Ok out) k =
 RoomTakes site id e h (Err (hub_faults.OwnLimit room)) k = (room ≡ Some id) × (length h.pass.1.mine ≡ OWN_LIMIT) × (k.pass ≡ h.pass)
 RoomTakes site id e h (Err hub_faults.NoSuchRoom) k = ⊥
 RoomTakes site id e h (Err (hub_faults.Busy word order)) k = (order ≡ Room id e.cmd) × IsBusy h.pass.1 word k.pass.1 × (length h.pass.1.mine ≢ OWN_LIMIT)
-RoomTakes site id e h (Err hub_faults.NoMemory) k = (k.pass.1 ≡ h.pass.1) ⊎ Turns h.pass.1 None k.pass.1 ⊎ Turns h.pass.1 (Some (Play e)) k.pass.1
+RoomTakes site id e h (Err hub_faults.NoMemory) k = FallsShort (Answers site) h.pass.1 h.cursor (Play e) k.pass.1 k.cursor
 
 -- after the place is held
 abbrev pub RoomFails : Hub → List ℕ → Command → ℕ → Passes → HubFault → Passes → Type 0
@@ -202,7 +204,7 @@ RoomFails hub id cmd moment old (hub_faults.OwnLimit room) new = (room ≡ Some 
 RoomFails hub id cmd moment old hub_faults.NoSuchRoom new = ⊥
 RoomFails hub id cmd moment old (hub_faults.Busy word order) new = (order ≡ Room id cmd) × RoomGoes hub id (λ h k. IsBusy h.pass.1 word k.pass.1 × (length h.pass.1.mine ≢ OWN_LIMIT)) old new
 RoomFails hub id cmd moment old hub_faults.NoMemory new =
-    RoomGoes hub id (λ h k. (k.pass.1 ≡ h.pass.1) ⊎ Turns h.pass.1 None k.pass.1 ⊎ ((badge : Badge) × (old.badge ≡ Some badge) × Turns h.pass.1 (Some (Play (room_entry old.conn badge moment cmd))) k.pass.1)) old new
+    (badge : Badge) × (old.badge ≡ Some badge) × RoomGoes hub id (λ h k. FallsShort (Answers (site_of hub h.number)) h.pass.1 h.cursor (Play (room_entry old.conn badge moment cmd)) k.pass.1 k.cursor) old new
 
 -- while the place isn't held
 abbrev pub EntryFails : Hub → List ℕ → Command → Passes → HubFault → Passes → Type 0
@@ -230,26 +232,26 @@ pub record BeginsAt (hub : Hub) (start : Start) (does : RoomPass → RoomPass �
   pub but : ButFor hub old before behind new
   pub done : does before behind
 
--- where memory was wanting, or the pass had made as many entries as it may: at the most the Begin, or a turn without an entry
-abbrev pub BeginsAtMost : Start → RoomPass → RoomPass → Type 0
-BeginsAtMost start h k = (k.pass.1 ≡ h.pass.1) ⊎ TurnsAtLast h.pass.1 None k.pass.1 ⊎ TurnsAtLast h.pass.1 (Some (Begin start)) k.pass.1
+-- where memory was wanting, or the pass had made as many entries as it may
+abbrev pub BeginsAtMost : Hub → Start → RoomPass → RoomPass → Type 0
+BeginsAtMost hub start h k = FallsShortAtLast (Answers (site_of hub h.number)) h.pass.1 h.cursor (Begin start) k.pass.1 k.cursor
 
 abbrev pub Starts : {T E : Type 0} → Hub → Start → Passes → Result T E → Passes → Type 0
 Starts hub start old (Ok done) new = BeginsAt hub start (λ h k. TurnsAtLast h.pass.1 (Some (Begin start)) k.pass.1) old new
-Starts hub start old (Err fault) new = IsAsBefore old new ⊎ BeginsAt hub start (BeginsAtMost start) old new
+Starts hub start old (Err fault) new = IsAsBefore old new ⊎ BeginsAt hub start (BeginsAtMost hub start) old new
 
 -- ---- the begin of a connection
 
--- Its pass of the hall was split off from one that made the Open and nothing else: it has seen that, and has no entry of its own.
+-- A new pass of the hall, the opener, made the Open by one turn, and nothing else. The connection's pass was split off from it
+-- then: it has seen as much, and has made no entry.
 pub record Admits (hub : Hub) (conn moment : ℕ) (new : Passes) : Type 0 where
   pub pass : HallPass
   pub hall : new.hall ≡ Some pass
-  pub before : List (Made HallEntry)
-  pub opener : ℕ
-  pub seen : pass.pass.1.seen ≡ before ++ record { by = opener; cmd = hall_entry conn moment hall_commands.Open } ∷ []
-  pub mine : pass.pass.1.mine ≡ []
-  pub looks : pass.pass.1.looks ≡ []
-  pub turns : pass.pass.1.turns ≡ 0
+  pub by : ℕ
+  pub opener : View Root HallEntry
+  pub opened : TurnsAtLast (newcomer (root_of hub) by) (Some (hall_entry conn moment hall_commands.Open)) opener
+  pub number : ℕ
+  pub split : pass.pass.1 ≡ with_number (offspring opener) number
   pub at : pass.at ≡ 0
   pub rooms : new.rooms.items ≡ []
   pub badge : new.badge ≡ None
@@ -357,12 +359,26 @@ QuitsBy (Some id) badge conn moment h k = (b : Badge) × (badge ≡ Some b) × T
 abbrev pub QuitsRoom : Option Badge → ℕ → ℕ → RoomPass → RoomPass → Type 0
 QuitsRoom badge conn moment h k = QuitsBy h.id badge conn moment h k
 
--- where memory was wanting: at the most the Quit, or a turn without an entry
-abbrev pub QuitsAtMost : Option Badge → ℕ → ℕ → RoomPass → RoomPass → Type 0
-QuitsAtMost badge conn moment h k = QuitsRoom badge conn moment h k ⊎ ((k.number ≡ h.number) × (k.id ≡ h.id) × (k.at ≡ h.at) × ((k.pass.1 ≡ h.pass.1) ⊎ TurnsAtLast h.pass.1 None k.pass.1))
+-- the Quit in a room that is held, where memory was wanting, or the pass had made as many entries as it may
+abbrev pub QuitsRoomAtMost : Hub → Option Badge → ℕ → ℕ → RoomPass → RoomPass → Type 0
+QuitsRoomAtMost hub badge conn moment h k =
+    IsSome h.id × (b : Badge) × (badge ≡ Some b) × FallsShortAtLast (Answers (site_of hub h.number)) h.pass.1 h.cursor (Play (room_entry conn b moment room_commands.Quit)) k.pass.1 k.cursor × (k.at ≡ h.at) × (k.number ≡ h.number) × (k.id ≡ h.id)
 
-abbrev pub QuitsHallAtMost : ℕ → ℕ → HallPass → HallPass → Type 0
-QuitsHallAtMost conn moment h k = QuitsHall conn moment h k ⊎ ((k.at ≡ h.at) × ((k.pass.1 ≡ h.pass.1) ⊎ TurnsAtLast h.pass.1 None k.pass.1))
+-- the same in the hall
+abbrev pub QuitsHallAtMost : Hub → ℕ → ℕ → HallPass → HallPass → Type 0
+QuitsHallAtMost hub conn moment h k = FallsShortAtLast (HallAnswers (root_of hub)) h.pass.1 h.cursor (hall_entry conn moment hall_commands.Quit) k.pass.1 k.cursor × (k.at ≡ h.at)
+
+-- The Quits in the rooms of a row, up to one that fell short: before it each was made, and behind it nothing changed.
+pub record QuitsUpTo (hub : Hub) (badge : Option Badge) (conn moment : ℕ) (old new : List RoomPass) : Type 0 where
+  pub front : List RoomPass
+  pub quitted : List RoomPass
+  pub before : RoomPass
+  pub behind : RoomPass
+  pub back : List RoomPass
+  pub was : old ≡ front ++ before ∷ back
+  pub is : new ≡ quitted ++ behind ∷ back
+  pub done : AllZip (QuitsRoom badge conn moment) front quitted
+  pub short : QuitsRoomAtMost hub badge conn moment before behind
 
 pub record QuitsWith (room : RoomPass → RoomPass → Type 0) (hall : HallPass → HallPass → Type 0) (old new : Passes) : Type 0 where
   pub rooms : AllZip room old.rooms.items new.rooms.items
@@ -376,4 +392,5 @@ pub record QuitsWith (room : RoomPass → RoomPass → Type 0) (hall : HallPass 
 
 abbrev pub Quits : {T E : Type 0} → Hub → ℕ → Passes → Result T E → Passes → Type 0
 Quits hub moment old (Ok done) new = QuitsWith (QuitsRoom old.badge old.conn moment) (QuitsHall old.conn moment) old new
-Quits hub moment old (Err e) new = QuitsWith (QuitsAtMost old.badge old.conn moment) (QuitsHallAtMost old.conn moment) old new
+Quits hub moment old (Err e) new =
+    ((new ≡ record old { rooms = new.rooms }) × QuitsUpTo hub old.badge old.conn moment old.rooms.items new.rooms.items) ⊎ QuitsWith (QuitsRoom old.badge old.conn moment) (QuitsHallAtMost hub old.conn moment) old new

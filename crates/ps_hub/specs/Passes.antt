@@ -1,5 +1,6 @@
 -- What a connection has of the places of a hub.
-use Rattle.std.specs.Prelude.{◌≡◌, ◌≢◌, ◌⊎◌, ℕ, ◌≤◌, List, [], ◌∷◌, ◌++◌, map, length, take, All, Option, Some, None}
+use Rattle.std.specs.Prelude.{◌≡◌, ◌≢◌, ◌⊎◌, ℕ, ◌<◌, ◌≤◌, List, [], ◌∷◌, ◌++◌, map, length, take, slice_get, All, Option, Some, None}
+use Rattle.std.specs.List.{AllWithin}
 use Rattle.ps_base.specs.declared.msg.Msg.{Msg}
 use Rattle.ps_hall.specs.Halls.{msg_lines}
 use Rattle.ps_histlock.specs.Histories.{commands}
@@ -48,12 +49,23 @@ pub record IsRoomPass (hub : Hub) (conn : ℕ) (k : RoomPass) : Type 0 where
   pub told : IsTold (Shows conn (site_of hub k.number)) (StandsAt conn (site_of hub k.number)) (commands k.pass.1.seen) k.cursor k.cursor.passed (lines_of (k.kept.items ++ k.fresh.items)) k.at
   pub held : HeldBy k.id hub k
 
--- passes that come from a hub: the hall is held, and each is a pass of the lock that the hub has at that place
+-- the numbers of the places of a row
+abbrev pub numbers : List RoomPass → List ℕ
+numbers rooms = map (λ (k : RoomPass). k.number) rooms
+
+-- each is less than all behind it
+abbrev pub IsRising : List ℕ → Type 0
+IsRising [] = Unit {0}
+IsRising (n ∷ ns) = All (λ (m : ℕ). n < m) ns × IsRising ns
+
+-- Passes that come from a hub: the hall is held, each is a pass of the lock that the hub has at that place, and those of rooms
+-- stand by rising numbers.
 pub record AreOf (hub : Hub) (passes : Passes) : Type 0 where
   pub hall_pass : HallPass
   pub hall : passes.hall ≡ Some hall_pass
   pub hall_is : IsHallPass hub passes.conn hall_pass
   pub rooms : All (IsRoomPass hub passes.conn) passes.rooms.items
+  pub rising : IsRising (numbers passes.rooms.items)
 
 -- ---- looking into passes
 
@@ -61,9 +73,13 @@ pub record AreOf (hub : Hub) (passes : Passes) : Type 0 where
 abbrev pub IsAsBefore : Passes → Passes → Type 0
 IsAsBefore old new = (new ≡ record old { rooms = new.rooms }) × (new.rooms.items ≡ old.rooms.items)
 
+-- this place in a row is that of the first pass of a higher place, or the end
+abbrev pub IsGap : ℕ → ℕ → List RoomPass → Type 0
+IsGap number place rooms = AllWithin (λ (k : RoomPass). k.number ≤ number) rooms 0 place × ((k : RoomPass) → slice_get rooms place ≡ Some k → number < k.number)
+
 -- a pass more, at this place in the row
 abbrev pub IsAdded : Passes → ℕ → RoomPass → Passes → Type 0
-IsAdded old place k new = (xs ys : List RoomPass) × (old.rooms.items ≡ xs ++ ys) × (length xs ≡ place) × (new ≡ record old { rooms = new.rooms }) × (new.rooms.items ≡ xs ++ k ∷ ys)
+IsAdded old place k new = (xs ys : List RoomPass) × (old.rooms.items ≡ xs ++ ys) × (length xs ≡ place) × (new ≡ record old { rooms = new.rooms }) × (new.rooms.items ≡ xs ++ k ∷ ys) × IsGap k.number place old.rooms.items
 
 -- a new pass of a place, which was told nothing and isn't held
 pub record IsNewPass (hub : Hub) (conn number : ℕ) (k : RoomPass) : Type 0 where
@@ -74,7 +90,7 @@ pub record IsNewPass (hub : Hub) (conn number : ℕ) (k : RoomPass) : Type 0 whe
   pub kept : k.kept.items ++ k.fresh.items ≡ []
   pub at : k.at ≡ 0
 
--- The pass of a place, which is there already or is added as a new one, at this place in the row; all else is as it was
+-- The pass of a place, which is there already or is added as a new one, at this place in the row; all else is as it was.
 pub record Keeps (hub : Hub) (number place : ℕ) (old : Passes) (k : RoomPass) (new : Passes) : Type 0 where
   pub before : List RoomPass
   pub behind : List RoomPass
@@ -82,6 +98,7 @@ pub record Keeps (hub : Hub) (number place : ℕ) (old : Passes) (k : RoomPass) 
   pub is : new.rooms.items ≡ before ++ k ∷ behind
   pub stands : length before ≡ place
   pub number_is : k.number ≡ number
+  pub rising : IsRising (numbers old.rooms.items) → IsRising (numbers new.rooms.items)
   pub rest : new ≡ record old { rooms = new.rooms }
 
 -- The pass of one place became another, or is there from now on; all else is as it was.

@@ -1,5 +1,5 @@
 -- What a turn leaves of a pass, its cursor and the messages that are kept.
-use Rattle.std.specs.Prelude.{◌≡◌, ◌⊎◌, ℕ, List, ◌++◌, length, Option, None, IsSome}
+use Rattle.std.specs.Prelude.{◌≡◌, ◌⊎◌, ℕ, List, ◌++◌, length, Option, Some, None, IsSome}
 use Rattle.ps_base.specs.declared.msg.Msg.{Msg}
 use Rattle.ps_histlock.specs.declared.view.Entry.{Entry}
 use Rattle.ps_histlock.specs.declared.view.View.{View}
@@ -18,6 +18,24 @@ module _ {O C : Type 0} where
   -- the same after tries in vain, which met these words
   abbrev pub TurnsAtLast : View O C → Option C → View O C → Type 0
   TurnsAtLast v cmd w = (words : List ℕ) × Turns (record v { met = v.met ++ words }) cmd w
+
+module _ {O C U : Type 0} (answers : List C → C → U → Type 0) where
+  -- a turn with an entry, and what the entry gave
+  abbrev pub Gives : View O C → C → View O C → Type 0
+  Gives v c w = (log : List (Entry C)) × (gave : U) × Extends v log × (w ≡ turned v log (Some c)) × answers (commands log) c gave
+
+  -- the same after tries in vain, which met these words
+  abbrev pub GivesAtLast : View O C → C → View O C → Type 0
+  GivesAtLast v c w = (words : List ℕ) × Gives (record v { met = v.met ++ words }) c w
+
+  -- Of the view, the cursor and the entry before, the view and the cursor after, where memory was wanting: there was no turn, or
+  -- one without the entry; or the entry stands, what it gave is told, and its messages are still to come. So in each case the
+  -- cursor stands where it stood.
+  abbrev pub FallsShort : {X : Type 0} → View O C → X → C → View O C → X → Type 0
+  FallsShort v x c w y = (y ≡ x) × ((w ≡ v) ⊎ Turns v None w ⊎ Gives v c w)
+
+  abbrev pub FallsShortAtLast : {X : Type 0} → View O C → X → C → View O C → X → Type 0
+  FallsShortAtLast v x c w y = (y ≡ x) × ((w ≡ v) ⊎ TurnsAtLast v None w ⊎ GivesAtLast v c w)
 
 module _ {O C U X : Type 0} (answers : O → List C → C → U → Type 0) (pulls : O → List C → X → List Msg → X → Type 0) where
   -- Of the view, the cursor, the messages kept and the command before, the answer, and the three after

@@ -138,7 +138,7 @@ impl Hub {
         }
     }
 
-    /// The same of the room whose pass stands at this place in the row.
+    /// The same of the room whose pass stands at this place in the row, whether the room is held or not.
     pub fn catch_up_at<R: Wait>(
         &self,
         rt: &R,

@@ -35,8 +35,8 @@ impl Hub {
     /// id already nothing changes.
     ///
     /// `NoSuchRoom` never comes for a chat room. It comes where the id isn't `battle-FORMAT-n` with n from 1 to 65,536, where
-    /// the place is held by another id, and where the turn found no battle, or one with another id. `Busy` comes only where
-    /// the turn met an odd word, or two words that differ. The pass is kept then. It waits for nobody.
+    /// the place is held by another id, without a turn, and where the turn found no battle, or one with another id. `Busy`
+    /// comes only where the turn met an odd word, or two words that differ. The pass is kept then. It waits for nobody.
     pub fn enter(&self, passes: &mut Passes, id: &str) -> Result<(), EnterFault>
         requires { AreOf self.now passes.old }
         ensures of { AreOf self.now passes.new }

@@ -51,7 +51,7 @@ fn battle_named(id: &str) -> Option<u32>
 /// The place that an id names.
 pub(crate) fn place_named(config: &Config, id: &str) -> Option<u32>
     ensures found { IfSome result (Names config.now id.now) }
-    ensures none { IfNone result ((number : ℕ) → Names config.now id.now number → ⊥) }
+    ensures none { IfNone result (IsNoChat config.now id.now × ((n : ℕ) → IsBattleId id.now n → ⊥)) }
 {
     match chat_named(config, id) {
         Some(number) => Some(number),

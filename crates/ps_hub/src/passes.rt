@@ -1,6 +1,6 @@
 //! What a connection has of a hub.
 ghost use Rattle.std.specs.Prelude.{◌≡◌, ◌≢◌, ◌≤◌, ◌++◌, ◌∷◌, [], None, Some, All, IfOk, IfSome, IfNone, OnErr, length, slice_get};
-ghost use Rattle.ps_hub.specs.Passes.{IsAdded, IsAsBefore};
+ghost use Rattle.ps_hub.specs.Passes.{IsAdded, IsAsBefore, IsGap};
 
 use crate::pass::{HallPass, RoomPass, is_held};
 use ps_base::badge::Badge;
@@ -67,7 +67,8 @@ impl Passes {
 
     // Before the first pass of a higher place.
     fn gap(&self, number: u32) -> usize
-        ensures { result ≤ length self.now.rooms.items }
+        ensures within { result ≤ length self.now.rooms.items }
+        ensures gap { IsGap number result self.now.rooms.items }
     {
         let rooms = self.rooms.as_slice();
         for place in 0..rooms.len() {

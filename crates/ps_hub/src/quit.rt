@@ -2,7 +2,7 @@
 ghost use Rattle.std.specs.Prelude.{◌≡◌, ℕ, All, IsSome, OnOk, OnErr};
 ghost use Rattle.std.specs.List.{AllZip};
 ghost use Rattle.ps_hub.specs.Passes.{AreOf, IsRoomPass};
-ghost use Rattle.ps_hub.specs.Calls.{Quits, MayQuit, QuitsRoom, QuitsAtMost, QuitsHall, QuitsHallAtMost, HallOnly};
+ghost use Rattle.ps_hub.specs.Calls.{Quits, MayQuit, QuitsRoom, QuitsRoomAtMost, QuitsUpTo, QuitsHall, QuitsHallAtMost, HallOnly};
 
 use crate::hub::Hub;
 use crate::pass::RoomPass;
@@ -19,8 +19,8 @@ use std::sync::Wait;
 
 impl Hub {
     /// Makes the entries of the end of a connection: a Quit in each room that it holds, by rising numbers, and then one in the
-    /// hall. `AllocError` where memory is wanting, or a pass has made as many entries as it may: the Quits that were made
-    /// before stand.
+    /// hall. `AllocError` where memory is wanting, or a pass has made as many entries as it may: then the Quits before that one
+    /// stand, and there is none behind it. That one stands only where memory was wanting for its messages.
     pub fn quit<R: Wait>(
         &self,
         rt: &R,
@@ -50,7 +50,7 @@ impl Hub {
         requires may { All (λ k. IsSome k.id → IsSome badge.now) rooms.old }
         ensures of { All (IsRoomPass self.now conn) rooms.new }
         ensures ok { OnOk result (AllZip (QuitsRoom badge.now conn moment) rooms.old rooms.new) }
-        ensures err { OnErr result (AllZip (QuitsAtMost badge.now conn moment) rooms.old rooms.new) }
+        ensures err { OnErr result (QuitsUpTo self.now badge.now conn moment rooms.old rooms.new) }
     {
         for place in 0..rooms.len() {
             self.quit_room(rt, &mut rooms[place], conn, badge, moment)?;
@@ -71,7 +71,7 @@ impl Hub {
         requires may { IsSome pass.old.id → IsSome badge.now }
         ensures of { (conn : ℕ) → IsRoomPass self.now conn pass.old → IsRoomPass self.now conn pass.new }
         ensures ok { OnOk result (QuitsRoom badge.now conn moment pass.old pass.new) }
-        ensures err { OnErr result (QuitsAtMost badge.now conn moment pass.old pass.new) }
+        ensures err { OnErr result (QuitsRoomAtMost self.now badge.now conn moment pass.old pass.new) }
     {
         match &pass.id {
             None => return Ok(()),
@@ -110,7 +110,7 @@ impl Hub {
         requires { AreOf self.now passes.old }
         ensures of { AreOf self.now passes.new }
         ensures ok { OnOk result (HallOnly (QuitsHall passes.old.conn moment) passes.old passes.new) }
-        ensures err { OnErr result (HallOnly (QuitsHallAtMost passes.old.conn moment) passes.old passes.new) }
+        ensures err { OnErr result (HallOnly (QuitsHallAtMost self.now passes.old.conn moment) passes.old passes.new) }
     {
         let entry = HallEntry {
             conn: passes.conn,

@@ -40,7 +40,7 @@ impl Hub {
         requires { (conn : ℕ) × IsRoomPass self.now conn pass.old }
         ensures of { (conn : ℕ) → IsRoomPass self.now conn pass.old → IsRoomPass self.now conn pass.new }
         ensures ok { OnOk result (TurnsAtLast pass.old.pass.1 (Some (Begin start)) pass.new.pass.1) }
-        ensures err { OnErr result (BeginsAtMost start pass.old pass.new) }
+        ensures err { OnErr result (BeginsAtMost self.now start pass.old pass.new) }
         ensures same { (pass.new.at ≡ pass.old.at) × (pass.new.number ≡ pass.old.number) × (pass.new.id ≡ pass.old.id) }
     {
         let lock = match self.lock(pass.number) {

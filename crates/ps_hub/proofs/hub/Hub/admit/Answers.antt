@@ -1,11 +1,17 @@
-use Rattle.std.proofs.Common.{ℕ, refl, sym, ap, ◌∙◌, subst}
+use Rattle.std.proofs.Common.{◌≡◌, ℕ, List, Some, refl, sym, ap, ◌∙◌, subst}
 use Rattle.std.specs.Prelude.{All}
 use Rattle.std.proofs.lemmas.List.Elements.{All-nil}
 use Rattle.ps_hall.specs.declared.entry.HallEntry.{HallEntry}
 use Rattle.ps_histlock.specs.declared.view.View.{View}
 use Rattle.ps_histlock.specs.Seated.{TableId}
+use Rattle.ps_histlock.specs.Views.{newcomer}
+use Rattle.ps_lines.specs.declared.command.HallCmd.TheVariants.{Open}
 use Rattle.ps_places.specs.declared.site.Root.{Root}
-use Rattle.ps_hub.specs.Passes.{IsHallPass, IsRoomPass}
+use Rattle.ps_hub.specs.Hubs.{root_of}
+use Rattle.ps_hub.specs.Passes.{IsHallPass, IsRoomPass, numbers, IsRising}
+use Rattle.ps_hub.specs.declared.pass.RoomPass.{RoomPass}
+use Rattle.ps_hub.specs.Turns.{TurnsAtLast}
+use Rattle.ps_hub.specs.Calls.{hall_entry}
 use Rattle.ps_hub.proofs.hub.Hub.admit.Goals as goal
 
 pub returns-clause-of : goal.returns-clause-of
@@ -18,21 +24,24 @@ returns-clause-of g c =
       hall = refl;
       hall_is = subst (λ (n : ℕ). IsHallPass hub n c.split.result) (sym c.none-passes.ensures.conn) split;
       rooms = subst (All (IsRoomPass hub c.none-passes.result.conn)) (sym c.none-passes.ensures.rooms) (All-nil (IsRoomPass hub c.none-passes.result.conn));
+      rising = subst (λ (l : List RoomPass). IsRising (numbers l)) (sym c.none-passes.ensures.rooms) tt;
     }
 
 pub returns-clause-told : goal.returns-clause-told
 returns-clause-told g c =
     let told = c.in-Done.ensures.told in
     let split = c.split.ensures.pass in
+    let opener = c.new-opener.ensures.pass in
+    let fresh : c.new-opener.result.pass.1 ≡ newcomer (root_of c.args.self.now) opener.0 =
+    ap (λ (q : TableId × View Root HallEntry). q.1) opener.1 ∙ ap (λ (r : Root). newcomer r opener.0) c.hall_lock-lock.ensures.origin in
     record {
       pass = c.split.result;
       hall = refl;
-      before = told.1.0;
-      opener = c.new-opener.result.pass.1.number;
-      seen = ap (λ (q : TableId × View Root HallEntry). q.1.seen) split.1 ∙ ap (λ (v : View Root HallEntry). v.seen) told.1.2;
-      mine = ap (λ (q : TableId × View Root HallEntry). q.1.mine) split.1;
-      looks = ap (λ (q : TableId × View Root HallEntry). q.1.looks) split.1;
-      turns = ap (λ (q : TableId × View Root HallEntry). q.1.turns) split.1;
+      by = opener.0;
+      opener = c.turn.new.self.pass.1;
+      opened = subst (λ (v : View Root HallEntry). TurnsAtLast v (Some (hall_entry c.args.conn c.args.moment Open)) c.turn.new.self.pass.1) fresh (told.0, (told.1.0, told.1.1, told.1.2));
+      number = split.0;
+      split = ap (λ (q : TableId × View Root HallEntry). q.1) split.1;
       at = c.split.ensures.at ∙ c.turn.ensures.at ∙ c.new-opener.ensures.at;
       rooms = c.none-passes.ensures.rooms;
       badge = c.none-passes.ensures.badge;

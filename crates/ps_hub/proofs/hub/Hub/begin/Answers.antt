@@ -1,5 +1,7 @@
-use Rattle.std.proofs.Common.{inl, inr, ⊎_elim, ◌≡◌, None}
-use Rattle.ps_hub.specs.Turns.{TurnsAtLast}
+use Rattle.ps_places.specs.declared.command.RoomCmd.TheVariants.{Begin}
+use Rattle.ps_places.specs.Rooms.{Answers, Pulls}
+use Rattle.ps_hub.specs.Hubs.{site_of}
+use Rattle.ps_hub.proofs.ShortLemmas.{last_short_at_late, last_short_at_limit, last_short_at_no_memory}
 use Rattle.ps_hub.proofs.hub.Hub.begin.Goals as goal
 use Rattle.ps_hub.proofs.hub.Hub.begin.Goals.{in-Done, in-Late, in-OwnLimit, in-NoMemory}
 
@@ -17,10 +19,7 @@ returns-clause-ok g c = elim c.match-turn.branch [
 pub returns-clause-err : goal.returns-clause-err
 returns-clause-err g c = elim c.match-turn.branch [
   | in-Done w ↦ rw w.result-is tt
-  | in-Late w ↦ rw w.result-is (let told = w.in-Late.ensures.told in inr (inr (told.0, (told.1.0, told.1.1, told.1.2))))
-  | in-OwnLimit w ↦ rw w.result-is (inl w.in-OwnLimit.ensures.told.3)
-  | in-NoMemory w ↦ rw w.result-is (⊎_elim
-      (λ (e : c.turn.new.self.pass.1 ≡ c.args.pass.now.pass.1). inl e)
-      (λ (t : TurnsAtLast c.args.pass.now.pass.1 None c.turn.new.self.pass.1). inr (inl t))
-      w.in-NoMemory.ensures.told.0)
+  | in-Late w ↦ rw w.result-is (last_short_at_late Answers Pulls (site_of c.args.self.now c.args.pass.now.number) c.args.pass.now.pass.1 c.args.pass.now.cursor _ (Begin c.args.start) w.in-Late.out c.turn.new.self.pass.1 c.turn.new.self.cursor _ c.requires.1.origin w.in-Late.ensures.told)
+  | in-OwnLimit w ↦ rw w.result-is (last_short_at_limit Answers Pulls (site_of c.args.self.now c.args.pass.now.number) c.args.pass.now.pass.1 c.args.pass.now.cursor _ (Begin c.args.start) w.in-OwnLimit.cmd c.turn.new.self.pass.1 c.turn.new.self.cursor _ w.in-OwnLimit.ensures.told)
+  | in-NoMemory w ↦ rw w.result-is (last_short_at_no_memory Answers Pulls (site_of c.args.self.now c.args.pass.now.number) c.args.pass.now.pass.1 c.args.pass.now.cursor _ (Begin c.args.start) c.turn.new.self.pass.1 c.turn.new.self.cursor _ w.in-NoMemory.ensures.told)
 ]

@@ -1,4 +1,5 @@
 use Rattle.std.proofs.Common.{List, ℕ, Option, refl, ap, Bor}
+use Rattle.ps_hub.specs.declared.pass.RoomPass.{RoomPass}
 use Rattle.std.specs.Option.{option_copied}
 use Rattle.ps_hub.proofs.RowLemmas.{hall_of, are_set, read_there, read_pass}
 use Rattle.ps_hub.proofs.OrderLemmas.{are_hall}
@@ -15,7 +16,7 @@ pub returns-in-Some-position_of-clause-of : goal.returns-in-Some-position_of-cla
 returns-in-Some-position_of-clause-of c =
     let found = c.in-Some-position_of.ensures.found in
     let there = read_there c.args.passes.now.rooms.items c.in-Some-position_of.place found.0 c.index_mut.result.now found.1 c.index_mut.ensures.value in
-    are_set c.args.self.now c.args.passes.now _ c.in-Some-position_of.place c.count_at.new.pass c.requires.of refl refl (c.count_at.ensures.of c.args.passes.now.conn (read_pass c.args.self.now c.args.passes.now c.in-Some-position_of.place c.index_mut.result.now c.requires.of there))
+    are_set c.args.self.now c.args.passes.now _ c.in-Some-position_of.place c.index_mut.result.now c.count_at.new.pass c.requires.of there (ap (λ (q : RoomPass). q.number) c.count_at.ensures.told.1) refl refl (c.count_at.ensures.of c.args.passes.now.conn (read_pass c.args.self.now c.args.passes.now c.in-Some-position_of.place c.index_mut.result.now c.requires.of there))
 
 pub returns-in-Some-position_of-clause-told : goal.returns-in-Some-position_of-clause-told
 returns-in-Some-position_of-clause-told c =

@@ -21,7 +21,7 @@ pub returns-in-Ok-hold-clause-of : goal.returns-in-Ok-hold-clause-of
 returns-in-Ok-hold-clause-of c =
     let kept = c.in-Ok.ensures.ok in
     let keeps = kept_read c.args.self.now c.in-Some.number c.in-Ok.place c.args.passes.now kept.0 c.index_mut.result.now c.keep.new.passes kept.1 c.index_mut.ensures.value in
-    entered_are c.args.self.now c.in-Some.number c.in-Ok.place c.args.passes.now c.index_mut.result.now c.keep.new.passes c.hold.new.pass _ c.requires keeps refl refl c.hold.ensures.of
+    entered_are c.args.self.now c.in-Some.number c.in-Ok.place c.args.passes.now c.index_mut.result.now c.keep.new.passes c.hold.new.pass _ c.requires keeps refl refl c.hold.ensures.number c.hold.ensures.of
 
 pub returns-in-Ok-hold-clause-told : goal.returns-in-Ok-hold-clause-told
 returns-in-Ok-hold-clause-told c =
@@ -43,7 +43,7 @@ pub returns-in-Err-hold-clause-of : goal.returns-in-Err-hold-clause-of
 returns-in-Err-hold-clause-of c =
     let kept = c.in-Ok.ensures.ok in
     let keeps = kept_read c.args.self.now c.in-Some.number c.in-Ok.place c.args.passes.now kept.0 c.index_mut.result.now c.keep.new.passes kept.1 c.index_mut.ensures.value in
-    entered_are c.args.self.now c.in-Some.number c.in-Ok.place c.args.passes.now c.index_mut.result.now c.keep.new.passes c.hold.new.pass _ c.requires keeps refl refl c.hold.ensures.of
+    entered_are c.args.self.now c.in-Some.number c.in-Ok.place c.args.passes.now c.index_mut.result.now c.keep.new.passes c.hold.new.pass _ c.requires keeps refl refl c.hold.ensures.number c.hold.ensures.of
 
 pub returns-in-Err-hold-clause-told : goal.returns-in-Err-hold-clause-told
 returns-in-Err-hold-clause-told c =

@@ -10,7 +10,7 @@ pub returns-in-Err-clause-of : goal.returns-in-Err-clause-of
 returns-in-Err-clause-of c = are_hall c.args.self.now c.args.passes.now _ c.enter.new.self c.requires refl (c.enter.ensures.of c.args.self.now c.args.passes.now.conn (hall_of c.args.self.now c.args.passes.now c.in-Some.hall c.requires c.in-Some.is)) refl refl
 
 pub returns-in-Err-clause-told : goal.returns-in-Err-clause-told
-returns-in-Err-clause-told c = hall_failed c.args.self.now c.args.cmd c.args.moment c.args.passes.now _ c.in-Some.hall c.enter.new.self c.in-Err.fault c.in-Some.is refl c.enter.ensures.at refl refl refl c.in-Err.ensures.told
+returns-in-Err-clause-told c = hall_failed c.args.self.now c.args.cmd c.args.moment c.args.passes.now _ c.in-Some.hall c.enter.new.self c.in-Err.fault (hall_of c.args.self.now c.args.passes.now c.in-Some.hall c.requires c.in-Some.is) c.in-Some.is refl c.enter.ensures.at refl refl refl c.in-Err.ensures.told
 
 pub returns-clause-of : goal.returns-clause-of
 returns-clause-of c = are_hall c.args.self.now c.args.passes.now _ c.enter.new.self c.requires refl (c.enter.ensures.of c.args.self.now c.args.passes.now.conn (hall_of c.args.self.now c.args.passes.now c.in-Some.hall c.requires c.in-Some.is)) refl refl

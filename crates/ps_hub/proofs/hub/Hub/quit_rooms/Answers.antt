@@ -1,11 +1,11 @@
 use Rattle.std.proofs.Common.{◌<◌, length, get_or, IsSome, refl, arith}
 use Rattle.std.proofs.lemmas.Option.{slice_get-get_or}
 use Rattle.ps_hub.specs.Passes.{IsRoomPass}
-use Rattle.ps_hub.specs.Calls.{QuitsRoom, QuitsAtMost}
+use Rattle.ps_hub.specs.Calls.{QuitsRoom}
 use Rattle.ps_hub.specs.declared.pass.RoomPass.{RoomPass}
 use Rattle.ps_hub.proofs.RowLemmas.{at_place, after_set, on_err_is}
-use Rattle.ps_hub.proofs.QuitLemmas.{done_there, done_next, done_stopped}
-use Rattle.ps_hub.proofs.CallLemmas.{quits_more, quits_not}
+use Rattle.ps_hub.proofs.QuitLemmas.{done_there, done_next}
+use Rattle.ps_hub.proofs.CallLemmas.{quits_up_to}
 use Rattle.ps_hub.proofs.hub.Hub.quit_rooms.Goals as goal
 
 pub quit_room-requires-clause-may : goal.quit_room-requires-clause-may
@@ -29,8 +29,7 @@ returns-in_err-quit_room-clause-err g c =
     let within : c.loop-place.place < length c.loop-place.rooms = omega arith in
     let there = slice_get-get_or c.loop-place.rooms c.loop-place.place c.index-rooms-place.result within in
     on_err_is _ c.from_residual.result
-    (done_stopped (QuitsRoom c.args.badge.now c.args.conn c.args.moment) (QuitsAtMost c.args.badge.now c.args.conn c.args.moment) (quits_more c.args.badge.now c.args.conn c.args.moment) (quits_not c.args.badge.now c.args.conn c.args.moment)
-    c.loop-place.place c.args.rooms.now c.loop-place.rooms _ (get_or c.loop-place.rooms c.loop-place.place c.index-rooms-place.result) c.quit_room.new.pass there refl c.in_err-quit_room.ensures.err c.loop-place.invariant.done)
+    (quits_up_to c.args.self.now c.args.badge.now c.args.conn c.args.moment c.loop-place.place c.args.rooms.now c.loop-place.rooms _ (get_or c.loop-place.rooms c.loop-place.place c.index-rooms-place.result) c.quit_room.new.pass there refl c.in_err-quit_room.ensures.err c.loop-place.invariant.done)
 
 pub loop-place-preserved : goal.loop-place-preserved
 loop-place-preserved g c =

@@ -17,7 +17,7 @@ pub returns-clause-of : goal.returns-clause-of
 returns-clause-of g c =
     let kept = c.in_ok-place.ensures.ok in
     let keeps = kept_read c.args.self.now c.place_of_battle.result c.in_ok-place.place c.args.passes.now kept.0 c.index_mut.result.now c.keep.new.passes kept.1 c.index_mut.ensures.value in
-    entered_are c.args.self.now c.place_of_battle.result c.in_ok-place.place c.args.passes.now c.index_mut.result.now c.keep.new.passes c.begin.new.pass _ c.requires.of keeps refl refl c.begin.ensures.of
+    entered_are c.args.self.now c.place_of_battle.result c.in_ok-place.place c.args.passes.now c.index_mut.result.now c.keep.new.passes c.begin.new.pass _ c.requires.of keeps refl refl c.begin.ensures.same.1 c.begin.ensures.of
 
 pub returns-clause-told : goal.returns-clause-told
 returns-clause-told g c =

@@ -1,0 +1,38 @@
+-- What the Open of a connection is in the history that its pass has seen.
+use Rattle.std.proofs.Common.{◌≡◌, ◌≢◌, ℕ, List, [], ◌∷◌, ◌++◌, length, sym, ap, ◌∙◌, arith}
+use Rattle.ps_lines.specs.declared.command.HallCmd.TheVariants as hall_commands
+use Rattle.ps_hall.specs.declared.entry.HallEntry.{HallEntry}
+use Rattle.ps_histlock.specs.declared.view.Entry.{Entry}
+use Rattle.ps_histlock.specs.declared.view.View.{View}
+use Rattle.ps_histlock.specs.Histories.{entry, entries_of}
+use Rattle.ps_histlock.proofs.Lists.{own_more}
+use Rattle.ps_places.specs.declared.site.Root.{Root}
+use Rattle.ps_hub.specs.Hubs.{Hub}
+use Rattle.ps_hub.specs.Passes.{AreOf, IsHallPass}
+use Rattle.ps_hub.specs.Calls.{hall_entry, Admits}
+use Rattle.ps_hub.specs.declared.passes.Passes.{Passes}
+use Rattle.ps_hub.proofs.RowLemmas.{hall_of}
+
+-- it is the last entry, and its pass has no other
+pub record IsOpened (by : ℕ) (opening : Entry HallEntry) (seen : List (Entry HallEntry)) : Type 0 where
+  pub before : List (Entry HallEntry)
+  pub seen_is : seen ≡ before ++ opening ∷ []
+  pub alone : entries_of by before ≡ []
+
+pub admit_seen : (hub : Hub) (conn moment : ℕ) (p : Passes) → (a : Admits hub conn moment p) → IsOpened a.by (entry a.by (hall_entry conn moment hall_commands.Open)) a.pass.pass.1.seen
+admit_seen hub conn moment p a = record {
+  before = a.opened.1.0;
+  seen_is = ap (λ (v : View Root HallEntry). v.seen) a.split ∙ ap (λ (v : View Root HallEntry). v.seen) a.opened.1.2;
+  alone = sym a.opened.1.1.2;
+}
+
+-- and the connection's pass is another
+pub admit_other : (hub : Hub) (conn moment : ℕ) (p : Passes) → AreOf hub p → (a : Admits hub conn moment p) → a.by ≢ a.pass.pass.1.number
+admit_other hub conn moment p are a same =
+    let o = admit_seen hub conn moment p a in
+    let opening : Entry HallEntry = entry a.by (hall_entry conn moment hall_commands.Open) in
+    let is : IsHallPass hub p.conn a.pass = hall_of hub p a.pass are a.hall in
+    let none : [] ≡ entries_of a.by (o.before ++ opening ∷ []) = sym (ap (λ (v : View Root HallEntry). v.mine) a.split) ∙ is.rest.2 ∙ ap (λ (n : ℕ). entries_of n a.pass.pass.1.seen) (sym same) ∙ ap (entries_of a.by) o.seen_is in
+    let own : [] ++ opening ∷ [] ≡ entries_of a.by (o.before ++ opening ∷ []) = own_more a.by [] o.before (hall_entry conn moment hall_commands.Open) (sym o.alone) in
+    let one : length (opening ∷ []) ≡ 0 = ap length (own ∙ sym none) in
+    absurd (omega arith)
