@@ -24,6 +24,10 @@ pub after_acts_more : (r : Record) (acts : List Act) (a : Act) → after_acts r 
 after_acts_more r [] a = refl
 after_acts_more r (x ∷ acts) a = after_acts_more (after_act r x) acts a
 
+pub after_acts-append : (r : Record) (xs ys : List Act) → after_acts r (xs ++ ys) ≡ after_acts (after_acts r xs) ys
+after_acts-append r [] ys = refl
+after_acts-append r (x ∷ xs) ys = after_acts-append (after_act r x) xs ys
+
 pub acts_more : (r : Record) (acts : List Act) (a : Act) → AreActs r acts → IsAct (after_acts r acts) a → AreActs r (acts ++ a ∷ [])
 acts_more r [] a are is = (is, tt)
 acts_more r (x ∷ acts) a are is = (are.0, acts_more (after_act r x) acts a are.1 is)
@@ -182,3 +186,9 @@ since_still number acts a ne e = absurd (let l = ap length (sym (since_more numb
 pub given_more : (hub : Hub) (conn : ℕ) (done acts : List Act) (a : Act) (h : HallPass) (rooms : List RoomPass) → AreGiven hub conn done acts h rooms → Gave hub conn (done ++ acts) a h rooms → AreGiven hub conn done (acts ++ a ∷ []) h rooms
 given_more hub conn done [] a h rooms are gave = (subst (λ (l : List Act). Gave hub conn l a h rooms) (append-nil done) gave, tt)
 given_more hub conn done (x ∷ acts) a h rooms are gave = (are.0, given_more hub conn (done ++ x ∷ []) acts a h rooms are.1 (subst (λ (l : List Act). Gave hub conn l a h rooms) (sym (append_assoc done (x ∷ []) acts)) gave))
+
+pub given_parts : (hub : Hub) (conn : ℕ) (done acts : List Act) (a : Act) (h : HallPass) (rooms : List RoomPass) → AreGiven hub conn done (acts ++ a ∷ []) h rooms → AreGiven hub conn done acts h rooms × Gave hub conn (done ++ acts) a h rooms
+given_parts hub conn done [] a h rooms g = (tt, subst (λ (l : List Act). Gave hub conn l a h rooms) (sym (append-nil done)) g.0)
+given_parts hub conn done (x ∷ acts) a h rooms g =
+    let rest = given_parts hub conn (done ++ x ∷ []) acts a h rooms g.1 in
+    ((g.0, rest.0), subst (λ (l : List Act). Gave hub conn l a h rooms) (append_assoc done (x ∷ []) acts) rest.1)

@@ -1,23 +1,25 @@
 -- The begin of a session.
-use Rattle.std.proofs.Common.{◌≡◌, ◌≢◌, ℕ, ◌≤◌, true, List, [], ◌∷◌, ◌++◌, length, Option, Some, None, refl, ap, sym, ◌∙◌, subst, inl, arith}
+use Rattle.std.proofs.Common.{◌≡◌, ◌≢◌, ℕ, ◌≤◌, true, List, [], ◌∷◌, ◌++◌, length, Option, Some, None, refl, ap, sym, ◌∙◌, subst, inl, arith, true≢false}
 use Rattle.std.specs.Prelude.{All, IsSome, IfSome}
 use Rattle.std.proofs.lemmas.List.{append-nil}
 use Rattle.std.proofs.lemmas.List.Elements.{All-nil}
 use Rattle.ps_lines.specs.declared.command.HallCmd.TheVariants as hall_commands
 use Rattle.ps_hall.specs.declared.entry.HallEntry.{HallEntry}
-use Rattle.ps_histlock.specs.declared.view.Entry.{Entry}
-use Rattle.ps_histlock.specs.Histories.{commands}
-use Rattle.ps_histlock.proofs.TurnLemmas.{commands_more}
+use Rattle.ps_histlock.specs.declared.view.View.{View}
+use Rattle.ps_histlock.specs.Histories.{commands, entry}
 use Rattle.ps_session.specs.Sessions.{Record, begun}
 use Rattle.ps_outside.specs.Clocks.{IsNow, after_now}
 use Rattle.ps_outside.specs.Links.{Talk, LinkCounts}
+use Rattle.ps_places.specs.declared.site.Root.{Root}
 use Rattle.ps_places.specs.Halls.{HallShows}
 use Rattle.ps_hub.specs.Hubs.{Hub, root_of}
+use Rattle.ps_hub.specs.Names.{Names}
 use Rattle.ps_hub.specs.Passes.{AreOf}
 use Rattle.ps_hub.specs.Calls.{hall_entry, Admits}
 use Rattle.ps_hub.specs.declared.pass.HallPass.{HallPass}
 use Rattle.ps_hub.specs.declared.pass.RoomPass.{RoomPass}
 use Rattle.ps_hub.specs.declared.passes.Passes.{Passes}
+use Rattle.ps_hub.proofs.AdmitLemmas.{admit_seen, admit_other}
 use Rattle.ps_serve.specs.declared.closed.End.TheVariants as ends
 use Rattle.ps_serve.specs.Acts.{since}
 use Rattle.ps_serve.specs.Sendings.{Sending, AreLooksAnswered}
@@ -30,9 +32,9 @@ use Rattle.ps_serve.proofs.Prefixes.{prefix_same}
 
 hall_admitted : (hub : Hub) (conn moment : ℕ) (p : Passes) → (a : Admits hub conn moment p) → HallSits hub conn [] 0 [] a.pass
 hall_admitted hub conn moment p a = record {
-  entries = ap (λ (l : List (Entry HallEntry)). commands l) a.mine;
-  count = ap length a.looks;
-  looks = subst (AreLooksAnswered (HallShows conn (root_of hub)) (commands a.pass.pass.1.seen) None None [] 1) (sym a.looks) tt;
+  entries = ap (λ (v : View Root HallEntry). commands v.mine) a.split;
+  count = ap (λ (v : View Root HallEntry). length v.looks) a.split;
+  looks = subst (AreLooksAnswered (HallShows conn (root_of hub)) (commands a.pass.pass.1.seen) None None [] 1) (sym (ap (λ (v : View Root HallEntry). v.looks) a.split)) tt;
   sent = subst (λ (n : ℕ). IsSent (HallShows conn (root_of hub)) (commands a.pass.pass.1.seen) n None None []) (sym a.at) ([], refl, refl);
 }
 
@@ -41,7 +43,7 @@ of_none : (P : RoomPass → Type 0) (rooms : List RoomPass) → rooms ≡ [] →
 of_none P rooms e = subst (All P) (sym e) (All-nil P)
 
 pub admitted : (hub : Hub) (conn moment : ℕ) (p : Passes) (session : Record) → AreOf hub p → Admits hub conn moment p → session ≡ begun conn → Sits hub conn moment [] 0 [] session p
-admitted hub conn moment p session are a begins = record {
+admitted hub conn moment p session are a begins = let o = admit_seen hub conn moment p a in record {
   are = are;
   conn_is = a.conn_is;
   way = tt;
@@ -58,7 +60,7 @@ admitted hub conn moment p session are a begins = record {
   named = of_none (λ (k : RoomPass). IsSome k.id → IsSome p.badge) p.rooms.items a.rooms;
   gave = tt;
   from = All-nil (IsFrom p.rooms.items);
-  opened = (commands a.before, prefix_same (commands a.before ++ hall_entry conn moment hall_commands.Open ∷ []) (commands a.pass.pass.1.seen) (sym (ap (λ (l : List (Entry HallEntry)). commands l) a.seen ∙ commands_more a.before a.opener (hall_entry conn moment hall_commands.Open))));
+  opened = record { before = o.before; opener = a.by; there = prefix_same (o.before ++ entry a.by (hall_entry conn moment hall_commands.Open) ∷ []) a.pass.pass.1.seen (sym o.seen_is); alone = o.alone; other = admit_other hub conn moment p are a };
   on_time = All-nil (λ (s : Sending). s.after ≤ 0);
 }
 
@@ -81,8 +83,8 @@ nothing_came : (moment : ℕ) (talk : Option Talk) → AreOfLink (nothing_told m
 nothing_came moment None = tt
 nothing_came moment (Some t) = record { given = refl; answers = omega arith; sent = sym (append-nil t.sent) }
 
-pub unserved : (hub : Hub) (conn moment : ℕ) (p : Passes) (talk : Option Talk) (counts : LinkCounts) (start hours : Hours) → p.conn ≡ conn → p.hall ≡ None → p.rooms.items ≡ [] → IsNow start moment → hours ≡ after_now start → (t : Told) × Served ends.NoMemory hub conn t p talk talk counts counts start hours
-unserved hub conn moment p talk counts start hours conn_is no_hall no_rooms now later =
+pub unserved : (hub : Hub) (conn moment : ℕ) (p : Passes) (talk : Option Talk) (counts : LinkCounts) (start hours : Hours) → p.conn ≡ conn → p.badge ≡ None → p.hall ≡ None → p.rooms.items ≡ [] → IsNow start moment → hours ≡ after_now start → (t : Told) × Served ends.NoMemory hub conn t p talk talk counts counts start hours
+unserved hub conn moment p talk counts start hours conn_is no_badge no_hall no_rooms now later =
     let t = nothing_told moment in (
       t,
       record {
@@ -94,20 +96,22 @@ unserved hub conn moment p talk counts start hours conn_is no_hall no_rooms now 
           hall_given = at_none (HallGiven true conn t) p no_hall;
           rooms = of_none (RoomMade true conn p.badge t) p.rooms.items no_rooms;
           rooms_given = of_none (RoomGiven true conn t) p.rooms.items no_rooms;
-          badge = tt;
+          badge = no_badge;
         };
-        answers = record { made = at_none (AreAnswers true hub conn t p.rooms.items) p no_hall; asked = of_none (IsAsked ends.NoMemory hub t) p.rooms.items no_rooms };
+        answers = record { made = at_none (AreAnswers true hub conn t p.rooms.items) p no_hall; rightly = tt; asked = of_none (IsAsked ends.NoMemory hub t) p.rooms.items no_rooms };
         opened = subst (IsOpen true conn t p) (sym no_hall) (no_rooms, refl, refl, refl);
-        moments = subst (λ (o : Option HallPass). TellsMoments ends.NoMemory t o start hours) (sym no_hall) (now, later);
+        moments = subst (λ (o : Option HallPass). TellsMoments ends.NoMemory conn t o start hours) (sym no_hall) (now, later);
         looks = record { hall = at_none (HallLooks true hub conn t) p no_hall; rooms = of_none (RoomLooks true hub conn t) p.rooms.items no_rooms };
+        of = record { of = λ some. absurd (true≢false (sym (subst IsSome no_hall some))); named = of_none (λ (k : RoomPass). IfSome k.id (λ id. Names hub.config id k.number)) p.rooms.items no_rooms };
         history = record { conn_is = conn_is; hall = at_none (IsHallOf hub) p no_hall; rooms = of_none (IsRoomOf hub) p.rooms.items no_rooms; apart = subst AreApart (sym no_rooms) tt };
         begin = record {
           sure = [];
           are_sure = ([], refl, omega arith);
-          begun = All-nil (IsBegunBy true p.rooms.items);
+          begun = All-nil (IsBegunBy p.rooms.items);
           own = of_none (λ (k : RoomPass). All (IsOwnStart t k.number) (starts_in (commands k.pass.1.mine))) p.rooms.items no_rooms;
         };
         worlds = record { hall = at_none (HallElsewhere true hub conn t) p no_hall; rooms = of_none (RoomElsewhere true hub conn t) p.rooms.items no_rooms };
         cause = record { counts = tt; inbox = tt; text = omega arith };
+        complete = λ old is within sound. tt;
       },
     )

@@ -3,7 +3,7 @@ use Rattle.std.proofs.Common.{◌≡◌, ◌⊎◌, ℕ, zero, suc, get_or, ◌+
 use Rattle.std.specs.Prelude.{All, Contains}
 use Rattle.std.proofs.lemmas.Bool.{cases_lt}
 use Rattle.std.proofs.lemmas.Bool.Decides.{nat_tests}
-use Rattle.std.proofs.lemmas.List.{length-append}
+use Rattle.std.proofs.lemmas.List.{append-nil, length-append}
 use Rattle.std.proofs.lemmas.List.Elements.{All-weaker, All-contains_itself, Contains-append_left, Contains-append_right, Contains-append_cases, filter_map-append}
 use mathlib.Core.List.{IsPrefix}
 use Rattle.ps_base.specs.declared.badge.Badge.{Badge}
@@ -23,9 +23,9 @@ use Rattle.ps_hub.specs.Calls.{hall_entry}
 use Rattle.ps_hub.specs.declared.pass.HallPass.{HallPass}
 use Rattle.ps_hub.specs.declared.pass.RoomPass.{RoomPass}
 use Rattle.ps_serve.specs.Acts.{in_hall, in_room, nowhere, Act, quiet, heard, hall_of, hall_entries, room_of, room_cmds, begins_by, begins, begun_by, all_begun}
-use Rattle.ps_serve.specs.Sittings.{HallGave, Gave, AreGiven}
+use Rattle.ps_serve.specs.Sittings.{HallGave, Gave, AreGiven, SaysNothing, LastGave, AreAlmostGiven}
 use Rattle.ps_serve.specs.Ends.{start_in, starts_in}
-use Rattle.ps_serve.proofs.Actions.{hall_more}
+use Rattle.ps_serve.proofs.Actions.{hall_more, begins_more, given_more}
 use Rattle.ps_serve.proofs.StartedLemmas.{numbers_rise}
 
 -- ---- Begins among the commands of a place
@@ -56,7 +56,7 @@ starts_are conn number (a ∷ later) = starts-append (room_of conn number a) (ro
 
 -- ---- which battles are begun at a place
 
-only_one : (x y : Start) → Contains (x ∷ []) y → x ≡ y
+pub only_one : (x y : Start) → Contains (x ∷ []) y → x ≡ y
 only_one x y c = by_index c.0 c.1 c.2 where
   by_index : (k : ℕ) → k < length (x ∷ []) → get_or (x ∷ []) k y ≡ y → x ≡ y
   by_index zero lt e = e
@@ -122,7 +122,7 @@ own_starts number acts = All-weaker (Contains (begins number acts)) (λ (s : Sta
 
 module _ {A : Type 0} where
   -- of two beginnings of a list the shorter is a beginning of the other
-  shorter : (xs ys all : List A) → IsPrefix xs all → IsPrefix ys all → length xs ≤ length ys → IsPrefix xs ys
+  pub shorter : (xs ys all : List A) → IsPrefix xs all → IsPrefix ys all → length xs ≤ length ys → IsPrefix xs ys
   shorter [] ys all p q le = (ys, refl)
   shorter (x ∷ xs) [] all p q le = absurd (let bad : length (x ∷ xs) ≤ 0 = le in omega arith)
   shorter (x ∷ xs) (y ∷ ys) [] p q le = absurd (let bad : x ∷ (xs ++ p.0) ≡ [] = p.1 in cc)
@@ -227,3 +227,25 @@ one_each hub conn number done (heard bytes moment (in_hall cmd badge None) ∷ l
 one_each hub conn number done (heard bytes moment (in_hall cmd badge (Some s)) ∷ later) h rooms g = one_or_none (eqb (15 + s.number) number) hub conn number done later bytes moment cmd badge s h rooms refl g.0 g.1 (one_each hub conn number (done ++ heard bytes moment (in_hall cmd badge (Some s)) ∷ []) later h rooms g.1)
 one_each hub conn number done (heard bytes moment (in_room other id cmd badge ended) ∷ later) h rooms g = one_each hub conn number (done ++ heard bytes moment (in_room other id cmd badge ended) ∷ []) later h rooms g.1
 one_each hub conn number done (heard bytes moment (nowhere asked id cmd) ∷ later) h rooms g = one_each hub conn number (done ++ heard bytes moment (nowhere asked id cmd) ∷ []) later h rooms g.1
+
+-- ---- where memory was wanting
+
+nothing_begun : (number : ℕ) (a : Act) (rooms : List RoomPass) → SaysNothing a rooms → begins_by number a ≡ []
+nothing_begun number quiet rooms n = refl
+nothing_begun number (heard bytes moment (in_hall cmd badge start)) rooms n = ap (λ (s : Option Start). begins_by number (heard bytes moment (in_hall cmd badge s))) n.1
+nothing_begun number (heard bytes moment (in_room other id cmd badge ended)) rooms n = refl
+nothing_begun number (heard bytes moment (nowhere asked id cmd)) rooms n = absurd n
+
+last_each : (hub : Hub) (conn number : ℕ) (sure last : List Act) (h : HallPass) (rooms : List RoomPass) → AreGiven hub conn [] sure h rooms → LastGave hub conn sure last h rooms → AtMostOne (begins number (sure ++ last))
+last_each hub conn number sure [] h rooms g l = subst (λ (acts : List Act). AtMostOne (begins number acts)) (sym (append-nil sure)) (one_each hub conn number [] sure h rooms g)
+last_each hub conn number sure (a ∷ rest) h rooms g l =
+    let only : sure ++ a ∷ rest ≡ sure ++ a ∷ [] = ap (λ (r : List Act). sure ++ a ∷ r) l.1 in
+    subst (λ (acts : List Act). AtMostOne (begins number acts)) (sym only) (⊎_elim
+    (λ (gave : Gave hub conn sure a h rooms). one_each hub conn number [] (sure ++ a ∷ []) h rooms (given_more hub conn [] sure a h rooms g gave))
+    (λ (n : SaysNothing a rooms).
+    let same : begins number (sure ++ a ∷ []) ≡ begins number sure = begins_more number sure a ∙ ap (λ (l : List Start). begins number sure ++ l) (nothing_begun number a rooms n) ∙ append-nil (begins number sure) in
+    subst AtMostOne (sym same) (one_each hub conn number [] sure h rooms g))
+    l.0)
+
+pub almost_each : (hub : Hub) (conn number : ℕ) (sure acts : List Act) (h : HallPass) (rooms : List RoomPass) → AreAlmostGiven hub conn sure acts h rooms → AtMostOne (begins number acts)
+almost_each hub conn number sure acts h rooms g = subst (λ (l : List Act). AtMostOne (begins number l)) (sym g.1) (last_each hub conn number sure g.0 h rooms g.2 g.3)

@@ -1,13 +1,14 @@
--- A connection gave no more texts to a place than it gave at all: so a link with few texts that can be read is served to its end.
-use Rattle.std.proofs.Common.{◌≡◌, ◌≢◌, ℕ, zero, suc, ◌+◌, ◌-◌, ◌<◌, ◌≤◌, Bool, true, false, cond, List, [], ◌∷◌, ◌++◌, map, length, Option, Some, None, Result, Ok, Err, refl, ap, sym, ◌∙◌, subst, inl, inr, arith}
-use Rattle.std.specs.Prelude.{Contains, unwrap_or, nat_le}
+-- A link with texts within the limits is served to its end; and few texts in all are within them, since a connection gave no more
+-- texts to a place than it gave at all.
+use Rattle.std.proofs.Common.{◌≡◌, ◌≢◌, ℕ, zero, suc, ◌+◌, ◌-◌, ◌<◌, ◌≤◌, Bool, true, false, cond, List, [], ◌∷◌, ◌++◌, map, length, get_or, Option, Some, None, Result, Ok, Err, refl, ap, sym, ◌∙◌, subst, inl, inr, arith}
+use Rattle.std.specs.Prelude.{All, Contains, unwrap_or, nat_le}
 use Rattle.std.specs.FinMap.{get, get-empty, get-remove}
 use Rattle.std.specs.Ordering.{nat_cmp, eq_by_cmp}
 use Rattle.std.specs.Cmp.Lexicographic.{slice_cmp, nat_list_cmp_total}
 use Rattle.std.specs.Str.{bytes_eq}
 use Rattle.std.proofs.lemmas.Bool.Decides.{nat_tests}
 use Rattle.std.proofs.lemmas.List.{length-append}
-use Rattle.std.proofs.lemmas.List.Elements.{All-contains, Contains-append_left, Contains-append_right, filter_map-append}
+use Rattle.std.proofs.lemmas.List.Elements.{All-contains, All-head, Contains-append_left, Contains-append_right, filter_map-append}
 use Rattle.ps_base.specs.declared.badge.Badge.{Badge}
 use Rattle.ps_lines.specs.Clients.{client}
 use Rattle.ps_lines.specs.declared.client.ClientFault.{ClientFault}
@@ -17,6 +18,8 @@ use Rattle.ps_outside.specs.Causes.{Rose}
 use Rattle.ps_outside.specs.Links.{Talk, LinkCounts}
 use Rattle.ps_outside.specs.declared.link.Arrival.{Arrival}
 use Rattle.ps_roster.specs.ById.{ById}
+use Rattle.ps_hub.specs.Hubs.{Hub}
+use Rattle.ps_hub.specs.declared.pass.RoomPass.{RoomPass}
 use Rattle.ps_session.specs.Counts.{count_in, raised, with_left}
 use Rattle.ps_session.specs.Sessions.{Record, begun, is_full, counted, uncounted}
 use Rattle.ps_session.specs.Routes.{by_client, order_of, place_of, limited, within_limit, taken}
@@ -25,7 +28,7 @@ use Rattle.ps_session.proofs.KeptLemmas.{get_put}
 use Rattle.ps_serve.specs.declared.closed.End.{End}
 use Rattle.ps_serve.specs.declared.closed.End.TheVariants as ends
 use Rattle.ps_serve.specs.Acts.{Made, in_hall, in_room, nowhere, Act, quiet, heard, with_given, after_made, after_acts, arrival_of}
-use Rattle.ps_serve.specs.Ends.{Told, text_item, text_in, texts_in, IsReadable, IsWithin, EndsWell, IsTalk, AreOfLink, AreTold, IsTooMany, HasCause}
+use Rattle.ps_serve.specs.Ends.{Told, text_item, text_in, texts_in, IsReadable, IsWithin, EndsWell, EndsWellWithin, AreFew, IsTalk, AreOfLink, AreTold, IsTooMany, HasCause}
 
 -- ---- counts
 
@@ -137,46 +140,56 @@ inbox_texts t old new k =
     ∙ texts-append (map arrival_of t.acts) (map text_item t.rest ++ new.inbox)
     ∙ ap (λ (l : List (List ℕ)). texts_in (map arrival_of t.acts) ++ l) (texts-append (map text_item t.rest) new.inbox ∙ ap (λ (l : List (List ℕ)). l ++ texts_in new.inbox) (items_are t.rest))
 
-rest_read : (t : Told) (old new : Talk) (bytes : List ℕ) → IsTalk t old new → IsWithin old.inbox → t.rest ≡ bytes ∷ [] → IsReadable bytes
-rest_read t old new bytes k w e =
+rest_read : (t : Told) (old new : Talk) (bytes : List ℕ) → IsTalk t old new → All IsReadable (texts_in old.inbox) → t.rest ≡ bytes ∷ [] → IsReadable bytes
+rest_read t old new bytes k all e =
     let there : Contains (t.rest ++ texts_in new.inbox) bytes = Contains-append_left t.rest (texts_in new.inbox) bytes (subst (λ (l : List (List ℕ)). Contains l bytes) (sym e) (0, omega arith, refl)) in
-    All-contains IsReadable (texts_in old.inbox) bytes w.readable (subst (λ (l : List (List ℕ)). Contains l bytes) (sym (inbox_texts t old new k)) (Contains-append_right (texts_in (map arrival_of t.acts)) (t.rest ++ texts_in new.inbox) bytes there))
+    All-contains IsReadable (texts_in old.inbox) bytes all (subst (λ (l : List (List ℕ)). Contains l bytes) (sym (inbox_texts t old new k)) (Contains-append_right (texts_in (map arrival_of t.acts)) (t.rest ++ texts_in new.inbox) bytes there))
 
-few_heard : (t : Told) (old new : Talk) (bytes : List ℕ) → IsTalk t old new → IsWithin old.inbox → t.rest ≡ bytes ∷ [] → heard_in t.acts < 4096
-few_heard t old new bytes k w e =
-    let all : length (texts_in old.inbox) ≤ 4096 = w.few in
+few_heard : (t : Told) (old new : Talk) (i : ℕ) → IsTalk t old new → length (texts_in old.inbox) ≤ 4096 → i < length t.rest → heard_in t.acts < 4096
+few_heard t old new i k all lt =
     let parts = ap length (inbox_texts t old new k) ∙ length-append (texts_in (map arrival_of t.acts)) (t.rest ++ texts_in new.inbox) in
     let rest = length-append t.rest (texts_in new.inbox) in
-    let one : length t.rest ≡ 1 = ap length e in
     omega arith
 
 -- ---- the end
 
-too_many : (room : Option (List ℕ)) (conn : ℕ) (t : Told) (bytes : List ℕ) → heard_in t.acts < 4096 → IsTooMany room conn t bytes → ⊥
+too_many : (room : Option (List ℕ)) (hub : Hub) (conn : ℕ) (t : Told) (rooms : List RoomPass) (bytes : List ℕ) → heard_in t.acts < 4096 → IsTooMany room hub conn t rooms bytes → ⊥
 unfolding order_of
-too_many room conn t bytes less (inl c) =
+too_many room hub conn t rooms bytes less (inl c) =
     let r = after_acts (begun conn) t.acts in
     let f : Few (0 + heard_in t.acts) r = acts_few 0 (begun conn) t.acts (begun_few conn) in
     let l = limit_full r (order_of r.badge r bytes) room c.0 in
     let many : 4096 ≤ 0 + heard_in t.acts = full_many l.0 (0 + heard_in t.acts) r f l.1 in
     omega arith
-too_many room conn t bytes less (inr c) =
+too_many room hub conn t rooms bytes less (inr c) =
     let r = after_acts (begun conn) t.acts in
     let f : Few (0 + heard_in t.acts) r = acts_few 0 (begun conn) t.acts (begun_few conn) in
     let h : r.hall ≤ 0 + heard_in t.acts = f.hall in
-    let full : nat_le 4096 r.hall ≡ true = c.4 in
+    let full : nat_le 4096 r.hall ≡ true = c.5 in
     let l : 4096 ≤ r.hall = grind (arith, nat_tests) in
     omega arith
 
-ends_well : (end : End) (conn : ℕ) (t : Told) (old new : Talk) (counts0 counts : LinkCounts) → IsTalk t old new → HasCause end conn t (Some new) counts0 counts → IsWithin old.inbox → (Rose counts0.faults counts.faults → ⊥) → EndsWell end
-ends_well ends.Closed conn t old new counts0 counts k cause w sound = tt
-ends_well ends.NoMemory conn t old new counts0 counts k cause w sound = tt
-ends_well ends.LinkFault conn t old new counts0 counts k cause w sound = sound cause.counts.0
-ends_well (ends.BadText bytes) conn t old new counts0 counts k cause w sound = readable (after_acts (begun conn) t.acts) bytes.items (rest_read t old new bytes.items k w cause.text.0) cause.text.1
-ends_well (ends.OwnLimit room) conn t old new counts0 counts k cause w sound = too_many room conn t cause.text.0 (few_heard t old new cause.text.0 k w cause.text.1) cause.text.2
+-- whatever became of them, none of so few texts is one more than its place takes
+few_within : (hub : Hub) (conn : ℕ) (t : Told) (rooms : List RoomPass) (old new : Talk) → IsTalk t old new → AreFew old.inbox → IsWithin hub conn t rooms old.inbox
+few_within hub conn t rooms old new k f = record { readable = f.readable; few = λ i d lt room many. too_many room hub conn t rooms (get_or t.rest i d) (few_heard t old new i k f.few lt) many }
 
-pub complete_of : (end : End) (conn : ℕ) (t : Told) (old : Talk) (told new : Option Talk) (counts0 counts : LinkCounts) → told ≡ Some old → AreTold conn t told new → HasCause end conn t new counts0 counts → IsWithin old.inbox → (Rose counts0.faults counts.faults → ⊥) → EndsWell end
-complete_of end conn t old told new counts0 counts is are cause w sound = by_talk new (subst (λ (o : Option Talk). AreTold conn t o new) is are).0 cause where
-  by_talk : (new : Option Talk) → AreOfLink t (Some old) new → HasCause end conn t new counts0 counts → EndsWell end
+ends_well : (end : End) (hub : Hub) (conn : ℕ) (t : Told) (rooms : List RoomPass) (old new : Talk) (counts0 counts : LinkCounts) → IsTalk t old new → HasCause end hub conn t rooms (Some new) counts0 counts → IsWithin hub conn t rooms old.inbox → (Rose counts0.faults counts.faults → ⊥) → EndsWell end
+ends_well ends.Closed hub conn t rooms old new counts0 counts k cause w sound = tt
+ends_well ends.NoMemory hub conn t rooms old new counts0 counts k cause w sound = tt
+ends_well ends.LinkFault hub conn t rooms old new counts0 counts k cause w sound = sound cause.counts.0
+ends_well (ends.BadText bytes) hub conn t rooms old new counts0 counts k cause w sound = readable (after_acts (begun conn) t.acts) bytes.items (rest_read t old new bytes.items k w.readable cause.text.0) cause.text.1
+ends_well (ends.OwnLimit room) hub conn t rooms old new counts0 counts k cause w sound =
+    let not_many : All (λ (bytes : List ℕ). (room : Option (List ℕ)) → IsTooMany room hub conn t rooms bytes → ⊥) (cause.text.0 ∷ []) = subst (All (λ (bytes : List ℕ). (room : Option (List ℕ)) → IsTooMany room hub conn t rooms bytes → ⊥)) cause.text.1 w.few in
+    All-head (λ (bytes : List ℕ). (room : Option (List ℕ)) → IsTooMany room hub conn t rooms bytes → ⊥) cause.text.0 [] not_many room cause.text.2
+
+pub complete_of : (end : End) (hub : Hub) (conn : ℕ) (t : Told) (rooms : List RoomPass) (told new : Option Talk) (counts0 counts : LinkCounts) → AreTold conn t told new → HasCause end hub conn t rooms new counts0 counts → EndsWellWithin end hub conn t rooms told counts0 counts
+complete_of end hub conn t rooms told new counts0 counts are cause old is w sound = by_talk new (subst (λ (o : Option Talk). AreTold conn t o new) is are).0 cause where
+  by_talk : (new : Option Talk) → AreOfLink t (Some old) new → HasCause end hub conn t rooms new counts0 counts → EndsWell end
   by_talk None k cause = absurd k
-  by_talk (Some talk) k cause = ends_well end conn t old talk counts0 counts k cause w sound
+  by_talk (Some talk) k cause = ends_well end hub conn t rooms old talk counts0 counts k cause w sound
+
+pub few_complete : (end : End) (hub : Hub) (conn : ℕ) (t : Told) (rooms : List RoomPass) (old : Talk) (told new : Option Talk) (counts0 counts : LinkCounts) → told ≡ Some old → AreTold conn t told new → EndsWellWithin end hub conn t rooms told counts0 counts → AreFew old.inbox → (Rose counts0.faults counts.faults → ⊥) → EndsWell end
+few_complete end hub conn t rooms old told new counts0 counts is are complete f sound = by_talk new (subst (λ (o : Option Talk). AreTold conn t o new) is are).0 where
+  by_talk : (new : Option Talk) → AreOfLink t (Some old) new → EndsWell end
+  by_talk None k = absurd k
+  by_talk (Some talk) k = complete old is (few_within hub conn t rooms old talk k f) sound

@@ -1,7 +1,8 @@
 -- A text that became an order to the hall.
-use Rattle.std.proofs.Common.{◌≡◌, ◌≢◌, ◌⊎◌, ℕ, ◌+◌, ◌≤◌, false, List, [], ◌∷◌, ◌++◌, length, refl, sym, ap, ◌∙◌, subst, inl, inr, ⊎_elim, arith, All, Option, Some, None, Ok, is_some, true≢false, append_assoc, length-append}
+use Rattle.std.proofs.Common.{◌≡◌, ◌≢◌, ◌⊎◌, ℕ, ◌+◌, ◌≤◌, false, List, [], ◌∷◌, ◌++◌, length, refl, sym, ap, ◌∙◌, subst, inl, inr, ⊎_elim, arith, All, Option, Some, None, Ok, is_some, true, eqb, true≢false, append_assoc, length-append}
 use Rattle.std.specs.Prelude.{IsSome, IfSome}
 use Rattle.std.proofs.lemmas.List.Elements.{All-nil, All-cons, All-weaker}
+use Rattle.std.proofs.lemmas.Bool.Decides.{eqb_tells}
 use mathlib.Core.List.{IsPrefix}
 use Rattle.ps_base.specs.declared.badge.Badge.{Badge}
 use Rattle.ps_lines.specs.declared.command.HallCmd.{HallCmd}
@@ -11,14 +12,16 @@ use Rattle.ps_histlock.specs.Histories.{commands}
 use Rattle.ps_histlock.proofs.Lists.{prefix_self}
 use Rattle.ps_places.specs.declared.command.RoomCmd.{RoomCmd}
 use Rattle.ps_places.specs.declared.command.RoomCmd.TheVariants.{Begin}
+use Rattle.ps_places.specs.Rooms.{Answers}
 use Rattle.ps_session.specs.Sessions.{Record, counted}
 use Rattle.ps_session.specs.Routes.{taken}
-use Rattle.ps_hub.specs.Hubs.{Hub}
+use Rattle.ps_hub.specs.Hubs.{Hub, site_of}
 use Rattle.ps_hub.specs.Passes.{AreOf, IsAsBefore}
 use Rattle.ps_hub.specs.Turns.{TurnsAtLast}
 use Rattle.ps_hub.specs.Calls.{hall_entry, badge_after, BeginsAt, BeginsAtMost}
 use Rattle.ps_hub.specs.declared.pass.RoomPass.{RoomPass}
 use Rattle.ps_hub.specs.declared.passes.Passes.{Passes}
+use Rattle.ps_hub.proofs.ShortLemmas.{short_turns_at_last}
 use Rattle.ps_serve.specs.Acts.{Act, heard, in_hall, with_given, room_cmds, hall_entries, since}
 use Rattle.ps_serve.specs.Sendings.{Sending}
 use Rattle.ps_serve.specs.Sittings.{AreApart, IsBegun, Sits, PlaceLeft, IsUpToDate}
@@ -82,10 +85,10 @@ module _ (hub : Hub) (conn open_at : ℕ) (acts : List Act) (ss : List Sending) 
   }
 
   -- the rooms, where only the hall has to do with an act
-  rooms_left : (bytes : List ℕ) (moment : ℕ) (cmd : HallCmd) (badge : Option Badge) (rooms : List RoomPass) → rooms ≡ old.rooms.items → All (PlaceLeft false hub conn acts (acts ++ heard bytes moment (in_hall cmd badge None) ∷ []) ss) rooms
-  rooms_left bytes moment cmd badge rooms e =
-      let sit = sitting_on hub conn ss acts None (IsUpToDate old) (heard bytes moment (in_hall cmd badge None)) rooms (amid rooms e) (λ number. quiet_hall conn number bytes moment cmd badge) (λ o id is not_one named. never_some id not_one) in
-      All-weaker (HasPlace hub conn ss (acts ++ heard bytes moment (in_hall cmd badge None) ∷ []) (length acts)) (PlaceLeft false hub conn acts (acts ++ heard bytes moment (in_hall cmd badge None) ∷ []) ss) (λ k p. left_whole hub conn ss acts (heard bytes moment (in_hall cmd badge None)) k p) rooms sit.places
+  rooms_left : (bytes : List ℕ) (moment : ℕ) (cmd : HallCmd) (rooms : List RoomPass) → rooms ≡ old.rooms.items → All (PlaceLeft false hub conn acts (acts ++ heard bytes moment (in_hall cmd None None) ∷ []) ss) rooms
+  rooms_left bytes moment cmd rooms e =
+      let sit = sitting_on hub conn ss acts None (IsUpToDate old) (heard bytes moment (in_hall cmd None None)) rooms (amid rooms e) (λ number. quiet_hall conn number bytes moment cmd None) (λ o id is not_one named. never_some id not_one) in
+      All-weaker (HasPlace hub conn ss (acts ++ heard bytes moment (in_hall cmd None None) ∷ []) (length acts)) (PlaceLeft false hub conn acts (acts ++ heard bytes moment (in_hall cmd None None) ∷ []) ss) (λ k p. left_whole hub conn ss acts (heard bytes moment (in_hall cmd None None)) k p) rooms sit.places
 
   -- memory was wanting for it
   pub hall_breaks : (bytes : List ℕ) (moment : ℕ) (cmd : HallCmd) (new : Passes) → AreOf hub new → HallBroken hub conn open_at acts ss s.hall_pass old cmd moment new → Breaks hub conn open_at acts ss r old s (acts ++ heard bytes moment (in_hall cmd None None) ∷ []) new
@@ -97,11 +100,16 @@ module _ (hub : Hub) (conn open_at : ℕ) (acts : List Act) (ss : List Sending) 
     high = high_of hub conn open_at acts ss s.hall_pass old cmd moment (heard bytes moment (in_hall cmd None None)) d.more refl d.part;
     hall_pass = d.hall_pass;
     hall = d.hall;
+    kin = d.kin;
     hall_is = d.is;
-    rooms = rooms_left bytes moment cmd None new.rooms.items d.rooms;
+    rooms = rooms_left bytes moment cmd new.rooms.items d.rooms;
     apart = subst AreApart (sym d.rooms) s.apart;
     grows = subst (Grows old.rooms.items) (sym d.rooms) (grows_self old.rooms.items);
     named = subst (All (λ (k : RoomPass). IsSome k.id → IsSome new.badge)) (sym d.rooms) (named_on None new d.badge_is);
+    last = heard bytes moment (in_hall cmd None None) ∷ [];
+    all_is = refl;
+    badge_is = d.badge_is ∙ badge_given None old.badge r s.badge_is;
+    gave = (inr (refl, refl), refl);
   }
 
   -- ---- the Begin of a battle
@@ -154,31 +162,40 @@ module _ (hub : Hub) (conn open_at : ℕ) (acts : List Act) (ss : List Sending) 
     }
 
     -- memory was wanting for the Begin: it is there, or it isn't
-    begun_left : {does : RoomPass → RoomPass → Type 0} → (b : BeginsAt hub start does mid new) (more : List RoomCmd) → (more ≡ []) ⊎ (more ≡ Begin start ∷ []) → IsMoved b.before more b.behind → PlaceLeft false hub conn acts (acts ++ heard bytes moment (in_hall cmd badge (Some start)) ∷ []) ss b.behind
-    begun_left b more part m =
-        let p : IsPlace hub conn ss acts None (IsUpToDate old) b.before = place_begun b in
-        let a : Act = heard bytes moment (in_hall cmd badge (Some start)) in
+    begun_left : (h k : RoomPass) → IsPlace hub conn ss acts None (IsUpToDate old) h → h.number ≡ 15 + start.number → k.id ≡ h.id → (more : List RoomCmd) → (more ≡ []) ⊎ (more ≡ Begin start ∷ []) → IsMoved h more k → PlaceLeft false hub conn acts (acts ++ heard bytes moment (in_hall cmd badge (Some start)) ∷ []) ss k
+    begun_left h k p number same_id more part m =
         let near : length (acts ++ heard bytes moment (in_hall cmd badge (Some start)) ∷ []) ≡ length acts + 1 = length-append acts (heard bytes moment (in_hall cmd badge (Some start)) ∷ []) in
-        let made : commands b.behind.pass.1.mine ≡ room_cmds conn b.behind.number acts ++ more = m.moves.mine ∙ ap (λ l. l ++ more) p.entries ∙ ap (λ (n : ℕ). room_cmds conn n acts ++ more) (sym m.place) in
-        let all : room_cmds conn b.behind.number (acts ++ heard bytes moment (in_hall cmd badge (Some start)) ∷ []) ≡ room_cmds conn b.behind.number acts ++ Begin start ∷ [] =
-        cmds_more conn b.behind.number acts (heard bytes moment (in_hall cmd badge (Some start))) ∙ ap (λ l. room_cmds conn b.behind.number acts ++ l) (starts_here conn bytes moment cmd badge start b.behind.number (m.place ∙ b.number)).0 in
-        let high : IsPrefix (room_cmds conn b.behind.number acts ++ more) (room_cmds conn b.behind.number acts ++ Begin start ∷ []) = ⊎_elim
-        (λ (none : more ≡ []). let w : IsPrefix (room_cmds conn b.behind.number acts ++ more) (room_cmds conn b.behind.number acts ++ Begin start ∷ []) = (Begin start ∷ [], append_assoc (room_cmds conn b.behind.number acts) more (Begin start ∷ []) ∙ ap (λ (l : List RoomCmd). room_cmds conn b.behind.number acts ++ (l ++ Begin start ∷ [])) none) in w)
-        (λ (one : more ≡ Begin start ∷ []). prefix_same _ _ (ap (λ (l : List RoomCmd). room_cmds conn b.behind.number acts ++ l) one))
+        let made : commands k.pass.1.mine ≡ room_cmds conn k.number acts ++ more = m.moves.mine ∙ ap (λ l. l ++ more) p.entries ∙ ap (λ (n : ℕ). room_cmds conn n acts ++ more) (sym m.place) in
+        let all : room_cmds conn k.number (acts ++ heard bytes moment (in_hall cmd badge (Some start)) ∷ []) ≡ room_cmds conn k.number acts ++ Begin start ∷ [] =
+        cmds_more conn k.number acts (heard bytes moment (in_hall cmd badge (Some start))) ∙ ap (λ l. room_cmds conn k.number acts ++ l) (starts_here conn bytes moment cmd badge start k.number (m.place ∙ number)).0 in
+        let high : IsPrefix (room_cmds conn k.number acts ++ more) (room_cmds conn k.number acts ++ Begin start ∷ []) = ⊎_elim
+        (λ (none : more ≡ []). let w : IsPrefix (room_cmds conn k.number acts ++ more) (room_cmds conn k.number acts ++ Begin start ∷ []) = (Begin start ∷ [], append_assoc (room_cmds conn k.number acts) more (Begin start ∷ []) ∙ ap (λ (l : List RoomCmd). room_cmds conn k.number acts ++ (l ++ Begin start ∷ [])) none) in w)
+        (λ (one : more ≡ Begin start ∷ []). prefix_same _ _ (ap (λ (l : List RoomCmd). room_cmds conn k.number acts ++ l) one))
         part in
-        place_left hub conn ss acts (acts ++ heard bytes moment (in_hall cmd badge (Some start)) ∷ []) (length acts) b.behind (omega arith)
-        (subst (IsPrefix (room_cmds conn b.behind.number acts)) (sym made) (prefix_front (room_cmds conn b.behind.number acts) more))
-        (subst (λ l. IsPrefix l (room_cmds conn b.behind.number (acts ++ heard bytes moment (in_hall cmd badge (Some start)) ∷ []))) (sym made) (subst (IsPrefix (room_cmds conn b.behind.number acts ++ more)) (sym all) high))
-        (told_moved hub conn ss b.before more b.behind m b.id p.within p.told)
-        (λ e. m.moves.looks ∙ (p.waiting (sym b.id ∙ e)).looks)
+        place_left hub conn ss acts (acts ++ heard bytes moment (in_hall cmd badge (Some start)) ∷ []) (length acts) k (omega arith)
+        (subst (IsPrefix (room_cmds conn k.number acts)) (sym made) (prefix_front (room_cmds conn k.number acts) more))
+        (subst (λ l. IsPrefix l (room_cmds conn k.number (acts ++ heard bytes moment (in_hall cmd badge (Some start)) ∷ []))) (sym made) (subst (IsPrefix (room_cmds conn k.number acts ++ more)) (sym all) high))
+        (told_moved hub conn ss h more k m same_id p.within p.told)
+        (λ e. m.moves.looks ∙ (p.waiting (sym same_id ∙ e)).looks)
         (λ id e. (
-        let q = p.holding id (sym b.id ∙ e) in
-        let joined : since b.behind.number acts ≢ [] = ⊎_elim
-        (λ (j : (since b.before.number acts ≢ []) × (IsUpToDate old → b.before.at ≡ length b.before.pass.1.seen)). (let w : since b.behind.number acts ≢ [] = (λ bare. j.0 (ap (λ (n : ℕ). since n acts) (sym m.place) ∙ bare)) in w))
-        (λ (j : (None ≡ Some id) × (since b.before.number acts ≡ [])). never_some id j.0)
+        let q = p.holding id (sym same_id ∙ e) in
+        let joined : since k.number acts ≢ [] = ⊎_elim
+        (λ (j : (since h.number acts ≢ []) × (IsUpToDate old → h.at ≡ length h.pass.1.seen)). (let w : since k.number acts ≢ [] = (λ bare. j.0 (ap (λ (n : ℕ). since n acts) (sym m.place) ∙ bare)) in w))
+        (λ (j : (None ≡ Some id) × (since h.number acts ≡ [])). never_some id j.0)
         q.1 in
-        room_on hub conn acts (heard bytes moment (in_hall cmd badge (Some start))) ss id b.behind joined (sits_moved hub conn ss acts (length acts) id b.before more b.behind m q.0)
+        room_on hub conn acts (heard bytes moment (in_hall cmd badge (Some start))) ss id k joined (sits_moved hub conn ss acts (length acts) id h more k m q.0)
         ))
+
+    -- another place, at which nothing happened
+    beside_left : (k : RoomPass) → 15 + start.number ≢ k.number → IsPlace hub conn ss acts None (IsUpToDate old) k × IsBattle hub conn ss k → PlaceLeft false hub conn acts (acts ++ heard bytes moment (in_hall cmd badge (Some start)) ∷ []) ss k
+    beside_left k ne p = left_whole hub conn ss acts (heard bytes moment (in_hall cmd badge (Some start))) k (place_on hub conn ss acts None (IsUpToDate old) (heard bytes moment (in_hall cmd badge (Some start))) k (quiet_start conn k.number bytes moment cmd badge start ne) (λ id e not_one named. never_some id not_one) p)
+
+    -- the Begin isn't there at its place
+    unbegun_left : (k : RoomPass) → IsPlace hub conn ss acts None (IsUpToDate old) k × IsBattle hub conn ss k → PlaceLeft false hub conn acts (acts ++ heard bytes moment (in_hall cmd badge (Some start)) ∷ []) ss k
+    unbegun_left k p = ⊎_elim
+        (λ (here : (eqb (15 + start.number) k.number ≡ true) × (15 + start.number ≡ k.number)). begun_left k k p.0 (sym here.1) refl [] (inl refl) record { place = refl; at = refl; moves = stays k.pass.1 k.pass.1 refl })
+        (λ (other : (eqb (15 + start.number) k.number ≡ false) × (15 + start.number ≢ k.number)). beside_left k other.1 p)
+        (eqb_tells (15 + start.number) k.number)
 
     begun_breaks : {does : RoomPass → RoomPass → Type 0} → (b : BeginsAt hub start does mid new) (more : List RoomCmd) → (more ≡ []) ⊎ (more ≡ Begin start ∷ []) → IsMoved b.before more b.behind → Breaks hub conn open_at acts ss r old s (acts ++ heard bytes moment (in_hall cmd badge (Some start)) ∷ []) new
     begun_breaks b more part m = record {
@@ -189,26 +206,31 @@ module _ (hub : Hub) (conn open_at : ℕ) (acts : List Act) (ss : List Sending) 
       high = high_of hub conn open_at acts ss s.hall_pass old cmd moment (heard bytes moment (in_hall cmd badge (Some start))) (hall_entry conn moment cmd ∷ []) refl (inr refl);
       hall_pass = d.hall_pass;
       hall = b.but.hall ∙ d.hall;
+      kin = d.kin;
       hall_is = d.is;
       rooms = new_all hub conn mid.rooms.items b.before b.behind new.rooms.items (beside_begun b) (λ (o : RoomPass). IsPlace hub conn ss acts None (IsUpToDate old) o × IsBattle hub conn ss o) (PlaceLeft false hub conn acts (acts ++ heard bytes moment (in_hall cmd badge (Some start)) ∷ []) ss) (amid mid.rooms.items d.rooms).places
-          (λ o ne p. left_whole hub conn ss acts (heard bytes moment (in_hall cmd badge (Some start))) o (place_on hub conn ss acts None (IsUpToDate old) (heard bytes moment (in_hall cmd badge (Some start))) o (quiet_begun o.number b.before.number b.number ne) (λ id e not_one named. never_some id not_one) p))
-          (begun_left b more part m);
+          (λ o ne p. beside_left o (λ e. ne (sym e ∙ sym b.number)) p)
+          (begun_left b.before b.behind (place_begun b) b.number b.id more part m);
       apart = new_apart hub conn mid.rooms.items b.before b.behind new.rooms.items (beside_begun b);
       grows = grows_begun b more m;
       named = named_begun b;
+      last = heard bytes moment (in_hall cmd badge (Some start)) ∷ [];
+      all_is = refl;
+      badge_is = b.but.badge ∙ d.badge_is ∙ badge_given badge old.badge r s.badge_is;
+      gave = (inl d.gave, refl);
     }
 
-    pub begins_break : BeginsAt hub start (BeginsAtMost start) mid new → Breaks hub conn open_at acts ss r old s (acts ++ heard bytes moment (in_hall cmd badge (Some start)) ∷ []) new
+    pub begins_break : BeginsAt hub start (BeginsAtMost hub start) mid new → Breaks hub conn open_at acts ss r old s (acts ++ heard bytes moment (in_hall cmd badge (Some start)) ∷ []) new
     begins_break b = ⊎_elim
         (λ (e : b.behind.pass.1 ≡ b.before.pass.1). begun_breaks b [] (inl refl) record { place = b.but.same_place; at = b.at; moves = stays b.before.pass.1 b.behind.pass.1 e })
         (λ (rest : TurnsAtLast b.before.pass.1 None b.behind.pass.1 ⊎ TurnsAtLast b.before.pass.1 (Some (Begin start)) b.behind.pass.1). ⊎_elim
         (λ (t : TurnsAtLast b.before.pass.1 None b.behind.pass.1). begun_breaks b [] (inl refl) record { place = b.but.same_place; at = b.at; moves = last_turns_move b.before.pass.1 b.behind.pass.1 t })
         (λ (t : TurnsAtLast b.before.pass.1 (Some (Begin start)) b.behind.pass.1). begun_breaks b (Begin start ∷ []) (inr refl) record { place = b.but.same_place; at = b.at; moves = last_enters_move b.before.pass.1 (Begin start) b.behind.pass.1 t })
         rest)
-        b.done
+        (short_turns_at_last (Answers (site_of hub b.before.number)) b.before.pass.1 b.before.cursor (Begin start) b.behind.pass.1 b.behind.cursor b.done)
 
     -- there was none at all
-    pub begins_none : IsAsBefore mid new → Breaks hub conn open_at acts ss r old s (acts ++ heard bytes moment (in_hall cmd badge None) ∷ []) new
+    pub begins_none : IsAsBefore mid new → Breaks hub conn open_at acts ss r old s (acts ++ heard bytes moment (in_hall cmd badge (Some start)) ∷ []) new
     begins_none e =
         let rooms : new.rooms.items ≡ old.rooms.items = e.1 ∙ d.rooms in
         let badge_is : new.badge ≡ badge_after old.badge badge = ap (λ (p : Passes). p.badge) e.0 ∙ d.badge_is in
@@ -217,12 +239,17 @@ module _ (hub : Hub) (conn open_at : ℕ) (acts : List Act) (ss : List Sending) 
           conn_is = ap (λ (p : Passes). p.conn) e.0 ∙ d.conn_is;
           made = hall_entries conn acts ++ hall_entry conn moment cmd ∷ [];
           low = prefix_front (hall_entries conn acts) (hall_entry conn moment cmd ∷ []);
-          high = high_of hub conn open_at acts ss s.hall_pass old cmd moment (heard bytes moment (in_hall cmd badge None)) (hall_entry conn moment cmd ∷ []) refl (inr refl);
+          high = high_of hub conn open_at acts ss s.hall_pass old cmd moment (heard bytes moment (in_hall cmd badge (Some start))) (hall_entry conn moment cmd ∷ []) refl (inr refl);
           hall_pass = d.hall_pass;
           hall = ap (λ (p : Passes). p.hall) e.0 ∙ d.hall;
+          kin = d.kin;
           hall_is = d.is;
-          rooms = rooms_left bytes moment cmd badge new.rooms.items rooms;
+          rooms = All-weaker (λ (o : RoomPass). IsPlace hub conn ss acts None (IsUpToDate old) o × IsBattle hub conn ss o) (PlaceLeft false hub conn acts (acts ++ heard bytes moment (in_hall cmd badge (Some start)) ∷ []) ss) unbegun_left new.rooms.items (amid new.rooms.items rooms).places;
           apart = subst AreApart (sym rooms) s.apart;
           grows = subst (Grows old.rooms.items) (sym rooms) (grows_self old.rooms.items);
           named = subst (All (λ (k : RoomPass). IsSome k.id → IsSome new.badge)) (sym rooms) (named_on badge new badge_is);
+          last = heard bytes moment (in_hall cmd badge (Some start)) ∷ [];
+          all_is = refl;
+          badge_is = badge_is ∙ badge_given badge old.badge r s.badge_is;
+          gave = (inl d.gave, refl);
         }

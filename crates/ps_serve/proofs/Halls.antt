@@ -1,8 +1,7 @@
 -- The pass of the hall while an order is obeyed, and what acts were answered.
-use Rattle.std.proofs.Common.{◌≡◌, ℕ, ◌≤◌, List, [], ◌∷◌, ◌++◌, length, sym, ap, ◌∙◌, subst, inl, inr, ⊎_elim, arith, append-nil, Some, None, Contains}
+use Rattle.std.proofs.Common.{◌≡◌, ℕ, ◌≤◌, List, [], ◌∷◌, ◌++◌, length, sym, ap, ◌∙◌, subst, inl, inr, ⊎_elim, arith, append-nil, Option, Some, None, Contains}
 use mathlib.Core.List.{IsPrefix}
 use Rattle.ps_openings.specs.Openings.{first_battle}
-use Rattle.ps_lines.specs.declared.command.HallCmd.TheVariants.{Open}
 use Rattle.ps_lines.specs.declared.command.Command.{Command}
 use Rattle.ps_hall.specs.declared.entry.HallEntry.{HallEntry}
 use Rattle.ps_histlock.specs.Histories.{commands, entry, entries_of}
@@ -15,12 +14,23 @@ use Rattle.ps_hub.specs.declared.pass.HallPass.{HallPass}
 use Rattle.ps_hub.specs.declared.pass.RoomPass.{RoomPass}
 use Rattle.ps_serve.specs.Acts.{Made, in_hall, in_room, nowhere, Act, quiet, heard, since, hall_entries, room_cmds}
 use Rattle.ps_serve.specs.Sendings.{Sending, AreLooksAnswered}
-use Rattle.ps_serve.specs.Sittings.{IsSent, RoomGave, IsUnfound, IsOthers, GaveMade, Gave, AreGiven}
+use Rattle.ps_serve.specs.Sittings.{IsSent, HasOpen, RoomGave, IsUnfound, IsOthers, IsNowhere, GaveMade, Gave, AreGiven, SaysNothing, LastGave, AreAlmostGiven}
 use Rattle.ps_serve.proofs.Prefixes.{prefix_trans, prefix_commands, prefix_longer, sent_grows, looks_grow}
 use Rattle.ps_serve.proofs.Rows.{IsKin, Grows}
 use Rattle.ps_serve.proofs.Moves.{Moves}
 
 -- ---- the pass of the hall
+
+-- what no call takes from it
+pub record IsHallKin (h k : HallPass) : Type 0 where
+  pub number : k.pass.1.number ≡ h.pass.1.number
+  pub seen : IsPrefix h.pass.1.seen k.pass.1.seen
+
+pub open_grows : (conn open_at : ℕ) (h k : HallPass) → IsHallKin h k → HasOpen conn open_at h → HasOpen conn open_at k
+open_grows conn open_at h k kin o = record { before = o.before; opener = o.opener; there = prefix_trans _ _ _ o.there kin.seen; alone = o.alone; other = λ same. o.other (same ∙ kin.number) }
+
+pub hall_kin_trans : (h j k : HallPass) → IsHallKin h j → IsHallKin j k → IsHallKin h k
+hall_kin_trans h j k a b = record { number = b.number ∙ a.number; seen = prefix_trans _ _ _ a.seen b.seen }
 
 pub record IsHall (hub : Hub) (conn open_at : ℕ) (made : List HallEntry) (looked : ℕ) (ss : List Sending) (h : HallPass) : Type 0 where
   pub entries : commands h.pass.1.mine ≡ made
@@ -28,7 +38,7 @@ pub record IsHall (hub : Hub) (conn open_at : ℕ) (made : List HallEntry) (look
   pub looks : AreLooksAnswered (HallShows conn (root_of hub)) (commands h.pass.1.seen) None None ss 1 h.pass.1.looks
   pub told : IsSent (HallShows conn (root_of hub)) (commands h.pass.1.seen) h.at None None ss
   pub within : h.at ≤ length (commands h.pass.1.seen)
-  pub opened : (before : List HallEntry) × IsPrefix (before ++ hall_entry conn open_at Open ∷ []) (commands h.pass.1.seen)
+  pub opened : HasOpen conn open_at h
 
 pub hall_moved : (hub : Hub) (conn open_at : ℕ) (made : List HallEntry) (looked : ℕ) (ss : List Sending) (h : HallPass) (more : List HallEntry) (k : HallPass) → k.at ≡ h.at → Moves h.pass.1 more k.pass.1 → IsHall hub conn open_at made looked ss h → IsHall hub conn open_at (made ++ more) looked ss k
 hall_moved hub conn open_at made looked ss h more k at m p =
@@ -41,7 +51,7 @@ hall_moved hub conn open_at made looked ss h more k at m p =
       looks = subst (λ (l : List ℕ). AreLooksAnswered (HallShows conn (root_of hub)) (commands k.pass.1.seen) None None ss 1 l) (sym m.looks) (looks_grow (HallShows conn (root_of hub)) (commands h.pass.1.seen) (commands k.pass.1.seen) None None ss 1 h.pass.1.looks grown p.looks);
       told = subst (λ (n : ℕ). IsSent (HallShows conn (root_of hub)) (commands k.pass.1.seen) n None None ss) (sym at) (sent_grows (HallShows conn (root_of hub)) (commands h.pass.1.seen) (commands k.pass.1.seen) h.at None None ss p.within grown p.told);
       within = omega arith;
-      opened = (p.opened.0, prefix_trans _ _ _ p.opened.1 grown);
+      opened = open_grows conn open_at h k (record { number = m.number; seen = m.seen }) p.opened;
     }
 
 pub hall_same : (hub : Hub) (conn open_at : ℕ) (made : List HallEntry) (looked : ℕ) (ss : List Sending) (h k : HallPass) → k.at ≡ h.at → Moves h.pass.1 [] k.pass.1 → IsHall hub conn open_at made looked ss h → IsHall hub conn open_at made looked ss k
@@ -51,13 +61,6 @@ pub hall_as : (hub : Hub) (conn open_at : ℕ) (made all : List HallEntry) (look
 hall_as hub conn open_at made all looked ss h e p = subst (λ (l : List HallEntry). IsHall hub conn open_at l looked ss h) e p
 
 -- ---- what acts were answered, as passes see more
-
-pub record IsHallKin (h k : HallPass) : Type 0 where
-  pub number : k.pass.1.number ≡ h.pass.1.number
-  pub seen : IsPrefix h.pass.1.seen k.pass.1.seen
-
-pub hall_kin_trans : (h j k : HallPass) → IsHallKin h j → IsHallKin j k → IsHallKin h k
-hall_kin_trans h j k a b = record { number = b.number ∙ a.number; seen = prefix_trans _ _ _ a.seen b.seen }
 
 module _ (hub : Hub) (conn : ℕ) (done : List Act) (h k : HallPass) (old new : List RoomPass) (kin : IsHallKin h k) (grows : Grows old new) where
   room_gave_grows : (moment number : ℕ) (id : List ℕ) (cmd : Command) (badge : _) (ended : _) (j l : RoomPass) → IsKin j l → RoomGave hub conn done moment number id cmd badge ended j → RoomGave hub conn done moment number id cmd badge ended l
@@ -96,6 +99,13 @@ module _ (hub : Hub) (conn : ℕ) (done : List Act) (h k : HallPass) (old new : 
     differs = g.differs;
   }
 
+  pub nowhere_grows : (asked : Option ℕ) (id : List ℕ) → IsNowhere hub conn done asked id old → IsNowhere hub conn done asked id new
+  nowhere_grows None id g = ⊎_elim
+      (λ (n : NamesNone hub id). inl n)
+      (λ (o : (j : RoomPass) × Contains old j × IsOthers hub done id j). inr (let l = grows o.0 o.1 in (l.0, l.1, others_grow id o.0 l.0 l.2 o.2)))
+      g
+  nowhere_grows (Some number) id g = (let l = grows g.0 g.1 in (l.0, l.1, unfound_grows number id g.0 l.0 l.2 g.2))
+
   made_grows : (moment : ℕ) (made : Made) → GaveMade hub conn done moment made h old → GaveMade hub conn done moment made k new
   made_grows moment (in_hall cmd badge start) g = record {
     before = g.before;
@@ -107,11 +117,7 @@ module _ (hub : Hub) (conn : ℕ) (done : List Act) (h k : HallPass) (old new : 
     start_is = g.start_is;
   }
   made_grows moment (in_room number id cmd badge ended) g = (let l = grows g.0 g.1 in (l.0, l.1, room_gave_grows moment number id cmd badge ended g.0 l.0 l.2 g.2))
-  made_grows moment (nowhere None id cmd) g = ⊎_elim
-      (λ (n : NamesNone hub id). inl n)
-      (λ (o : (j : RoomPass) × Contains old j × IsOthers hub done id j). inr (let l = grows o.0 o.1 in (l.0, l.1, others_grow id o.0 l.0 l.2 o.2)))
-      g
-  made_grows moment (nowhere (Some number) id cmd) g = (let l = grows g.0 g.1 in (l.0, l.1, unfound_grows number id g.0 l.0 l.2 g.2))
+  made_grows moment (nowhere asked id cmd) g = nowhere_grows asked id g
 
   pub gave_grows : (a : Act) → Gave hub conn done a h old → Gave hub conn done a k new
   gave_grows quiet g = tt
@@ -120,3 +126,24 @@ module _ (hub : Hub) (conn : ℕ) (done : List Act) (h k : HallPass) (old new : 
 pub given_grows : (hub : Hub) (conn : ℕ) (done acts : List Act) (h k : HallPass) (old new : List RoomPass) → IsHallKin h k → Grows old new → AreGiven hub conn done acts h old → AreGiven hub conn done acts k new
 given_grows hub conn done [] h k old new kin grows g = tt
 given_grows hub conn done (a ∷ acts) h k old new kin grows g = (gave_grows hub conn done h k old new kin grows a g.0, given_grows hub conn (done ++ a ∷ []) acts h k old new kin grows g.1)
+
+-- ---- where memory was wanting
+
+nothing_grows : (a : Act) (old new : List RoomPass) → Grows old new → SaysNothing a old → SaysNothing a new
+nothing_grows quiet old new grows n = tt
+nothing_grows (heard bytes moment (in_hall cmd badge start)) old new grows n = n
+nothing_grows (heard bytes moment (in_room number id cmd badge ended)) old new grows n = (n.0, (let l = grows n.1.0 n.1.1 in (l.0, l.1, l.2.place ∙ n.1.2, l.2.id id n.1.3)))
+nothing_grows (heard bytes moment (nowhere asked id cmd)) old new grows n = absurd n
+
+last_grows : (hub : Hub) (conn : ℕ) (sure last : List Act) (h k : HallPass) (old new : List RoomPass) → IsHallKin h k → Grows old new → LastGave hub conn sure last h old → LastGave hub conn sure last k new
+last_grows hub conn sure [] h k old new kin grows g = tt
+last_grows hub conn sure (a ∷ rest) h k old new kin grows g = (
+  ⊎_elim
+      (λ (gave : Gave hub conn sure a h old). inl (gave_grows hub conn sure h k old new kin grows a gave))
+      (λ (n : SaysNothing a old). inr (nothing_grows a old new grows n))
+      g.0,
+  g.1,
+)
+
+pub almost_grows : (hub : Hub) (conn : ℕ) (sure acts : List Act) (h k : HallPass) (old new : List RoomPass) → IsHallKin h k → Grows old new → AreAlmostGiven hub conn sure acts h old → AreAlmostGiven hub conn sure acts k new
+almost_grows hub conn sure acts h k old new kin grows g = (g.0, g.1, given_grows hub conn [] sure h k old new kin grows g.2, last_grows hub conn sure g.0 h k old new kin grows g.3)

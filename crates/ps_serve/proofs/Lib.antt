@@ -14,6 +14,7 @@ pub mod LabelLemmas
 pub mod LookLemmas
 pub mod Moves
 pub mod Names
+pub mod NowhereLemmas
 pub mod Obeyed
 pub mod OrderLemmas
 pub mod PlaceLemmas

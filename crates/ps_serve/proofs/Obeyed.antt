@@ -66,7 +66,7 @@ module _ (hub : Hub) (conn open_at : ℕ) (acts : List Act) (ss : List Sending) 
       (λ (n : (here : Passes) × EntersAt hub id (Held id) t.1 here × RoomFails hub id cmd moment here hub_faults.NoSuchRoom mid). absurd n.2)
       t.3)
 
-  no_badge_lost : (id : List ℕ) (after : Record) → after ≡ after_no_room (counted (Some id) r) → after.badge ≡ r.badge
+  pub no_badge_lost : (id : List ℕ) (after : Record) → after ≡ after_no_room (counted (Some id) r) → after.badge ≡ r.badge
   no_badge_lost id after e = ap (λ (x : Record). x.badge) e ∙ badge_if (is_full None (counted (Some id) r)) (counted (Some id) r) _ refl
 
   -- ---- a text that became an act

@@ -22,9 +22,10 @@ use Rattle.ps_hub.specs.Hubs.{Hub, root_of, site_of}
 use Rattle.ps_hub.specs.Names.{Names}
 use Rattle.ps_hub.specs.Passes.{IsHallPass, IsRoomPass}
 use Rattle.ps_hub.specs.Turns.{TurnsAtLast}
-use Rattle.ps_hub.specs.Calls.{hall_entry, room_entry, QuitsHall, QuitsBy, QuitsRoom, QuitsAtMost, QuitsHallAtMost}
+use Rattle.ps_hub.specs.Calls.{hall_entry, room_entry, QuitsHall, QuitsBy, QuitsRoom}
 use Rattle.ps_hub.specs.declared.pass.HallPass.{HallPass}
 use Rattle.ps_hub.specs.declared.pass.RoomPass.{RoomPass}
+use Rattle.ps_hub.proofs.CallLemmas.{RoomEndsAtMost, HallEndsAtMost}
 use Rattle.ps_serve.specs.declared.closed.End.{End}
 use Rattle.ps_serve.specs.Acts.{hall_entries, room_cmds, since}
 use Rattle.ps_serve.specs.Sendings.{Sending}
@@ -92,7 +93,7 @@ quits_hall conn moment h k q = record { went = went_writing h.pass.1 k.pass.1 (h
 abbrev pub HallWentAtMost : ℕ → ℕ → HallPass → HallPass → Type 0
 HallWentAtMost conn moment h k = HallWent h k [] ⊎ HallWent h k (entry h.pass.1.number (hall_entry conn moment hall_commands.Quit) ∷ [])
 
-pub quits_hall_at_most : (conn moment : ℕ) (h k : HallPass) → QuitsHallAtMost conn moment h k → HallWentAtMost conn moment h k
+pub quits_hall_at_most : (conn moment : ℕ) (h k : HallPass) → HallEndsAtMost conn moment h k → HallWentAtMost conn moment h k
 quits_hall_at_most conn moment h k (inl q) = inr (quits_hall conn moment h k q)
 quits_hall_at_most conn moment h k (inr (at, inl is)) = inl (record { went = went_nowhere h.pass.1 k.pass.1 is; at = at })
 quits_hall_at_most conn moment h k (inr (at, inr t)) = inl (record { went = went_reading h.pass.1 k.pass.1 t; at = at })
@@ -267,7 +268,7 @@ quit_missing b hub conn badge t h k w le named r =
       more = subst (λ (l : List RoomCmd). IsPrefix (commands h.pass.1.mine) l) (sym now) (prefix_self (commands h.pass.1.mine));
     }
 
-pub quits_room_at_most : (b : Bool) (hub : Hub) (conn : ℕ) (badge : Option Badge) (t : Told) (h k : RoomPass) → QuitsAtMost badge conn t.left h k → h.at ≤ length h.pass.1.seen → (IsSome h.id → IsSome badge) → RoomRests b true hub conn t h → RoomQuit b true hub conn badge t h k
+pub quits_room_at_most : (b : Bool) (hub : Hub) (conn : ℕ) (badge : Option Badge) (t : Told) (h k : RoomPass) → RoomEndsAtMost badge conn t.left h k → h.at ≤ length h.pass.1.seen → (IsSome h.id → IsSome badge) → RoomRests b true hub conn t h → RoomQuit b true hub conn badge t h k
 quits_room_at_most b hub conn badge t h k (inl q) le named r = quits_room b true hub conn badge t h k q le r
 quits_room_at_most b hub conn badge t h k (inr (place, id, at, inl is)) le named r = quit_missing b hub conn badge t h k (record { went = went_nowhere h.pass.1 k.pass.1 is; at = at; place = place; id = id }) le named r
 quits_room_at_most b hub conn badge t h k (inr (place, id, at, inr read)) le named r = quit_missing b hub conn badge t h k (record { went = went_reading h.pass.1 k.pass.1 read; at = at; place = place; id = id }) le named r

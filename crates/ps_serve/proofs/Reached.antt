@@ -1,5 +1,5 @@
 -- From a session to the one after its next act, or to one that broke off in it.
-use Rattle.std.proofs.Common.{◌≡◌, ℕ, ◌+◌, ◌-◌, ◌≤◌, false, List, [], ◌∷◌, ◌++◌, length, sym, ap, ◌∙◌, subst, arith, All, Some, None, true≢false, append-nil, length-append}
+use Rattle.std.proofs.Common.{◌≡◌, ℕ, ◌+◌, ◌-◌, ◌≤◌, false, List, [], ◌∷◌, ◌++◌, length, sym, ap, ◌∙◌, subst, arith, All, Some, None, append-nil, length-append}
 use Rattle.std.specs.Prelude.{IsSome}
 use Rattle.std.proofs.lemmas.List.Elements.{All-append, All-weaker}
 use mathlib.Core.List.{IsPrefix}
@@ -12,12 +12,12 @@ use Rattle.ps_hub.specs.Passes.{AreOf}
 use Rattle.ps_hub.specs.declared.pass.HallPass.{HallPass}
 use Rattle.ps_hub.specs.declared.pass.RoomPass.{RoomPass}
 use Rattle.ps_hub.specs.declared.passes.Passes.{Passes}
-use Rattle.ps_serve.specs.Acts.{Act, after_act, IsAct, AreActs, hall_of, hall_entries, begun_by, all_begun}
+use Rattle.ps_serve.specs.Acts.{Act, after_act, after_acts, IsAct, AreActs, hall_of, hall_entries, begun_by, all_begun}
 use Rattle.ps_serve.specs.Sendings.{Sending}
-use Rattle.ps_serve.specs.Sittings.{AreApart, IsBegun, IsFrom, Gave, Sits, AreAlmostAnswered, PlaceLeft, Left, PlaceFull, SitsFull}
+use Rattle.ps_serve.specs.Sittings.{AreApart, IsBegun, IsFrom, Gave, LastGave, Sits, AreAlmostAnswered, PlaceLeft, Left, PlaceFull, SitsFull}
 use Rattle.ps_serve.proofs.Prefixes.{prefix_same}
 use Rattle.ps_serve.proofs.Rows.{Grows, begun_grows, from_grows}
-use Rattle.ps_serve.proofs.Actions.{after_acts_more, acts_more, hall_more, all_begun_more, given_more}
+use Rattle.ps_serve.proofs.Actions.{after_acts_more, after_acts-append, acts_more, hall_more, all_begun_more, given_more}
 use Rattle.ps_serve.proofs.Places.{AreSitting}
 use Rattle.ps_serve.proofs.Halls.{IsHall, IsHallKin, given_grows}
 
@@ -76,11 +76,17 @@ module _ (hub : Hub) (conn open_at : ℕ) (acts : List Act) (ss : List Sending) 
     pub high : IsPrefix made (hall_entries conn all)
     pub hall_pass : HallPass
     pub hall : new.hall ≡ Some hall_pass
+    pub kin : IsHallKin s.hall_pass hall_pass
     pub hall_is : IsHall hub conn open_at made (length acts) ss hall_pass
     pub rooms : All (PlaceLeft false hub conn acts all ss) new.rooms.items
     pub apart : AreApart new.rooms.items
     pub grows : Grows old.rooms.items new.rooms.items
     pub named : All (λ (k : RoomPass). IsSome k.id → IsSome new.badge) new.rooms.items
+    -- the act that may be there in part
+    pub last : List Act
+    pub all_is : all ≡ acts ++ last
+    pub badge_is : new.badge ≡ (after_acts r last).badge
+    pub gave : LastGave hub conn acts last hall_pass new.rooms.items
 
   left_all : (all : List Act) → length all ≤ length acts + 1 → length acts ≤ length all → AreActs (begun conn) all → (new : Passes) → Breaks all new → Left false hub conn open_at acts all ss new
   left_all all most least way new t = record {
@@ -96,7 +102,8 @@ module _ (hub : Hub) (conn open_at : ℕ) (acts : List Act) (ss : List Sending) 
     };
     rooms = t.rooms;
     apart = t.apart;
-    gave = λ e. absurd (true≢false (sym e));
+    gave = (t.last, t.all_is, given_grows hub conn [] acts s.hall_pass t.hall_pass old.rooms.items new.rooms.items t.kin t.grows s.gave, t.gave);
+    badge_is = t.badge_is ∙ ap (λ (x : Record). (after_acts x t.last).badge) s.session_is ∙ sym (ap (λ (x : Record). x.badge) (after_acts-append (begun conn) acts t.last)) ∙ ap (λ (l : List Act). (after_acts (begun conn) l).badge) (sym t.all_is);
     begun = begun_on new t.grows;
     from = All-weaker (IsFrom old.rooms.items) (IsFrom new.rooms.items) (λ x is. from_grows old.rooms.items new.rooms.items t.grows x is) ss s.from;
     named = t.named;

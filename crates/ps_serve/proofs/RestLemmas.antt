@@ -6,7 +6,6 @@ use Rattle.std.proofs.lemmas.List.Elements.{All-nil, All-cons}
 use Rattle.ps_histlock.specs.declared.view.Entry.{Entry}
 use Rattle.ps_histlock.specs.Histories.{commands, entries_of}
 use Rattle.ps_histlock.proofs.Lists.{none_before}
-use Rattle.ps_base.specs.declared.badge.Badge.{Badge}
 use Rattle.ps_hall.specs.declared.entry.HallEntry.{HallEntry}
 use Rattle.ps_session.specs.Sessions.{Record, begun}
 use Rattle.ps_outside.specs.Links.{Talk, LinkCounts}
@@ -23,10 +22,10 @@ use Rattle.ps_serve.specs.declared.closed.End.{End}
 use Rattle.ps_serve.specs.declared.closed.End.TheVariants as ends
 use Rattle.ps_serve.specs.Acts.{Act, after_acts, AreActs, moments_of, hall_entries, room_cmds, since, all_begun}
 use Rattle.ps_serve.specs.Sendings.{Sending, AreLooksAnswered}
-use Rattle.ps_serve.specs.Sittings.{IsSent, HallSits, RoomSits, RoomWaits, SitsBy, PlaceSits, Sits, IsUpToDate, AreGiven, AreApart, IsFrom, IsBegun, LooksLeft, PlaceLeft, Left, HeldFull, SitsFull}
+use Rattle.ps_serve.specs.Sittings.{IsSent, HasOpen, HallSits, RoomSits, RoomWaits, SitsBy, PlaceSits, Sits, IsUpToDate, AreGiven, AreApart, IsFrom, IsBegun, LooksLeft, PlaceLeft, Left, HeldFull, SitsFull}
 use Rattle.ps_serve.specs.Steps.{Hours, Asked}
-use Rattle.ps_serve.specs.Ends.{Told, is_short, is_broken, AreTold, AllOrPart, HallGiven, RoomGivenBy, AreLooksSo, RoomLooksBy, IsSentSo, HasBadge, AreAnswers, IsAskedBy, IsAsked, HasOpen, AreSure, HasCause}
-use Rattle.ps_serve.specs.Rests.{HallRests, RoomRests, HasExtra, Rests}
+use Rattle.ps_serve.specs.Ends.{Told, is_short, is_broken, AreTold, AllOrPart, HallGiven, RoomGivenBy, AreLooksSo, RoomLooksBy, IsSentSo, AreAnswers, IsAskedBy, IsAsked, AreSure, HasCause}
+use Rattle.ps_serve.specs.Rests.{HallRests, RoomRests, HasExtraAt, Rests}
 use Rattle.ps_serve.proofs.Prefixes.{prefix_same}
 use Rattle.ps_serve.proofs.LookLemmas.{whole_part, all_answered}
 
@@ -175,7 +174,7 @@ pub record Whole (hub : Hub) (conn : ℕ) (t : Told) (passes : Passes) : Type 0 
   pub badge : passes.badge ≡ (after_acts (begun conn) t.acts).badge
   pub gave : AreGiven hub conn [] t.acts hall_pass passes.rooms.items
   pub begun_all : All (IsBegun passes.rooms.items) (all_begun t.acts)
-  pub opened : HasOpen conn t hall_pass
+  pub opened : HasOpen conn t.opened hall_pass
 
 -- the hall pass of a hub's passes is one of its hall
 pub hall_of_hub : (hub : Hub) (passes : Passes) (h : HallPass) → AreOf hub passes → passes.hall ≡ Some h → IsHallPass hub passes.conn h
@@ -234,12 +233,8 @@ whole_full hub conn t passes s up badge = record {
 
 -- ---- the rest of a whole session, at any end
 
-badge_so : (s : Bool) (conn : ℕ) (t : Told) (badge : Option Badge) → badge ≡ (after_acts (begun conn) t.acts).badge → HasBadge s conn t badge
-badge_so true conn t badge e = tt
-badge_so false conn t badge e = e
-
-answers_so : (s : Bool) (hub : Hub) (conn : ℕ) (t : Told) (rooms : List RoomPass) (h : HallPass) → AreGiven hub conn [] t.acts h rooms → AreAnswers s hub conn t rooms h
-answers_so true hub conn t rooms h g = tt
+pub answers_so : (s : Bool) (hub : Hub) (conn : ℕ) (t : Told) (rooms : List RoomPass) (h : HallPass) → AreGiven hub conn [] t.acts h rooms → AreAnswers s hub conn t rooms h
+answers_so true hub conn t rooms h g = (t.acts, ([], sym (append-nil t.acts), g, tt))
 answers_so false hub conn t rooms h g = g
 
 sure_so : (s : Bool) (acts : List Act) → AreSure s acts acts
@@ -247,7 +242,7 @@ sure_so true acts = ([], sym (append-nil acts), omega arith)
 sure_so false acts = refl
 
 pub rests_whole : (end : End) (hub : Hub) (conn : ℕ) (t : Told) (passes : Passes) (talk0 talk : Option Talk) (counts0 counts : LinkCounts) (hours0 hours : Hours)
-    → Whole hub conn t passes → AreTold conn t talk0 talk → HasCause end conn t talk counts0 counts → HasExtra end t.extra → All (IsAsked end hub t) passes.rooms.items → Asked hours0 (moments_of t.acts ++ t.extra) hours → Rests end hub conn t passes talk0 talk counts0 counts hours0 hours
+    → Whole hub conn t passes → AreTold conn t talk0 talk → HasCause end hub conn t passes.rooms.items talk counts0 counts → HasExtraAt end conn t → All (IsAsked end hub t) passes.rooms.items → Asked hours0 (moments_of t.acts ++ t.extra) hours → Rests end hub conn t passes talk0 talk counts0 counts hours0 hours
 rests_whole end hub conn t passes talk0 talk counts0 counts hours0 hours w told cause extra asked asked_for = record {
   are = w.are;
   conn_is = w.conn_is;
@@ -260,7 +255,7 @@ rests_whole end hub conn t passes talk0 talk counts0 counts hours0 hours w told 
   apart = w.apart;
   from = w.from;
   named = w.named;
-  badge = badge_so (is_short end) conn t passes.badge w.badge;
+  badge = w.badge;
   gave = answers_so (is_short end) hub conn t passes.rooms.items w.hall_pass w.gave;
   sure = t.acts;
   are_sure = sure_so (is_short end) t.acts;
@@ -314,8 +309,8 @@ waits_left None hub t k w = w refl
 waits_left (Some id) hub t k w = tt
 
 pub rests_failed : (hub : Hub) (conn : ℕ) (early : List Act) (t : Told) (passes : Passes) (talk0 talk : Option Talk) (counts0 counts : LinkCounts) (hours0 hours : Hours)
-    → Left true hub conn t.opened early t.acts t.sendings passes → AreTold conn t talk0 talk → HasCause ends.LinkFault conn t talk counts0 counts → HasExtra ends.LinkFault t.extra → passes.badge ≡ (after_acts (begun conn) t.acts).badge → Asked hours0 (moments_of t.acts ++ t.extra) hours → Rests ends.LinkFault hub conn t passes talk0 talk counts0 counts hours0 hours
-rests_failed hub conn early t passes talk0 talk counts0 counts hours0 hours l told cause extra badge asked_for = record {
+    → Left true hub conn t.opened early t.acts t.sendings passes → AreTold conn t talk0 talk → HasCause ends.LinkFault hub conn t passes.rooms.items talk counts0 counts → HasExtraAt ends.LinkFault conn t → Asked hours0 (moments_of t.acts ++ t.extra) hours → Rests ends.LinkFault hub conn t passes talk0 talk counts0 counts hours0 hours
+rests_failed hub conn early t passes talk0 talk counts0 counts hours0 hours l told cause extra asked_for = record {
   are = l.are;
   conn_is = l.conn_is;
   told = told;
@@ -327,8 +322,8 @@ rests_failed hub conn early t passes talk0 talk counts0 counts hours0 hours l to
   apart = l.apart;
   from = l.from;
   named = l.named;
-  badge = badge;
-  gave = l.gave refl;
+  badge = l.badge_is;
+  gave = l.gave;
   sure = t.acts;
   are_sure = refl;
   begun = l.begun;
@@ -341,7 +336,7 @@ rests_failed hub conn early t passes talk0 talk counts0 counts hours0 hours l to
 
 -- memory was wanting
 pub rests_short : (hub : Hub) (conn : ℕ) (early last : List Act) (t : Told) (passes : Passes) (talk0 talk : Option Talk) (counts0 counts : LinkCounts) (hours0 hours : Hours)
-    → Left false hub conn t.opened early t.acts t.sendings passes → t.acts ≡ early ++ last → length last ≤ 1 → AreTold conn t talk0 talk → HasCause ends.NoMemory conn t talk counts0 counts → HasExtra ends.NoMemory t.extra → Asked hours0 (moments_of t.acts ++ t.extra) hours → Rests ends.NoMemory hub conn t passes talk0 talk counts0 counts hours0 hours
+    → Left false hub conn t.opened early t.acts t.sendings passes → t.acts ≡ early ++ last → length last ≤ 1 → AreTold conn t talk0 talk → HasCause ends.NoMemory hub conn t passes.rooms.items talk counts0 counts → HasExtraAt ends.NoMemory conn t → Asked hours0 (moments_of t.acts ++ t.extra) hours → Rests ends.NoMemory hub conn t passes talk0 talk counts0 counts hours0 hours
 rests_short hub conn early last t passes talk0 talk counts0 counts hours0 hours l parts one told cause extra asked_for = record {
   are = l.are;
   conn_is = l.conn_is;
@@ -354,8 +349,8 @@ rests_short hub conn early last t passes talk0 talk counts0 counts hours0 hours 
   apart = l.apart;
   from = l.from;
   named = l.named;
-  badge = tt;
-  gave = tt;
+  badge = l.badge_is;
+  gave = (early, l.gave);
   sure = early;
   are_sure = (last, parts, one);
   begun = l.begun;

@@ -29,6 +29,9 @@ use Rattle.ps_hub.specs.declared.out.HubOut.{HubOut}
 use Rattle.ps_hub.specs.declared.pass.HallPass.{HallPass}
 use Rattle.ps_hub.specs.declared.pass.RoomPass.{RoomPass}
 use Rattle.ps_hub.specs.declared.passes.Passes.{Passes}
+use Rattle.ps_hub.proofs.NameLemmas.{names_none as no_name}
+use Rattle.ps_hub.proofs.ShortLemmas.{short_turns}
+use Rattle.ps_openings.specs.Openings.{first_battle}
 use Rattle.ps_serve.specs.Acts.{Act, heard, in_room, nowhere, after_act, IsAct, hall_of, hall_entries, room_of, room_cmds, since, begun_by}
 use Rattle.ps_serve.specs.Sendings.{Sending}
 use Rattle.ps_serve.specs.Sittings.{RoomSits, RoomGave, IsUnfound, IsOthers, Gave, IsBegun, Sits, PlaceLeft, IsUpToDate, AreApart}
@@ -124,8 +127,8 @@ module _ (hub : Hub) (conn open_at : ℕ) (acts : List Act) (ss : List Sending) 
   }
 
   -- memory was wanting for it
-  pub break_hall : (a : Act) (cmd : HallCmd) (moment : ℕ) (mid new : Passes) → IsSome old.badge → AreOf hub new → hall_of conn a ≡ hall_entry conn moment cmd ∷ [] → RoomsReach a mid → HallBroken hub conn open_at acts ss s.hall_pass mid cmd moment new → Breaks hub conn open_at acts ss r old s (acts ++ a ∷ []) new
-  break_hall a cmd moment mid new has are is t d = record {
+  pub break_hall : (a : Act) (cmd : HallCmd) (moment : ℕ) (mid new : Passes) → IsSome old.badge → AreOf hub new → hall_of conn a ≡ hall_entry conn moment cmd ∷ [] → (after_act r a).badge ≡ r.badge → RoomsReach a mid → HallBroken hub conn open_at acts ss s.hall_pass mid cmd moment new → Breaks hub conn open_at acts ss r old s (acts ++ a ∷ []) new
+  break_hall a cmd moment mid new has are is same t d = record {
     are = are;
     conn_is = d.conn_is;
     made = hall_entries conn acts ++ d.more;
@@ -133,11 +136,16 @@ module _ (hub : Hub) (conn open_at : ℕ) (acts : List Act) (ss : List Sending) 
     high = high_of hub conn open_at acts ss s.hall_pass mid cmd moment a d.more is d.part;
     hall_pass = d.hall_pass;
     hall = d.hall;
+    kin = d.kin;
     hall_is = d.is;
     rooms = subst (All (PlaceLeft false hub conn acts (acts ++ a ∷ []) ss)) (sym d.rooms) (All-weaker (HasPlace hub conn ss (acts ++ a ∷ []) (length acts)) (PlaceLeft false hub conn acts (acts ++ a ∷ []) ss) (λ k p. left_whole hub conn ss acts a k p) mid.rooms.items t.rooms.places);
     apart = subst AreApart (sym d.rooms) t.rooms.apart;
     grows = subst (Grows old.rooms.items) (sym d.rooms) t.grows;
     named = named_all has new (d.badge_is ∙ t.badge_is);
+    last = a ∷ [];
+    all_is = refl;
+    badge_is = d.badge_is ∙ t.badge_is ∙ s.badge_is ∙ sym same;
+    gave = (inl (subst (λ (l : List RoomPass). Gave hub conn acts a d.hall_pass l) (sym d.rooms) (t.gave d.hall_pass)), refl);
   }
 
   -- ---- the entry
@@ -195,7 +203,7 @@ module _ (hub : Hub) (conn open_at : ℕ) (acts : List Act) (ss : List Sending) 
 
   names_none : (bytes : List ℕ) (moment : ℕ) (id : List ℕ) (cmd : Command) (mid : Passes) → AtRoom id mid → NamesNone hub id → FindsNone bytes moment id cmd mid
   names_none bytes moment id cmd mid b none =
-      let not : (o : RoomPass) (other : List ℕ) → o.id ≡ Some other → Some id ≡ Some other → Names hub.config other o.number → ⊥ = (λ o other e who names. none o.number (subst (λ (x : List ℕ). Names hub.config x o.number) (sym (one_id_of id other who)) names)) in
+      let not : (o : RoomPass) (other : List ℕ) → o.id ≡ Some other → Some id ≡ Some other → Names hub.config other o.number → ⊥ = (λ o other e who names. no_name hub.config id none.0 none.1 o.number (subst (λ (x : List ℕ). Names hub.config x o.number) (sym (one_id_of id other who)) names)) in
       record {
         asked = None;
         reach = record {
@@ -301,16 +309,21 @@ module _ (hub : Hub) (conn open_at : ℕ) (acts : List Act) (ss : List Sending) 
         high = prefix_self (hall_entries conn acts);
         hall_pass = s.hall_pass;
         hall = ap (λ (p : Passes). p.hall) same.0 ∙ b.hall ∙ s.hall;
+        kin = kin_here;
         hall_is = hall_start hub conn open_at acts ss r old s;
         rooms = subst (All (PlaceLeft false hub conn acts acts ss)) (sym same.1) (All-weaker (λ (k : RoomPass). IsPlace hub conn ss acts (Some id) (IsUpToDate old) k × IsBattle hub conn ss k) (PlaceLeft false hub conn acts acts ss) (λ k p. left_before hub conn ss acts (Some id) (IsUpToDate old) k p.0) mid.rooms.items b.rooms.places);
         apart = subst AreApart (sym same.1) b.rooms.apart;
         grows = subst (Grows old.rooms.items) (sym same.1) b.grows;
         named = named_all has new (ap (λ (p : Passes). p.badge) same.0 ∙ b.badge);
+        last = [];
+        all_is = sym (append-nil acts);
+        badge_is = ap (λ (p : Passes). p.badge) same.0 ∙ b.badge ∙ s.badge_is;
+        gave = tt;
       } in t)
       (λ (e : EntersAt hub id Unheld mid new). unheld e (⊎_elim
       (λ (x : e.behind.pass.1 ≡ e.before.pass.1). stays e.before.pass.1 e.behind.pass.1 x)
-      (λ (x : Turns e.before.pass.1 None e.behind.pass.1). turns_move e.before.pass.1 e.behind.pass.1 x)
-      e.done.2))
+      (λ (x : (first_battle ≤ e.before.number) × (e.before.id ≡ None) × Turns e.before.pass.1 None e.behind.pass.1). turns_move e.before.pass.1 e.behind.pass.1 x.2)
+      e.done.3))
       f
     where
       unheld : (e : EntersAt hub id Unheld mid new) → Moves e.before.pass.1 [] e.behind.pass.1 → Breaks hub conn open_at acts ss r old s acts new
@@ -326,6 +339,7 @@ module _ (hub : Hub) (conn open_at : ℕ) (acts : List Act) (ss : List Sending) 
             high = prefix_self (hall_entries conn acts);
             hall_pass = s.hall_pass;
             hall = e.but.hall ∙ b.hall ∙ s.hall;
+            kin = kin_here;
             hall_is = hall_start hub conn open_at acts ss r old s;
             rooms = new_all hub conn mid.rooms.items e.before e.behind new.rooms.items bes (λ (k : RoomPass). IsPlace hub conn ss acts (Some id) (IsUpToDate old) k × IsBattle hub conn ss k) (PlaceLeft false hub conn acts acts ss) b.rooms.places
                 (λ k ne q. left_before hub conn ss acts (Some id) (IsUpToDate old) k q.0)
@@ -333,6 +347,10 @@ module _ (hub : Hub) (conn open_at : ℕ) (acts : List Act) (ss : List Sending) 
             apart = new_apart hub conn mid.rooms.items e.before e.behind new.rooms.items bes;
             grows = grows_at id mid e.before e.behind new b bes (kin_moved e.before [] e.behind m (λ x some. e.done.0 ∙ some));
             named = named_all has new (e.but.badge ∙ b.badge);
+            last = [];
+            all_is = sym (append-nil acts);
+            badge_is = e.but.badge ∙ b.badge ∙ s.badge_is;
+            gave = tt;
           }
 
   -- behind that: the entry is there, or it isn't
@@ -365,6 +383,7 @@ module _ (hub : Hub) (conn open_at : ℕ) (acts : List Act) (ss : List Sending) 
         high = prefix_same _ _ (sym (hall_same_on (g.before.number)));
         hall_pass = s.hall_pass;
         hall = g.but.hall ∙ b.hall ∙ s.hall;
+        kin = kin_here;
         hall_is = hall_start hub conn open_at acts ss r old s;
         rooms = new_all hub conn here.rooms.items g.before g.behind new.rooms.items bes (λ (k : RoomPass). IsPlace hub conn ss acts (Some id) (IsUpToDate old) k × IsBattle hub conn ss k) (PlaceLeft false hub conn acts (acts ++ heard bytes moment (in_room g.before.number id cmd badge None) ∷ []) ss) b.rooms.places
             (λ k ne q. left_whole hub conn ss acts (heard bytes moment (in_room g.before.number id cmd badge None)) k (place_on hub conn ss acts (Some id) (IsUpToDate old) (heard bytes moment (in_room g.before.number id cmd badge None)) k (quiet_room conn k.number bytes moment g.before.number id cmd badge None (λ e. ne (sym e))) (not_there id g.before.number g.named k ne) q))
@@ -372,6 +391,10 @@ module _ (hub : Hub) (conn open_at : ℕ) (acts : List Act) (ss : List Sending) 
         apart = new_apart hub conn here.rooms.items g.before g.behind new.rooms.items bes;
         grows = grows_at id here g.before g.behind new b bes (kin_moved g.before more g.behind m (λ x e. g.held_on ∙ sym g.held ∙ e));
         named = named_all has new (g.but.badge ∙ b.badge);
+        last = heard bytes moment (in_room g.before.number id cmd badge None) ∷ [];
+        all_is = refl;
+        badge_is = g.but.badge ∙ b.badge ∙ s.badge_is;
+        gave = (inr (refl, (g.behind, has_new hub conn here.rooms.items g.before g.behind new.rooms.items bes, g.but.same_place, g.held_on)), refl);
       }
     where
       hall_same_on : (number : ℕ) → hall_entries conn (acts ++ heard bytes moment (in_room number id cmd badge None) ∷ []) ≡ hall_entries conn acts
@@ -383,16 +406,16 @@ module _ (hub : Hub) (conn open_at : ℕ) (acts : List Act) (ss : List Sending) 
     pub breaks : Breaks hub conn open_at acts ss r old s (acts ++ heard bytes moment (in_room number id cmd badge None) ∷ []) new
 
   pub no_memory_breaks : (bytes : List ℕ) (moment : ℕ) (id : List ℕ) (cmd : Command) (badge : Badge) (here new : Passes) → old.badge ≡ Some badge → AreOf hub new → AtRoom id here → RoomFails hub id cmd moment here hub_faults.NoMemory new → RoomBreaks bytes moment id cmd badge new
-  no_memory_breaks bytes moment id cmd badge here new has are b g = ⊎_elim
+  no_memory_breaks bytes moment id cmd badge here new has are b (other, kept, g) = ⊎_elim
       (λ (e : g.behind.pass.1 ≡ g.before.pass.1). at [] (inl refl) (stays g.before.pass.1 g.behind.pass.1 e))
-      (λ (rest : Turns g.before.pass.1 None g.behind.pass.1 ⊎ ((other : Badge) × (here.badge ≡ Some other) × Turns g.before.pass.1 (Some (Play (room_entry here.conn other moment cmd))) g.behind.pass.1)). ⊎_elim
+      (λ (rest : Turns g.before.pass.1 None g.behind.pass.1 ⊎ Turns g.before.pass.1 (Some (Play (room_entry here.conn other moment cmd))) g.behind.pass.1). ⊎_elim
       (λ (t : Turns g.before.pass.1 None g.behind.pass.1). at [] (inl refl) (turns_move g.before.pass.1 g.behind.pass.1 t))
-      (λ (t : (other : Badge) × (here.badge ≡ Some other) × Turns g.before.pass.1 (Some (Play (room_entry here.conn other moment cmd))) g.behind.pass.1).
-      let same : t.0 ≡ badge = one_badge t.0 badge (sym t.1 ∙ b.badge ∙ has) in
-      let is : Play (room_entry here.conn t.0 moment cmd) ≡ Play (room_entry conn badge moment cmd) = ap (λ (c : ℕ). Play (room_entry c t.0 moment cmd)) b.conn_is ∙ ap (λ (x : Badge). Play (room_entry conn x moment cmd)) same in
-      at (Play (room_entry conn badge moment cmd) ∷ []) (inr refl) (enters_move g.before.pass.1 (Play (room_entry conn badge moment cmd)) g.behind.pass.1 (subst (λ (c : RoomCmd). Turns g.before.pass.1 (Some c) g.behind.pass.1) is t.2)))
+      (λ (t : Turns g.before.pass.1 (Some (Play (room_entry here.conn other moment cmd))) g.behind.pass.1).
+      let same : other ≡ badge = one_badge other badge (sym kept ∙ b.badge ∙ has) in
+      let is : Play (room_entry here.conn other moment cmd) ≡ Play (room_entry conn badge moment cmd) = ap (λ (c : ℕ). Play (room_entry c other moment cmd)) b.conn_is ∙ ap (λ (x : Badge). Play (room_entry conn x moment cmd)) same in
+      at (Play (room_entry conn badge moment cmd) ∷ []) (inr refl) (enters_move g.before.pass.1 (Play (room_entry conn badge moment cmd)) g.behind.pass.1 (subst (λ (c : RoomCmd). Turns g.before.pass.1 (Some c) g.behind.pass.1) is t)))
       rest)
-      g.done
+      (short_turns (Answers (site_of hub g.before.number)) g.before.pass.1 g.before.cursor (Play (room_entry here.conn other moment cmd)) g.behind.pass.1 g.behind.cursor g.done)
     where
       at : (more : List RoomCmd) → (more ≡ []) ⊎ (more ≡ Play (room_entry conn badge moment cmd) ∷ []) → Moves g.before.pass.1 more g.behind.pass.1 → RoomBreaks bytes moment id cmd badge new
       at more part mv = record { number = g.before.number; breaks = goes_breaks bytes moment id cmd badge here new (subst IsSome (sym has) refl) are b g more part mv }

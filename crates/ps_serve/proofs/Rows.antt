@@ -34,7 +34,7 @@ module _ {A : Type 0} where
   pub all_but : (P : A → Type 0) (xs : List A) (x : A) (ys : List A) → All P (xs ++ x ∷ ys) → All P (xs ++ ys)
   all_but P xs x ys all = All-append P xs ys (all_left P xs (x ∷ ys) all) (All-tail P x ys (all_right P xs (x ∷ ys) all))
 
-  contains_none : {P : Type 0} → (x : A) → Contains [] x → P
+  pub contains_none : {P : Type 0} → (x : A) → Contains [] x → P
   contains_none x c = absurd (let lt : c.0 < 0 = c.1 in omega arith)
 
   pub contains_cases : (x : A) (ys : List A) (y : A) → Contains (x ∷ ys) y → (x ≡ y) ⊎ Contains ys y

@@ -1,5 +1,5 @@
 -- What a session promises at its end.
-use Rattle.std.proofs.Common.{◌≡◌, ℕ, ◌+◌, ◌-◌, ◌<◌, ◌≤◌, Bool, true, false, zero, suc, List, [], ◌∷◌, ◌++◌, length, get_or, Option, Some, None, refl, ap, sym, ◌∙◌, subst, inl, inr, ⊎_elim, append_assoc, arith}
+use Rattle.std.proofs.Common.{◌≡◌, ℕ, ◌+◌, ◌-◌, ◌<◌, ◌≤◌, Bool, true, false, zero, suc, List, [], ◌∷◌, ◌++◌, length, get_or, Option, Some, None, Err, refl, ap, sym, ◌∙◌, subst, inl, inr, ⊎_elim, append_assoc, arith}
 use Rattle.std.specs.Prelude.{All, Contains, IsSome, IfSome}
 use Rattle.std.specs.List.{AllZip}
 use Rattle.std.proofs.lemmas.List.{append-nil}
@@ -16,26 +16,30 @@ use Rattle.ps_places.specs.declared.command.RoomCmd.{RoomCmd}
 use Rattle.ps_hub.specs.Hubs.{Hub, root_of, site_of}
 use Rattle.ps_places.specs.Rooms.{Shows}
 use Rattle.ps_places.specs.Halls.{HallShows}
+use Rattle.ps_hub.specs.Names.{Names}
 use Rattle.ps_hub.specs.Passes.{AreOf, IsRoomPass}
-use Rattle.ps_hub.specs.Calls.{hall_entry, QuitsHall, QuitsRoom, QuitsAtMost, QuitsHallAtMost, QuitsWith}
+use Rattle.ps_hub.specs.Calls.{hall_entry, QuitsHall, QuitsRoom, QuitsWith, Quits}
 use Rattle.ps_hub.specs.declared.pass.HallPass.{HallPass}
 use Rattle.ps_hub.specs.declared.pass.RoomPass.{RoomPass}
 use Rattle.ps_hub.specs.declared.passes.Passes.{Passes}
+use Rattle.ps_hub.proofs.CallLemmas.{RoomEndsAtMost, HallEndsAtMost, quits_each}
 use Rattle.ps_serve.specs.declared.closed.End.{End}
 use Rattle.ps_serve.specs.declared.closed.End.TheVariants as ends
 use Rattle.ps_serve.specs.Acts.{Act, moments_of, hall_entries, room_cmds, since, begins, all_begun}
 use Rattle.ps_serve.specs.Sittings.{IsFrom, IsBegun, AreApart}
 use Rattle.ps_serve.specs.Steps.{Hours, Asked}
-use Rattle.ps_serve.specs.Ends.{Told, is_short, is_broken, AllOrPart, AllThenQuit, room_quit, HallMade, HallGiven, RoomMadeBy, RoomMade, RoomGiven, HallLooks, RoomLooksBy, RoomLooks, HallSent, RoomSent, HasBadge, AreAnswers, IsAsked, IsOpen, moments_in, TellsMoments, starts_in, HasBegin, IsBegunBy, AreSure, IsOwnStart, OneBegin, HallElsewhere, IsHallOf, IsRoomOf, OneHistory, IsTooMany, HasTextCause, Served}
-use Rattle.ps_serve.specs.Rests.{HallRests, RoomRests, HasExtra, Rests, ComesToRest}
-use Rattle.ps_serve.proofs.Prefixes.{prefix_same, prefix_trans, prefix_commands}
+use Rattle.ps_serve.specs.Ends.{Told, is_short, is_broken, AllOrPart, AllThenQuit, room_quit, HallMade, HallGiven, RoomMadeBy, RoomMade, RoomGiven, HallLooks, RoomLooksBy, RoomLooks, HallSent, RoomSent, AreAnswers, IsAsked, IsOpen, moments_in, HasExtra, TellsMoments, starts_in, IsBegunBy, AreSure, IsOwnStart, OneBegin, HallElsewhere, IsHallOf, IsRoomOf, OneHistory, IsTooMany, HasTextCause, HasCause, Served}
+use Rattle.ps_serve.specs.Rests.{HallRests, RoomRests, HasExtraAt, Rests, ComesToRest}
+use Rattle.ps_serve.proofs.Prefixes.{prefix_same, prefix_trans}
 use Rattle.ps_serve.proofs.Rows.{Grows, from_grows}
-use Rattle.ps_serve.proofs.Halls.{IsHallKin, given_grows}
+use Rattle.ps_serve.proofs.Halls.{IsHallKin, open_grows, nowhere_grows, given_grows, almost_grows}
 use Rattle.ps_serve.proofs.Goings.{Goes, kept_in, apart_on}
 use Rattle.ps_serve.proofs.StandLemmas.{asked_on}
-use Rattle.ps_serve.proofs.RestLemmas.{hall_of_hub, looks_so, sent_so, given_broken}
+use Rattle.ps_serve.proofs.RestLemmas.{hall_of_hub, looks_so, sent_so, answers_so, given_broken}
 use Rattle.ps_serve.proofs.QuitLemmas.{HallWent, quits_hall, quits_hall_at_most, hall_grew, hall_within, HallKeeps, hall_keeps, hall_made, hall_made_at_most, room_within, RoomQuit, quits_room, quits_room_at_most, zip_more, zip_all, asked_quit}
-use Rattle.ps_serve.proofs.BeginLemmas.{starts-append, starts_are, begun_there, own_starts, one_each}
+use Rattle.ps_serve.proofs.BeginLemmas.{starts-append, starts_are, begun_there, own_starts, one_each, almost_each}
+use Rattle.ps_serve.proofs.CountLemmas.{complete_of}
+use Rattle.ps_serve.proofs.NowhereLemmas.{answers_rightly, made_before}
 use Rattle.ps_serve.proofs.LabelLemmas.{in_longer, IsKnown, labelled}
 use Rattle.ps_serve.proofs.WorldLemmas.{hall_elsewhere, room_elsewhere}
 
@@ -82,16 +86,17 @@ single (y ∷ z ∷ xs) x c le = absurd (let bad : length (y ∷ z ∷ xs) ≤ 1
 single (y ∷ []) x (zero, lt, e) le = ap (λ (s : Start). s ∷ []) e
 single (y ∷ []) x (suc k, lt, e) le = absurd (let bad : suc k < length (y ∷ []) = lt in omega arith)
 
+-- each battle has a number of its own
+begins_few : (s : Bool) (hub : Hub) (conn : ℕ) (t : Told) (number : ℕ) (rooms : List RoomPass) (hall : HallPass) → AreAnswers s hub conn t rooms hall → length (begins number t.acts) ≤ 1
+begins_few false hub conn t number rooms hall g = one_each hub conn number [] t.acts hall rooms g
+begins_few true hub conn t number rooms hall g = almost_each hub conn number g.0 t.acts hall rooms g.1
+
 -- a battle that was started has its Begin
-begin_of : (s : Bool) (hub : Hub) (conn : ℕ) (badge : Option Badge) (t : Told) (sure : List Act) (hall : HallPass) (rooms : List RoomPass) (h k : RoomPass) (start : Start) → AreSure s sure t.acts → AreAnswers s hub conn t rooms hall → Contains (all_begun sure) start → h.number ≡ 15 + start.number
-    → IsPrefix (room_cmds conn h.number sure) (commands h.pass.1.mine) → k.number ≡ h.number → IsPrefix (commands h.pass.1.mine) (commands k.pass.1.mine) → RoomMade s conn badge t k → HasBegin s start (commands k.pass.1.mine)
-begin_of true hub conn badge t sure hall rooms h k start are g c place early same more m =
-    in_longer (starts_in (room_cmds conn h.number sure)) (starts_in (commands k.pass.1.mine)) start
-    (starts_front (room_cmds conn h.number sure) (commands k.pass.1.mine) (prefix_trans (room_cmds conn h.number sure) (commands h.pass.1.mine) (commands k.pass.1.mine) early more))
-    (subst (λ (l : List Start). Contains l start) (sym (starts_are conn h.number sure)) (begun_there h.number sure start c place))
-begin_of false hub conn badge t sure hall rooms h k start are g c place early same more m =
-    let front : IsPrefix (starts_in (commands k.pass.1.mine)) (begins k.number t.acts) = subst (λ (l : List Start). IsPrefix (starts_in (commands k.pass.1.mine)) l) (starts_are conn k.number t.acts) (made_starts k.id false conn badge t k m) in
-    let few : length (begins k.number t.acts) ≤ 1 = one_each hub conn k.number [] t.acts hall rooms g in
+begin_of : (s : Bool) (hub : Hub) (conn : ℕ) (badge : Option Badge) (t : Told) (sure : List Act) (hall : HallPass) (rooms : List RoomPass) (h k : RoomPass) (start : Start) → AreAnswers s hub conn t rooms hall → Contains (all_begun sure) start → h.number ≡ 15 + start.number
+    → IsPrefix (room_cmds conn h.number sure) (commands h.pass.1.mine) → k.number ≡ h.number → IsPrefix (commands h.pass.1.mine) (commands k.pass.1.mine) → RoomMade s conn badge t k → starts_in (commands k.pass.1.mine) ≡ start ∷ []
+begin_of s hub conn badge t sure hall rooms h k start g c place early same more m =
+    let front : IsPrefix (starts_in (commands k.pass.1.mine)) (begins k.number t.acts) = subst (λ (l : List Start). IsPrefix (starts_in (commands k.pass.1.mine)) l) (starts_are conn k.number t.acts) (made_starts k.id s conn badge t k m) in
+    let few : length (begins k.number t.acts) ≤ 1 = begins_few s hub conn t k.number rooms hall g in
     let shorter : length (starts_in (commands k.pass.1.mine)) ≤ length (begins k.number t.acts) = prefix_length (starts_in (commands k.pass.1.mine)) (begins k.number t.acts) front in
     let there : Contains (starts_in (commands k.pass.1.mine)) start =
     in_longer (starts_in (room_cmds conn h.number sure)) (starts_in (commands k.pass.1.mine)) start
@@ -121,21 +126,23 @@ room_facts b s hub conn t old new Q step z = zip_all (RoomQuit b s hub conn new.
 rooms_go : (b s : Bool) (hub : Hub) (conn : ℕ) (t : Told) (old new : Passes) → AllZip (RoomQuit b s hub conn new.badge t) old.rooms.items new.rooms.items → AllZip Goes old.rooms.items new.rooms.items
 rooms_go b s hub conn t old new z = zip_more (RoomQuit b s hub conn new.badge t) Goes Nothing (λ h k nothing r. r.goes) old.rooms.items new.rooms.items (λ i d lt. tt) z
 
+-- the entries of the acts that are sure are still there
+early_on : (b s : Bool) (hub : Hub) (conn : ℕ) (t : Told) (sure : List Act) (old new : Passes) → All (λ (k : RoomPass). IsPrefix (room_cmds conn k.number sure) (commands k.pass.1.mine)) old.rooms.items → AllZip (RoomQuit b s hub conn new.badge t) old.rooms.items new.rooms.items → All (λ (k : RoomPass). IsPrefix (room_cmds conn k.number sure) (commands k.pass.1.mine)) new.rooms.items
+early_on b s hub conn t sure old new early z =
+    zip_all (RoomQuit b s hub conn new.badge t) (λ (k : RoomPass). IsPrefix (room_cmds conn k.number sure) (commands k.pass.1.mine)) (λ (k : RoomPass). IsPrefix (room_cmds conn k.number sure) (commands k.pass.1.mine))
+    (λ h k rq p. subst (λ (n : ℕ). IsPrefix (room_cmds conn n sure) (commands k.pass.1.mine)) (sym rq.goes.grew.place) (prefix_trans (room_cmds conn h.number sure) (commands h.pass.1.mine) (commands k.pass.1.mine) p rq.more)) old.rooms.items new.rooms.items z early
+
 at_hall : (P : HallPass → Type 0) (passes : Passes) (h : HallPass) → passes.hall ≡ Some h → P h → IfSome passes.hall P
 at_hall P passes h is p = subst (λ (o : Option HallPass). IfSome o P) (sym is) p
 
 answers_on : (s : Bool) (hub : Hub) (conn : ℕ) (t : Told) (h k : HallPass) (old new : List RoomPass) → IsHallKin h k → Grows old new → AreAnswers s hub conn t old h → AreAnswers s hub conn t new k
-answers_on true hub conn t h k old new grew kept g = tt
+answers_on true hub conn t h k old new grew kept g = (g.0, almost_grows hub conn g.0 t.acts h k old new grew kept g.1)
 answers_on false hub conn t h k old new grew kept g = given_grows hub conn [] t.acts h k old new grew kept g
 
-badge_on : (s : Bool) (conn : ℕ) (t : Told) (old new : Option Badge) → new ≡ old → HasBadge s conn t old → HasBadge s conn t new
-badge_on true conn t old new same b = tt
-badge_on false conn t old new same b = same ∙ b
-
-tells_of : (end : End) (conn : ℕ) (t : Told) (h : HallPass) (old new : Hours) → HasExtra end t.extra → Asked old (moments_in t) new → TellsMoments end t (Some h) old new
+tells_of : (end : End) (conn : ℕ) (t : Told) (h : HallPass) (old new : Hours) → HasExtraAt end conn t → Asked old (moments_in t) new → TellsMoments end conn t (Some h) old new
 tells_of ends.Closed conn t h old new extra asked = (extra, asked)
 tells_of ends.LinkFault conn t h old new extra asked = (extra, asked)
-tells_of (ends.OwnLimit room) conn t h old new extra asked = asked
+tells_of (ends.OwnLimit room) conn t h old new extra asked = (extra, asked)
 tells_of (ends.BadText bytes) conn t h old new extra asked = (extra, asked)
 tells_of ends.NoMemory conn t h old new extra asked = (extra, asked)
 
@@ -150,10 +157,10 @@ one_begin : (end : End) (hub : Hub) (conn : ℕ) (t : Told) (old new : Passes) (
 one_begin end hub conn t old new talk0 talk counts0 counts hours0 hours1 r q = record {
   sure = r.sure;
   are_sure = r.are_sure;
-  begun = All-weaker (λ (start : Start). IsBegun old.rooms.items start × Contains (all_begun r.sure) start) (IsBegunBy (is_short end) new.rooms.items) begun_one (all_begun r.sure) (λ i d lt. (r.begun i d lt, Contains-get_or (all_begun r.sure) i d lt));
+  begun = All-weaker (λ (start : Start). IsBegun old.rooms.items start × Contains (all_begun r.sure) start) (IsBegunBy new.rooms.items) begun_one (all_begun r.sure) (λ i d lt. (r.begun i d lt, Contains-get_or (all_begun r.sure) i d lt));
   own = room_facts (is_broken end) (is_short end) hub conn t old new (λ (k : RoomPass). All (IsOwnStart t k.number) (starts_in (commands k.pass.1.mine))) (λ h k rq. own_of (is_short end) conn new.badge t k rq.made) q.rooms;
 } where
-  begun_one : (start : Start) → IsBegun old.rooms.items start × Contains (all_begun r.sure) start → IsBegunBy (is_short end) new.rooms.items start
+  begun_one : (start : Start) → IsBegun old.rooms.items start × Contains (all_begun r.sure) start → IsBegunBy new.rooms.items start
   begun_one start b =
       let h = b.0.0 in
       let n = zip_find (RoomQuit (is_broken end) (is_short end) hub conn new.badge t) old.rooms.items new.rooms.items q.rooms h b.0.1 in
@@ -161,7 +168,7 @@ one_begin end hub conn t old new talk0 talk counts0 counts hours0 hours1 r q = r
         pass = n.0;
         there = n.1;
         place = n.2.goes.grew.place ∙ b.0.2;
-        begin = begin_of (is_short end) hub conn new.badge t r.sure r.hall_pass old.rooms.items h n.0 start r.are_sure r.gave b.1 b.0.2
+        begin = begin_of (is_short end) hub conn new.badge t r.sure r.hall_pass old.rooms.items h n.0 start r.gave b.1 b.0.2
             (All-contains (λ (k : RoomPass). IsPrefix (room_cmds conn k.number r.sure) (commands k.pass.1.mine)) old.rooms.items h r.early b.0.1) n.2.goes.grew.place n.2.more n.2.made;
       }
 
@@ -173,6 +180,18 @@ history_of hub conn passes are conn_is apart = record {
   apart = apart;
 }
 
+-- that no such room was there is what passes of more say too
+many_on : (room : Option (List ℕ)) (hub : Hub) (conn : ℕ) (t : Told) (h k : HallPass) (old new : List RoomPass) (bytes : List ℕ) → IsHallKin h k → Grows old new → IsTooMany room hub conn t old bytes → IsTooMany room hub conn t new bytes
+many_on room hub conn t h k old new bytes grew kept (inl c) = inl c
+many_on room hub conn t h k old new bytes grew kept (inr (hall, id, cmd, asked, take, full, unfound, one)) = inr (hall, id, cmd, asked, take, full, nowhere_grows hub conn t.acts h k old new grew kept asked id unfound, one)
+
+text_on : (end : End) (hub : Hub) (conn : ℕ) (t : Told) (h k : HallPass) (old new : List RoomPass) → IsHallKin h k → Grows old new → HasTextCause end hub conn t old → HasTextCause end hub conn t new
+text_on ends.Closed hub conn t h k old new grew kept c = c
+text_on ends.LinkFault hub conn t h k old new grew kept c = c
+text_on (ends.OwnLimit room) hub conn t h k old new grew kept c = (c.0, c.1, many_on room hub conn t h k old new c.0 grew kept c.2)
+text_on (ends.BadText bytes) hub conn t h k old new grew kept c = c
+text_on ends.NoMemory hub conn t h k old new grew kept c = c
+
 -- a session with its Quits
 pub served : (end : End) (hub : Hub) (conn : ℕ) (t : Told) (old new : Passes) (talk0 talk : Option Talk) (counts0 counts : LinkCounts) (start hours0 hours1 hours2 : Hours)
     → (r : Rests end hub conn t old talk0 talk counts0 counts hours0 hours1) → Quitted (is_broken end) (is_short end) hub conn t old new r.hall_pass → All (IsAsked end hub t) new.rooms.items
@@ -183,10 +202,13 @@ served end hub conn t old new talk0 talk counts0 counts start hours0 hours1 hour
     let go = rooms_go b s hub conn t old new q.rooms in
     let kept = kept_in old.rooms.items new.rooms.items go in
     let k = q.hall_pass in
+    let gave = answers_on s hub conn t r.hall_pass k old.rooms.items new.rooms.items q.grew kept r.gave in
+    let named : All (λ (x : RoomPass). IfSome x.id (λ id. Names hub.config id x.number)) new.rooms.items = room_facts b s hub conn t old new (λ (x : RoomPass). IfSome x.id (λ id. Names hub.config id x.number)) (λ h x rq. rq.keeps.named) q.rooms in
+    let apart = apart_on old.rooms.items new.rooms.items go r.apart in
+    let made = made_before s conn r.sure t.acts new.rooms.items r.are_sure (early_on b s hub conn t r.sure old new r.early q.rooms) in
+    let cause : HasCause end hub conn t new.rooms.items talk counts0 counts = record { counts = r.cause.counts; inbox = r.cause.inbox; text = text_on end hub conn t r.hall_pass k old.rooms.items new.rooms.items q.grew kept r.cause.text } in
     let rooms_sent : All (RoomSent b hub conn t) new.rooms.items = room_facts b s hub conn t old new (RoomSent b hub conn t) (λ h x rq. rq.keeps.sent) q.rooms in
     let known : All (IsKnown b hub conn t) new.rooms.items = room_facts b s hub conn t old new (IsKnown b hub conn t) (λ h x rq. (rq.keeps.sent, rq.keeps.named)) q.rooms in
-    let open_prefix : IsPrefix (commands r.hall_pass.pass.1.seen) (commands k.pass.1.seen) = prefix_commands r.hall_pass.pass.1.seen k.pass.1.seen q.grew.seen in
-    let open_entry = hall_entry conn t.opened hall_commands.Open in
     record {
       told = r.told;
       sent = record { hall = at_hall (HallSent b hub conn t) new k q.hall q.keeps.sent; rooms = rooms_sent };
@@ -196,25 +218,28 @@ served end hub conn t old new talk0 talk counts0 counts start hours0 hours1 hour
         hall_given = at_hall (HallGiven b conn t) new k q.hall q.keeps.given;
         rooms = room_facts b s hub conn t old new (RoomMade s conn new.badge t) (λ h x rq. rq.made) q.rooms;
         rooms_given = room_facts b s hub conn t old new (RoomGiven b conn t) (λ h x rq. rq.keeps.given) q.rooms;
-        badge = badge_on s conn t old.badge new.badge q.badge r.badge;
+        badge = q.badge ∙ r.badge;
       };
       answers = record {
-        made = at_hall (AreAnswers s hub conn t new.rooms.items) new k q.hall (answers_on s hub conn t r.hall_pass k old.rooms.items new.rooms.items q.grew kept r.gave);
+        made = at_hall (AreAnswers s hub conn t new.rooms.items) new k q.hall gave;
+        rightly = answers_rightly hub conn k new.rooms.items (subst (λ (n : ℕ). All (IsRoomPass hub n) new.rooms.items) q.conn_is q.are.rooms) named apart s t gave made;
         asked = asked;
       };
-      opened = subst (IsOpen s conn t new) (sym q.hall) (r.opened.0, prefix_trans (r.opened.0 ++ open_entry ∷ []) (commands r.hall_pass.pass.1.seen) (commands k.pass.1.seen) r.opened.1 open_prefix);
-      moments = subst (λ (o : Option HallPass). TellsMoments end t o start hours2) (sym q.hall) (tells_of end conn t k start hours2 r.extra (moments_all t start hours0 hours1 hours2 first begun_at r.asked_for last ended));
+      opened = subst (IsOpen s conn t new) (sym q.hall) (open_grows conn t.opened r.hall_pass k q.grew r.opened);
+      moments = subst (λ (o : Option HallPass). TellsMoments end conn t o start hours2) (sym q.hall) (tells_of end conn t k start hours2 r.extra (moments_all t start hours0 hours1 hours2 first begun_at r.asked_for last ended));
       looks = record {
         hall = at_hall (HallLooks b hub conn t) new k q.hall q.keeps.looks;
         rooms = room_facts b s hub conn t old new (RoomLooks b hub conn t) (λ h x rq. rq.keeps.looks) q.rooms;
       };
-      history = history_of hub conn new q.are q.conn_is (apart_on old.rooms.items new.rooms.items go r.apart);
+      of = record { of = λ some. q.are; named = named };
+      history = history_of hub conn new q.are q.conn_is apart;
       begin = one_begin end hub conn t old new talk0 talk counts0 counts hours0 hours1 r q;
       worlds = record {
         hall = at_hall (HallElsewhere b hub conn t) new k q.hall (hall_elsewhere b hub conn t k q.keeps.sent);
         rooms = λ i d lt. room_elsewhere b hub conn t (get_or new.rooms.items i d) (rooms_sent i d lt);
       };
-      cause = r.cause;
+      cause = cause;
+      complete = complete_of end hub conn t new.rooms.items talk0 talk counts0 counts r.told cause;
     }
 
 -- ---- where memory was wanting
@@ -264,29 +289,29 @@ sure_weak : (s : Bool) (sure acts : List Act) → AreSure s sure acts → AreSur
 sure_weak true sure acts a = a
 sure_weak false sure acts e = ([], sym e ∙ sym (append-nil sure), omega arith)
 
+answers_weak : (s : Bool) (hub : Hub) (conn : ℕ) (t : Told) (rooms : List RoomPass) (h : HallPass) → AreAnswers s hub conn t rooms h → AreAnswers true hub conn t rooms h
+answers_weak true hub conn t rooms h g = g
+answers_weak false hub conn t rooms h g = answers_so true hub conn t rooms h g
+
 no_texts : {A : Type 0} (xs : List A) → xs ≡ [] → length xs ≤ 1
 no_texts xs e = let l = ap length e in omega arith
 
 one_text : {A : Type 0} (xs : List A) (x : A) → xs ≡ x ∷ [] → length xs ≤ 1
 one_text xs x e = let l = ap length e in omega arith
 
-rest_few : (end : End) (conn : ℕ) (t : Told) → HasTextCause end conn t → length t.rest ≤ 1
-rest_few ends.Closed conn t c = no_texts t.rest c
-rest_few ends.LinkFault conn t c = no_texts t.rest c
-rest_few (ends.OwnLimit room) conn t c = one_text t.rest c.0 c.1
-rest_few (ends.BadText bytes) conn t c = one_text t.rest bytes.items c.0
-rest_few ends.NoMemory conn t c = c
+rest_few : (end : End) (hub : Hub) (conn : ℕ) (t : Told) (rooms : List RoomPass) → HasTextCause end hub conn t rooms → length t.rest ≤ 1
+rest_few ends.Closed hub conn t rooms c = no_texts t.rest c
+rest_few ends.LinkFault hub conn t rooms c = no_texts t.rest c
+rest_few (ends.OwnLimit room) hub conn t rooms c = one_text t.rest c.0 c.1
+rest_few (ends.BadText bytes) hub conn t rooms c = one_text t.rest bytes.items c.0
+rest_few ends.NoMemory hub conn t rooms c = c
 
-many_few : (room : Option (List ℕ)) (conn : ℕ) (t : Told) (bytes : List ℕ) → IsTooMany room conn t bytes → length t.extra ≤ 1
-many_few room conn t bytes (inl c) = no_texts t.extra c.1
-many_few room conn t bytes (inr c) = let l : length t.extra ≡ 1 = c.5 in omega arith
-
-extra_few : (end : End) (conn : ℕ) (t : Told) → HasTextCause end conn t → HasExtra end t.extra → length t.extra ≤ 1
-extra_few ends.Closed conn t c e = no_texts t.extra e
-extra_few ends.LinkFault conn t c e = no_texts t.extra e
-extra_few (ends.OwnLimit room) conn t c e = many_few room conn t c.0 c.2
-extra_few (ends.BadText bytes) conn t c e = no_texts t.extra e
-extra_few ends.NoMemory conn t c e = e
+extra_weak : (end : End) (conn : ℕ) (t : Told) → HasExtraAt end conn t → HasExtra conn t
+extra_weak ends.Closed conn t e = inl e
+extra_weak ends.LinkFault conn t e = inl e
+extra_weak (ends.OwnLimit room) conn t e = e
+extra_weak (ends.BadText bytes) conn t e = inl e
+extra_weak ends.NoMemory conn t e = e
 
 -- what holds at any end holds where memory was wanting then
 pub rests_weak : (end : End) (hub : Hub) (conn : ℕ) (t : Told) (passes : Passes) (talk0 talk : Option Talk) (counts0 counts : LinkCounts) (hours0 hours1 : Hours) → Rests end hub conn t passes talk0 talk counts0 counts hours0 hours1 → Rests ends.NoMemory hub conn t passes talk0 talk counts0 counts hours0 hours1
@@ -302,15 +327,15 @@ rests_weak end hub conn t passes talk0 talk counts0 counts hours0 hours1 r = rec
   apart = r.apart;
   from = r.from;
   named = r.named;
-  badge = tt;
-  gave = tt;
+  badge = r.badge;
+  gave = answers_weak (is_short end) hub conn t passes.rooms.items r.hall_pass r.gave;
   sure = r.sure;
   are_sure = sure_weak (is_short end) r.sure t.acts r.are_sure;
   begun = r.begun;
   early = r.early;
   opened = r.opened;
-  cause = record { counts = tt; inbox = tt; text = rest_few end conn t r.cause.text };
-  extra = extra_few end conn t r.cause.text r.extra;
+  cause = record { counts = tt; inbox = tt; text = rest_few end hub conn t passes.rooms.items r.cause.text };
+  extra = extra_weak end conn t r.extra;
   asked_for = r.asked_for;
 }
 
@@ -349,11 +374,11 @@ quitted_ok end hub conn t old new talk0 talk counts0 counts hours0 hours1 r are 
     }
 
 pub quitted_short : (hub : Hub) (conn : ℕ) (t : Told) (old new : Passes) (talk0 talk : Option Talk) (counts0 counts : LinkCounts) (hours0 hours1 : Hours) → (r : Rests ends.NoMemory hub conn t old talk0 talk counts0 counts hours0 hours1) → AreOf hub new
-    → QuitsWith (QuitsAtMost old.badge conn t.left) (QuitsHallAtMost conn t.left) old new → Quitted true true hub conn t old new r.hall_pass
+    → QuitsWith (RoomEndsAtMost old.badge conn t.left) (HallEndsAtMost conn t.left) old new → Quitted true true hub conn t old new r.hall_pass
 quitted_short hub conn t old new talk0 talk counts0 counts hours0 hours1 r are q =
     let h = r.hall_pass in
     let same : q.before ≡ h = same_hall old q.before h q.was r.hall in
-    let went = quits_hall_at_most conn t.left h q.behind (subst (λ (x : HallPass). QuitsHallAtMost conn t.left x q.behind) same q.done) in
+    let went = quits_hall_at_most conn t.left h q.behind (subst (λ (x : HallPass). HallEndsAtMost conn t.left x q.behind) same q.done) in
     let within = hall_within hub old.conn h (hall_of_hub hub old h r.are r.hall) in
     let quit = entry h.pass.1.number (hall_entry conn t.left hall_commands.Quit) ∷ [] in
     record {
@@ -365,7 +390,7 @@ quitted_short hub conn t old new talk0 talk counts0 counts hours0 hours1 r are q
       keeps = ⊎_elim (λ (w : HallWent h q.behind []). hall_keeps true true hub conn t h q.behind [] w within r.hall_rests) (λ (w : HallWent h q.behind quit). hall_keeps true true hub conn t h q.behind quit w within r.hall_rests) went;
       made = hall_made_at_most conn t h q.behind went r.hall_rests.entries;
       rooms = subst (λ (b : Option Badge). AllZip (RoomQuit true true hub conn b t) old.rooms.items new.rooms.items) (sym q.badge)
-          (zip_more (QuitsAtMost old.badge conn t.left) (RoomQuit true true hub conn old.badge t) (Before true true hub conn t old.badge)
+          (zip_more (RoomEndsAtMost old.badge conn t.left) (RoomQuit true true hub conn old.badge t) (Before true true hub conn t old.badge)
           (λ x k p d. quits_room_at_most true hub conn old.badge t x k d p.1 p.2 p.0) old.rooms.items new.rooms.items (before_all ends.NoMemory hub conn t old talk0 talk counts0 counts hours0 hours1 r) q.rooms);
       badge = q.badge;
     }
@@ -384,10 +409,10 @@ serves_ok end hub conn open_at left old new talk0 talk counts0 counts start hour
     )
 
 pub serves_short : (end : End) (hub : Hub) (conn open_at left : ℕ) (old new : Passes) (talk0 talk : Option Talk) (counts0 counts : LinkCounts) (start hours0 hours1 hours2 : Hours) → ComesToRest end hub conn open_at left old talk0 talk counts0 counts hours0 hours1 → AreOf hub new
-    → QuitsWith (QuitsAtMost old.badge old.conn left) (QuitsHallAtMost old.conn left) old new → IsNow start open_at → hours0 ≡ after_now start → IsNow hours1 left → hours2 ≡ after_now hours1 → (t : Told) × Served ends.NoMemory hub conn t new talk0 talk counts0 counts start hours2
+    → Quits {T = Unit {0}} {E = Unit {0}} hub left old (Err tt) new → IsNow start open_at → hours0 ≡ after_now start → IsNow hours1 left → hours2 ≡ after_now hours1 → (t : Told) × Served ends.NoMemory hub conn t new talk0 talk counts0 counts start hours2
 serves_short end hub conn open_at left old new talk0 talk counts0 counts start hours0 hours1 hours2 (t, o, l, r) are q first begun_at last ended =
-    let own = subst (λ (n : ℕ). QuitsWith (QuitsAtMost old.badge n left) (QuitsHallAtMost n left) old new) r.conn_is q in
-    let quits = subst (λ (m : ℕ). QuitsWith (QuitsAtMost old.badge conn m) (QuitsHallAtMost conn m) old new) (sym l) own in
+    let own = subst (λ (n : ℕ). QuitsWith (RoomEndsAtMost old.badge n left) (HallEndsAtMost n left) old new) r.conn_is (quits_each (Unit {0}) (Unit {0}) hub left old new tt r.are q) in
+    let quits = subst (λ (m : ℕ). QuitsWith (RoomEndsAtMost old.badge conn m) (HallEndsAtMost conn m) old new) (sym l) own in
     let weak = rests_weak end hub conn t old talk0 talk counts0 counts hours0 hours1 r in (
       t,
       served ends.NoMemory hub conn t old new talk0 talk counts0 counts start hours0 hours1 hours2 weak (quitted_short hub conn t old new talk0 talk counts0 counts hours0 hours1 weak are quits)

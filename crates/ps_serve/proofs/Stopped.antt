@@ -1,5 +1,5 @@
 -- What hearing a text promises where it ends the session.
-use Rattle.std.proofs.Common.{◌≡◌, ◌⊎◌, ℕ, Bool, true, false, List, [], ◌∷◌, ◌++◌, length, refl, sym, ap, ◌∙◌, subst, inl, inr, ⊎_elim, arith, All, Option, Some, None, Ok, Err, is_some, true≢false}
+use Rattle.std.proofs.Common.{◌≡◌, ◌⊎◌, ℕ, Bool, true, false, List, [], ◌∷◌, ◌++◌, length, refl, sym, ap, ◌∙◌, subst, inl, inr, ⊎_elim, All, append-nil, Option, Some, None, Ok, Err, is_some, true≢false}
 use Rattle.std.specs.Prelude.{IsSome}
 use Rattle.std.proofs.lemmas.List.Elements.{All-weaker}
 use Rattle.ps_lines.specs.declared.command.BadWhy.TheVariants.{NoSuchRoom}
@@ -25,9 +25,9 @@ use Rattle.ps_hub.specs.declared.passes.Passes.{Passes}
 use Rattle.ps_serve.specs.declared.obey.Stop.{Stop}
 use Rattle.ps_serve.specs.declared.obey.Stop.TheVariants as stops
 use Rattle.ps_serve.specs.declared.obey.Unmade.TheVariants as unmade
-use Rattle.ps_serve.specs.Acts.{Made, in_hall, in_room, nowhere, Act, heard, IsAct, with_given, hall_entries}
+use Rattle.ps_serve.specs.Acts.{Made, in_hall, in_room, nowhere, Act, heard, order_in, IsAct, with_given, hall_entries}
 use Rattle.ps_serve.specs.Sendings.{Sending}
-use Rattle.ps_serve.specs.Sittings.{AreApart, Sits, IsUpToDate, PlaceLeft}
+use Rattle.ps_serve.specs.Sittings.{IsNowhere, AreApart, Sits, IsUpToDate, PlaceLeft}
 use Rattle.ps_serve.specs.Steps.{Hours, StopsFull, StopsShort, Stops}
 use Rattle.ps_serve.specs.Obeys.{OrdersAtLast, Unmakes, report, Follows, TellsNowhereIf, TellsNowhere, Obeys}
 use Rattle.ps_serve.proofs.Rows.{Grows, grows_self}
@@ -38,7 +38,7 @@ use Rattle.ps_serve.proofs.Reached.{Breaks, left_next, left_here, full_next}
 use Rattle.ps_serve.proofs.HallTurns.{hall_made, hall_unmade}
 use Rattle.ps_serve.proofs.HallOrders.{in_hall_start, hall_breaks, begins_break, begins_none}
 use Rattle.ps_serve.proofs.RoomOrders.{hall_from, break_hall, room_done, entry_breaks, no_memory_breaks, own_limit_breaks}
-use Rattle.ps_serve.proofs.Obeyed.{badge_of, at_room, none_found}
+use Rattle.ps_serve.proofs.Obeyed.{badge_of, at_room, none_found, no_badge_lost}
 
 one_stop : (a b : Stop) → Some a ≡ Some b → a ≡ b
 one_stop a b e = ap (stop_or a) e
@@ -52,12 +52,12 @@ never_none stop e = absurd (true≢false (ap is_some e))
 
 module _ (hub : Hub) (conn open_at : ℕ) (acts : List Act) (ss : List Sending) (r : Record) (old : Passes) (s : Sits hub conn open_at acts (length acts) ss r old) (bytes : List ℕ) (hours now : Hours) where
   -- memory was wanting for the text
-  pub short_at_once : now ≡ hours → AreOf hub old → StopsShort hub conn open_at acts ss bytes hours now old
+  pub short_at_once : now ≡ hours → AreOf hub old → StopsShort hub conn open_at acts ss bytes r hours now old
   short_at_once same are = record {
     last = [];
     last_is = inl refl;
     moments = [];
-    few = omega arith;
+    of_order = inl refl;
     asked = same;
     agree = inl refl;
     left = left_here hub conn open_at acts ss r old s old record {
@@ -68,34 +68,39 @@ module _ (hub : Hub) (conn open_at : ℕ) (acts : List Act) (ss : List Sending) 
       high = prefix_self (hall_entries conn acts);
       hall_pass = s.hall_pass;
       hall = s.hall;
+      kin = record { number = refl; seen = prefix_self s.hall_pass.pass.1.seen };
       hall_is = hall_start hub conn open_at acts ss r old s;
       rooms = All-weaker (λ (k : RoomPass). IsPlace hub conn ss acts None (IsUpToDate old) k × IsBattle hub conn ss k) (PlaceLeft false hub conn acts acts ss) (λ k p. left_before hub conn ss acts None (IsUpToDate old) k p.0) old.rooms.items (amid_start hub conn open_at acts ss r old None s).places;
       apart = s.apart;
       grows = grows_self old.rooms.items;
       named = s.named;
+      last = [];
+      all_is = sym (append-nil acts);
+      badge_is = s.badge_is;
+      gave = tt;
     };
   }
 
   module _ (moment : ℕ) (told : IsNow hours moment) (later : now ≡ after_now hours) (new : Passes) (are : AreOf hub new) where
     -- for what became of it
-    short_in : (made : Made) → IsAct r (heard bytes moment made) → Breaks hub conn open_at acts ss r old s (acts ++ heard bytes moment made ∷ []) new → StopsShort hub conn open_at acts ss bytes hours now new
+    short_in : (made : Made) → (act : IsAct r (heard bytes moment made)) → Breaks hub conn open_at acts ss r old s (acts ++ heard bytes moment made ∷ []) new → StopsShort hub conn open_at acts ss bytes r hours now new
     short_in made act t = record {
       last = heard bytes moment made ∷ [];
       last_is = inr (moment, made, refl);
       moments = moment ∷ [];
-      few = omega arith;
+      of_order = inr (order_in made, act.0, refl);
       asked = (told, later);
       agree = inr refl;
       left = left_next hub conn open_at acts ss r old s (heard bytes moment made) new act t;
     }
 
     -- before anything became of it
-    short_before : Breaks hub conn open_at acts ss r old s acts new → StopsShort hub conn open_at acts ss bytes hours now new
-    short_before t = record {
+    short_before : (order : Order) → taken r bytes ≡ Ok order → Breaks hub conn open_at acts ss r old s acts new → StopsShort hub conn open_at acts ss bytes r hours now new
+    short_before order take t = record {
       last = [];
       last_is = inl refl;
       moments = moment ∷ [];
-      few = omega arith;
+      of_order = inr (order, take, refl);
       asked = (told, later);
       agree = inl refl;
       left = left_here hub conn open_at acts ss r old s new t;
@@ -104,7 +109,7 @@ module _ (hub : Hub) (conn open_at : ℕ) (acts : List Act) (ss : List Sending) 
     abbrev Stopping : Stop → Type 0
     Stopping stop = Stops stop hub conn open_at acts ss bytes r old hours now new
 
-    short_is : (stop : Stop) → stop ≡ stops.NoMemory → StopsShort hub conn open_at acts ss bytes hours now new → Stopping stop
+    short_is : (stop : Stop) → stop ≡ stops.NoMemory → StopsShort hub conn open_at acts ss bytes r hours now new → Stopping stop
     short_is stop e t = subst (λ (x : Stop). Stops x hub conn open_at acts ss bytes r old hours now new) (sym e) t
 
     -- ---- orders to the hall
@@ -114,8 +119,8 @@ module _ (hub : Hub) (conn open_at : ℕ) (acts : List Act) (ss : List Sending) 
     hall_stops stop cmd out mid take t (Some start) ended e1 e2 f =
         let d = hall_made hub conn open_at acts ss s.hall_pass old cmd moment old mid out (Some start) e1 (in_hall_start hub conn open_at acts ss r old s) t in
         short_is stop f.0 (⊎_elim
-        (λ (same : IsAsBefore mid new). short_in (in_hall cmd out.badge None) (take, tt) (begins_none hub conn open_at acts ss r old s bytes moment cmd out.badge start mid new take are d same))
-        (λ (b : BeginsAt hub start (BeginsAtMost start) mid new). short_in (in_hall cmd out.badge (Some start)) (take, tt) (begins_break hub conn open_at acts ss r old s bytes moment cmd out.badge start mid new take are d b))
+        (λ (same : IsAsBefore mid new). short_in (in_hall cmd out.badge (Some start)) (take, tt) (begins_none hub conn open_at acts ss r old s bytes moment cmd out.badge start mid new take are d same))
+        (λ (b : BeginsAt hub start (BeginsAtMost hub start) mid new). short_in (in_hall cmd out.badge (Some start)) (take, tt) (begins_break hub conn open_at acts ss r old s bytes moment cmd out.badge start mid new take are d b))
         f.1)
     hall_stops stop cmd out mid take t None (Some ending) e1 e2 f = never_some ending (sym t.3.ended ∙ e2)
     hall_stops stop cmd out mid take t None None e1 e2 f = never_none stop f.0
@@ -131,7 +136,7 @@ module _ (hub : Hub) (conn open_at : ℕ) (acts : List Act) (ss : List Sending) 
         let d = room_done hub conn open_at acts ss r old s bytes moment id cmd (Some ending) t.3.0 mid out e2 b t.3.2 in
         let broke = hall_unmade hub conn open_at acts ss s.hall_pass mid (report ending) moment mid f.1.0 new (hall_from hub conn open_at acts ss r old s (heard bytes moment (in_room t.3.2.goes.before.number id cmd t.3.2.badge (Some ending))) mid d) f.1.1 in
         short_is stop f.0 (short_in (in_room t.3.2.goes.before.number id cmd t.3.2.badge (Some ending)) (take, sym (b.badge ∙ s.badge_is) ∙ t.3.2.badge_is)
-        (break_hall hub conn open_at acts ss r old s (heard bytes moment (in_room t.3.2.goes.before.number id cmd t.3.2.badge (Some ending))) (report ending) moment mid new has are refl d broke))
+        (break_hall hub conn open_at acts ss r old s (heard bytes moment (in_room t.3.2.goes.before.number id cmd t.3.2.badge (Some ending))) (report ending) moment mid new has are refl refl d broke))
 
     -- no such room, and the hall takes no text more, or memory was wanting for the Bad
     nowhere_stops : (stop : Stop) (id : List ℕ) (cmd : Command) (mid : Passes) → taken r bytes ≡ Ok (Room id cmd) → IsSome old.badge → OrdersAtLast hub (Room id cmd) moment old (Err hub_faults.NoSuchRoom) mid
@@ -146,6 +151,8 @@ module _ (hub : Hub) (conn open_at : ℕ) (acts : List Act) (ss : List Sending) 
           cmd = cmd;
           taken_is = take;
           full = e;
+          place = d.asked;
+          unfound = subst (λ (p : Passes). IsNowhere hub conn acts d.asked id p.rooms.items) (sym f.1) (d.reach.gave s.hall_pass);
           moment = moment;
           asked = (told, later);
           badge_is = badge;
@@ -161,16 +168,16 @@ module _ (hub : Hub) (conn open_at : ℕ) (acts : List Act) (ss : List Sending) 
     nowhere_stops stop id cmd mid take has t false e f =
         let d = none_found hub conn open_at acts ss r old s bytes moment id cmd mid t in
         let broke = hall_unmade hub conn open_at acts ss s.hall_pass mid (Bad NoSuchRoom) moment mid f.1.0 new (hall_from hub conn open_at acts ss r old s (heard bytes moment (nowhere d.asked id cmd)) mid d.reach) f.1.1 in
-        short_is stop f.0 (short_in (nowhere d.asked id cmd) (take, e) (break_hall hub conn open_at acts ss r old s (heard bytes moment (nowhere d.asked id cmd)) (Bad NoSuchRoom) moment mid new has are refl d.reach broke))
+        short_is stop f.0 (short_in (nowhere d.asked id cmd) (take, e) (break_hall hub conn open_at acts ss r old s (heard bytes moment (nowhere d.asked id cmd)) (Bad NoSuchRoom) moment mid new has are refl (no_badge_lost hub conn open_at acts ss r old s id (after_no_room (counted (Some id) r)) refl) d.reach broke))
 
     -- no entry
-    room_fails : (id : List ℕ) (cmd : Command) → taken r bytes ≡ Ok (Room id cmd) → IsSome old.badge → Unmakes hub (Room id cmd) moment old unmade.NoMemory new → StopsShort hub conn open_at acts ss bytes hours now new
+    room_fails : (id : List ℕ) (cmd : Command) → taken r bytes ≡ Ok (Room id cmd) → IsSome old.badge → Unmakes hub (Room id cmd) moment old unmade.NoMemory new → StopsShort hub conn open_at acts ss bytes r hours now new
     room_fails id cmd take has u =
         let badge = badge_of old.badge has in
         let act : r.badge ≡ Some badge.0 = sym s.badge_is ∙ badge.1 in
         ⊎_elim
         (λ (t : OrdersAtLast hub (Room id cmd) moment old (Err hub_faults.NoMemory) new). ⊎_elim
-        (λ (f : EnterFails hub id t.1 enter_faults.NoMemory new). short_before (entry_breaks hub conn open_at acts ss r old s id t.1 new has are (at_room hub conn open_at acts ss r old s id cmd moment t.0 t.1 t.2) f))
+        (λ (f : EnterFails hub id t.1 enter_faults.NoMemory new). short_before (Room id cmd) take (entry_breaks hub conn open_at acts ss r old s id t.1 new has are (at_room hub conn open_at acts ss r old s id cmd moment t.0 t.1 t.2) f))
         (λ (f : (here : Passes) × EntersAt hub id (Held id) t.1 here × RoomFails hub id cmd moment here hub_faults.NoMemory new).
         let b = no_memory_breaks hub conn open_at acts ss r old s bytes moment id cmd badge.0 f.0 new badge.1 are (enters hub conn acts ss (IsUpToDate old) old id t.1 f.0 f.1 (at_room hub conn open_at acts ss r old s id cmd moment t.0 t.1 t.2)) f.2 in
         short_in (in_room b.number id cmd badge.0 None) (take, act) b.breaks)

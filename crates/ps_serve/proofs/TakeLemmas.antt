@@ -3,6 +3,7 @@ use Rattle.std.proofs.Common.{◌≡◌, ◌⊎◌, ℕ, ◌+◌, true, false, L
 use Rattle.std.specs.Prelude.{IfSome, IfNone}
 use Rattle.std.proofs.lemmas.List.{append-nil}
 use Rattle.std.proofs.lemmas.List.Elements.{All-nil}
+use Rattle.ps_lines.specs.declared.order.Order.{Order}
 use Rattle.ps_lines.specs.declared.order.Order.TheVariants.{Room}
 use Rattle.ps_session.specs.Sessions.{Record, is_full, counted}
 use Rattle.ps_session.specs.Routes.{taken}
@@ -22,7 +23,7 @@ use Rattle.ps_serve.specs.Sendings.{Sending}
 use Rattle.ps_serve.specs.Sittings.{Sits, IsUpToDate, Left}
 use Rattle.ps_serve.specs.Steps.{Hours, Asked, Hears, StopsFull, StopsShort, Stops, Tells, TellsPart, IsBreak, Talks, TalksIf, Stands}
 use Rattle.ps_serve.specs.Ends.{Told, text_item, IsTalk, AreOfLink, HasEmptyInbox, HasCause}
-use Rattle.ps_serve.specs.Rests.{end_after, IsSitting, GoesOn, HasExtra, ComesToRest}
+use Rattle.ps_serve.specs.Rests.{end_after, IsSitting, GoesOn, HasExtraAt, ComesToRest}
 use Rattle.ps_serve.proofs.SendingLemmas.{no_sendings}
 use Rattle.ps_serve.proofs.ActLemmas.{acts_length, moments_more}
 use Rattle.ps_serve.proofs.QuietLemmas.{quiet_sits}
@@ -160,7 +161,7 @@ module _ (hub : Hub) (conn open_at left : ℕ) (acts : List Act) (ss : List Send
   -- ---- nothing came of it
 
   kept : (end : End) (rest : List (List ℕ)) (extra : List ℕ) (s : Record) (p : Passes) (was mid : Option Talk) (c0 c1 : LinkCounts) (h h1 : Hours) → Stands hub conn open_at acts ss s p talk0 was counts0 c0 hours0 h → RestMoves rest was mid
-      → HasCause end conn (told_of rest extra) mid counts0 c1 → HasExtra end extra → Asked h extra h1 → ComesToRest end hub conn open_at left p talk0 mid counts0 c1 hours0 h1
+      → HasCause end hub conn (told_of rest extra) p.rooms.items mid counts0 c1 → HasExtraAt end conn (told_of rest extra) → Asked h extra h1 → ComesToRest end hub conn open_at left p talk0 mid counts0 c1 hours0 h1
   kept end rest extra s p was mid c0 c1 h h1 st moves cause few asked =
       let t = told_of rest extra in
       (t, refl, refl, rests_whole end hub conn t p talk0 mid counts0 c1 hours0 h1 (whole_sits hub conn t s p st.sits st.up) (told_by t talk0 was mid st.talks moves, st.sits.way) cause few (asked_sits end hub conn t p.rooms.items st.sits.rooms) (asked_on hours0 (moments_of acts) extra h h1 st.asked asked))
@@ -179,7 +180,7 @@ module _ (hub : Hub) (conn open_at left : ℕ) (acts : List Act) (ss : List Send
   pub rest_none : (s : Record) (p : Passes) (was mid : Option Talk) (c0 c1 : LinkCounts) (h : Hours) → Stands hub conn open_at acts ss s p talk0 was counts0 c0 hours0 h → mid ≡ after_next nexts.NoMemory was → ComesToRest ends.NoMemory hub conn open_at left p talk0 mid counts0 c1 hours0 h
   rest_none s p was mid c0 c1 h st is =
       kept ends.NoMemory [] [] s p was mid c0 c1 h h st (still_there was mid (is ∙ after_none was))
-      (record { counts = tt; inbox = tt; text = omega arith }) (omega arith) refl
+      (record { counts = tt; inbox = tt; text = omega arith }) (inl refl) refl
 
   -- ---- a text that became nothing
 
@@ -208,7 +209,7 @@ module _ (hub : Hub) (conn open_at left : ℕ) (acts : List Act) (ss : List Send
         inbox = tt;
         text = (bytes.items, refl, inl (subst (λ (r : Record). taken r bytes.items ≡ Err (take_faults.Limit room)) st.sits.session_is stop.0, refl));
       })
-      tt stop.2
+      (inl refl) stop.2
       )
 
   rest_full : (room : Option (List ℕ)) (s : Record) (p p1 : Passes) (bytes : Vec ℕ Global) (was mid : Option Talk) (c0 c1 : LinkCounts) (h h1 : Hours) → Stands hub conn open_at acts ss s p talk0 was counts0 c0 hours0 h → mid ≡ after_next (nexts.Text bytes) was → IsNext was (nexts.Text bytes) → HasNextCause c0 c1 (nexts.Text bytes)
@@ -227,10 +228,10 @@ module _ (hub : Hub) (conn open_at left : ℕ) (acts : List Act) (ss : List Send
               text = (
                 bytes.items,
                 refl,
-                inr (hall, f.id, f.cmd, subst (λ (r : Record). taken r bytes.items ≡ Ok (Room f.id f.cmd)) st.sits.session_is f.taken_is, subst (λ (r : Record). is_full None (counted (Some f.id) r) ≡ true) st.sits.session_is f.full, refl),
+                inr (hall, f.id, f.cmd, f.place, subst (λ (r : Record). taken r bytes.items ≡ Ok (Room f.id f.cmd)) st.sits.session_is f.taken_is, subst (λ (r : Record). is_full None (counted (Some f.id) r) ≡ true) st.sits.session_is f.full, f.unfound, refl),
               );
             })
-            tt (λ i d lt. tt) (asked_on hours0 (moments_of acts) (f.moment ∷ []) h h1 st.asked f.asked),
+            (inr (bytes.items, Room f.id f.cmd, refl, subst (λ (r : Record). taken r bytes.items ≡ Ok (Room f.id f.cmd)) st.sits.session_is f.taken_is, refl)) (λ i d lt. tt) (asked_on hours0 (moments_of acts) (f.moment ∷ []) h h1 st.asked f.asked),
       )
 
   pub rest_many : (room : Option (List ℕ)) (s : Record) (p p1 : Passes) (bytes : Vec ℕ Global) (was mid : Option Talk) (c0 c1 : LinkCounts) (h h1 : Hours) → Stands hub conn open_at acts ss s p talk0 was counts0 c0 hours0 h → mid ≡ after_next (nexts.Text bytes) was → IsNext was (nexts.Text bytes) → HasNextCause c0 c1 (nexts.Text bytes)
@@ -244,7 +245,7 @@ module _ (hub : Hub) (conn open_at left : ℕ) (acts : List Act) (ss : List Send
   -- ---- memory was wanting for a text
 
   short_before : (s : Record) (p p1 : Passes) (bytes : Vec ℕ Global) (was mid : Option Talk) (c0 c1 : LinkCounts) (h h1 : Hours) → Stands hub conn open_at acts ss s p talk0 was counts0 c0 hours0 h → mid ≡ after_next (nexts.Text bytes) was → IsNext was (nexts.Text bytes)
-      → (q : StopsShort hub conn open_at acts ss bytes.items h h1 p1) → q.last ≡ [] → ComesToRest ends.NoMemory hub conn open_at left p1 talk0 mid counts0 c1 hours0 h1
+      → (q : StopsShort hub conn open_at acts ss bytes.items s h h1 p1) → q.last ≡ [] → ComesToRest ends.NoMemory hub conn open_at left p1 talk0 mid counts0 c1 hours0 h1
   short_before s p p1 bytes was mid c0 c1 h h1 st is front q none =
       let t = told_of (bytes.items ∷ []) q.moments in
       let parts : Left false hub conn open_at acts acts ss p1 = subst (λ (l : List Act). Left false hub conn open_at acts l ss p1) (ap (λ (l : List Act). acts ++ l) none ∙ append-nil acts) q.left in (
@@ -252,11 +253,16 @@ module _ (hub : Hub) (conn open_at left : ℕ) (acts : List Act) (ss : List Send
         refl,
         refl,
         rests_short hub conn acts [] t p1 talk0 mid counts0 c1 hours0 h1 parts (sym (append-nil acts)) (omega arith) (told_by t talk0 was mid st.talks (text_there bytes was mid is front), st.sits.way)
-            (record { counts = tt; inbox = tt; text = omega arith }) q.few (asked_on hours0 (moments_of acts) q.moments h h1 st.asked q.asked),
+            (record { counts = tt; inbox = tt; text = omega arith })
+            (⊎_elim
+            (λ (none_asked : q.moments ≡ []). inl none_asked)
+            (λ (one : (order : Order) × (taken s bytes.items ≡ Ok order) × (length q.moments ≡ 1)). inr (bytes.items, one.0, refl, subst (λ (r : Record). taken r bytes.items ≡ Ok one.0) st.sits.session_is one.1, one.2))
+            q.of_order)
+            (asked_on hours0 (moments_of acts) q.moments h h1 st.asked q.asked),
       )
 
   short_within : (s : Record) (p p1 : Passes) (bytes : Vec ℕ Global) (was mid : Option Talk) (c0 c1 : LinkCounts) (h h1 : Hours) → Stands hub conn open_at acts ss s p talk0 was counts0 c0 hours0 h → mid ≡ after_next (nexts.Text bytes) was → IsNext was (nexts.Text bytes)
-      → (q : StopsShort hub conn open_at acts ss bytes.items h h1 p1) (moment : ℕ) (made : Made) → q.last ≡ heard bytes.items moment made ∷ [] → q.moments ≡ moments_of q.last → ComesToRest ends.NoMemory hub conn open_at left p1 talk0 mid counts0 c1 hours0 h1
+      → (q : StopsShort hub conn open_at acts ss bytes.items s h h1 p1) (moment : ℕ) (made : Made) → q.last ≡ heard bytes.items moment made ∷ [] → q.moments ≡ moments_of q.last → ComesToRest ends.NoMemory hub conn open_at left p1 talk0 mid counts0 c1 hours0 h1
   short_within s p p1 bytes was mid c0 c1 h h1 st is front q moment made one agree =
       let a : Act = heard bytes.items moment made in
       let t : Told = record { acts = acts ++ a ∷ []; sendings = ss; rest = []; opened = open_at; extra = []; left = left } in
@@ -268,7 +274,7 @@ module _ (hub : Hub) (conn open_at left : ℕ) (acts : List Act) (ss : List Send
         refl,
         refl,
         rests_short hub conn acts (a ∷ []) t p1 talk0 mid counts0 c1 hours0 h1 parts refl (omega arith) (told_by t talk0 mid mid talks (still_there mid mid refl), parts.way)
-            (record { counts = tt; inbox = tt; text = omega arith }) (omega arith) asked_all,
+            (record { counts = tt; inbox = tt; text = omega arith }) (inl refl) asked_all,
       )
 
   pub rest_short : (s : Record) (p p1 : Passes) (bytes : Vec ℕ Global) (was mid : Option Talk) (c0 c1 : LinkCounts) (h h1 : Hours) → Stands hub conn open_at acts ss s p talk0 was counts0 c0 hours0 h → mid ≡ after_next (nexts.Text bytes) was → IsNext was (nexts.Text bytes)
@@ -295,42 +301,41 @@ module _ (hub : Hub) (conn open_at left : ℕ) (acts : List Act) (ss : List Send
 
   -- ---- it broke off while it told what happened
 
-  broke_with : (s0 s1 : Record) (p0 p1 p2 : Passes) (a : Act) (was mid new : Option Talk) (c0 : LinkCounts) (h h1 : Hours) → Stands hub conn open_at acts ss s0 p0 talk0 was counts0 c0 hours0 h → Moves a was mid → (end : End) (t : TellsPart end hub conn open_at acts a ss mid new p2) → AreOfLink (told_with a t.more) talk0 new
-  broke_with s0 s1 p0 p1 p2 a was mid new c0 h h1 st moves end t = told_by (told_with a t.more) talk0 new new (talks_on acts a ss t.more talk0 was mid new st.talks moves t.now t.sent) (still_there new new refl)
+  broke_with : (s0 : Record) (p0 p2 : Passes) (a : Act) (was mid new : Option Talk) (c0 : LinkCounts) (h h1 : Hours) → Stands hub conn open_at acts ss s0 p0 talk0 was counts0 c0 hours0 h → Moves a was mid → (end : End) (t : TellsPart end hub conn open_at acts a ss mid new p2) → AreOfLink (told_with a t.more) talk0 new
+  broke_with s0 p0 p2 a was mid new c0 h h1 st moves end t = told_by (told_with a t.more) talk0 new new (talks_on acts a ss t.more talk0 was mid new st.talks moves t.now t.sent) (still_there new new refl)
 
   asked_with : (s0 : Record) (p0 : Passes) (a : Act) (was : Option Talk) (c0 : LinkCounts) (h h1 : Hours) → Stands hub conn open_at acts ss s0 p0 talk0 was counts0 c0 hours0 h → Asked h (moment_of a) h1 → Asked hours0 (moments_of (acts ++ a ∷ []) ++ []) h1
   asked_with s0 p0 a was c0 h h1 st asked = subst (λ (ms : List ℕ). Asked hours0 ms h1) (sym (append-nil (moments_of (acts ++ a ∷ [])) ∙ moments_more acts a)) (asked_on hours0 (moments_of acts) (moment_of a) h h1 st.asked asked)
 
-  rest_broke : (end : End) (s0 s1 : Record) (p0 p1 p2 : Passes) (a : Act) (was mid new : Option Talk) (c0 c1 c2 : LinkCounts) (h h1 : Hours) → Stands hub conn open_at acts ss s0 p0 talk0 was counts0 c0 hours0 h → Moves a was mid → Asked h (moment_of a) h1 → Sits hub conn open_at (acts ++ a ∷ []) (length acts) ss s1 p1
-      → c1.faults ≡ c0.faults → c1.ends ≡ c0.ends → IsBreak end c1 c2 → TellsPart end hub conn open_at acts a ss mid new p2 → p2.badge ≡ p1.badge → ComesToRest end hub conn open_at left p2 talk0 new counts0 c2 hours0 h1
-  rest_broke ends.LinkFault s0 s1 p0 p1 p2 a was mid new c0 c1 c2 h h1 st moves asked sits faults ended broke t badge = (
+  rest_broke : (end : End) (s0 : Record) (p0 p2 : Passes) (a : Act) (was mid new : Option Talk) (c0 c1 c2 : LinkCounts) (h h1 : Hours) → Stands hub conn open_at acts ss s0 p0 talk0 was counts0 c0 hours0 h → Moves a was mid → Asked h (moment_of a) h1
+      → c1.faults ≡ c0.faults → c1.ends ≡ c0.ends → IsBreak end c1 c2 → TellsPart end hub conn open_at acts a ss mid new p2 → ComesToRest end hub conn open_at left p2 talk0 new counts0 c2 hours0 h1
+  rest_broke ends.LinkFault s0 p0 p2 a was mid new c0 c1 c2 h h1 st moves asked faults ended broke t = (
     told_with a t.more,
     refl,
     refl,
-    rests_failed hub conn acts (told_with a t.more) p2 talk0 new counts0 c2 hours0 h1 t.left (broke_with s0 s1 p0 p1 p2 a was mid new c0 h h1 st moves ends.LinkFault t, t.left.way)
-        (record { counts = (subst (λ (n : ℕ). Rose n c2.faults) (faults ∙ st.faults) broke.rose, broke.third ∙ ended ∙ st.ends_is); inbox = tt; text = refl }) refl
-        (badge ∙ sits.badge_is ∙ ap (λ (r : Record). r.badge) sits.session_is) (asked_with s0 p0 a was c0 h h1 st asked),
+    rests_failed hub conn acts (told_with a t.more) p2 talk0 new counts0 c2 hours0 h1 t.left (broke_with s0 p0 p2 a was mid new c0 h h1 st moves ends.LinkFault t, t.left.way)
+        (record { counts = (subst (λ (n : ℕ). Rose n c2.faults) (faults ∙ st.faults) broke.rose, broke.third ∙ ended ∙ st.ends_is); inbox = tt; text = refl }) refl (asked_with s0 p0 a was c0 h h1 st asked),
   )
-  rest_broke ends.NoMemory s0 s1 p0 p1 p2 a was mid new c0 c1 c2 h h1 st moves asked sits faults ended broke t badge = (
+  rest_broke ends.NoMemory s0 p0 p2 a was mid new c0 c1 c2 h h1 st moves asked faults ended broke t = (
     told_with a t.more,
     refl,
     refl,
-    rests_short hub conn acts (a ∷ []) (told_with a t.more) p2 talk0 new counts0 c2 hours0 h1 t.left refl (omega arith) (broke_with s0 s1 p0 p1 p2 a was mid new c0 h h1 st moves ends.NoMemory t, t.left.way)
-        (record { counts = tt; inbox = tt; text = omega arith }) (omega arith) (asked_with s0 p0 a was c0 h h1 st asked),
+    rests_short hub conn acts (a ∷ []) (told_with a t.more) p2 talk0 new counts0 c2 hours0 h1 t.left refl (omega arith) (broke_with s0 p0 p2 a was mid new c0 h h1 st moves ends.NoMemory t, t.left.way)
+        (record { counts = tt; inbox = tt; text = omega arith }) (inl refl) (asked_with s0 p0 a was c0 h h1 st asked),
   )
-  rest_broke ends.Closed s0 s1 p0 p1 p2 a was mid new c0 c1 c2 h h1 st moves asked sits faults ended broke t badge = absurd broke
-  rest_broke (ends.OwnLimit room) s0 s1 p0 p1 p2 a was mid new c0 c1 c2 h h1 st moves asked sits faults ended broke t badge = absurd broke
-  rest_broke (ends.BadText bytes) s0 s1 p0 p1 p2 a was mid new c0 c1 c2 h h1 st moves asked sits faults ended broke t badge = absurd broke
+  rest_broke ends.Closed s0 p0 p2 a was mid new c0 c1 c2 h h1 st moves asked faults ended broke t = absurd broke
+  rest_broke (ends.OwnLimit room) s0 p0 p2 a was mid new c0 c1 c2 h h1 st moves asked faults ended broke t = absurd broke
+  rest_broke (ends.BadText bytes) s0 p0 p2 a was mid new c0 c1 c2 h h1 st moves asked faults ended broke t = absurd broke
 
   pub broke_quiet : (end : End) (s0 : Record) (p0 p1 : Passes) (was mid new : Option Talk) (c0 c1 c2 : LinkCounts) (h : Hours) → Stands hub conn open_at acts ss s0 p0 talk0 was counts0 c0 hours0 h → mid ≡ after_next nexts.Quiet was → IsNext was nexts.Quiet → HasNextCause c0 c1 nexts.Quiet
-      → IsBreak end c1 c2 → TellsSome end hub s0 p0 mid new p1 → p1.badge ≡ p0.badge → ComesToRest end hub conn open_at left p1 talk0 new counts0 c2 hours0 h
-  broke_quiet end s0 p0 p1 was mid new c0 c1 c2 h st is front cause broke tells badge =
+      → IsBreak end c1 c2 → TellsSome end hub s0 p0 mid new p1 → ComesToRest end hub conn open_at left p1 talk0 new counts0 c2 hours0 h
+  broke_quiet end s0 p0 p1 was mid new c0 c1 c2 h st is front cause broke tells =
       let sits = quiet_sits hub conn open_at acts ss s0 p0 st.sits in
-      rest_broke end s0 s0 p0 p0 p1 quiet was mid new c0 c1 c2 h h st (quiet_moves was mid is front) refl sits cause.other cause.third broke (tells conn open_at acts quiet ss sits) badge
+      rest_broke end s0 p0 p1 quiet was mid new c0 c1 c2 h h st (quiet_moves was mid is front) refl cause.other cause.third broke (tells conn open_at acts quiet ss sits)
 
   pub broke_text : (end : End) (s0 s1 : Record) (p0 p1 p2 : Passes) (bytes : Vec ℕ Global) (was mid new : Option Talk) (c0 c1 c2 : LinkCounts) (h h1 : Hours) → Stands hub conn open_at acts ss s0 p0 talk0 was counts0 c0 hours0 h → mid ≡ after_next (nexts.Text bytes) was → IsNext was (nexts.Text bytes) → HasNextCause c0 c1 (nexts.Text bytes)
-      → HearsAll hub s0 p0 bytes.items h h1 s1 p1 → IsBreak end c1 c2 → TellsSome end hub s1 p1 mid new p2 → p2.badge ≡ p1.badge → ComesToRest end hub conn open_at left p2 talk0 new counts0 c2 hours0 h1
-  broke_text end s0 s1 p0 p1 p2 bytes was mid new c0 c1 c2 h h1 st is front cause hears broke tells badge =
+      → HearsAll hub s0 p0 bytes.items h h1 s1 p1 → IsBreak end c1 c2 → TellsSome end hub s1 p1 mid new p2 → ComesToRest end hub conn open_at left p2 talk0 new counts0 c2 hours0 h1
+  broke_text end s0 s1 p0 p1 p2 bytes was mid new c0 c1 c2 h h1 st is front cause hears broke tells =
       let q = hears conn open_at acts ss st.sits in
       let a : Act = heard bytes.items q.moment q.made in
-      rest_broke end s0 s1 p0 p1 p2 a was mid new c0 c1 c2 h h1 st (text_moves bytes q.moment q.made was mid is front) q.asked q.sits (ap (λ (c : LinkCounts). c.faults) cause) (ap (λ (c : LinkCounts). c.ends) cause) broke (tells conn open_at acts a ss q.sits) badge
+      rest_broke end s0 p0 p2 a was mid new c0 c1 c2 h h1 st (text_moves bytes q.moment q.made was mid is front) q.asked (ap (λ (c : LinkCounts). c.faults) cause) (ap (λ (c : LinkCounts). c.ends) cause) broke (tells conn open_at acts a ss q.sits)

@@ -6,30 +6,27 @@ use Rattle.std.proofs.lemmas.List.{length-append}
 use Rattle.std.proofs.lemmas.List.Elements.{All-nil, All-cons, All-head, All-tail, All-append, All-weaker, All-contains}
 use Rattle.std.proofs.lemmas.Option.{same_Some, none-some}
 use Rattle.std.proofs.lemmas.Grind.{flat_map-append}
-use mathlib.Core.List.{IsPrefix}
 use Rattle.ps_base.specs.declared.badge.Badge.{Badge}
-use Rattle.ps_lines.specs.declared.command.HallCmd.TheVariants.{Open}
 use Rattle.ps_valid.specs.declared.start.Start.{Start}
-use Rattle.ps_hall.specs.declared.entry.HallEntry.{HallEntry}
 use Rattle.ps_histlock.specs.Histories.{commands}
 use Rattle.ps_session.specs.Sessions.{Record, begun}
 use Rattle.ps_session.specs.Texts.{texts_of}
 use Rattle.ps_outside.specs.Links.{Talk}
 use Rattle.ps_hub.specs.Hubs.{Hub}
 use Rattle.ps_hub.specs.Passes.{AreOf, IsRoomPass}
-use Rattle.ps_hub.specs.Calls.{hall_entry, HallCaught, LooksAtMost}
+use Rattle.ps_hub.specs.Calls.{HallCaught, LooksAtMost}
 use Rattle.ps_hub.specs.declared.pass.HallPass.{HallPass}
 use Rattle.ps_hub.specs.declared.pass.RoomPass.{RoomPass}
 use Rattle.ps_hub.specs.declared.passes.Passes.{Passes}
 use Rattle.ps_serve.specs.declared.closed.End.{End}
 use Rattle.ps_serve.specs.Acts.{Act, after_acts, AreActs, since, begun_by, all_begun}
 use Rattle.ps_serve.specs.Sendings.{Sending, is_place, texts_from}
-use Rattle.ps_serve.specs.Sittings.{HallSits, PlaceSits, AreGiven, IsFromBy, IsFrom, IsBegun, AreApart, IsUntouched, Sits, sure_acts, HallLeft, PlaceLeft, Left}
+use Rattle.ps_serve.specs.Sittings.{HasOpen, HallSits, PlaceSits, AreGiven, AreGivenSo, IsFromBy, IsFrom, IsBegun, AreApart, IsUntouched, Sits, sure_acts, HallLeft, PlaceLeft, Left}
 use Rattle.ps_serve.specs.Steps.{after_sendings, TellsPart, is_fault}
 use Rattle.ps_serve.specs.Tellings.{TellsHall, TellsHallPart}
-use Rattle.ps_serve.proofs.Prefixes.{prefix_trans, prefix_commands}
 use Rattle.ps_serve.proofs.Rows.{begun_grows, from_grows, all_left}
-use Rattle.ps_serve.proofs.Halls.{IsHallKin, given_grows}
+use Rattle.ps_serve.proofs.Actions.{given_parts}
+use Rattle.ps_serve.proofs.Halls.{IsHallKin, open_grows, given_grows}
 use Rattle.ps_serve.proofs.SendingLemmas.{sendings, sending, is_place_other, from_self, from_other, from_still, all_sent_at, no_sendings, texts_after}
 use Rattle.ps_serve.proofs.LookLemmas.{Looked, looked, looked_at_most}
 use Rattle.ps_serve.proofs.Goings.{Goes, all_stay, kept_in, all_go, all_went, apart_on}
@@ -45,7 +42,7 @@ pub record Based (hub : Hub) (conn open_at : ℕ) (acts : List Act) (ss : List S
   pub named : All (λ (k : RoomPass). IsSome k.id → IsSome badge) rooms
   pub gave : AreGiven hub conn [] acts h rooms
   pub from : All (IsFrom rooms) ss
-  pub opened : (before : List HallEntry) × IsPrefix (before ++ hall_entry conn open_at Open ∷ []) (commands h.pass.1.seen)
+  pub opened : HasOpen conn open_at h
 
 base_of : (hub : Hub) (conn open_at : ℕ) (acts : List Act) (looked : ℕ) (ss : List Sending) (session : Record) (passes : Passes) (s : Sits hub conn open_at acts looked ss session passes) → Based hub conn open_at acts ss s.hall_pass passes.rooms.items passes.badge
 base_of hub conn open_at acts looked ss session passes s = record { joined = s.joined; others = s.others; apart = s.apart; begins_are = s.begun; named = s.named; gave = s.gave; from = s.from; opened = s.opened }
@@ -74,7 +71,7 @@ based_on hub conn open_at acts ss news h k old new badge more row here b = recor
   named = all_go (λ (x : RoomPass). IsSome x.id → IsSome badge) (λ (x : RoomPass). IsSome x.id → IsSome badge) (λ x y g p held. p (subst (λ (o : Option (List ℕ)). IsSome o) g.id held)) old new row b.named;
   gave = given_grows hub conn [] acts h k old new more (kept_in old new row) b.gave;
   from = All-append (IsFrom new) ss news (All-weaker (IsFrom old) (IsFrom new) (from_grows old new (kept_in old new row)) ss b.from) here;
-  opened = (b.opened.0, prefix_trans (b.opened.0 ++ hall_entry conn open_at Open ∷ []) (commands h.pass.1.seen) (commands k.pass.1.seen) b.opened.1 (prefix_commands h.pass.1.seen k.pass.1.seen more.seen));
+  opened = open_grows conn open_at h k more b.opened;
 }
   where
     untouched : (number : ℕ) → IsUntouched conn number acts ss → All (λ (x : RoomPass). x.number ≢ number) new → IsUntouched conn number acts (ss ++ news)
@@ -139,9 +136,13 @@ begun_left : (whole : Bool) (rooms : List RoomPass) (acts : List Act) (a : Act) 
 begun_left true rooms acts a all = all
 begun_left false rooms acts a all = all_left (IsBegun rooms) (all_begun acts) (all_begun (a ∷ [])) (subst (λ (starts : List Start). All (IsBegun rooms) starts) (flat_map-append begun_by acts (a ∷ [])) all)
 
-pub left_of : (whole : Bool) (hub : Hub) (conn open_at : ℕ) (acts : List Act) (a : Act) (ss : List Sending) (h : HallPass) (rooms : List RoomPass) (passes : Passes) → AreOf hub passes → passes.conn ≡ conn → AreActs (begun conn) (acts ++ a ∷ []) → passes.hall ≡ Some h → passes.rooms.items ≡ rooms
+given_left : (whole : Bool) (hub : Hub) (conn : ℕ) (acts : List Act) (a : Act) (h : HallPass) (rooms : List RoomPass) → AreGiven hub conn [] (acts ++ a ∷ []) h rooms → AreGivenSo whole hub conn acts (acts ++ a ∷ []) h rooms
+given_left true hub conn acts a h rooms g = g
+given_left false hub conn acts a h rooms g = (let p = given_parts hub conn [] acts a h rooms g in (a ∷ [], refl, p.0, (inl p.1, refl)))
+
+pub left_of : (whole : Bool) (hub : Hub) (conn open_at : ℕ) (acts : List Act) (a : Act) (ss : List Sending) (h : HallPass) (rooms : List RoomPass) (passes : Passes) → AreOf hub passes → passes.conn ≡ conn → AreActs (begun conn) (acts ++ a ∷ []) → passes.hall ≡ Some h → passes.rooms.items ≡ rooms → passes.badge ≡ (after_acts (begun conn) (acts ++ a ∷ [])).badge
     → HallLeft whole hub conn acts (acts ++ a ∷ []) ss h → All (PlaceLeft whole hub conn acts (acts ++ a ∷ []) ss) rooms → Based hub conn open_at (acts ++ a ∷ []) ss h rooms passes.badge → Left whole hub conn open_at acts (acts ++ a ∷ []) ss passes
-left_of whole hub conn open_at acts a ss h rooms passes are conn_is way hall row hall_is all b = record {
+left_of whole hub conn open_at acts a ss h rooms passes are conn_is way hall row badge_is hall_is all b = record {
   are = are;
   conn_is = conn_is;
   way = way;
@@ -150,7 +151,8 @@ left_of whole hub conn open_at acts a ss h rooms passes are conn_is way hall row
   hall_left = hall_is;
   rooms = subst (λ (rs : List RoomPass). All (PlaceLeft whole hub conn acts (acts ++ a ∷ []) ss) rs) (sym row) all;
   apart = subst AreApart (sym row) b.apart;
-  gave = λ w. subst (λ (rs : List RoomPass). AreGiven hub conn [] (acts ++ a ∷ []) h rs) (sym row) b.gave;
+  gave = subst (λ (rs : List RoomPass). AreGivenSo whole hub conn acts (acts ++ a ∷ []) h rs) (sym row) (given_left whole hub conn acts a h rooms b.gave);
+  badge_is = badge_is;
   begun = subst (λ (rs : List RoomPass). All (IsBegun rs) (all_begun (sure_acts whole acts (acts ++ a ∷ [])))) (sym row) (begun_left whole rooms acts a b.begins_are);
   from = subst (λ (rs : List RoomPass). All (IsFrom rs) ss) (sym row) b.from;
   named = subst (λ (rs : List RoomPass). All (λ (k : RoomPass). IsSome k.id → IsSome passes.badge) rs) (sym row) b.named;
@@ -217,7 +219,7 @@ hall_breaks_by end hub conn open_at acts a ss session was is old new k n texts s
       more = news;
       now = all_sent_at None (m + 1) texts;
       sent = sent;
-      left = left_of (is_fault end) hub conn open_at acts a (ss ++ news) k old.rooms.items new are (conn_is ∙ s.conn_is) s.way hall rooms left
+      left = left_of (is_fault end) hub conn open_at acts a (ss ++ news) k old.rooms.items new are (conn_is ∙ s.conn_is) s.way hall rooms (badge ∙ s.badge_is ∙ ap (λ (x : Record). x.badge) s.session_is) left
           (places_left (is_fault end) hub conn acts a m (ss ++ news) old.rooms.items (omega arith) (all_apart hub conn (acts ++ a ∷ []) m ss news old.rooms.items s.rooms (hall_alone (m + 1) texts old.rooms.items)))
           (subst (λ (b : Option Badge). Based hub conn open_at (acts ++ a ∷ []) (ss ++ news) k old.rooms.items b) (sym badge)
           (based_on hub conn open_at (acts ++ a ∷ []) ss news s.hall_pass k old.rooms.items old.rooms.items old.badge (hall_grew s.hall_pass k n l) (all_stay old.rooms.items) (all_from None (m + 1) texts old.rooms.items tt) (base_of hub conn open_at (acts ++ a ∷ []) m ss session old s)));

@@ -179,7 +179,7 @@ room_breaks_by end hub conn open_at acts a ss session place was mid is old new h
       now = All-append (λ (s : Sending). s.after ≡ m + 1) t.more news t.now now;
       sent = sent ∙ ap (after_sendings news) t.sent ∙ sendings_more t.more news was;
       left = subst (λ (ys : List Sending). Left (is_fault end) hub conn open_at acts (acts ++ a ∷ []) ys new) all_is
-          (left_of (is_fault end) hub conn open_at acts a (t.all ++ news) t.hall_pass (t.front ++ k ∷ x.rest) new are (conn_is ∙ t.conn_is) t.way (hall ∙ t.hall) row
+          (left_of (is_fault end) hub conn open_at acts a (t.all ++ news) t.hall_pass (t.front ++ k ∷ x.rest) new are (conn_is ∙ t.conn_is) t.way (hall ∙ t.hall) row (badge ∙ t.badge_is ∙ ap (λ (r : Record). r.badge) t.session_is)
           (hall_left (is_fault end) hub conn acts a (t.all ++ news) t.hall_pass (hall_sits_on hub conn (acts ++ a ∷ []) (m + 1) t.all news t.hall_pass t.hall_sits (from_room h.number (m + 1) texts)))
           (All-append (PlaceLeft (is_fault end) hub conn acts (acts ++ a ∷ []) (t.all ++ news)) t.front (k ∷ x.rest) told (All-cons (PlaceLeft (is_fault end) hub conn acts (acts ++ a ∷ []) (t.all ++ news)) k x.rest left untold))
           (subst (λ (b : Option Badge). Based hub conn open_at (acts ++ a ∷ []) (t.all ++ news) t.hall_pass (t.front ++ k ∷ x.rest) b) (sym badge) base));

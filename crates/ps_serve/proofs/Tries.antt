@@ -154,9 +154,9 @@ module _ (hub : Hub) (conn : ℕ) (acts : List Act) (ss : List Sending) (up : Ty
   pub enters : (id : List ℕ) (mid new : Passes) → EntersAt hub id (Held id) mid new → Amidst id mid → Amidst id new
   enters id mid new e b = ⊎_elim
       (λ (d : (e.before.id ≡ Some id) × (e.behind ≡ e.before)). at_once d.0 d.1)
-      (λ (rest : ((e.before.number < first_battle) × (e.behind ≡ record e.before { id = Some id })) ⊎ ((e.before.id ≡ None) × (e.behind.id ≡ Some id) × (e.behind.at ≡ e.before.at) × Turns e.before.pass.1 None e.behind.pass.1)). ⊎_elim
+      (λ (rest : ((e.before.number < first_battle) × (e.behind ≡ record e.before { id = Some id })) ⊎ ((first_battle ≤ e.before.number) × (e.before.id ≡ None) × (e.behind.id ≡ Some id) × (e.behind.at ≡ e.before.at) × Turns e.before.pass.1 None e.behind.pass.1)). ⊎_elim
       (λ (d : (e.before.number < first_battle) × (e.behind ≡ record e.before { id = Some id })). chat e.before.id refl d.0 d.1)
-      (λ (d : (e.before.id ≡ None) × (e.behind.id ≡ Some id) × (e.behind.at ≡ e.before.at) × Turns e.before.pass.1 None e.behind.pass.1). asks d.0 d.1 record { place = e.but.same_place; at = d.2; moves = turns_move e.before.pass.1 e.behind.pass.1 d.3 })
+      (λ (d : (first_battle ≤ e.before.number) × (e.before.id ≡ None) × (e.behind.id ≡ Some id) × (e.behind.at ≡ e.before.at) × Turns e.before.pass.1 None e.behind.pass.1). asks d.1 d.2 record { place = e.but.same_place; at = d.3; moves = turns_move e.before.pass.1 e.behind.pass.1 d.4 })
       rest)
       e.done
     where

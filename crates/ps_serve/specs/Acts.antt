@@ -1,10 +1,9 @@
 -- What a session did: of each answer of its link, in order, what came of it.
-use Rattle.std.specs.Prelude.{◌≡◌, ℕ, ◌+◌, ◌==◌, Bool, true, false, List, [], ◌∷◌, ◌++◌, length, map, Option, Some, None, Ok, if◌then◌else◌}
+use Rattle.std.specs.Prelude.{◌≡◌, ℕ, ◌+◌, ◌==◌, Bool, false, List, [], ◌∷◌, Option, Some, None, Ok, if◌then◌else◌}
 use Rattle.std.specs.List.{flat_map}
 use Rattle.ps_base.specs.declared.badge.Badge.{Badge}
 use Rattle.ps_lines.specs.declared.command.BadWhy.TheVariants.{NoSuchRoom}
 use Rattle.ps_lines.specs.declared.command.Command.{Command}
-use Rattle.ps_lines.specs.declared.command.Command.TheVariants as room_commands
 use Rattle.ps_lines.specs.declared.command.HallCmd.{HallCmd}
 use Rattle.ps_lines.specs.declared.command.HallCmd.TheVariants as hall_commands
 use Rattle.ps_lines.specs.declared.order.Order.{Order}
@@ -12,7 +11,7 @@ use Rattle.ps_lines.specs.declared.order.Order.TheVariants.{Hall, Room}
 use Rattle.ps_valid.specs.declared.start.Start.{Start}
 use Rattle.ps_hall.specs.declared.entry.HallEntry.{HallEntry}
 use Rattle.ps_room.specs.declared.outcome.Ending.{Ending}
-use Rattle.ps_session.specs.Sessions.{Record, begun, is_full, counted, with_badge}
+use Rattle.ps_session.specs.Sessions.{Record, is_full, counted, with_badge}
 use Rattle.ps_session.specs.Routes.{taken, after_no_room}
 use Rattle.ps_places.specs.declared.command.RoomCmd.{RoomCmd}
 use Rattle.ps_places.specs.declared.command.RoomCmd.TheVariants.{Begin, Play}

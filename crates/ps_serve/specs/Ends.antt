@@ -1,5 +1,5 @@
 -- What a session promises at its end.
-use Rattle.std.specs.Prelude.{◌≡◌, ◌≢◌, ◌⊎◌, ℕ, ◌+◌, ◌-◌, ◌≤◌, Bool, true, false, List, [], ◌∷◌, ◌++◌, length, take, map, All, Contains, Option, Some, None, Ok, Err, IfSome}
+use Rattle.std.specs.Prelude.{◌≡◌, ◌≢◌, ◌⊎◌, ℕ, ◌+◌, ◌-◌, ◌≤◌, Bool, true, false, List, [], ◌∷◌, ◌++◌, length, take, map, All, Contains, IsSome, Option, Some, None, Ok, Err, IfSome}
 use Rattle.std.specs.List.{filter_map}
 use mathlib.Core.List.{IsPrefix}
 use Rattle.ps_base.specs.declared.badge.Badge.{Badge}
@@ -8,6 +8,7 @@ use Rattle.ps_lines.specs.declared.client.ClientFault.TheVariants as client_faul
 use Rattle.ps_lines.specs.declared.command.Command.{Command}
 use Rattle.ps_lines.specs.declared.command.Command.TheVariants as room_commands
 use Rattle.ps_lines.specs.declared.command.HallCmd.TheVariants as hall_commands
+use Rattle.ps_lines.specs.declared.order.Order.{Order}
 use Rattle.ps_lines.specs.declared.order.Order.TheVariants.{Room}
 use Rattle.ps_valid.specs.declared.start.Start.{Start}
 use Rattle.ps_hall.specs.declared.entry.HallEntry.{HallEntry}
@@ -24,26 +25,28 @@ use Rattle.ps_outside.specs.Links.{Talk, LinkCounts}
 use Rattle.ps_outside.specs.declared.link.Arrival.{Arrival}
 use Rattle.ps_outside.specs.declared.link.Arrival.TheVariants as arrivals
 use Rattle.ps_laws.specs.Same.{AreSame}
+use Rattle.ps_room.specs.declared.entry.Entry.{Entry}
 use Rattle.ps_laws.specs.Stories.{Story as World, story as world, view_of}
 use Rattle.ps_laws.specs.HallSame.{AreHallsSame}
 use Rattle.ps_laws.specs.HallStories.{HallStory, hall_story, hall_view_of}
 use Rattle.ps_places.specs.declared.command.RoomCmd.{RoomCmd}
 use Rattle.ps_places.specs.declared.command.RoomCmd.TheVariants.{Begin, Play}
-use Rattle.ps_places.specs.Sites.{Story, Tells}
+use Rattle.ps_places.specs.Sites.{battle_at, Story, story, Tells}
 use Rattle.ps_places.specs.Rooms.{Shows}
 use Rattle.ps_places.specs.Halls.{HallShows}
 use Rattle.std.specs.FinMap.{empty}
 use Rattle.ps_hub.specs.Hubs.{Hub, root_of, site_of, lock_of}
-use Rattle.ps_hub.specs.Names.{Names}
+use Rattle.ps_hub.specs.Names.{IsNoChat, Names}
+use Rattle.ps_hub.specs.Passes.{AreOf}
 use Rattle.ps_hub.specs.Calls.{hall_entry, room_entry}
 use Rattle.ps_hub.specs.declared.pass.HallPass.{HallPass}
 use Rattle.ps_hub.specs.declared.pass.RoomPass.{RoomPass}
 use Rattle.ps_hub.specs.declared.passes.Passes.{Passes}
 use Rattle.ps_serve.specs.declared.closed.End.{End}
 use Rattle.ps_serve.specs.declared.closed.End.TheVariants as ends
-use Rattle.ps_serve.specs.Acts.{Act, after_acts, AreActs, arrival_of, moments_of, hall_entries, room_cmds, since, all_begun}
+use Rattle.ps_serve.specs.Acts.{nowhere, Act, heard, after_acts, AreActs, arrival_of, moments_of, hall_entries, room_cmds, since, begins, all_begun}
 use Rattle.ps_serve.specs.Sendings.{Sending, sent_text, texts_from, message_texts, AreLooksAnswered}
-use Rattle.ps_serve.specs.Sittings.{IsSent, IsPartSent, AreAlmostAnswered, AreGiven, RoomWaits, AreApart}
+use Rattle.ps_serve.specs.Sittings.{IsSent, HasOpen, IsPartSent, AreAlmostAnswered, IsNowhere, AreGiven, AreAlmostGiven, RoomWaits, AreApart}
 use Rattle.ps_serve.specs.Steps.{Hours, Asked}
 
 -- What a session did and sent: of each answer of the link, in order, what came of it; what was sent; the text that ended the
@@ -176,24 +179,20 @@ RoomGivenBy id broken conn t k = Unit {0}
 abbrev pub RoomGiven : Bool → ℕ → Told → RoomPass → Type 0
 RoomGiven broken conn t k = RoomGivenBy k.id broken conn t k
 
--- the badge that is kept is that of the connection's own Name
-abbrev pub HasBadge : Bool → ℕ → Told → Option Badge → Type 0
-HasBadge true conn t badge = Unit {0}
-HasBadge false conn t badge = badge ≡ (after_acts (begun conn) t.acts).badge
-
 pub record EntriesAreMade (end : End) (conn : ℕ) (t : Told) (passes : Passes) : Type 0 where
   pub hall : IfSome passes.hall (HallMade (is_short end) conn t)
   pub hall_given : IfSome passes.hall (HallGiven (is_broken end) conn t)
   pub rooms : All (RoomMade (is_short end) conn passes.badge t) passes.rooms.items
   pub rooms_given : All (RoomGiven (is_broken end) conn t) passes.rooms.items
-  pub badge : HasBadge (is_short end) conn t passes.badge
+  -- the badge that is kept is that of the connection's own Name
+  pub badge : passes.badge ≡ (after_acts (begun conn) t.acts).badge
 
 -- ---- answers
 
 -- What each act made is what its place answered: the badge of the connection's own Name, the battle that an entry started, the end
--- of a battle, and that no such room was there.
+-- of a battle, and that no such room was there. Where memory was wanting the last act may say of no answer.
 abbrev pub AreAnswers : Bool → Hub → ℕ → Told → List RoomPass → HallPass → Type 0
-AreAnswers true hub conn t rooms h = Unit {0}
+AreAnswers true hub conn t rooms h = (sure : List Act) × AreAlmostGiven hub conn sure t.acts h rooms
 AreAnswers false hub conn t rooms h = AreGiven hub conn [] t.acts h rooms
 
 -- A place that isn't held took one turn for each text that asked for it in vain, and one for each battle that was begun there.
@@ -206,17 +205,30 @@ IsAsked ends.NoMemory hub t k = Unit {0}
 IsAsked (ends.OwnLimit room) hub t k = Unit {0}
 IsAsked end hub t k = IsAskedBy k.id hub t k
 
+-- A text with this id, behind the acts `done`, rightly became Bad(NoSuchRoom): no chat room has the id; no place that is held by it
+-- was joined before; and it isn't that of a battle which the session had begun, where it was that Begin that opened the place's room.
+pub record IsRightlyNowhere (hub : Hub) (done : List Act) (id : List ℕ) (rooms : List RoomPass) : Type 0 where
+  pub no_chat : IsNoChat hub.config id
+  pub not_held : All (λ (k : RoomPass). k.id ≡ Some id → since k.number done ≡ []) rooms
+  pub not_own : All (λ (k : RoomPass). (start : Start) (history : List Entry) → Contains (begins k.number done) start → Tells (site_of hub k.number) (commands k.pass.1.seen) (Some (story (battle_at (site_of hub k.number) start) history)) → (battle_at (site_of hub k.number) start).id ≢ id) rooms
+
+abbrev pub IsRightly : Hub → List Act → Act → List RoomPass → Type 0
+IsRightly hub done (heard bytes moment (nowhere asked id cmd)) rooms = IsRightlyNowhere hub done id rooms
+IsRightly hub done a rooms = Unit {0}
+
+-- so did each of these acts that is such a text
+abbrev pub AreRightly : Hub → List Act → List Act → List RoomPass → Type 0
+AreRightly hub done [] rooms = Unit {0}
+AreRightly hub done (a ∷ rest) rooms = IsRightly hub done a rooms × AreRightly hub (done ++ a ∷ []) rest rooms
+
 pub record AnswersAreKept (end : End) (hub : Hub) (conn : ℕ) (t : Told) (passes : Passes) : Type 0 where
   pub made : IfSome passes.hall (AreAnswers (is_short end) hub conn t passes.rooms.items)
+  pub rightly : AreRightly hub [] t.acts passes.rooms.items
   pub asked : All (IsAsked end hub t) passes.rooms.items
-
--- the Open stands in what the pass of the hall has seen
-abbrev pub HasOpen : ℕ → Told → HallPass → Type 0
-HasOpen conn t h = (before : List HallEntry) × IsPrefix (before ++ hall_entry conn t.opened hall_commands.Open ∷ []) (commands h.pass.1.seen)
 
 -- The hall is held, and the Open stands in it. Where memory was wanting for the Open, nothing is held, and nothing came of the link.
 abbrev pub IsOpen : Bool → ℕ → Told → Passes → Option HallPass → Type 0
-IsOpen short conn t passes (Some h) = HasOpen conn t h
+IsOpen short conn t passes (Some h) = HasOpen conn t.opened h
 IsOpen true conn t passes None = (passes.rooms.items ≡ []) × (t.acts ≡ []) × (t.rest ≡ []) × (t.sendings ≡ [])
 IsOpen false conn t passes None = ⊥
 
@@ -226,12 +238,16 @@ IsOpen false conn t passes None = ⊥
 abbrev pub moments_in : Told → List ℕ
 moments_in t = t.opened ∷ (moments_of t.acts ++ (t.extra ++ t.left ∷ []))
 
+-- a text that is no act has a moment only where it was taken for an order
+abbrev pub HasExtra : ℕ → Told → Type 0
+HasExtra conn t = (t.extra ≡ []) ⊎ ((bytes : List ℕ) × (order : Order) × (t.rest ≡ bytes ∷ []) × (taken (after_acts (begun conn) t.acts) bytes ≡ Ok order) × (length t.extra ≡ 1))
+
 -- where memory was wanting, also for the Open alone, if that wasn't made
-abbrev pub TellsMoments : End → Told → Option HallPass → Hours → Hours → Type 0
-TellsMoments ends.NoMemory t None old new = Asked old (t.opened ∷ []) new
-TellsMoments ends.NoMemory t (Some h) old new = (length t.extra ≤ 1) × Asked old (moments_in t) new
-TellsMoments (ends.OwnLimit room) t hall old new = Asked old (moments_in t) new
-TellsMoments end t hall old new = (t.extra ≡ []) × Asked old (moments_in t) new
+abbrev pub TellsMoments : End → ℕ → Told → Option HallPass → Hours → Hours → Type 0
+TellsMoments ends.NoMemory conn t None old new = Asked old (t.opened ∷ []) new
+TellsMoments ends.NoMemory conn t (Some h) old new = HasExtra conn t × Asked old (moments_in t) new
+TellsMoments (ends.OwnLimit room) conn t hall old new = HasExtra conn t × Asked old (moments_in t) new
+TellsMoments end conn t hall old new = (t.extra ≡ []) × Asked old (moments_in t) new
 
 -- ---- looks are answered
 
@@ -256,6 +272,13 @@ RoomLooks broken hub conn t k = RoomLooksBy k.id broken hub conn t k
 pub record LooksAreAnswered (end : End) (hub : Hub) (conn : ℕ) (t : Told) (passes : Passes) : Type 0 where
   pub hall : IfSome passes.hall (HallLooks (is_broken end) hub conn t)
   pub rooms : All (RoomLooks (is_broken end) hub conn t) passes.rooms.items
+
+-- ---- of the hub
+
+-- the passes come from this hub, where the hall is held; and each id by which a place is held names it
+pub record AreOfHub (hub : Hub) (passes : Passes) : Type 0 where
+  pub of : IsSome passes.hall → AreOf hub passes
+  pub named : All (λ (k : RoomPass). IfSome k.id (λ id. Names hub.config id k.number)) passes.rooms.items
 
 -- ---- one history
 
@@ -287,19 +310,14 @@ start_in (Play e) = None
 abbrev pub starts_in : List RoomCmd → List Start
 starts_in cmds = filter_map start_in cmds
 
--- the Begin of this battle, once and no other; where memory was wanting, the Begin
-abbrev pub HasBegin : Bool → Start → List RoomCmd → Type 0
-HasBegin true start cmds = Contains (starts_in cmds) start
-HasBegin false start cmds = starts_in cmds ≡ start ∷ []
-
--- the pass that is kept at its place begins it
-pub record IsBegunBy (short : Bool) (rooms : List RoomPass) (start : Start) : Type 0 where
+-- the pass that is kept at its place has the Begin of this battle, once and no other
+pub record IsBegunBy (rooms : List RoomPass) (start : Start) : Type 0 where
   pub pass : RoomPass
   pub there : Contains rooms pass
   pub place : pass.number ≡ 15 + start.number
-  pub begin : HasBegin short start (commands pass.pass.1.mine)
+  pub begin : starts_in (commands pass.pass.1.mine) ≡ start ∷ []
 
--- all acts; where memory was wanting, all but the last
+-- all acts; where memory was wanting, all, or all but the last
 abbrev pub AreSure : Bool → List Act → List Act → Type 0
 AreSure true sure acts = (last : List Act) × (acts ≡ sure ++ last) × (length last ≤ 1)
 AreSure false sure acts = sure ≡ acts
@@ -314,7 +332,7 @@ pub record IsOwnStart (t : Told) (number : ℕ) (start : Start) : Type 0 where
 pub record OneBegin (end : End) (t : Told) (rooms : List RoomPass) : Type 0 where
   pub sure : List Act
   pub are_sure : AreSure (is_short end) sure t.acts
-  pub begun : All (IsBegunBy (is_short end) rooms) (all_begun sure)
+  pub begun : All (IsBegunBy rooms) (all_begun sure)
   pub own : All (λ (k : RoomPass). All (IsOwnStart t k.number) (starts_in (commands k.pass.1.mine))) rooms
 
 -- ---- two worlds
@@ -354,23 +372,23 @@ HasEmptyInbox ends.Closed (Some talk) = talk.inbox ≡ []
 HasEmptyInbox end talk = Unit {0}
 
 -- A text more than its place takes, where the place is that of the order, or the hall since no such room was there.
-abbrev pub IsTooMany : Option (List ℕ) → ℕ → Told → List ℕ → Type 0
-IsTooMany room conn t bytes =
+abbrev pub IsTooMany : Option (List ℕ) → Hub → ℕ → Told → List RoomPass → List ℕ → Type 0
+IsTooMany room hub conn t rooms bytes =
     ((taken (after_acts (begun conn) t.acts) bytes ≡ Err (take_faults.Limit room)) × (t.extra ≡ []))
-    ⊎ ((room ≡ None) × (id : List ℕ) × (cmd : Command) × (taken (after_acts (begun conn) t.acts) bytes ≡ Ok (Room id cmd)) × (is_full None (counted (Some id) (after_acts (begun conn) t.acts)) ≡ true) × (length t.extra ≡ 1))
+    ⊎ ((room ≡ None) × (id : List ℕ) × (cmd : Command) × (asked : Option ℕ) × (taken (after_acts (begun conn) t.acts) bytes ≡ Ok (Room id cmd)) × (is_full None (counted (Some id) (after_acts (begun conn) t.acts)) ≡ true) × IsNowhere hub conn t.acts asked id rooms × (length t.extra ≡ 1))
 
 -- BadText and OwnLimit only by the text that came last, and what it is taken for after the acts; at the other ends but want of memory
 -- each text that came is an act.
-abbrev pub HasTextCause : End → ℕ → Told → Type 0
-HasTextCause (ends.BadText bytes) conn t = (t.rest ≡ bytes.items ∷ []) × (taken (after_acts (begun conn) t.acts) bytes.items ≡ Err take_faults.BadText)
-HasTextCause (ends.OwnLimit room) conn t = (bytes : List ℕ) × (t.rest ≡ bytes ∷ []) × IsTooMany room conn t bytes
-HasTextCause ends.NoMemory conn t = length t.rest ≤ 1
-HasTextCause end conn t = t.rest ≡ []
+abbrev pub HasTextCause : End → Hub → ℕ → Told → List RoomPass → Type 0
+HasTextCause (ends.BadText bytes) hub conn t rooms = (t.rest ≡ bytes.items ∷ []) × (taken (after_acts (begun conn) t.acts) bytes.items ≡ Err take_faults.BadText)
+HasTextCause (ends.OwnLimit room) hub conn t rooms = (bytes : List ℕ) × (t.rest ≡ bytes ∷ []) × IsTooMany room hub conn t rooms bytes
+HasTextCause ends.NoMemory hub conn t rooms = length t.rest ≤ 1
+HasTextCause end hub conn t rooms = t.rest ≡ []
 
-pub record HasCause (end : End) (conn : ℕ) (t : Told) (talk : Option Talk) (old new : LinkCounts) : Type 0 where
+pub record HasCause (end : End) (hub : Hub) (conn : ℕ) (t : Told) (rooms : List RoomPass) (talk : Option Talk) (old new : LinkCounts) : Type 0 where
   pub counts : HasCountCause end old new
   pub inbox : HasEmptyInbox end talk
-  pub text : HasTextCause end conn t
+  pub text : HasTextCause end hub conn t rooms
 
 -- ---- completeness
 
@@ -386,16 +404,26 @@ texts_in inbox = filter_map text_in inbox
 abbrev pub IsReadable : List ℕ → Type 0
 IsReadable bytes = (client bytes ≢ Err client_faults.NotUtf8) × ((size : ℕ) → client bytes ≢ Err (client_faults.Long size))
 
--- the texts are within the limits
-pub record IsWithin (inbox : List Arrival) : Type 0 where
-  pub readable : All IsReadable (texts_in inbox)
-  pub few : length (texts_in inbox) ≤ 4096
-
 -- the client ended the session, or memory was wanting
 abbrev pub EndsWell : End → Type 0
 EndsWell ends.Closed = Unit {0}
 EndsWell ends.NoMemory = Unit {0}
 EndsWell other = ⊥
+
+-- The texts are within the limits: each that the link holds can be read, and the one that came last, if it is no act, wasn't one
+-- more than its place takes. The limit is a place's: where the acts before it went counts, and not how many there were in all.
+pub record IsWithin (hub : Hub) (conn : ℕ) (t : Told) (rooms : List RoomPass) (inbox : List Arrival) : Type 0 where
+  pub readable : All IsReadable (texts_in inbox)
+  pub few : All (λ (bytes : List ℕ). (room : Option (List ℕ)) → IsTooMany room hub conn t rooms bytes → ⊥) t.rest
+
+-- where the link tells its talk, holds texts within the limits, and doesn't fail
+abbrev pub EndsWellWithin : End → Hub → ℕ → Told → List RoomPass → Option Talk → LinkCounts → LinkCounts → Type 0
+EndsWellWithin end hub conn t rooms told old new = (talk : Talk) → told ≡ Some talk → IsWithin hub conn t rooms talk.inbox → (Rose old.faults new.faults → ⊥) → EndsWell end
+
+-- so few texts in all that whatever becomes of them no place is given too many, and each can be read
+pub record AreFew (inbox : List Arrival) : Type 0 where
+  pub readable : All IsReadable (texts_in inbox)
+  pub few : length (texts_in inbox) ≤ 4096
 
 -- ---- all of it
 
@@ -406,9 +434,11 @@ pub record Served (end : End) (hub : Hub) (conn : ℕ) (t : Told) (passes : Pass
   pub entries : EntriesAreMade end conn t passes
   pub answers : AnswersAreKept end hub conn t passes
   pub opened : IsOpen (is_short end) conn t passes passes.hall
-  pub moments : TellsMoments end t passes.hall old_hours hours
+  pub moments : TellsMoments end conn t passes.hall old_hours hours
   pub looks : LooksAreAnswered end hub conn t passes
+  pub of : AreOfHub hub passes
   pub history : OneHistory hub conn passes
   pub begin : OneBegin end t passes.rooms.items
   pub worlds : TwoWorlds end hub conn t passes
-  pub cause : HasCause end conn t talk old_counts counts
+  pub cause : HasCause end hub conn t passes.rooms.items talk old_counts counts
+  pub complete : EndsWellWithin end hub conn t passes.rooms.items old_talk old_counts counts

@@ -1,10 +1,10 @@
 -- For the code of a session: where it stands between two answers of its link, and what it has at its end before its Quits.
-use Rattle.std.specs.Prelude.{◌≡◌, ℕ, ◌≤◌, Bool, List, [], ◌++◌, length, All, IfSome, Option, Some, IsSome}
+use Rattle.std.specs.Prelude.{◌≡◌, ℕ, Bool, List, [], ◌++◌, length, All, IfSome, Option, Some, IsSome}
 use Rattle.std.specs.declared.vec.Vec.{Vec}
 use Rattle.std.specs.declared.alloc.Global.{Global}
 use mathlib.Core.List.{IsPrefix}
 use Rattle.ps_histlock.specs.Histories.{commands}
-use Rattle.ps_session.specs.Sessions.{Record}
+use Rattle.ps_session.specs.Sessions.{Record, begun}
 use Rattle.ps_outside.specs.Links.{Talk, LinkCounts}
 use Rattle.ps_hub.specs.Hubs.{Hub}
 use Rattle.ps_hub.specs.Names.{Names}
@@ -16,11 +16,11 @@ use Rattle.ps_serve.specs.declared.closed.End.{End}
 use Rattle.ps_serve.specs.declared.closed.End.TheVariants as ends
 use Rattle.ps_serve.specs.declared.obey.Stop.{Stop}
 use Rattle.ps_serve.specs.declared.obey.Stop.TheVariants as stops
-use Rattle.ps_serve.specs.Acts.{Act, moments_of, hall_entries, room_cmds, all_begun}
+use Rattle.ps_serve.specs.Acts.{Act, after_acts, moments_of, hall_entries, room_cmds, all_begun}
 use Rattle.ps_serve.specs.Sendings.{Sending}
-use Rattle.ps_serve.specs.Sittings.{Sits, AreApart, IsFrom, IsBegun}
+use Rattle.ps_serve.specs.Sittings.{HasOpen, Sits, AreApart, IsFrom, IsBegun}
 use Rattle.ps_serve.specs.Steps.{Hours, Asked, Stands}
-use Rattle.ps_serve.specs.Ends.{Told, is_short, is_broken, AreTold, AllOrPart, HallGiven, RoomGiven, HallLooks, RoomLooks, HallSent, RoomSent, HasBadge, AreAnswers, IsAsked, HasOpen, AreSure, HasCause}
+use Rattle.ps_serve.specs.Ends.{Told, is_short, is_broken, AreTold, AllOrPart, HallGiven, RoomGiven, HallLooks, RoomLooks, HallSent, RoomSent, AreAnswers, IsAsked, HasExtra, AreSure, HasCause}
 
 -- the end of a session that these bytes stopped
 abbrev pub end_after : Stop → Vec ℕ Global → End
@@ -52,10 +52,10 @@ pub record RoomRests (broken short : Bool) (hub : Hub) (conn : ℕ) (t : Told) (
   pub named : IfSome k.id (λ id. Names hub.config id k.number)
 
 -- the moments that were asked for a text which is no act
-abbrev pub HasExtra : End → List ℕ → Type 0
-HasExtra ends.NoMemory extra = length extra ≤ 1
-HasExtra (ends.OwnLimit room) extra = Unit {0}
-HasExtra end extra = extra ≡ []
+abbrev pub HasExtraAt : End → ℕ → Told → Type 0
+HasExtraAt ends.NoMemory conn t = HasExtra conn t
+HasExtraAt (ends.OwnLimit room) conn t = HasExtra conn t
+HasExtraAt end conn t = t.extra ≡ []
 
 -- what a session did, sent and has at this end, before its Quits
 pub record Rests (end : End) (hub : Hub) (conn : ℕ) (t : Told) (passes : Passes) (old_talk talk : Option Talk) (old_counts counts : LinkCounts) (old_hours hours : Hours) : Type 0 where
@@ -70,15 +70,15 @@ pub record Rests (end : End) (hub : Hub) (conn : ℕ) (t : Told) (passes : Passe
   pub apart : AreApart passes.rooms.items
   pub from : All (IsFrom passes.rooms.items) t.sendings
   pub named : All (λ k. IsSome k.id → IsSome passes.badge) passes.rooms.items
-  pub badge : HasBadge (is_short end) conn t passes.badge
+  pub badge : passes.badge ≡ (after_acts (begun conn) t.acts).badge
   pub gave : AreAnswers (is_short end) hub conn t passes.rooms.items hall_pass
   pub sure : List Act
   pub are_sure : AreSure (is_short end) sure t.acts
   pub begun : All (IsBegun passes.rooms.items) (all_begun sure)
   pub early : All (λ (k : RoomPass). IsPrefix (room_cmds conn k.number sure) (commands k.pass.1.mine)) passes.rooms.items
-  pub opened : HasOpen conn t hall_pass
-  pub cause : HasCause end conn t talk old_counts counts
-  pub extra : HasExtra end t.extra
+  pub opened : HasOpen conn t.opened hall_pass
+  pub cause : HasCause end hub conn t passes.rooms.items talk old_counts counts
+  pub extra : HasExtraAt end conn t
   pub asked_for : Asked old_hours (moments_of t.acts ++ t.extra) hours
 
 -- with any moment for the Quits

@@ -1,8 +1,7 @@
 -- What a session sent.
-use Rattle.std.specs.Prelude.{◌≡◌, ℕ, ◌+◌, ◌<◌, ◌≤◌, ◌==◌, Bool, true, false, List, [], ◌∷◌, ◌++◌, length, take, map, slice_get, nat_le, Option, Some, None, if◌then◌else◌}
+use Rattle.std.specs.Prelude.{ℕ, ◌+◌, ◌≤◌, ◌==◌, Bool, true, false, List, [], ◌∷◌, length, take, map, nat_le, Option, Some, None, if◌then◌else◌}
 use Rattle.std.specs.List.{filter_map}
 use mathlib.Core.List.{IsPrefix}
-use Rattle.ps_base.specs.declared.msg.Msg.{Msg}
 use Rattle.ps_session.specs.Texts.{joined, headed}
 use Rattle.ps_outside.specs.declared.link.SentText.{SentText}
 

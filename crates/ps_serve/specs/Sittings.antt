@@ -1,5 +1,5 @@
 -- What a session has kept since its begin: its passes agree with what it did and with what it sent.
-use Rattle.std.specs.Prelude.{◌≡◌, ◌≢◌, ◌⊎◌, ℕ, ◌+◌, ◌-◌, ◌≤◌, List, [], ◌∷◌, ◌++◌, length, take, map, All, Contains, IsSome, Bool, true, false, Option, Some, None}
+use Rattle.std.specs.Prelude.{◌≡◌, ◌≢◌, ◌⊎◌, ℕ, ◌+◌, ◌-◌, ◌≤◌, List, [], ◌∷◌, ◌++◌, length, take, All, Contains, IsSome, Bool, true, false, Option, Some, None}
 use mathlib.Core.List.{IsPrefix}
 use Rattle.ps_base.specs.declared.badge.Badge.{Badge}
 use Rattle.ps_lines.specs.declared.command.Command.{Command}
@@ -11,7 +11,6 @@ use Rattle.ps_hall.specs.declared.outcome.HallOut.{HallOut}
 use Rattle.ps_room.specs.declared.outcome.Ending.{Ending}
 use Rattle.ps_room.specs.declared.outcome.RoomOut.{RoomOut}
 use Rattle.ps_histlock.specs.declared.view.Entry.{Entry}
-use Rattle.ps_histlock.specs.declared.view.View.{View}
 use Rattle.ps_histlock.specs.Histories.{commands, entry, entries_of}
 use Rattle.ps_session.specs.Sessions.{Record, begun}
 use Rattle.ps_openings.specs.Openings.{first_battle}
@@ -46,6 +45,14 @@ pub record HallSits (hub : Hub) (conn : ℕ) (acts : List Act) (looked : ℕ) (s
   pub count : length h.pass.1.looks ≡ looked
   pub looks : AreLooksAnswered (HallShows conn (root_of hub)) (commands h.pass.1.seen) None None ss 1 h.pass.1.looks
   pub sent : IsSent (HallShows conn (root_of hub)) (commands h.pass.1.seen) h.at None None ss
+
+-- The Open stands in what the pass of the hall has seen. It is an entry of another pass, which had none before it.
+pub record HasOpen (conn open_at : ℕ) (h : HallPass) : Type 0 where
+  pub before : List (Entry HallEntry)
+  pub opener : ℕ
+  pub there : IsPrefix (before ++ entry opener (hall_entry conn open_at Open) ∷ []) h.pass.1.seen
+  pub alone : entries_of opener before ≡ []
+  pub other : opener ≢ h.pass.1.number
 
 -- ---- rooms
 
@@ -147,6 +154,24 @@ abbrev pub AreGiven : Hub → ℕ → List Act → List Act → HallPass → Lis
 AreGiven hub conn done [] h rooms = Unit {0}
 AreGiven hub conn done (a ∷ rest) h rooms = Gave hub conn done a h rooms × AreGiven hub conn (done ++ a ∷ []) rest h rooms
 
+-- An act that was going on when memory was wanting says of no answer. An entry of a room stands at the place that is held by the
+-- id of its text.
+abbrev pub SaysNothing : Act → List RoomPass → Type 0
+SaysNothing quiet rooms = Unit {0}
+SaysNothing (heard bytes moment (in_hall cmd badge start)) rooms = (badge ≡ None) × (start ≡ None)
+SaysNothing (heard bytes moment (in_room number id cmd badge ended)) rooms = (ended ≡ None) × ((k : RoomPass) × Contains rooms k × (k.number ≡ number) × (k.id ≡ Some id))
+SaysNothing (heard bytes moment (nowhere asked id cmd)) rooms = ⊥
+
+-- the last act, if there is one, is so given too, or says of no answer
+abbrev pub LastGave : Hub → ℕ → List Act → List Act → HallPass → List RoomPass → Type 0
+LastGave hub conn sure [] h rooms = Unit {0}
+LastGave hub conn sure (a ∷ rest) h rooms = (Gave hub conn sure a h rooms ⊎ SaysNothing a rooms) × (rest ≡ [])
+
+-- What the acts that are sure made is what their places answered; one more at the most stands behind them, and is so given too, or
+-- says of no answer.
+abbrev pub AreAlmostGiven : Hub → ℕ → List Act → List Act → HallPass → List RoomPass → Type 0
+AreAlmostGiven hub conn sure acts h rooms = (last : List Act) × (acts ≡ sure ++ last) × AreGiven hub conn [] sure h rooms × LastGave hub conn sure last h rooms
+
 -- a text was sent from the hall, or from a room that is held
 abbrev pub IsFromBy : Option ℕ → List RoomPass → Type 0
 IsFromBy None rooms = Unit {0}
@@ -194,7 +219,7 @@ pub record Sits (hub : Hub) (conn open_at : ℕ) (acts : List Act) (looked : ℕ
   pub named : All (λ k. IsSome k.id → IsSome passes.badge) passes.rooms.items
   pub gave : AreGiven hub conn [] acts hall_pass passes.rooms.items
   pub from : All (IsFrom passes.rooms.items) ss
-  pub opened : (before : List HallEntry) × IsPrefix (before ++ hall_entry conn open_at Open ∷ []) (commands hall_pass.pass.1.seen)
+  pub opened : HasOpen conn open_at hall_pass
   pub on_time : All (λ (s : Sending). s.after ≤ looked) ss
 
 -- all that the passes have seen was handed out
@@ -245,6 +270,11 @@ pub record PlaceLeft (whole : Bool) (hub : Hub) (conn : ℕ) (early acts : List 
   -- a place that isn't held waits as ever, where all entries are there
   pub waits : whole ≡ true → k.id ≡ None → RoomWaits hub acts k
 
+-- all acts are given, or almost all
+abbrev pub AreGivenSo : Bool → Hub → ℕ → List Act → List Act → HallPass → List RoomPass → Type 0
+AreGivenSo true hub conn early acts h rooms = AreGiven hub conn [] acts h rooms
+AreGivenSo false hub conn early acts h rooms = AreAlmostGiven hub conn early acts h rooms
+
 -- What a session leaves that broke off, where its link failed (`whole`) or memory was wanting: the acts, of which all but the
 -- `early` ones may be there in part.
 pub record Left (whole : Bool) (hub : Hub) (conn open_at : ℕ) (early acts : List Act) (ss : List Sending) (passes : Passes) : Type 0 where
@@ -256,11 +286,12 @@ pub record Left (whole : Bool) (hub : Hub) (conn open_at : ℕ) (early acts : Li
   pub hall_left : HallLeft whole hub conn early acts ss hall_pass
   pub rooms : All (PlaceLeft whole hub conn early acts ss) passes.rooms.items
   pub apart : AreApart passes.rooms.items
-  pub gave : whole ≡ true → AreGiven hub conn [] acts hall_pass passes.rooms.items
+  pub gave : AreGivenSo whole hub conn early acts hall_pass passes.rooms.items
+  pub badge_is : passes.badge ≡ (after_acts (begun conn) acts).badge
   pub begun : All (IsBegun passes.rooms.items) (all_begun (sure_acts whole early acts))
   pub from : All (IsFrom passes.rooms.items) ss
   pub named : All (λ k. IsSome k.id → IsSome passes.badge) passes.rooms.items
-  pub opened : (before : List HallEntry) × IsPrefix (before ++ hall_entry conn open_at Open ∷ []) (commands hall_pass.pass.1.seen)
+  pub opened : HasOpen conn open_at hall_pass
 
 -- What a session leaves that ends with a text which the hall takes no more in the place of one for a room: the passes of places may
 -- have taken a turn more for it.
@@ -284,4 +315,4 @@ pub record SitsFull (hub : Hub) (conn open_at : ℕ) (acts : List Act) (ss : Lis
   pub from : All (IsFrom passes.rooms.items) ss
   pub begun : All (IsBegun passes.rooms.items) (all_begun acts)
   pub named : All (λ k. IsSome k.id → IsSome passes.badge) passes.rooms.items
-  pub opened : (before : List HallEntry) × IsPrefix (before ++ hall_entry conn open_at Open ∷ []) (commands hall_pass.pass.1.seen)
+  pub opened : HasOpen conn open_at hall_pass

@@ -1,6 +1,7 @@
 -- What the steps of a session do: hearing a text, and telling what happened.
-use Rattle.std.specs.Prelude.{◌≡◌, ◌⊎◌, ℕ, ◌+◌, ◌≤◌, Bool, true, false, List, [], ◌∷◌, ◌++◌, length, map, All, Option, Some, None, Ok, Err}
+use Rattle.std.specs.Prelude.{◌≡◌, ◌⊎◌, ℕ, ◌+◌, Bool, true, false, List, [], ◌∷◌, ◌++◌, length, map, All, Option, Some, None, Ok, Err}
 use Rattle.ps_lines.specs.declared.command.Command.{Command}
+use Rattle.ps_lines.specs.declared.order.Order.{Order}
 use Rattle.ps_lines.specs.declared.order.Order.TheVariants.{Room}
 use Rattle.ps_session.specs.Sessions.{Record, is_full, counted}
 use Rattle.ps_session.specs.Routes.{taken}
@@ -14,9 +15,9 @@ use Rattle.ps_serve.specs.declared.closed.End.{End}
 use Rattle.ps_serve.specs.declared.closed.End.TheVariants as ends
 use Rattle.ps_serve.specs.declared.obey.Stop.{Stop}
 use Rattle.ps_serve.specs.declared.obey.Stop.TheVariants as stops
-use Rattle.ps_serve.specs.Acts.{Made, Act, quiet, heard, arrival_of, moments_of}
+use Rattle.ps_serve.specs.Acts.{Made, Act, heard, arrival_of, moments_of}
 use Rattle.ps_serve.specs.Sendings.{Sending, sent_text}
-use Rattle.ps_serve.specs.Sittings.{Sits, SitsFull, IsUpToDate, Left}
+use Rattle.ps_serve.specs.Sittings.{IsNowhere, Sits, SitsFull, IsUpToDate, Left}
 
 abbrev pub Hours : Type 0
 Hours = Option (ℕ × List ℕ)
@@ -42,17 +43,19 @@ pub record StopsFull (hub : Hub) (conn open_at : ℕ) (acts : List Act) (ss : Li
   pub cmd : Command
   pub taken_is : taken r bytes ≡ Ok (Room id cmd)
   pub full : is_full None (counted (Some id) r) ≡ true
+  pub place : Option ℕ
+  pub unfound : IsNowhere hub conn acts place id passes.rooms.items
   pub moment : ℕ
   pub asked : Asked old (moment ∷ []) new
   pub sits : SitsFull hub conn open_at acts ss passes
   pub badge_is : passes.badge ≡ old_passes.badge
   pub up : IsUpToDate old_passes → IsUpToDate passes
 
-pub record StopsShort (hub : Hub) (conn open_at : ℕ) (acts : List Act) (ss : List Sending) (bytes : List ℕ) (old new : Hours) (passes : Passes) : Type 0 where
+pub record StopsShort (hub : Hub) (conn open_at : ℕ) (acts : List Act) (ss : List Sending) (bytes : List ℕ) (r : Record) (old new : Hours) (passes : Passes) : Type 0 where
   pub last : List Act
   pub last_is : (last ≡ []) ⊎ ((moment : ℕ) × (made : Made) × (last ≡ heard bytes moment made ∷ []))
   pub moments : List ℕ
-  pub few : length moments ≤ 1
+  pub of_order : (moments ≡ []) ⊎ ((order : Order) × (taken r bytes ≡ Ok order) × (length moments ≡ 1))
   pub asked : Asked old moments new
   pub agree : (last ≡ []) ⊎ (moments ≡ moments_of last)
   pub left : Left false hub conn open_at acts (acts ++ last) ss passes
@@ -61,7 +64,7 @@ abbrev pub Stops : Stop → Hub → ℕ → ℕ → List Act → List Sending �
 Stops stops.BadText hub conn open_at acts ss bytes r old_passes old new passes = (taken r bytes ≡ Err take_faults.BadText) × (passes ≡ old_passes) × (new ≡ old)
 Stops (stops.OwnLimit room) hub conn open_at acts ss bytes r old_passes old new passes =
     ((taken r bytes ≡ Err (take_faults.Limit room)) × (passes ≡ old_passes) × (new ≡ old)) ⊎ ((room ≡ None) × StopsFull hub conn open_at acts ss bytes r old_passes old new passes)
-Stops stops.NoMemory hub conn open_at acts ss bytes r old_passes old new passes = StopsShort hub conn open_at acts ss bytes old new passes
+Stops stops.NoMemory hub conn open_at acts ss bytes r old_passes old new passes = StopsShort hub conn open_at acts ss bytes r old new passes
 
 -- ---- telling
 

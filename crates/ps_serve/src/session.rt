@@ -7,7 +7,7 @@ ghost use Rattle.ps_serve.specs.Acts.{Act};
 ghost use Rattle.ps_serve.specs.Sendings.{Sending};
 ghost use Rattle.ps_serve.specs.Sittings.{Sits};
 ghost use Rattle.ps_serve.specs.Steps.{Hours, Stands};
-ghost use Rattle.ps_serve.specs.Ends.{Told, AreTold, SentIsView, IsLabelled, EntriesAreMade, AnswersAreKept, IsOpen, TellsMoments, LooksAreAnswered, OneHistory, OneBegin, TwoWorlds, HasCause, IsWithin, EndsWell, Served, is_short};
+ghost use Rattle.ps_serve.specs.Ends.{Told, AreTold, SentIsView, IsLabelled, EntriesAreMade, AnswersAreKept, IsOpen, TellsMoments, LooksAreAnswered, AreOfHub, OneHistory, OneBegin, TwoWorlds, HasCause, EndsWell, EndsWellWithin, AreFew, Served, is_short};
 ghost use Rattle.ps_serve.specs.Rests.{end_after, IsSitting, GoesOn, ComesToRest};
 
 use crate::closed::{Closed, End};
@@ -128,9 +128,11 @@ fn serve<R: Wait, L: Link, C: Clock>(
 /// the link what happened in the hall and in the rooms that it holds, and makes its Quits at the end.
 ///
 /// `served` says all that follows of one and the same account of the session: what came of each answer of the link, what was
-/// sent, and the moments. `LinkFault` and `Closed` come only where the link's count of them rose, `BadText` and `OwnLimit` only
+/// sent, and the moments. The passes come from the hub where they hold the hall, which they do but where memory was wanting
+/// for the Open; so its calls take them. `LinkFault` and `Closed` come only where the link's count of them rose, `BadText` and `OwnLimit` only
 /// by the text that came last, and `NoMemory` where memory was wanting, for the Quits too. A link that doesn't fail, and whose
-/// texts are UTF-8 and within the limits, gives `Closed` or `NoMemory`.
+/// texts are UTF-8 and within the limits of bytes and of texts for a place, gives `Closed` or `NoMemory`; with 4,096 texts in all
+/// they are within the latter whatever becomes of them.
 pub fn serve_session<R: Wait, L: Link, C: Clock>(
     alloc: Global,
     rt: &R,
@@ -145,13 +147,15 @@ pub fn serve_session<R: Wait, L: Link, C: Clock>(
     ensures entries_of_the_texts { (t : Told) × AreTold conn t (L.talk link.old) (L.talk link.new) × EntriesAreMade result.end conn t result.passes }
     ensures answers { (t : Told) × AreTold conn t (L.talk link.old) (L.talk link.new) × AnswersAreKept result.end hub.now conn t result.passes }
     ensures opened { (t : Told) × AreTold conn t (L.talk link.old) (L.talk link.new) × IsOpen (is_short result.end) conn t result.passes result.passes.hall }
-    ensures moments { (t : Told) × AreTold conn t (L.talk link.old) (L.talk link.new) × TellsMoments result.end t result.passes.hall (C.hours clock.old) (C.hours clock.new) }
+    ensures moments { (t : Told) × AreTold conn t (L.talk link.old) (L.talk link.new) × TellsMoments result.end conn t result.passes.hall (C.hours clock.old) (C.hours clock.new) }
     ensures looks_are_answered { (t : Told) × AreTold conn t (L.talk link.old) (L.talk link.new) × LooksAreAnswered result.end hub.now conn t result.passes }
+    ensures of_the_hub { AreOfHub hub.now result.passes }
     ensures one_history { OneHistory hub.now conn result.passes }
     ensures one_begin { (t : Told) × AreTold conn t (L.talk link.old) (L.talk link.new) × OneBegin result.end t result.passes.rooms.items }
     ensures two_worlds { (t : Told) × AreTold conn t (L.talk link.old) (L.talk link.new) × TwoWorlds result.end hub.now conn t result.passes }
-    ensures cause { (t : Told) × AreTold conn t (L.talk link.old) (L.talk link.new) × HasCause result.end conn t (L.talk link.new) (L.counts link.old) (L.counts link.new) }
-    ensures complete { (talk : Talk) → L.talk link.old ≡ Some talk → IsWithin talk.inbox → (Rose (L.counts link.old).faults (L.counts link.new).faults → ⊥) → EndsWell result.end }
+    ensures cause { (t : Told) × AreTold conn t (L.talk link.old) (L.talk link.new) × HasCause result.end hub.now conn t result.passes.rooms.items (L.talk link.new) (L.counts link.old) (L.counts link.new) }
+    ensures complete { (t : Told) × AreTold conn t (L.talk link.old) (L.talk link.new) × EndsWellWithin result.end hub.now conn t result.passes.rooms.items (L.talk link.old) (L.counts link.old) (L.counts link.new) }
+    ensures few_texts { (talk : Talk) → L.talk link.old ≡ Some talk → AreFew talk.inbox → (Rose (L.counts link.old).faults (L.counts link.new).faults → ⊥) → EndsWell result.end }
 {
     serve(alloc, rt, hub, conn, link, clock)
 }

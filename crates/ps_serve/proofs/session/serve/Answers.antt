@@ -5,7 +5,7 @@ use Rattle.ps_serve.proofs.session.serve.Goals as goal
 
 pub returns-in_default : goal.returns-in_default
 returns-in_default g c = record {
-  served = unserved c.args.hub.now c.args.conn c.now.result c.none.result (g.L.Link.talk c.args.link.now) (g.L.Link.counts c.args.link.now) (g.C.Clock.hours c.args.clock.now) (g.C.Clock.hours c.now.new.self) c.none.ensures.conn c.none.ensures.hall c.none.ensures.rooms c.now.ensures.told c.now.ensures.later;
+  served = unserved c.args.hub.now c.args.conn c.now.result c.none.result (g.L.Link.talk c.args.link.now) (g.L.Link.counts c.args.link.now) (g.C.Clock.hours c.args.clock.now) (g.C.Clock.hours c.now.new.self) c.none.ensures.conn c.none.ensures.badge c.none.ensures.hall c.none.ensures.rooms c.now.ensures.told c.now.ensures.later;
 }
 
 pub sit-end-requires : goal.sit-end-requires

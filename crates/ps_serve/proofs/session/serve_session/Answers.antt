@@ -1,4 +1,4 @@
-use Rattle.ps_serve.proofs.CountLemmas.{complete_of}
+use Rattle.ps_serve.proofs.CountLemmas.{few_complete}
 use Rattle.ps_serve.proofs.session.serve_session.Goals as goal
 
 pub returns-clause-sent_is_the_view : goal.returns-clause-sent_is_the_view
@@ -22,6 +22,9 @@ returns-clause-moments g c = let s = c.serve.ensures.served in (s.0, s.1.told, s
 pub returns-clause-looks_are_answered : goal.returns-clause-looks_are_answered
 returns-clause-looks_are_answered g c = let s = c.serve.ensures.served in (s.0, s.1.told, s.1.looks)
 
+pub returns-clause-of_the_hub : goal.returns-clause-of_the_hub
+returns-clause-of_the_hub g c = let s = c.serve.ensures.served in s.1.of
+
 pub returns-clause-one_history : goal.returns-clause-one_history
 returns-clause-one_history g c = let s = c.serve.ensures.served in s.1.history
 
@@ -35,4 +38,7 @@ pub returns-clause-cause : goal.returns-clause-cause
 returns-clause-cause g c = let s = c.serve.ensures.served in (s.0, s.1.told, s.1.cause)
 
 pub returns-clause-complete : goal.returns-clause-complete
-returns-clause-complete g c = λ talk is within sound. (let s = c.serve.ensures.served in complete_of c.serve.result.end c.args.conn s.0 talk (g.L.Link.talk c.args.link.now) (g.L.Link.talk c.serve.new.link) (g.L.Link.counts c.args.link.now) (g.L.Link.counts c.serve.new.link) is s.1.told s.1.cause within sound)
+returns-clause-complete g c = let s = c.serve.ensures.served in (s.0, s.1.told, s.1.complete)
+
+pub returns-clause-few_texts : goal.returns-clause-few_texts
+returns-clause-few_texts g c = λ talk is few sound. (let s = c.serve.ensures.served in few_complete c.serve.result.end c.args.hub.now c.args.conn s.0 c.serve.result.passes.rooms.items talk (g.L.Link.talk c.args.link.now) (g.L.Link.talk c.serve.new.link) (g.L.Link.counts c.args.link.now) (g.L.Link.counts c.serve.new.link) is s.1.told s.1.complete few sound)

@@ -51,7 +51,7 @@ returns-in-None-clause-rests g c =
     let hears = subst (λ (b : List ℕ). HearsAll hub old.session old.passes b h0 h1 mid.session mid.passes) c.as_slice.ensures.value c.in-None.ensures.heard in
     if_some_two c.catch_up.result (λ end. IsBreak end (g.L.Link.counts c.next.new.self) (g.L.Link.counts c.catch_up.new.link)) (λ end. TellsSome end hub mid.session mid.passes was is new.passes) _ c.catch_up.ensures.cause c.catch_up.ensures.broke
     (λ end cause tells talk0 counts0 hours0 conn open_at left acts ss st.
-    broke_text hub conn open_at left acts ss talk0 counts0 hours0 end old.session mid.session old.passes mid.passes new.passes c.in-Text.bytes first was is (g.L.Link.counts c.args.link.now) (g.L.Link.counts c.next.new.self) (g.L.Link.counts c.catch_up.new.link) h0 h1 st c.in-Text.ensures.told c.in-Text.ensures.front c.in-Text.ensures.cause hears cause tells c.catch_up.ensures.same.1)
+    broke_text hub conn open_at left acts ss talk0 counts0 hours0 end old.session mid.session old.passes mid.passes new.passes c.in-Text.bytes first was is (g.L.Link.counts c.args.link.now) (g.L.Link.counts c.next.new.self) (g.L.Link.counts c.catch_up.new.link) h0 h1 st c.in-Text.ensures.told c.in-Text.ensures.front c.in-Text.ensures.cause hears cause tells)
 
 -- ---- a text ended the session
 
@@ -101,7 +101,7 @@ returns-in-Quiet-clause-rests g c =
     let is = g.L.Link.talk c.catch_up-in-Quiet.new.link in
     if_some_two c.catch_up-in-Quiet.result (λ end. IsBreak end (g.L.Link.counts c.next.new.self) (g.L.Link.counts c.catch_up-in-Quiet.new.link)) (λ end. TellsSome end hub old.session old.passes was is new.passes) _ c.catch_up-in-Quiet.ensures.cause c.catch_up-in-Quiet.ensures.broke
     (λ end cause tells talk0 counts0 hours0 conn open_at left acts ss st.
-    broke_quiet hub conn open_at left acts ss talk0 counts0 hours0 end old.session old.passes new.passes first was is (g.L.Link.counts c.args.link.now) (g.L.Link.counts c.next.new.self) (g.L.Link.counts c.catch_up-in-Quiet.new.link) (g.C.Clock.hours c.args.clock.now) st c.in-Quiet.ensures.told c.in-Quiet.ensures.front c.in-Quiet.ensures.cause cause tells c.catch_up-in-Quiet.ensures.same.1)
+    broke_quiet hub conn open_at left acts ss talk0 counts0 hours0 end old.session old.passes new.passes first was is (g.L.Link.counts c.args.link.now) (g.L.Link.counts c.next.new.self) (g.L.Link.counts c.catch_up-in-Quiet.new.link) (g.C.Clock.hours c.args.clock.now) st c.in-Quiet.ensures.told c.in-Quiet.ensures.front c.in-Quiet.ensures.cause cause tells)
 
 -- ---- the link ended it
 
