@@ -1,19 +1,15 @@
 //! The server that the rows run on, and what a row is told of a session.
-ghost use Rattle.std.specs.Prelude.{◌≡◌};
-ghost use Rattle.ps_hub.specs.Passes.{AreOf};
-
 use ps_base::list::List;
-use ps_base::number::{ConnNo, Moment};
+use ps_base::number::Moment;
 use ps_dex::dex::Dex;
 use ps_hub::hub::Hub;
-use ps_hub::passes::Passes;
 use ps_outside::clock::MemClock;
 use ps_outside::link::{Arrival, SentText};
 use ps_serve::closed::End;
 use ps_valid::config::Config;
 use std::alloc::Global;
 use std::process::Abort;
-use std::sync::{Arc, Wait};
+use std::sync::Arc;
 
 /// The moves and species of the two teams, as `data/row/dex.json` has them.
 const DEX: &str = r#"{"types":[{"name":"Normal","special":false},{"name":"Ground","special":false},
@@ -86,26 +82,4 @@ pub(crate) fn was_sent(sent: &[SentText], begin: &str) -> bool {
         }
     }
     false
-}
-
-fn admit<R: Abort + Wait>(rt: &R, hub: &Hub) -> Passes
-    ensures { AreOf hub.now result }
-{
-    hub.admit(rt, ConnNo(9), Moment(0)).expect(rt, "memory")
-}
-
-/// How many entries a room has, as a further connection is told that enters it and no other.
-pub(crate) fn count_at<R: Abort + Wait>(rt: &R, hub: &Hub, id: &str) -> u64 {
-    let mut passes = admit(rt, hub);
-    assert!(rt; hub.enter(&mut passes, id).is_ok());
-    assert!(rt; passes.rooms.len() > 0);
-    drop(hub.catch_up_at(rt, &mut passes, 0).expect(rt, "memory"));
-    assert!(rt; passes.rooms.len() > 0);
-    passes.rooms[0].cursor.passed
-}
-
-/// How many entries the hall has, with the Open of the further connection that sees it.
-pub(crate) fn count_in_hall<R: Abort + Wait>(rt: &R, hub: &Hub) -> u64 {
-    let mut passes = admit(rt, hub);
-    hub.count(&mut passes, None)
 }

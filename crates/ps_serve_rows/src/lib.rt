@@ -10,3 +10,5 @@ mod link_tests;
 mod thread_tests;
 #[cfg(test)]
 mod waiting;
+#[cfg(test)]
+mod watching;

@@ -1,7 +1,11 @@
 //! What no clause says: sessions over one link.
-use crate::files::{ANN, clock, count_at, count_in_hall, inbox_of, make_hub, push_text, word_of};
+ghost use Rattle.ps_hub.specs.Passes.{AreOf};
+
+use crate::files::{ANN, clock, inbox_of, make_hub, push_text, word_of};
+use crate::watching::{count_at, count_in_hall, last_line, told, watcher};
 use ps_base::number::ConnNo;
 use ps_hub::hub::Hub;
+use ps_hub::passes::Passes;
 use ps_outside::link::{Arrival, Link, MemLink, SentText, SureLink};
 use ps_serve::closed::End;
 use ps_serve::session::serve_session;
@@ -36,6 +40,9 @@ fn two_quiets(rt: &impl Abort, alloc: Global) -> SureLink {
     SureLink::new(alloc, inbox)
 }
 
+/// The message of the Open of connection 1.
+const OPENED: &str = "|challstr|0-1\n|updateuser| Guest 1|0|0|{}\n|formats|[Gen 1] OU";
+
 /// At the first Quiet the Open's message is sent, and nothing at the second.
 #[test]
 fn quiet_marks(rt: HostRuntime) -> Result<(), Fail> {
@@ -46,10 +53,7 @@ fn quiet_marks(rt: HostRuntime) -> Result<(), Fail> {
     assert_eq!(rt; word_of(&end), "Closed");
     assert_eq!(rt; link.sent().len(), 1);
     assert_eq!(rt; after_of(&rt, link.sent(), 0), 1);
-    assert_eq!(rt;
-        sent_at(&rt, link.sent(), 0),
-        "|challstr|0-1\n|updateuser| Guest 1|0|0|{}\n|formats|[Gen 1] OU"
-    );
+    assert_eq!(rt; sent_at(&rt, link.sent(), 0), OPENED);
     Ok(())
 }
 
@@ -70,6 +74,7 @@ fn a_failed_send(rt: HostRuntime) -> Result<(), Fail> {
     let end = end_of(&rt, alloc, &hub, &mut link);
     assert_eq!(rt; word_of(&end), "LinkFault");
     assert_eq!(rt; link.sent().len(), 2);
+    assert_eq!(rt; sent_at(&rt, link.sent(), 0), OPENED);
     assert_eq!(rt; sent_at(&rt, link.sent(), 1), "|updateuser|%Ann|1|0|{}");
     assert_eq!(rt; count_at(&rt, &hub, "lobby"), 2);
     Ok(())
@@ -148,14 +153,25 @@ fn limit_of(end: &End) -> &str {
     }
 }
 
-/// The Join is the first text to the lobby. The 4,097th is no entry, and the Quit follows the 4,096 that are.
+/// Who watches is told of Ann's Join, of 4,095 texts, and that Ann leaves, and of nothing else.
+fn is_told_of_ann<R: Abort + Wait>(rt: &R, hub: &Hub, eve: &mut Passes)
+    requires { AreOf hub.now eve.old }
+{
+    let messages = told(rt, hub, eve);
+    assert_eq!(rt; messages.len(), 4_097);
+    assert_eq!(rt; last_line(messages.as_slice()), "|l|%Ann");
+}
+
+/// Ann's Join is her first text to the lobby. The 4,097th is no entry, and her Quit follows the 4,096 that are, beside Eve's Join.
 #[test]
 fn a_text_too_many(rt: HostRuntime) -> Result<(), Fail> {
     let alloc = rt.alloc();
     let hub = make_hub(&rt, alloc);
+    let mut eve = watcher(&rt, alloc, &hub);
     let mut link = talkative(&rt, alloc, 4_096);
     let end = end_of(&rt, alloc, &hub, &mut link);
     assert_eq!(rt; limit_of(&end), "lobby");
-    assert_eq!(rt; count_at(&rt, &hub, "lobby"), 4_097);
+    is_told_of_ann(&rt, &hub, &mut eve);
+    assert_eq!(rt; count_at(&rt, &hub, "lobby"), 4_098);
     Ok(())
 }

@@ -1,6 +1,7 @@
 //! What no clause says: two sessions in two threads.
-use crate::files::{ANN, BOB, clock, count_at, inbox_of, make_hub, was_sent, word_of};
+use crate::files::{ANN, BOB, clock, inbox_of, make_hub, was_sent, word_of};
 use crate::waiting::{Steps, Waiting};
+use crate::watching::count_at;
 use ps_base::number::ConnNo;
 use ps_hub::hub::Hub;
 use ps_outside::link::{Link, MemLink};
