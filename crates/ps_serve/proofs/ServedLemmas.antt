@@ -411,7 +411,7 @@ serves_ok end hub conn open_at left old new talk0 talk counts0 counts start hour
 pub serves_short : (end : End) (hub : Hub) (conn open_at left : ℕ) (old new : Passes) (talk0 talk : Option Talk) (counts0 counts : LinkCounts) (start hours0 hours1 hours2 : Hours) → ComesToRest end hub conn open_at left old talk0 talk counts0 counts hours0 hours1 → AreOf hub new
     → Quits {T = Unit {0}} {E = Unit {0}} hub left old (Err tt) new → IsNow start open_at → hours0 ≡ after_now start → IsNow hours1 left → hours2 ≡ after_now hours1 → (t : Told) × Served ends.NoMemory hub conn t new talk0 talk counts0 counts start hours2
 serves_short end hub conn open_at left old new talk0 talk counts0 counts start hours0 hours1 hours2 (t, o, l, r) are q first begun_at last ended =
-    let own = subst (λ (n : ℕ). QuitsWith (RoomEndsAtMost old.badge n left) (HallEndsAtMost n left) old new) r.conn_is (quits_each (Unit {0}) (Unit {0}) hub left old new tt r.are q) in
+    let own = subst (λ (n : ℕ). QuitsWith (RoomEndsAtMost old.badge n left) (HallEndsAtMost n left) old new) r.conn_is (quits_each {T = Unit {0}} {E = Unit {0}} hub left old new (Err tt) r.are refl q) in
     let quits = subst (λ (m : ℕ). QuitsWith (RoomEndsAtMost old.badge conn m) (HallEndsAtMost conn m) old new) (sym l) own in
     let weak = rests_weak end hub conn t old talk0 talk counts0 counts hours0 hours1 r in (
       t,
