@@ -71,13 +71,19 @@ def kept_use(text, own, names):
     return text if path.split(" as ")[0].split("::")[-1] in names else None
 
 
-def stripped(text, own, names):
+def stands_on(head, traits):
+    """Whether a type is bound by one of these traits."""
+    bounds = re.search(r"<(.*)>", head)
+    return bool(bounds) and bool(traits & set(re.findall(r"[:+] (\w+)", bounds.group(1))))
+
+
+def stripped(text, own, names, traits):
     out = []
     for head, lines in items(text):
         top = [line for line in lines if line.startswith(("//!", "#!["))]
         rest = [line for line in lines if line not in top]
         out += top
-        if not head or any("cfg(test)" in line or line.startswith("#[test]") for line in lines):
+        if not head or stands_on(head, traits) or any("cfg(test)" in line or line.startswith("#[test]") for line in lines):
             continue
         if head.startswith("ghost use "):
             out += rest
@@ -117,9 +123,10 @@ def main():
     goal, chosen = sys.argv[1], set(sys.argv[2:])
     crates = [c for c in sorted(os.listdir(os.path.join(top, "crates"))) if os.path.isdir(os.path.join(top, "crates", c, "specs"))]
     sources = {c: [f for f in files_below(os.path.join(top, "crates", c, "src")) if f.endswith(".rt")] for c in crates}
-    names = set()
+    names, traits = set(), set()
     for files in sources.values():
         for file in files:
+            traits |= set(re.findall(r"^%strait (\w+)" % ITEM, read(file), re.M))
             names |= set(re.findall(r"^%s(?:struct|enum|type|const|static) (\w+)" % ITEM, read(file), re.M))
     lines = read(os.path.join(top, "crates.txt")).split("\n")
     write(os.path.join(goal, "crates.txt"), "\n".join(l for l in lines if re.split("[ :]", l)[0] in crates) + "\n")
@@ -139,7 +146,7 @@ def main():
         modules = {os.path.splitext(os.path.relpath(f, os.path.join(here, "src")))[0].split(os.sep)[0] for f in sources[crate]}
         for file in sources[crate]:
             if "tests" not in os.path.basename(file):
-                write(os.path.join(there, os.path.relpath(file, here)), stripped(read(file), set(crates) | modules | {"crate", "self", "super"}, names))
+                write(os.path.join(there, os.path.relpath(file, here)), stripped(read(file), set(crates) | modules | {"crate", "self", "super"}, names, traits))
         shutil.copytree(os.path.join(here, "specs"), os.path.join(there, "specs"))
         if os.path.isdir(os.path.join(here, "proofs")):
             for name in os.listdir(os.path.join(here, "proofs")):
