@@ -9,5 +9,3 @@ pub mod mark;
 pub mod script;
 mod step;
 pub mod tally;
-#[cfg(test)]
-mod tests;

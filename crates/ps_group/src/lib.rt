@@ -7,7 +7,5 @@ pub mod group;
 pub mod groups;
 pub mod rank;
 pub mod read;
-#[cfg(test)]
-mod tests;
 
 pub use ps_data::fault::DataKind;

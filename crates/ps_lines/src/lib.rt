@@ -9,6 +9,4 @@ pub mod order;
 mod parts;
 pub mod read;
 mod room_rows;
-#[cfg(test)]
-mod tests;
 mod word;

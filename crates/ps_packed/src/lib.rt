@@ -8,7 +8,5 @@ mod read;
 mod scan;
 pub mod set;
 pub mod team;
-#[cfg(test)]
-mod tests;
 mod word;
 pub mod write;

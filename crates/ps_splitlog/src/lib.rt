@@ -8,5 +8,3 @@ pub mod law;
 pub mod log;
 pub mod read;
 pub mod stored;
-#[cfg(test)]
-mod tests;

@@ -5,6 +5,4 @@
 
 pub mod door;
 pub mod link;
-#[cfg(test)]
-mod tests;
 mod wire;

@@ -1,8 +1,8 @@
 //! What no clause says: that a script, a tally and a counter come with ample memory, on rows worked by hand.
-use crate::counter::Counter;
-use crate::script::drill_script;
-use crate::tally::Tally;
 use ps_dex::dex::Dex;
+use ps_drill::counter::Counter;
+use ps_drill::script::drill_script;
+use ps_drill::tally::Tally;
 use ps_valid::config::Config;
 use std::test::Fail;
 

@@ -1,7 +1,7 @@
 //! Texts and what they stand for, one for each row and each refusal of the two tables at the least.
-use crate::client::read_client;
-use crate::read::read_command;
 use ps_base::name::read_name;
+use ps_lines::client::read_client;
+use ps_lines::read::read_command;
 use std::alloc::Global;
 use std::process::Abort;
 use std::test::Fail;

@@ -1,14 +1,14 @@
 //! A client of tungstenite on loopback against a door and its links, and what of the outside wants
 //! threads or a clock of the host.
 
-use crate::door::WsDoor;
-use crate::link::MESSAGE_LIMIT;
 use ps_base::number::Moment;
 use ps_outside::clock::Clock;
 use ps_outside::door::Door;
 use ps_outside::host_clock::HostClock;
 use ps_outside::link::{Link, Next, SendEnd};
 use ps_outside::spawner::{MemSpawner, ThreadSpawner, start};
+use ps_ws::door::WsDoor;
+use ps_ws::link::MESSAGE_LIMIT;
 use std::alloc::Global;
 use std::io::ErrorKind;
 use std::net::{Net, TcpListener, TcpStream};

@@ -1,10 +1,10 @@
 //! Texts with what is known of them by hand.
 ghost use Rattle.std.specs.Prelude.{◌≡◌};
 
-use crate::fault::PackFault;
-use crate::team::{Team, read_team};
-use crate::write::write_team;
 use ps_base::pack_kind::PackKind;
+use ps_packed::fault::PackFault;
+use ps_packed::team::{Team, read_team};
+use ps_packed::write::write_team;
 use std::test::Fail;
 
 /// Texts that are no packed teams, each with its fault.

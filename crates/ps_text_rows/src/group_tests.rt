@@ -1,11 +1,11 @@
 //! What no clause says: that the definitions mean the groups that a configuration writes.
-use crate::DataKind;
-use crate::defaults::DEFAULT_STAFF;
-use crate::group::Perm;
-use crate::groups::Groups;
-use crate::rank::higher;
-use crate::read::GroupFault;
 use ps_data::fault::Refusal;
+use ps_group::DataKind;
+use ps_group::defaults::DEFAULT_STAFF;
+use ps_group::group::Perm;
+use ps_group::groups::Groups;
+use ps_group::rank::higher;
+use ps_group::read::GroupFault;
 use serde_json::Value;
 use std::alloc::Global;
 use std::test::Fail;

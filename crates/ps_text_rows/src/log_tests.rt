@@ -1,7 +1,4 @@
 //! What no clause says: a log on worked rows.
-use crate::cursor::Cursor;
-use crate::entry::{Entry, Held, Joined, held_of, held_of_lines};
-use crate::log::SplitLog;
 use ps_base::list::List;
 use ps_base::msg::Msg;
 use ps_base::name::Name;
@@ -12,6 +9,9 @@ use ps_event::audience::Audience;
 use ps_event::event::{Event, Health, Who};
 use ps_event::line::ChatLine;
 use ps_event::side::Side;
+use ps_splitlog::cursor::Cursor;
+use ps_splitlog::entry::{Entry, Held, Joined, held_of, held_of_lines};
+use ps_splitlog::log::SplitLog;
 use ps_view::names::Names;
 use ps_view::role::Role;
 use std::alloc::Global;
