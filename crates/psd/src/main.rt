@@ -17,21 +17,6 @@ use std::sync::Wait;
 use std::thread::Threads;
 use std::{env, io, rt};
 
-#[cfg(test)]
-mod check_tests;
-#[cfg(test)]
-mod drill_tests;
-#[cfg(test)]
-mod laws_tests;
-#[cfg(test)]
-mod runs;
-#[cfg(test)]
-mod script_tests;
-#[cfg(test)]
-mod tests;
-#[cfg(test)]
-mod world_tests;
-
 const HELP: &str = "\
 psd, a battle server of the kind that Pokemon Showdown players connect to.
 
