@@ -1,6 +1,7 @@
 -- Alike: how the record of the hall stands to one that was made of a low history, which has no teams of others, no challenges
 -- between others and no blocks between others.
 use Rattle.std.proofs.Common.{◌≡◌, ℕ, Bool, true, false, cond, not, ◌&&◌, ◌||◌, List, [], ◌∷◌, ◌++◌, Option, Some, None, option_map, find, map, refl, sym, ap, subst, ◌∙◌}
+use Rattle.std.proofs.lemmas.Bool.{or_left, or_right}
 use Rattle.std.specs.List.{filter}
 use Rattle.std.specs.Str.{bytes_eq}
 use Rattle.std.specs.FinMap.{get}
@@ -17,7 +18,7 @@ use Rattle.ps_hall.specs.Looks.{is_kept, kept_team, without_kept, without_user, 
 use Rattle.ps_hall.specs.Lines.{challenge_line}
 use Rattle.ps_hall.specs.Steps.{keep}
 use Rattle.ps_laws.specs.HallLow.{is_user}
-use Rattle.ps_laws.proofs.HallListLemmas.{or_left, or_right, find_within, keep_within, map_kept, find_mapped}
+use Rattle.ps_laws.proofs.HallListLemmas.{find_within, keep_within, map_kept, find_mapped}
 use Rattle.ps_laws.proofs.HallTellLemmas.{is_ours, same_bytes}
 
 -- ---- the parts that aren't known to everybody

@@ -1,6 +1,7 @@
 -- Covered: the name that the connection has, and each id that is online on it, is one of its users. And what entries and items
 -- change of who is connected.
 use Rattle.std.proofs.Common.{◌≡◌, ℕ, ◌==◌, Bool, true, false, cond, List, [], ◌∷◌, ◌++◌, Option, Some, None, option_map, refl, sym, ap, subst, ◌∙◌, arith}
+use Rattle.std.proofs.lemmas.Bool.{or_left, or_right}
 use Rattle.std.specs.Option.{option_and_then}
 use Rattle.std.specs.Str.{bytes_eq}
 use Rattle.std.specs.Ordering.{nat_cmp, eq_by_cmp}
@@ -32,7 +33,6 @@ use Rattle.ps_hall.specs.Starts.{with_game, game_of, start_of_search, start_of_a
 use Rattle.ps_hall.specs.Steps.{forgotten, with_search, with_accept, after_team, reported, after_named, after_by as applied_by, applied}
 use Rattle.ps_hall.specs.Halls.{after, after_by, out_by}
 use Rattle.ps_laws.specs.HallLow.{HallItem, whole, named, searched, search_cancelled, started, challenged, challenge_cancelled, rejected, is_user, is_own_entry, id_taken, ids_taken}
-use Rattle.ps_laws.proofs.HallListLemmas.{or_left, or_right}
 use Rattle.ps_laws.proofs.HallTellLemmas.{same_bytes}
 use Rattle.ps_laws.proofs.HallEffects.{battle_of, searched_by, accepted_by}
 use Rattle.ps_laws.proofs.HallOwnLemmas.{IsMine}

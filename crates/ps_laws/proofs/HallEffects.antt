@@ -1,5 +1,6 @@
 -- What each command does to records that are alike: they stay alike.
 use Rattle.std.proofs.Common.{◌≡◌, ℕ, Bool, true, false, cond, not, ◌&&◌, ◌||◌, List, [], ◌∷◌, ◌++◌, Option, Some, None, option_map, find, refl, sym, ap, ap₂, subst, ◌∙◌, IfSome}
+use Rattle.std.proofs.lemmas.Bool.{and_parts}
 use Rattle.std.specs.Prelude.{◌+◌}
 use Rattle.std.specs.List.{filter}
 use Rattle.std.specs.Str.{bytes_eq}
@@ -66,13 +67,9 @@ accepted_after h name user = accepted_by h name user (challenge_from h (id_of na
 
 -- ---- who challenged
 
-first_is : (a b : Bool) → (a && b) ≡ true → a ≡ true
-first_is true b h = refl
-first_is false b h = absurd cc
-
 by_found : (user me : List ℕ) (o : Option Asked) → IfSome o (λ a. is_of user me a ≡ true) → IfSome o (λ a. a.by ≡ user)
 by_found user me None is = tt
-by_found user me (Some a) is = same_bytes a.by user (first_is (is_by user a) (is_to me a) is)
+by_found user me (Some a) is = same_bytes a.by user (and_parts (is_by user a) (is_to me a) is).0
 
 challenger_by : (h : Record) (me user : List ℕ) (b : Bool) → IfSome (cond b None (asked_of h.pms user me)) (λ a. a.by ≡ user)
 challenger_by h me user true = tt

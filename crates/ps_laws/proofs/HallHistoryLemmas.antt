@@ -1,5 +1,6 @@
 -- Histories of the hall: a view is the view over the low history, and so are the users; so equal low histories give equal views.
 use Rattle.std.proofs.Common.{◌≡◌, ℕ, ◌==◌, Bool, true, false, cond, ◌||◌, List, [], ◌∷◌, ◌++◌, Option, Some, None, refl, sym, ap, ap₂, subst, ◌∙◌, arith}
+use Rattle.std.proofs.lemmas.Bool.{or_parts}
 use Rattle.std.proofs.lemmas.Bool.Decides.{nat_tests}
 use Rattle.ps_base.specs.declared.badge.Badge.{Badge}
 use Rattle.ps_base.specs.declared.hall_why.HallWhy.{HallWhy}
@@ -32,10 +33,6 @@ same_sender sender conn is = grind (arith, nat_tests)
 sender_mine : (ids : List (List ℕ)) (badge : Option Badge) → is_sender_user ids badge ≡ true → IsMine ids badge
 sender_mine ids None is = tt
 sender_mine ids (Some b) is = is
-
-either : (a b : Bool) → (a || b) ≡ false → (a ≡ false) × (b ≡ false)
-either true b h = absurd cc
-either false b h = (refl, h)
 
 module _ (conn : ℕ) (ids : List (List ℕ)) (h : Record) (covered : IsCovered conn ids h.users) where
   own_mine : (e : HallEntry) (b : Bool) → (e.conn == conn) ≡ b → (b || is_sender_user ids (badge_of h e.conn)) ≡ true → IsMine ids (badge_of h e.conn)
@@ -91,7 +88,7 @@ module _ (conn : ℕ) (ids : List (List ℕ)) (h : Record) (covered : IsCovered 
     walked_by : (e : HallEntry) (own : Bool) → IsTidy h → is_own_entry conn ids h e ≡ own → IsWalked conn ids h e l (cond own (items_of_own e) (items_of_others ids h e (verdict h e)))
     walked_by e true tidy own = own_walked e own
     walked_by e false tidy own =
-        let parts = either (e.conn == conn) (is_sender_user ids (badge_of h e.conn)) own in
+        let parts = or_parts (e.conn == conn) (is_sender_user ids (badge_of h e.conn)) own in
         others_walked e (verdict h e) tidy parts.0 parts.1 refl
 
 -- each entry is given by its items

@@ -1,6 +1,7 @@
 -- An allowed entry of another: from alike records its item gives alike records and tells the connection the same, and without an
 -- item it keeps them alike and tells it nothing.
 use Rattle.std.proofs.Common.{◌≡◌, ℕ, Bool, true, false, cond, not, ◌&&◌, ◌||◌, List, [], ◌∷◌, ◌++◌, append-nil, Option, Some, None, refl, sym, ap, ◌∙◌}
+use Rattle.std.proofs.lemmas.Bool.{or_from}
 use Rattle.std.specs.List.{filter}
 use Rattle.std.specs.Str.{bytes_eq}
 use Rattle.std.specs.Ordering.{nat_cmp, eq_by_cmp}
@@ -89,9 +90,6 @@ module _ (ids : List (List ℕ)) (me : List ℕ) (out : is_user ids me ≡ false
       };
     }
 
-    neither_of : (a b : Bool) → a ≡ false → b ≡ false → (a || b) ≡ false
-    neither_of a b left right = rw (left, right) refl
-
     -- a challenge between others
     pub challenge_unseen : (h : Record) (name format : List ℕ) (legal : Legal) → id_of name ≡ me → AreAlike ids h (challenged_after h name user format legal)
     challenge_unseen h name format legal is =
@@ -100,11 +98,11 @@ module _ (ids : List (List ℕ)) (me : List ℕ) (out : is_user ids me ≡ false
           open_parts = refl;
           near = record {
             blocks = λ owner target mine. refl;
-            asked = put_none (is_ours ids) (record { by = id_of name; to = user; format = format }) h.pms.asked (neither_of (is_user ids (id_of name)) (is_user ids user) held user_out);
+            asked = put_none (is_ours ids) (record { by = id_of name; to = user; format = format }) h.pms.asked (or_from (is_user ids (id_of name)) (is_user ids user) held user_out);
             teams = λ who mine. refl;
             challenges =
                 ap (filter (label_ours ids)) (labels_keep h.challenge_teams name user legal)
-                ∙ put_none (label_ours ids) (record { name = name; with_id = user }) (labels h.challenge_teams) (neither_of (is_user ids (id_of name)) (is_user ids user) held user_out);
+                ∙ put_none (label_ours ids) (record { name = name; with_id = user }) (labels h.challenge_teams) (or_from (is_user ids (id_of name)) (is_user ids user) held user_out);
             searches = refl;
           };
         }

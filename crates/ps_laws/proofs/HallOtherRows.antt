@@ -1,5 +1,6 @@
 -- The rows of others: an allowed entry of another is given by its items.
 use Rattle.std.proofs.Common.{◌≡◌, ℕ, ◌==◌, Bool, true, false, cond, not, ◌||◌, List, [], ◌∷◌, Option, Some, None, option_map, is_some, refl, sym, ap, subst, ◌∙◌}
+use Rattle.std.proofs.lemmas.Bool.{or_left, or_right}
 use Rattle.std.specs.Str.{bytes_eq}
 use Rattle.std.specs.FinMap.{get}
 use Rattle.ps_base.specs.Ids.{id_of}
@@ -26,7 +27,6 @@ use Rattle.ps_hall.specs.Told.{told, told_by, told_of_name, told_of_named, told_
 use Rattle.ps_hall.specs.Halls.{after, message, message_of}
 use Rattle.ps_laws.specs.HallLow.{whole, challenged, challenge_cancelled, rejected, is_sender_user, is_user, is_own_entry, items_of_named, items_of_name, items_of_start}
 use Rattle.ps_laws.specs.HallLow.{items_of_cancel_challenge, items_of_reject, items_by, items_of_allowed}
-use Rattle.ps_laws.proofs.HallListLemmas.{or_left, or_right}
 use Rattle.ps_laws.proofs.HallTellLemmas.{told_same, told_none, notice_other}
 use Rattle.ps_laws.proofs.HallAlike.{Parts, parts_of, join, AreNear, AreAlike, alike_chain, alike_turned, line_same}
 use Rattle.ps_laws.proofs.HallEffects.{with_battle, same_parts, cancel_search_alike, cancel_challenge_alike, reject_alike, challenge_alike, block_alike, unblock_alike}

@@ -1,5 +1,6 @@
 -- An own entry: from alike records it is judged alike, gives alike records, and tells the connection the same.
 use Rattle.std.proofs.Common.{◌≡◌, ℕ, true, not, ◌||◌, List, [], ◌∷◌, ◌++◌, Option, Some, None, IfSome, is_none, is_some, refl, sym, ap, subst, ◌∙◌}
+use Rattle.std.proofs.lemmas.Bool.{or_left, or_right}
 use Rattle.std.specs.Str.{bytes_eq}
 use Rattle.std.specs.FinMap.{get}
 use Rattle.ps_base.specs.Ids.{id_of}
@@ -24,7 +25,6 @@ use Rattle.ps_hall.specs.Lines.{challenge_line, search_line}
 use Rattle.ps_hall.specs.Told.{told, told_by, told_of_named, told_both, told_of_cancel_challenge, told_of_quit, to_user, notice, accept_lines}
 use Rattle.ps_hall.specs.Halls.{message_of, lines_for}
 use Rattle.ps_laws.specs.HallLow.{is_user}
-use Rattle.ps_laws.proofs.HallListLemmas.{or_left, or_right}
 use Rattle.ps_laws.proofs.HallTellLemmas.{told_same, partners_told}
 use Rattle.ps_laws.proofs.HallAlike.{Parts, parts_of, join, AreNear, AreAlike, made_same, line_same}
 use Rattle.ps_laws.proofs.HallEffects.{same_parts, forgotten_alike, cancel_search_alike, cancel_challenge_alike, reject_alike, challenge_alike, team_alike, block_alike}

@@ -1,5 +1,6 @@
 -- What notices tell a connection: who is told on it is one of its users, so what differs for others makes no difference to it.
 use Rattle.std.proofs.Common.{◌≡◌, ℕ, ◌==◌, Bool, true, false, cond, ◌||◌, List, [], ◌∷◌, ◌++◌, append-nil, Option, Some, None, refl, sym, ap, ap₂, ◌∙◌, arith}
+use Rattle.std.proofs.lemmas.Bool.{or_parts}
 use Rattle.std.specs.List.{filter}
 use Rattle.std.specs.Str.{bytes_eq}
 use Rattle.std.specs.FinMap.{get}
@@ -133,17 +134,12 @@ module _ (ids : List (List ℕ)) where
   skip_by user found a false true by to = new_out found a.by by
   skip_by user found a false false by to = refl
 
-  neither : (a b : Bool) → (a || b) ≡ false → (a ≡ false) × (b ≡ false)
-  neither false false h = (refl, refl)
-  neither true b h = absurd cc
-  neither false true h = absurd cc
-
   partners_at : (user : List ℕ) (one two : List (List ℕ)) (a : Asked) (more : List Asked) (b : Bool) → is_ours ids a ≡ b → ours one ≡ ours two
       → ((o : Option (List ℕ)) (x y : List (List ℕ)) → ours x ≡ ours y → ours (partners_of user x more) ≡ ours (partners_of user y (filter (is_ours ids) more)))
       → ours (partners_of user (with_new one (partner user a)) more) ≡ ours (partners_of user two (cond b (a ∷ filter (is_ours ids) more) (filter (is_ours ids) more)))
   partners_at user one two a more true is same next = next None (with_new one (partner user a)) (with_new two (partner user a)) (new_same one two (partner user a) same)
   partners_at user one two a more false is same next =
-      let out = neither (is_user ids a.by) (is_user ids a.to) is in
+      let out = or_parts (is_user ids a.by) (is_user ids a.to) is in
       next None (with_new one (partner user a)) two (skip_by user one a (is_by user a) (is_to user a) out.0 out.1 ∙ same)
 
   -- of the partners of who quits, the users are those of the challenges with users

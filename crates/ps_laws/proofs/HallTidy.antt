@@ -1,5 +1,6 @@
 -- Tidy: nobody has more than one open challenge, and the teams that are kept with challenges are those of the open ones.
 use Rattle.std.proofs.Common.{◌≡◌, ℕ, Bool, true, false, cond, not, ◌&&◌, ◌||◌, List, [], ◌∷◌, ◌++◌, Option, Some, None, option_map, is_some, find, map, refl, sym, ap, ap₂, subst, ◌∙◌}
+use Rattle.std.proofs.lemmas.Bool.{or_parts}
 use Rattle.std.specs.List.{filter, list_any}
 use Rattle.std.specs.Str.{bytes_eq}
 use Rattle.std.proofs.lemmas.Slice.Eq.{bytes_eq-Decides}
@@ -78,22 +79,18 @@ once_kept : (test : Ends → Bool) (es : List Ends) → IsOnce es → IsOnce (fi
 once_kept test [] once = tt
 once_kept test (e ∷ es) once = once_at test e es (test e) once (once_kept test es once.1)
 
-split_or : (a b : Bool) → (a || b) ≡ false → (a ≡ false) × (b ≡ false)
-split_or true b h = absurd cc
-split_or false b h = (refl, h)
-
 turned_by : (a b : List ℕ) (c d : Bool) → bytes_eq a b ≡ c → bytes_eq b a ≡ d → c ≡ false → d ≡ false
 turned_by a b c true left right none = let wrong : false ≡ true = sym none ∙ sym left ∙ (bytes_eq-Decides a b).1 (sym (same_bytes b a right)) in absurd cc
 turned_by a b c false left right none = refl
 
 any_put : (p : Ends → Bool) (es : List Ends) (e : Ends) → list_any p es ≡ false → p e ≡ false → list_any p (es ++ e ∷ []) ≡ false
 any_put p [] e none out = rw out refl
-any_put p (x ∷ es) e none out = let parts = split_or (p x) (list_any p es) none in rw parts.0 (any_put p es e parts.1 out)
+any_put p (x ∷ es) e none out = let parts = or_parts (p x) (list_any p es) none in rw parts.0 (any_put p es e parts.1 out)
 
 once_put : (es : List Ends) (e : Ends) → IsOnce es → list_any (λ other. bytes_eq other.by e.by) es ≡ false → IsOnce (es ++ e ∷ [])
 once_put [] e once none = (refl, tt)
 once_put (x ∷ es) e once none =
-    let parts = split_or (bytes_eq x.by e.by) (list_any (λ other. bytes_eq other.by e.by) es) none in
+    let parts = or_parts (bytes_eq x.by e.by) (list_any (λ other. bytes_eq other.by e.by) es) none in
     (any_put (λ other. bytes_eq other.by x.by) es e once.0 (turned_by x.by e.by (bytes_eq x.by e.by) (bytes_eq e.by x.by) refl refl parts.0), once_put es e once.1 parts.1)
 
 -- ---- the first is all

@@ -1,5 +1,6 @@
 -- Histories of one world: a view is the view over the items of its history, which are fine and tell the connection's users.
 use Rattle.std.proofs.Common.{◌≡◌, ℕ, Bool, true, false, ◌||◌, List, [], ◌∷◌, ◌++◌, Option, Some, None, option_to_list, append_assoc, refl, ap, ◌∙◌, sym, subst, arith}
+use Rattle.std.proofs.lemmas.Bool.{or_parts}
 use Rattle.std.proofs.lemmas.Bool.Decides.{nat_tests}
 use Rattle.std.specs.Prelude.{◌==◌}
 use Rattle.ps_base.specs.Ids.{id_of}
@@ -92,11 +93,7 @@ either_user : (mine user : Bool) → (mine || user) ≡ true → (mine ≡ true 
 either_user true user e h = h refl
 either_user false user e h = e
 
-neither_own : (mine user : Bool) → (mine || user) ≡ false → (mine ≡ false) × (user ≡ false)
-neither_own false user e = (refl, e)
-neither_own true user e = absurd cc
-
-not_same : (a b : ℕ) → (a == b) ≡ false → (b == a) ≡ false
+pub not_same : (a b : ℕ) → (a == b) ≡ false → (b == a) ≡ false
 not_same a b e = grind (arith, nat_tests)
 
 entry_by : (conn : ℕ) (ids : List (List ℕ)) (own : ℕ → Bool) (r : Record) (e : Entry) (mine : Bool) → is_own conn ids r e ≡ mine → IsSettled conn ids own r → ((e.conn == conn) ≡ true → is_user ids (user_of r e) ≡ true) → StandFor conn own r e (items_of conn ids r e)
@@ -104,7 +101,7 @@ entry_by conn ids own r e true is h user =
     let known : is_user ids (user_of r e) ≡ true = either_user (e.conn == conn) _ is user in
     rw is (own_entry conn own r e (plays_of ids own r e r.battle h.owns known) (own_good conn ids own r e h.owns known))
 entry_by conn ids own r e false is h user =
-    let n = neither_own (e.conn == conn) (is_user ids (user_of r e)) is in
+    let n = or_parts (e.conn == conn) (is_user ids (user_of r e)) is in
     rw is (other_entry conn own r e (not_same e.conn conn n.0) (plays_other_of ids own r e r.battle h.owns n.1) (λ s lt other. plays_own conn ids own r s h.owns (is_home conn ids r h.home) lt other))
 
 -- the items of an entry stand for it
@@ -158,7 +155,7 @@ low_is_fine conn ids own places r (e ∷ es) h users shown =
 entry_users_by : (conn : ℕ) (ids : List (List ℕ)) (r : Record) (e : Entry) (mine : Bool) → is_own conn ids r e ≡ mine → items_users conn r.opening r.chat (items_of conn ids r e) ≡ user_if (e.conn == conn) (user_of r e)
 entry_users_by conn ids r e true is = rw is (own_users conn r e)
 entry_users_by conn ids r e false is =
-    let n = neither_own (e.conn == conn) (is_user ids (user_of r e)) is in
+    let n = or_parts (e.conn == conn) (is_user ids (user_of r e)) is in
     rw is (others_users conn r e (verdict r e) n.0 ∙ ap (λ (b : Bool). user_if b (user_of r e)) (sym n.0))
 
 -- the users are told by the items

@@ -1,8 +1,7 @@
 -- A story of a chat room without an entry that has no item is the same.
-use Rattle.std.proofs.Common.{◌≡◌, ℕ, ◌==◌, ◌||◌, Bool, true, false, cond, List, [], ◌∷◌, ◌++◌, Option, Some, None, refl, sym, ap, ◌∙◌}
+use Rattle.std.proofs.Common.{◌≡◌, ℕ, ◌==◌, Bool, true, false, cond, List, [], ◌∷◌, ◌++◌, Option, Some, None, refl, sym, ap, ◌∙◌}
+use Rattle.std.proofs.lemmas.Bool.{or_parts}
 use Rattle.std.specs.Prelude.{IfSome}
-use Rattle.std.proofs.lemmas.Bool.Decides.{nat_tests}
-use Rattle.std.proofs.Common.{arith}
 use Rattle.ps_base.specs.declared.why.Why.{Why}
 use Rattle.ps_lines.specs.declared.command.Command.{Command}
 use Rattle.ps_lines.specs.declared.command.Command.TheVariants.{Modnote, Choose, Undo}
@@ -24,14 +23,12 @@ use Rattle.ps_laws.specs.Hidden.{hidden_in_both}
 use Rattle.ps_laws.specs.Low.{Item, whole, items_of_round, items_of_allowed, items_of_others, items_of, is_own, low_from}
 use Rattle.ps_laws.specs.Same.{AreBattlesSame, UnshownMayBeMissing}
 use Rattle.ps_laws.proofs.UserLemmas.{is_user}
+use Rattle.ps_laws.proofs.HistoryLemmas.{not_same}
 
 -- an entry of another that leaves the record as it was
 record IsIdle (conn : ℕ) (r : Record) (e : Entry) : Type 0 where
   other : (e.conn == conn) ≡ false
   kept : after r e ≡ r
-
-not_same : (a b : ℕ) → (a == b) ≡ false → (b == a) ≡ false
-not_same a b e = grind (arith, nat_tests)
 
 of_modnote : (conn : ℕ) (r : Record) (e : Entry) (text : List ℕ) (sees : Bool) → (e.conn == conn) ≡ false → e.cmd ≡ Modnote text → verdict r e ≡ None → sees_notes conn r ≡ sees → cond sees (whole e ∷ []) [] ≡ [] → after r e ≡ r
 of_modnote conn r e text true other is v sees none = absurd cc
@@ -47,14 +44,10 @@ of_others : (conn : ℕ) (r : Record) (e : Entry) (v : Option Why) → IsChat r 
 of_others conn r e (Some why) chat other v none = after_refused r e why v
 of_others conn r e None chat other v none = of_allowed conn r e e.cmd chat other refl v none
 
-not_mine : (mine user : Bool) → (mine || user) ≡ false → mine ≡ false
-not_mine false user e = refl
-not_mine true user e = absurd cc
-
 idle_by : (conn : ℕ) (ids : List (List ℕ)) (r : Record) (e : Entry) (own : Bool) → IsChat r → is_own conn ids r e ≡ own → items_of conn ids r e ≡ [] → IsIdle conn r e
 idle_by conn ids r e true chat own none = absurd (let some : whole e ∷ items_of_round r e ≡ [] = rw own at none in cc)
 idle_by conn ids r e false chat own none =
-    let other = not_mine (e.conn == conn) (is_user ids (user_of r e)) own in
+    let other = (or_parts (e.conn == conn) (is_user ids (user_of r e)) own).0 in
     record { other = other; kept = of_others conn r e (verdict r e) chat other refl (rw own at none) }
 
 idle : (conn : ℕ) (ids : List (List ℕ)) (r : Record) (e : Entry) → IsChat r → items_of conn ids r e ≡ [] → IsIdle conn r e

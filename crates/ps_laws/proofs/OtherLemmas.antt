@@ -1,7 +1,6 @@
 -- One entry of another in one world: without an item it leaves what a connection knows of the record as it was and gives the connection
 -- nothing; with one the item stands for it.
 use Rattle.std.proofs.Common.{◌≡◌, ◌⊎◌, ℕ, zero, suc, ◌<◌, Bool, true, false, ◌&&◌, List, [], ◌∷◌, Option, Some, None, append-nil, refl, ap, ◌∙◌, sym, subst, inl, inr, arith}
-use Rattle.std.proofs.lemmas.Bool.Decides.{nat_tests}
 use Rattle.std.specs.Prelude.{◌==◌}
 use Rattle.ps_base.specs.declared.why.Why.{Why}
 use Rattle.ps_lines.specs.declared.command.Command.{Command}
@@ -37,7 +36,7 @@ use Rattle.ps_laws.proofs.ItemLemmas.{waiting_fight, undo_message}
 use Rattle.ps_laws.proofs.ChoiceLemmas.{Waits, Completes, choice_does, waiting_other}
 use Rattle.ps_alike.specs.Places.{Hidden}
 use Rattle.ps_mon.specs.declared.choice.Choice.{Choice}
-use Rattle.ps_laws.proofs.TwinLemmas.{IsEntryGood}
+use Rattle.ps_laws.proofs.TwinLemmas.{IsEntryGood, same_number}
 use Rattle.ps_laws.proofs.FineLemmas.{IsFineRound, AreFineChoices}
 use Rattle.ps_laws.proofs.StepLemmas.{round_fine, StandFor, one_item, made, said, round_at, waits_after, waits_message, completes_after, completes_message, chat_choice_after, chat_choice_message, chat_choice_round, commit_seen}
 
@@ -154,9 +153,6 @@ other_undo conn own r e (Some f) is v b other plays =
     undo_of_side conn own r e f (side_of_member f.cast (sender_of r e)) is v b refl allowed (side_below f.cast (sender_of r e)) other plays
 
 -- ---- any entry of another
-
-same_number : (a b : ℕ) → (a == b) ≡ true → (b == a) ≡ true
-same_number a b e = grind (arith, nat_tests)
 
 -- an entry that isn't a choice, of another
 other_good : (conn : ℕ) (own : ℕ → Bool) (r : Record) (e : Entry) → (conn == e.conn) ≡ false → is_choose e.cmd ≡ false → IsEntryGood conn own (own_part own r) e

@@ -1,5 +1,6 @@
 -- Two stories of a room that are the same to a connection give it equal views.
 use Rattle.std.proofs.Common.{◌≡◌, ℕ, Bool, true, false, ◌||◌, List, [], ◌∷◌, Option, Some, None, refl, ap, ◌∙◌, sym, subst}
+use Rattle.std.proofs.lemmas.Bool.{or_right}
 use Rattle.std.specs.Prelude.{is_some, IfSome, option_map}
 use Rattle.std.specs.List.{list_any}
 use Rattle.std.specs.Str.{bytes_eq}
@@ -68,13 +69,9 @@ opened_alike conn one two same =
 one_of : (id : List ℕ) (more : List (List ℕ)) → list_any (bytes_eq id) (id ∷ more) ≡ true
 one_of id more = ap (λ (b : Bool). b || list_any (bytes_eq id) more) ((bytes_eq-Decides id id).1 refl)
 
-or_more : (a b : Bool) → b ≡ true → (a || b) ≡ true
-or_more true b e = refl
-or_more false b e = e
-
 users_of : (ids more : List (List ℕ)) → ((id : List ℕ) → list_any (bytes_eq id) more ≡ true → is_user ids id ≡ true) → AreUsers ids more
 users_of ids [] all = tt
-users_of ids (id ∷ more) all = (all id (one_of id more), users_of ids more (λ x h. all x (or_more (bytes_eq x id) _ h)))
+users_of ids (id ∷ more) all = (all id (one_of id more), users_of ids more (λ x h. all x (or_right (bytes_eq x id) _ h)))
 
 -- each is one of them
 self_users : (ids : List (List ℕ)) → AreUsers ids ids

@@ -1,5 +1,6 @@
 -- No round of a story shows a place that is hidden to a connection there.
-use Rattle.std.proofs.Common.{◌≡◌, ℕ, ◌<◌, ◌-◌, Bool, true, false, ◌&&◌, ◌||◌, List, [], ◌∷◌, Option, Some, None, get_or, refl, ap, ◌∙◌, sym, arith}
+use Rattle.std.proofs.Common.{◌≡◌, ℕ, ◌<◌, ◌-◌, Bool, true, false, ◌&&◌, List, [], ◌∷◌, Option, Some, None, get_or, refl, ap, ◌∙◌, sym, arith}
+use Rattle.std.proofs.lemmas.Bool.{and_parts, or_parts, not-true, false_from_ne_true}
 use Rattle.std.specs.Prelude.{◌==◌, not}
 use Rattle.std.specs.List.{list_any}
 use Rattle.ps_mon.specs.declared.record.Battle.{Battle}
@@ -35,10 +36,6 @@ AreUnshown places (r ∷ rs) = IsUnshown places r × AreUnshown places rs
 
 -- ---- those of a story
 
-neither : (a b : Bool) → (a || b) ≡ false → (a ≡ false) × (b ≡ false)
-neither false b e = (refl, e)
-neither true b e = absurd cc
-
 -- no round shows them
 record AreNeverShown (st : Start) (places : Hidden) (rs : List Round) : Type 0 where
   moves : (s k j : ℕ) → places.move s k j ≡ (slot_of (member_in st s k) j).mv
@@ -48,41 +45,28 @@ record AreNeverShown (st : Start) (places : Hidden) (rs : List Round) : Type 0 w
 each_unshown : (st : Start) (places : Hidden) (rs : List Round) → AreNeverShown st places rs → AreUnshown places rs
 each_unshown st places [] never = tt
 each_unshown st places (r ∷ rs) never =
-    let slot : (s k j : ℕ) → places.slot s k j ≡ true → (is_chosen s k j r ≡ false) × (is_told st s k j r ≡ false) = λ s k j h. neither (is_chosen s k j r) (is_told st s k j r) (neither (is_slot_shown st s k j r) (list_any (is_slot_shown st s k j) rs) (never.slots s k j h)).0 in (
+    let slot : (s k j : ℕ) → places.slot s k j ≡ true → (is_chosen s k j r ≡ false) × (is_told st s k j r ≡ false) = λ s k j h. or_parts (is_chosen s k j r) (is_told st s k j r) (or_parts (is_slot_shown st s k j r) (list_any (is_slot_shown st s k j) rs) (never.slots s k j h)).0 in (
       record {
-        members = λ s k h. (neither (place_of (side_of r.after s) == k) (list_any (λ x. place_of (side_of x.after s) == k) rs) (never.members s k h)).0;
+        members = λ s k h. (or_parts (place_of (side_of r.after s) == k) (list_any (λ x. place_of (side_of x.after s) == k) rs) (never.members s k h)).0;
         chosen = λ s k j h. (slot s k j h).0;
         told = λ s k j h. ap (λ (mv : ℕ). shows_one s k (place_of (side_of r.after s) == k) mv (forms r.before r.first r.second s k) r.told) (never.moves s k j) ∙ (slot s k j h).1;
       },
       each_unshown st places rs (record {
         moves = never.moves;
-        members = λ s k h. (neither (place_of (side_of r.after s) == k) (list_any (λ x. place_of (side_of x.after s) == k) rs) (never.members s k h)).1;
-        slots = λ s k j h. (neither (is_slot_shown st s k j r) (list_any (is_slot_shown st s k j) rs) (never.slots s k j h)).1;
+        members = λ s k h. (or_parts (place_of (side_of r.after s) == k) (list_any (λ x. place_of (side_of x.after s) == k) rs) (never.members s k h)).1;
+        slots = λ s k j h. (or_parts (is_slot_shown st s k j r) (list_any (is_slot_shown st s k j) rs) (never.slots s k j h)).1;
       }),
     )
 
 -- a place that is hidden in both stories is so in the first
-first_of_both : (a b : Bool) → (a && b) ≡ true → a ≡ true
-first_of_both true b e = refl
-first_of_both false b e = absurd cc
-
-not_true : (a : Bool) → not a ≡ true → a ≡ false
-not_true false e = refl
-not_true true e = absurd cc
-
 last_of_three : (a b c : Bool) → (a && b && not c) ≡ true → c ≡ false
-last_of_three true true c e = not_true c e
-last_of_three true false c e = absurd cc
-last_of_three false b c e = absurd cc
-
-second_of : (a b : Bool) → (a || b) ≡ false → b ≡ false
-second_of a b e = (neither a b e).1
+last_of_three a b c e = not-true c (and_parts (a && b) (not c) e).1
 
 never_shown : (own : ℕ → Bool) (st : Start) (rs : List Round) (other : Hidden) (places : Hidden) → ((s k : ℕ) → places.member s k ≡ (is_member_hidden (own s) st rs s k && other.member s k)) → ((s k j : ℕ) → places.slot s k j ≡ (is_slot_hidden (own s) st rs s k j && other.slot s k j)) → ((s k j : ℕ) → places.move s k j ≡ (slot_of (member_in st s k) j).mv) → AreNeverShown st places rs
 never_shown own st rs other places members slots moves = record {
   moves = moves;
-  members = λ s k h. second_of (k == 0) _ (last_of_three (not (own s)) _ (has_stood rs s k) (first_of_both _ _ (sym (members s k) ∙ h)));
-  slots = λ s k j h. last_of_three (not (own s)) _ _ (first_of_both _ _ (sym (slots s k j) ∙ h));
+  members = λ s k h. (or_parts (k == 0) _ (last_of_three (not (own s)) _ (has_stood rs s k) (and_parts _ _ (sym (members s k) ∙ h)).0)).1;
+  slots = λ s k j h. last_of_three (not (own s)) _ _ (and_parts _ _ (sym (slots s k j) ∙ h)).0;
 }
 
 none_hidden : (places : Hidden) (rs : List Round) → ((s k : ℕ) → places.member s k ≡ false) → ((s k j : ℕ) → places.slot s k j ≡ false) → AreUnshown places rs
@@ -110,15 +94,11 @@ story_unshown conn one two = both_with (own_sides (users conn one) one.opening.c
 
 -- ---- the choices and the events of such a round
 
-not_hidden : (b : Bool) → (b ≡ true → ⊥) → b ≡ false
-not_hidden false no_way = refl
-not_hidden true no_way = absurd (no_way refl)
-
 -- the slot or the member that a choice names isn't hidden
 choice_unhidden : (places : Hidden) (r : Round) (s : ℕ) (side : SideState) (choice : Choice) → IsUnshown places r → choice_of r s ≡ choice → place_of (side_of r.before s) ≡ place_of side → place_of (side_of r.after s) ≡ front_after side choice → IsChoiceUnhidden places s side choice
-choice_unhidden places r s side (choices.Move n) h is before after = not_hidden (places.slot s (place_of side) (n - 1)) (λ t.
+choice_unhidden places r s side (choices.Move n) h is before after = false_from_ne_true (places.slot s (place_of side) (n - 1)) (λ t.
     let wrong : true ≡ false = sym (rw (is, before) (rw (same_is (place_of side), same_is (n - 1)) refl)) ∙ h.chosen s (place_of side) (n - 1) t in absurd cc)
-choice_unhidden places r s side (choices.Switch p) h is before after = not_hidden (places.member s (get_or side.order (p - 1) 0)) (λ t.
+choice_unhidden places r s side (choices.Switch p) h is before after = false_from_ne_true (places.member s (get_or side.order (p - 1) 0)) (λ t.
     let wrong : true ≡ false = sym (rw after (same_is (get_or side.order (p - 1) 0))) ∙ h.members s (get_or side.order (p - 1) 0) t in absurd cc)
 choice_unhidden places r s side choices.Struggle h is before after = tt
 choice_unhidden places r s side choices.Continue h is before after = tt

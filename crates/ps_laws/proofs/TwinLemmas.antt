@@ -1,7 +1,7 @@
 -- From two records that are alike an item leads to two that are alike, and gives the connection the same.
-use Rattle.std.proofs.Common.{◌≡◌, ℕ, Bool, true, false, cond, List, ◌++◌, Option, Some, None, refl, ap, ◌∙◌, sym, subst, inl, inr}
+use Rattle.std.proofs.Common.{◌≡◌, ℕ, Bool, true, false, cond, List, ◌++◌, Option, Some, None, refl, ap, ◌∙◌, sym, subst, inl, inr, arith}
 use Rattle.std.specs.Prelude.{◌==◌}
-use Rattle.std.proofs.lemmas.Bool.Decides.{eqb_tells}
+use Rattle.std.proofs.lemmas.Bool.Decides.{eqb_tells, nat_tests}
 use Rattle.ps_base.specs.declared.why.Why.{Why}
 use Rattle.ps_lines.specs.declared.command.Command.{Command}
 use Rattle.ps_lines.specs.declared.command.Command.TheVariants.{Choose}
@@ -68,11 +68,8 @@ allowed_message : (conn : ℕ) (r : Record) (e : Entry) → verdict r e ≡ None
 unfolding told
 allowed_message conn r e v = rw v refl
 
-same_number : (a b : ℕ) → (a == b) ≡ true → (b == a) ≡ true
-same_number a b e = elim (eqb_tells b a) [
-  | inl same ↦ same.0
-  | inr other ↦ absurd (elim (eqb_tells a b) [ inl same ↦ other.1 (sym same.1) | inr apart ↦ let wrong : true ≡ false = sym e ∙ apart.0 in absurd cc ])
-]
+pub same_number : (a b : ℕ) → (a == b) ≡ true → (b == a) ≡ true
+same_number a b e = grind (arith, nat_tests)
 
 allowed_same : (conn : ℕ) (own : ℕ → Bool) (places : Hidden) (r : Record) (go : Option Fight) (e : Entry) → IsOpen own places → AsksOwn own (role conn r) →
     IsEntryGood conn own r e → is_choose e.cmd ≡ false → verdict r e ≡ None → verdict (with_fight r go) e ≡ None →

@@ -1,5 +1,6 @@
 -- Entries that show nothing and leave nothing may as well be missing; so does a choice that is taken back at once.
-use Rattle.std.proofs.Common.{◌≡◌, ◌⊎◌, ℕ, zero, suc, Bool, true, false, cond, ◌||◌, List, [], ◌∷◌, ◌++◌, Option, Some, None, Result, Ok, Err, refl, ap, ◌∙◌, sym, inl, inr}
+use Rattle.std.proofs.Common.{◌≡◌, ◌⊎◌, ℕ, zero, suc, Bool, true, false, cond, List, [], ◌∷◌, ◌++◌, Option, Some, None, Result, Ok, Err, refl, ap, ◌∙◌, sym, inl, inr}
+use Rattle.std.proofs.lemmas.Bool.{or_parts}
 use Rattle.std.specs.Prelude.{◌==◌}
 use Rattle.ps_base.specs.declared.why.Why.{Why}
 use Rattle.ps_base.specs.declared.why.Why.TheVariants as whys
@@ -66,14 +67,10 @@ battle_self places (Some st) = record {
 
 -- ---- entries without items
 
-not_mine : (mine user : Bool) → (mine || user) ≡ false → mine ≡ false
-not_mine false user e = refl
-not_mine true user e = absurd cc
-
 -- they are of others
 away_by : (conn : ℕ) (ids : List (List ℕ)) (r : Record) (e : Entry) (own : Bool) → is_own conn ids r e ≡ own → items_of conn ids r e ≡ [] → (e.conn == conn) ≡ false
 away_by conn ids r e true own none = absurd (let some : whole e ∷ items_of_round r e ≡ [] = rw own at none in cc)
-away_by conn ids r e false own none = not_mine (e.conn == conn) _ own
+away_by conn ids r e false own none = (or_parts (e.conn == conn) _ own).0
 
 no_items : (is js : List Item) → is ++ js ≡ [] → (is ≡ []) × (js ≡ [])
 no_items [] js e = (refl, e)

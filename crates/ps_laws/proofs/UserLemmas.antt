@@ -40,11 +40,8 @@ side_plays : (names : Names) (id : List ℕ) (s : ℕ) → side_with_id names id
 side_plays names id s e = side_plays_by names id s _ _ refl refl e
 
 -- the player's id and an id that plays are one
-same_id : (a b : List ℕ) → bytes_eq a b ≡ true → a ≡ b
-same_id a b e = (bytes_eq-Decides a b).0 e
-
 own_of_id : (ids : List (List ℕ)) (names : Names) (id : List ℕ) (s : ℕ) → side_with_id names id ≡ Some s → is_own_side ids names s ≡ is_user ids id
-own_of_id ids names id s e = ap (is_user ids) (same_id _ id (side_plays names id s e))
+own_of_id ids names id s e = ap (is_user ids) ((bytes_eq-Decides _ id).0 (side_plays names id s e))
 
 -- a member's side is own exactly where it is one of the users
 pub own_of_member : (ids : List (List ℕ)) (own : ℕ → Bool) (f : Fight) (me : Present) (s : ℕ) → OwnsOf ids own (Some f) → side_of_member f.cast (Some me) ≡ Some s → own s ≡ is_user ids (id_of me.badge.name)

@@ -1,5 +1,6 @@
 -- What waits may be committed, at any time; and so a round is of choices that both sides may be committed with.
 use Rattle.std.proofs.Common.{◌≡◌, ℕ, zero, suc, ◌<◌, Bool, true, false, cond, ◌&&◌, List, Option, Some, None, Result, Ok, Err, refl, sym, subst, arith}
+use Rattle.std.proofs.lemmas.Bool.{and_parts}
 use Rattle.std.specs.Prelude.{not, is_some, IfSome}
 use Rattle.ps_base.specs.declared.why.Why.{Why}
 use Rattle.ps_base.specs.declared.why.Why.TheVariants as whys
@@ -101,17 +102,12 @@ waits_after_entry r e h = waits_by r e (verdict r e) refl h
 
 -- ---- the choices of a round
 
--- both sides are ready
-both_ready : (one two : Bool) → (one && two) ≡ true → (one ≡ true) × (two ≡ true)
-both_ready true two e = (refl, e)
-both_ready false two e = absurd cc
-
 -- choices that both sides may be committed with
 pub record AreChoices (b : Battle) (one two : Choice) : Type 0 where
   pub first : IsChoiceOf b 0 one
   pub second : IsChoiceOf b 1 two
 
 pub round_choices : (b : Bout) (s : ℕ) (c : Choice) → s < 2 → MayWait b → CanWait b.battle s c → (is_ready (with_waiting s (Some c) b) 0 && is_ready (with_waiting s (Some c) b) 1) ≡ true → AreChoices b.battle (choice_or_pass (with_waiting s (Some c) b).first) (choice_or_pass (with_waiting s (Some c) b).second)
-round_choices b zero c lt h may e = let r = both_ready _ _ e in record { first = ready_choices b.battle 0 (Some c) may r.0; second = ready_choices b.battle 1 b.second h.second r.1 }
-round_choices b (suc zero) c lt h may e = let r = both_ready _ _ e in record { first = ready_choices b.battle 0 b.first h.first r.0; second = ready_choices b.battle 1 (Some c) may r.1 }
+round_choices b zero c lt h may e = let r = and_parts _ _ e in record { first = ready_choices b.battle 0 (Some c) may r.0; second = ready_choices b.battle 1 b.second h.second r.1 }
+round_choices b (suc zero) c lt h may e = let r = and_parts _ _ e in record { first = ready_choices b.battle 0 b.first h.first r.0; second = ready_choices b.battle 1 (Some c) may r.1 }
 round_choices b (suc (suc s)) c lt h may e = absurd (omega arith)
