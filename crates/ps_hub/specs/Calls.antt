@@ -17,7 +17,7 @@ use Rattle.ps_hall.specs.declared.outcome.HallOut.{HallOut}
 use Rattle.ps_room.specs.declared.entry.Entry.{Entry}
 use Rattle.ps_room.specs.declared.outcome.Ending.{Ending}
 use Rattle.ps_room.specs.declared.outcome.RoomOut.{RoomOut}
-use Rattle.ps_openings.specs.Openings.{first_battle}
+use Rattle.ps_openings.specs.Openings.{first_battle, room_of_battle}
 use Rattle.ps_histlock.specs.declared.view.Entry.{Entry as Made}
 use Rattle.ps_histlock.specs.declared.view.View.{View}
 use Rattle.ps_histlock.specs.declared.lock.TheConstants.{OWN_LIMIT}
@@ -226,7 +226,7 @@ Orders hub (Room id cmd) moment old (Err fault) new = EntryFails hub id cmd old 
 pub record BeginsAt (hub : Hub) (start : Start) (does : RoomPass → RoomPass → Type 0) (old new : Passes) : Type 0 where
   pub before : RoomPass
   pub behind : RoomPass
-  pub number : before.number ≡ 15 + start.number
+  pub number : before.number ≡ room_of_battle start.number
   pub id : behind.id ≡ before.id
   pub at : behind.at ≡ before.at
   pub but : ButFor hub old before behind new

@@ -28,10 +28,6 @@ site_of hub number = record { number = number; config = hub.config; dex = hub.de
 abbrev pub lock_of : Hub → ℕ → Option TableId
 lock_of hub number = if nat_lt number first_battle then slice_get hub.chats number else slice_get hub.battles (number - first_battle)
 
--- how many battles a hub has places for
-abbrev pub most_battles : ℕ
-most_battles = 65536
-
 -- ---- for the code: the locks, each with its origin
 
 abbrev pub name_of : TableId × Site → TableId

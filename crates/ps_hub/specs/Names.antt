@@ -2,15 +2,16 @@
 use Rattle.std.specs.Prelude.{◌≡◌, ◌⊎◌, ℕ, ◌+◌, ◌<◌, ◌≤◌, List, slice_get, Some}
 use Rattle.ps_valid.specs.declared.row.ChatRoom.{ChatRoom}
 use Rattle.ps_valid.specs.declared.row.Settings.{Settings}
-use Rattle.ps_hall.specs.Looks.{battle_id}
+use Rattle.ps_hall.specs.Looks.{battle_id, most_battles}
+use Rattle.ps_openings.specs.Openings.{first_battle, room_of_battle}
 
 -- the id of the chat room with this number
 abbrev pub IsChatId : Settings → List ℕ → ℕ → Type 0
 IsChatId config id number = (room : ChatRoom) × (slice_get config.rooms number ≡ Some room) × (room.id ≡ id)
 
--- the id of a battle with a number from 1 to 65,536, of any format
+-- the id of a battle with one of the numbers of battles, of any format
 abbrev pub IsBattleId : List ℕ → ℕ → Type 0
-IsBattleId id n = (format : List ℕ) × (id ≡ battle_id format n) × (1 ≤ n) × (n ≤ 65536)
+IsBattleId id n = (format : List ℕ) × (id ≡ battle_id format n) × (1 ≤ n) × (n ≤ most_battles)
 
 -- no chat room has the id
 abbrev pub IsNoChat : Settings → List ℕ → Type 0
@@ -20,6 +21,6 @@ IsNoChat config id = (number : ℕ) → IsChatId config id number → ⊥
 abbrev pub IsFirstChat : Settings → List ℕ → ℕ → Type 0
 IsFirstChat config id number = IsChatId config id number × ((before : ℕ) → before < number → IsChatId config id before → ⊥)
 
--- the one place that an id names: a chat room's, or else a battle's; battle n has the number 15 + n
+-- the one place that an id names: a chat room's, or else a battle's
 abbrev pub Names : Settings → List ℕ → ℕ → Type 0
-Names config id number = (IsFirstChat config id number × (number < 16)) ⊎ ((n : ℕ) × IsBattleId id n × (number ≡ 15 + n) × IsNoChat config id)
+Names config id number = (IsFirstChat config id number × (number < first_battle)) ⊎ ((n : ℕ) × IsBattleId id n × (number ≡ room_of_battle n) × IsNoChat config id)

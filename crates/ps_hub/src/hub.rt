@@ -1,14 +1,16 @@
 //! The hub.
 ghost use Rattle.std.specs.Prelude.{◌≡◌, ◌≢◌, ◌+◌, ◌≤◌, None, Some, IfOk, IfSome, IfNone, length, slice_get};
 ghost use Rattle.std.specs.Arc.{arc_value};
-ghost use Rattle.ps_hub.specs.Hubs.{site_of, root_of, lock_of, most_battles, AreAt};
+ghost use Rattle.ps_hall.specs.Looks.{most_battles};
+ghost use Rattle.ps_openings.specs.Openings.{first_battle, room_of_battle};
+ghost use Rattle.ps_hub.specs.Hubs.{site_of, root_of, lock_of, AreAt};
 ghost use Rattle.ps_hub.specs.Names.{Names};
 ghost use Rattle.ps_hub.specs.Calls.{NamesNone};
 
-use crate::name::{MOST_BATTLES, place_named};
+use crate::name::place_named;
 use ps_dex::dex::Dex;
 use ps_histlock::HistLock;
-use ps_openings::opening::FIRST_BATTLE;
+use ps_openings::opening::{FIRST_BATTLE, MOST_BATTLES, room_of_battle};
 use ps_places::hall_place::HallPlace;
 use ps_places::room_place::RoomPlace;
 use ps_valid::config::Config;
@@ -32,13 +34,15 @@ pub struct Hub {
 impl Model for Hub {
     ghost use Rattle.std.specs.Prelude.{◌≡◌, ◌≤◌, map, length};
     ghost use Rattle.std.specs.Arc.{arc_value};
-    ghost use Rattle.ps_hub.specs.Hubs.{Hub as Seen, name_of, most_battles, AreAt};
+    ghost use Rattle.ps_hall.specs.Looks.{most_battles};
+    ghost use Rattle.ps_openings.specs.Openings.{first_battle};
+    ghost use Rattle.ps_hub.specs.Hubs.{Hub as Seen, name_of, AreAt};
 
     ghost Value = { Seen };
 
     ghost view = { λ h. record { config = arc_value h.config; dex = arc_value h.dex; hall = h.hall.0; chats = map name_of h.chats.items; battles = map name_of h.battles.items } };
 
-    ghost invariant = { λ h. (h.hall.1 ≡ record { config = arc_value h.config; dex = arc_value h.dex }) × AreAt (arc_value h.config) (arc_value h.dex) 0 h.chats.items × AreAt (arc_value h.config) (arc_value h.dex) 16 h.battles.items × (length h.chats.items ≡ length (arc_value h.config).rooms) × (length h.battles.items ≡ most_battles) };
+    ghost invariant = { λ h. (h.hall.1 ≡ record { config = arc_value h.config; dex = arc_value h.dex }) × AreAt (arc_value h.config) (arc_value h.dex) 0 h.chats.items × AreAt (arc_value h.config) (arc_value h.dex) first_battle h.battles.items × (length h.chats.items ≡ length (arc_value h.config).rooms) × (length h.battles.items ≡ most_battles) };
 }
 
 // The locks of the chat rooms.
@@ -48,7 +52,7 @@ fn chats(
     dex: &Arc<Dex>,
     rooms: &[ChatRoom],
 ) -> Result<Vec<HistLock<RoomPlace>>, AllocError>
-    requires { (rooms.now ≡ (arc_value config.now).rooms) × (length rooms.now ≤ 16) }
+    requires { (rooms.now ≡ (arc_value config.now).rooms) × (length rooms.now ≤ first_battle) }
     ensures at { IfOk result (λ v. AreAt (arc_value config.now) (arc_value dex.now) 0 v.items) }
     ensures count { IfOk result (λ v. length v.items ≡ length rooms.now) }
 {
@@ -73,7 +77,7 @@ fn battles(
     config: &Arc<Config>,
     dex: &Arc<Dex>,
 ) -> Result<Vec<HistLock<RoomPlace>>, AllocError>
-    ensures at { IfOk result (λ v. AreAt (arc_value config.now) (arc_value dex.now) 16 v.items) }
+    ensures at { IfOk result (λ v. AreAt (arc_value config.now) (arc_value dex.now) first_battle v.items) }
     ensures count { IfOk result (λ v. length v.items ≡ most_battles) }
 {
     let mut locks = Vec::with_capacity(alloc, MOST_BATTLES as usize)?;
@@ -135,11 +139,11 @@ impl Hub {
     /// The place of the battle with this number.
     pub(crate) fn place_of_battle(&self, number: u32) -> u32
         requires { (1 ≤ number) × (number ≤ most_battles) }
-        ensures value { result ≡ 15 + number }
+        ensures value { result ≡ room_of_battle number }
         ensures there { lock_of self.now result ≢ None }
     {
         let _battles = &self.battles;
-        FIRST_BATTLE - 1 + number
+        room_of_battle(number)
     }
 
     /// The lock of a room's place.

@@ -2,20 +2,18 @@
 ghost use Rattle.std.specs.Prelude.{◌≡◌, ◌<◌, ℕ, IfSome, IfNone};
 ghost use Rattle.std.specs.Option.{option_map};
 ghost use Rattle.ps_lines.specs.Parts.{at_last};
+ghost use Rattle.ps_openings.specs.Openings.{first_battle};
 ghost use Rattle.ps_hub.specs.Names.{IsBattleId, IsFirstChat, IsNoChat, Names};
 
 use ps_base::cut::after;
 use ps_base::decimal::read_u32;
-use ps_openings::opening::FIRST_BATTLE;
+use ps_openings::opening::{MOST_BATTLES, room_of_battle};
 use ps_valid::config::Config;
-
-/// How many battles a hub has places for.
-pub(crate) const MOST_BATTLES: u32 = 65_536;
 
 // The number of the chat room with this id.
 fn chat_named(config: &Config, id: &str) -> Option<u32>
     ensures found { IfSome result (IsFirstChat config.now id.now) }
-    ensures low { IfSome result (λ number. number < 16) }
+    ensures low { IfSome result (λ number. number < first_battle) }
     ensures none { IfNone result (IsNoChat config.now id.now) }
 {
     let rooms = config.rooms();
@@ -57,7 +55,7 @@ pub(crate) fn place_named(config: &Config, id: &str) -> Option<u32>
         Some(number) => Some(number),
         None => {
             let number = battle_named(id)?;
-            Some(FIRST_BATTLE - 1 + number)
+            Some(room_of_battle(number))
         }
     }
 }

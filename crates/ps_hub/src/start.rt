@@ -1,6 +1,7 @@
 //! The begin of a battle.
 ghost use Rattle.std.specs.Prelude.{◌≡◌, ◌≤◌, ℕ, Some, OnOk, OnErr};
 ghost use Rattle.ps_start.specs.Fits.{IsFit};
+ghost use Rattle.ps_hall.specs.Looks.{most_battles};
 ghost use Rattle.ps_places.specs.declared.command.RoomCmd.TheVariants.{Begin};
 ghost use Rattle.ps_hub.specs.Turns.{TurnsAtLast};
 ghost use Rattle.ps_hub.specs.Passes.{AreOf, IsRoomPass};
@@ -26,7 +27,7 @@ impl Hub {
         start: Start,
     ) -> Result<(), AllocError>
         requires of { AreOf self.now passes.old }
-        requires number { (1 ≤ start.number) × (start.number ≤ 65536) }
+        requires number { (1 ≤ start.number) × (start.number ≤ most_battles) }
         requires fit { IsFit start self.now.config self.now.dex }
         ensures of { AreOf self.now passes.new }
         ensures told { Starts self.now start passes.old result passes.new }

@@ -19,10 +19,14 @@ chats_from config dex number (room ∷ rooms) = chat_opening config dex number r
 abbrev pub first_battle : ℕ
 first_battle = 16
 
--- the room of a battle: battle n has the number 15 + n
+-- the number of the room of the battle with this number
+abbrev pub room_of_battle : ℕ → ℕ
+room_of_battle number = 15 + number
+
+-- the room of a battle
 abbrev pub battle_opening : Settings → Tables → Start → Opening
 battle_opening config dex start = record {
-  no = 15 + start.number;
+  no = room_of_battle start.number;
   id = battle_id start.format start.number;
   title = battle_title (slice_index_or start.players 0 []) (slice_index_or start.players 1 []);
   config = config;

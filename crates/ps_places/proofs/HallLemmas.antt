@@ -14,7 +14,7 @@ use Rattle.ps_hall.specs.declared.entry.HallEntry.{HallEntry}
 use Rattle.ps_hall.specs.declared.game.Game.{Game}
 use Rattle.ps_hall.specs.declared.outcome.HallOut.{HallOut}
 use Rattle.ps_hall.specs.Records.{Record}
-use Rattle.ps_hall.specs.Looks.{badge_of, game_in}
+use Rattle.ps_hall.specs.Looks.{badge_of, game_in, most_battles}
 use Rattle.ps_hall.specs.Starts.{game_of, with_game, start_of_search, start_of_accept}
 use Rattle.ps_hall.specs.Steps.{forgotten_if, with_search, with_accept, reported, after_named, after_by as applied_by, applied}
 use Rattle.ps_hall.specs.Halls.{Seen, seen_opened, seen_after, run_seen, run_record, after, after_by, verdict, out_of, message, sent, view, pulled_past, cursor_past, msg_lines}
@@ -94,7 +94,7 @@ hall_stands es e old hall new s more is = rw is (record {
 state_in : (es : List HallEntry) (p : HallHome) → HallStands es p → p.hall.state ≡ hall_after p.root es
 state_in es p s = ap (λ (x : Seen). x.state) s.hall ∙ state_is (seen_opened (hall_opened p.root)) es
 
-in_range : (o : Option Start) → IfSome o IsNumber → (IfSome o (λ s. 1 ≤ s.number)) × (IfSome o (λ s. s.number ≤ 65536))
+in_range : (o : Option Start) → IfSome o IsNumber → (IfSome o (λ s. 1 ≤ s.number)) × (IfSome o (λ s. s.number ≤ most_battles))
 in_range None n = (tt, tt)
 in_range (Some s) n = n
 
@@ -102,7 +102,7 @@ pub hall_answers : (es : List HallEntry) (e : HallEntry) (p : HallHome) (out : H
 hall_answers es e p out s is fit =
     let here : p.hall.state ≡ hall_after p.root es = state_in es p s in
     let root : root_of p.hall.state ≡ p.root = ap root_of here ∙ root_run (hall_opened p.root) es in
-    let numbers : (IfSome out.start (λ s. 1 ≤ s.number)) × (IfSome out.start (λ s. s.number ≤ 65536)) = in_range out.start (subst (λ (o : HallOut). IfSome o.start IsNumber) (sym is) (numbered p.hall.state e)) in
+    let numbers : (IfSome out.start (λ s. 1 ≤ s.number)) × (IfSome out.start (λ s. s.number ≤ most_battles)) = in_range out.start (subst (λ (o : HallOut). IfSome o.start IsNumber) (sym is) (numbered p.hall.state e)) in
     record {
       is = is ∙ ap (λ (h : Record). out_of h e) here;
       fit = subst (λ (r : Root). IfSome out.start (λ s. IsFit s r.config r.dex)) root fit;

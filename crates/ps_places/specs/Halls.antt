@@ -6,6 +6,7 @@ use Rattle.ps_start.specs.Fits.{IsFit}
 use Rattle.ps_hall.specs.declared.entry.HallEntry.{HallEntry}
 use Rattle.ps_hall.specs.declared.outcome.HallOut.{HallOut}
 use Rattle.ps_hall.specs.Records.{Record, opened}
+use Rattle.ps_hall.specs.Looks.{most_battles}
 use Rattle.ps_hall.specs.Halls.{Seen, seen_opened, run_seen, run_record, out_of, view, pulled_past, cursor_past, msg_lines}
 use Rattle.ps_places.specs.declared.cursor.HallCursor.{HallCursor}
 use Rattle.ps_places.specs.declared.site.Root.{Root}
@@ -37,7 +38,7 @@ pub record HallAnswers (r : Root) (es : List HallEntry) (e : HallEntry) (out : H
   pub is : out ≡ out_of (hall_after r es) e
   pub fit : IfSome out.start (λ s. IsFit s r.config r.dex)
   pub above : IfSome out.start (λ s. 1 ≤ s.number)
-  pub below : IfSome out.start (λ s. s.number ≤ 65536)
+  pub below : IfSome out.start (λ s. s.number ≤ most_battles)
 
 -- what is pulled past a cursor after these entries, and the cursor after it
 pub record HallPulls (r : Root) (es : List HallEntry) (x : HallCursor) (msgs : List Msg) (y : HallCursor) : Type 0 where

@@ -4,11 +4,12 @@ use Rattle.std.specs.Option.{option_map}
 use Rattle.std.specs.List.{filter_map}
 use Rattle.ps_valid.specs.declared.start.Start.{Start}
 use Rattle.ps_start.specs.Fits.{IsFit}
+use Rattle.ps_hall.specs.Looks.{most_battles}
 use Rattle.ps_room.specs.declared.entry.Entry.{Entry}
 use Rattle.ps_room.specs.Openings.{Opening}
 use Rattle.ps_room.specs.Records.{opened}
 use Rattle.ps_room.specs.Rooms.{view}
-use Rattle.ps_openings.specs.Openings.{chat_opening, battle_opening, first_battle}
+use Rattle.ps_openings.specs.Openings.{chat_opening, battle_opening, first_battle, room_of_battle}
 use Rattle.ps_places.specs.declared.site.Site.{Site}
 use Rattle.ps_places.specs.declared.command.RoomCmd.{RoomCmd}
 use Rattle.ps_places.specs.declared.command.RoomCmd.TheVariants.{Begin, Play}
@@ -21,11 +22,11 @@ chat_at site = if nat_lt site.number first_battle then option_map (chat_opening 
 abbrev pub battle_at : Site → Start → Opening
 battle_at site start = battle_opening site.config site.dex start
 
--- a Begin opens the battle of a place: it has the number of the place, which is one of the 65,536 of battles, and can start there
+-- a Begin opens the battle of a place: the battle's number is one of battles, the place has the number of its room, and it can start there
 pub record Opens (site : Site) (start : Start) : Type 0 where
-  pub number : 15 + start.number ≡ site.number
+  pub number : room_of_battle start.number ≡ site.number
   pub above : 1 ≤ start.number
-  pub below : start.number ≤ 65536
+  pub below : start.number ≤ most_battles
   pub fit : IsFit start site.config site.dex
 
 -- ---- stories

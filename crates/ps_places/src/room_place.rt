@@ -3,7 +3,7 @@ ghost use Rattle.std.specs.Prelude.{◌≡◌, ◌↔◌, ◌<◌, ◌≤◌, �
 ghost use Rattle.std.specs.Arc.{arc_value};
 ghost use Rattle.ps_splitlog.specs.Reads.{read_past, cursor_past, msg_lines};
 ghost use Rattle.ps_room.specs.Logs.{record_in, seen_opened, seen_after, out_of};
-ghost use Rattle.ps_openings.specs.Openings.{chat_opening};
+ghost use Rattle.ps_openings.specs.Openings.{chat_opening, first_battle};
 ghost use Rattle.ps_places.specs.Sites.{Opens, chat_at, battle_at};
 ghost use Rattle.ps_places.specs.Rooms.{Stands, Begins, room_after, room_out};
 
@@ -15,7 +15,7 @@ use ps_base::msg::Msg;
 use ps_base::text::Text;
 use ps_dex::dex::Dex;
 use ps_histlock::Kept;
-use ps_openings::opening::{FIRST_BATTLE, battle_opening, chat_opening};
+use ps_openings::opening::{MOST_BATTLES, battle_opening, chat_opening, room_of_battle};
 use ps_room::entry::Entry;
 use ps_room::outcome::RoomOut;
 use ps_room::room::Room;
@@ -26,9 +26,6 @@ use ps_valid::start::Start;
 use std::alloc::{AllocError, Global};
 use std::marker::Model;
 use std::sync::Arc;
-
-// How many battles a server has at the most: their numbers are those from 1 to this one.
-const MOST_BATTLES: u32 = 65_536;
 
 /// The place of a chat room or of a battle. A battle's has no room until a Begin opens it.
 #[derive(Drop)]
@@ -96,9 +93,9 @@ impl RoomPlace {
         })
     }
 
-    /// The empty place of battle `number - 15`. Takes no memory.
+    /// The empty place of the battle whose room has this number. Takes no memory.
     pub fn battle(alloc: Global, config: Arc<Config>, dex: Arc<Dex>, number: u32) -> RoomPlace
-        requires { 16 ≤ number }
+        requires { first_battle ≤ number }
         ensures site { result.site ≡ record { number = number; config = arc_value config; dex = arc_value dex } }
         ensures stands { Stands [] result }
     {
@@ -119,7 +116,7 @@ impl RoomPlace {
         if start.number < 1 || start.number > MOST_BATTLES {
             return false;
         }
-        if start.number + (FIRST_BATTLE - 1) != self.number {
+        if room_of_battle(start.number) != self.number {
             return false;
         }
         is_fit(start, &self.config, &self.dex)

@@ -12,7 +12,7 @@ pub struct Root {
 
 /// The place of a room. Contracts alone speak of it: no value of it is ever made.
 pub struct Site {
-    /// Its number: a chat room's place in the configuration, from 0, or 15 and a battle's number.
+    /// Its number: a chat room's place in the configuration, from 0, or that of a battle's room (`room_of_battle` of ps_openings).
     pub number: u32,
     /// The configuration of the server.
     pub config: Config,

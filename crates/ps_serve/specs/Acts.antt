@@ -11,6 +11,7 @@ use Rattle.ps_lines.specs.declared.order.Order.TheVariants.{Hall, Room}
 use Rattle.ps_valid.specs.declared.start.Start.{Start}
 use Rattle.ps_hall.specs.declared.entry.HallEntry.{HallEntry}
 use Rattle.ps_room.specs.declared.outcome.Ending.{Ending}
+use Rattle.ps_openings.specs.Openings.{room_of_battle}
 use Rattle.ps_session.specs.Sessions.{Record, is_full, counted, with_badge}
 use Rattle.ps_session.specs.Routes.{taken, after_no_room}
 use Rattle.ps_places.specs.declared.command.RoomCmd.{RoomCmd}
@@ -109,7 +110,7 @@ hall_entries conn acts = flat_map (hall_of conn) acts
 -- a battle that starts begins at the place of its number
 abbrev pub begin_at : ℕ → Option Start → List RoomCmd
 begin_at number None = []
-begin_at number (Some start) = if 15 + start.number == number then Begin start ∷ [] else []
+begin_at number (Some start) = if room_of_battle start.number == number then Begin start ∷ [] else []
 
 abbrev pub room_made : ℕ → ℕ → ℕ → Made → List RoomCmd
 room_made conn number moment (in_hall cmd badge start) = begin_at number start
@@ -155,7 +156,7 @@ abbrev pub asked : ℕ → List Act → List (List ℕ)
 asked number acts = flat_map (asked_by number) acts
 
 abbrev pub begins_made : ℕ → Made → List Start
-begins_made number (in_hall cmd badge (Some start)) = if 15 + start.number == number then start ∷ [] else []
+begins_made number (in_hall cmd badge (Some start)) = if room_of_battle start.number == number then start ∷ [] else []
 begins_made number other = []
 
 abbrev pub begins_by : ℕ → Act → List Start

@@ -26,6 +26,7 @@ use Rattle.ps_outside.specs.declared.link.Arrival.{Arrival}
 use Rattle.ps_outside.specs.declared.link.Arrival.TheVariants as arrivals
 use Rattle.ps_laws.specs.Same.{AreSame}
 use Rattle.ps_room.specs.declared.entry.Entry.{Entry}
+use Rattle.ps_openings.specs.Openings.{room_of_battle}
 use Rattle.ps_laws.specs.Stories.{Story as World, story as world, view_of}
 use Rattle.ps_laws.specs.HallSame.{AreHallsSame}
 use Rattle.ps_laws.specs.HallStories.{HallStory, hall_story, hall_view_of}
@@ -314,7 +315,7 @@ starts_in cmds = filter_map start_in cmds
 pub record IsBegunBy (rooms : List RoomPass) (start : Start) : Type 0 where
   pub pass : RoomPass
   pub there : Contains rooms pass
-  pub place : pass.number ≡ 15 + start.number
+  pub place : pass.number ≡ room_of_battle start.number
   pub begin : starts_in (commands pass.pass.1.mine) ≡ start ∷ []
 
 -- all acts; where memory was wanting, all, or all but the last
@@ -325,7 +326,7 @@ AreSure false sure acts = sure ≡ acts
 -- it was started by an entry of the connection, and has the number of the place
 pub record IsOwnStart (t : Told) (number : ℕ) (start : Start) : Type 0 where
   pub started : Contains (all_begun t.acts) start
-  pub place : number ≡ 15 + start.number
+  pub place : number ≡ room_of_battle start.number
 
 -- Each battle that an entry of the connection started was begun, once, and no pass has another Begin. Where memory was wanting, the
 -- last Begin may be missing.

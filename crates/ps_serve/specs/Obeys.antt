@@ -7,6 +7,7 @@ use Rattle.ps_lines.specs.declared.order.Order.{Order}
 use Rattle.ps_lines.specs.declared.order.Order.TheVariants.{Hall, Room}
 use Rattle.ps_valid.specs.declared.start.Start.{Start}
 use Rattle.ps_start.specs.Fits.{IsFit}
+use Rattle.ps_hall.specs.Looks.{most_battles}
 use Rattle.ps_room.specs.declared.outcome.Ending.{Ending}
 use Rattle.ps_session.specs.Sessions.{Record, is_full}
 use Rattle.ps_session.specs.Routes.{bad_order, after_no_room}
@@ -49,7 +50,7 @@ MakesOnly hub order moment old (Some stop) new = (stop ≡ stops.NoMemory) × ((
 
 -- a battle that may begin at a hub
 abbrev pub MayStart : Hub → Start → Type 0
-MayStart hub start = (1 ≤ start.number) × (start.number ≤ 65536) × IsFit start hub.config hub.dex
+MayStart hub start = (1 ≤ start.number) × (start.number ≤ most_battles) × IsFit start hub.config hub.dex
 
 abbrev pub Begins : Hub → Start → Passes → Option Stop → Passes → Type 0
 Begins hub start old None new = Starts {T = Unit {0}} {E = Unit {0}} hub start old (Ok tt) new

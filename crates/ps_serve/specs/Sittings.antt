@@ -13,7 +13,7 @@ use Rattle.ps_room.specs.declared.outcome.RoomOut.{RoomOut}
 use Rattle.ps_histlock.specs.declared.view.Entry.{Entry}
 use Rattle.ps_histlock.specs.Histories.{commands, entry, entries_of}
 use Rattle.ps_session.specs.Sessions.{Record, begun}
-use Rattle.ps_openings.specs.Openings.{first_battle}
+use Rattle.ps_openings.specs.Openings.{first_battle, room_of_battle}
 use Rattle.ps_places.specs.declared.command.RoomCmd.{RoomCmd}
 use Rattle.ps_places.specs.declared.command.RoomCmd.TheVariants.{Play}
 use Rattle.ps_places.specs.Rooms.{Answers, Shows}
@@ -182,7 +182,7 @@ IsFrom rooms s = IsFromBy s.place rooms
 
 -- a battle that the acts began has a pass kept at its place
 abbrev pub IsBegun : List RoomPass → Start → Type 0
-IsBegun rooms start = (k : RoomPass) × Contains rooms k × (k.number ≡ 15 + start.number)
+IsBegun rooms start = (k : RoomPass) × Contains rooms k × (k.number ≡ room_of_battle start.number)
 
 -- ---- the session
 
