@@ -17,6 +17,7 @@ use Rattle.ps_hall.specs.declared.outcome.HallOut.{HallOut}
 use Rattle.ps_room.specs.declared.entry.Entry.{Entry}
 use Rattle.ps_room.specs.declared.outcome.Ending.{Ending}
 use Rattle.ps_room.specs.declared.outcome.RoomOut.{RoomOut}
+pub use Rattle.ps_room.specs.Logs.{entry_of as room_entry}
 use Rattle.ps_openings.specs.Openings.{first_battle, room_of_battle}
 use Rattle.ps_histlock.specs.declared.view.Entry.{Entry as Made}
 use Rattle.ps_histlock.specs.declared.view.View.{View}
@@ -49,9 +50,6 @@ use Rattle.ps_hub.specs.Turns.{Turns, TurnsAtLast, FallsShort, FallsShortAtLast}
 
 abbrev pub hall_entry : ℕ → ℕ → HallCmd → HallEntry
 hall_entry conn moment cmd = record { conn = conn; moment = moment; cmd = cmd }
-
-abbrev pub room_entry : ℕ → Badge → ℕ → Command → Entry
-room_entry conn badge moment cmd = record { conn = conn; badge = badge; moment = moment; cmd = cmd }
 
 -- the end of a battle that an entry of a room gave
 abbrev pub ended_in : Option RoomOut → Option Ending
