@@ -4,7 +4,7 @@ use Rattle.std.specs.Prelude.{All, Contains}
 use Rattle.std.proofs.lemmas.Bool.{cases_lt}
 use Rattle.std.proofs.lemmas.Bool.Decides.{nat_tests}
 use Rattle.std.proofs.lemmas.List.{append-nil, length-append}
-use Rattle.std.proofs.lemmas.List.Elements.{All-weaker, All-contains_itself, Contains-append_left, Contains-append_right, Contains-append_cases, filter_map-append}
+use Rattle.std.proofs.lemmas.List.Elements.{All-weaker, All-contains_itself, Contains-append_left, Contains-append_right, Contains-push, Contains-append_cases, filter_map-append}
 use mathlib.Core.List.{IsPrefix}
 use Rattle.ps_base.specs.declared.badge.Badge.{Badge}
 use Rattle.ps_lines.specs.declared.command.HallCmd.{HallCmd}
@@ -18,6 +18,7 @@ use Rattle.ps_histlock.proofs.TurnLemmas.{commands-append}
 use Rattle.ps_places.specs.declared.command.RoomCmd.{RoomCmd}
 use Rattle.ps_places.specs.declared.command.RoomCmd.TheVariants.{Begin, Play}
 use Rattle.ps_places.specs.Halls.{HallAnswers}
+use Rattle.ps_places.proofs.NumberLemmas.{numbers_rise}
 use Rattle.ps_hub.specs.Hubs.{Hub, root_of}
 use Rattle.ps_hub.specs.Calls.{hall_entry}
 use Rattle.ps_hub.specs.declared.pass.HallPass.{HallPass}
@@ -26,7 +27,7 @@ use Rattle.ps_serve.specs.Acts.{in_hall, in_room, nowhere, Act, quiet, heard, ha
 use Rattle.ps_serve.specs.Sittings.{HallGave, Gave, AreGiven, SaysNothing, LastGave, AreAlmostGiven}
 use Rattle.ps_serve.specs.Ends.{start_in, starts_in}
 use Rattle.ps_serve.proofs.Actions.{hall_more, begins_more, given_more}
-use Rattle.ps_serve.proofs.StartedLemmas.{numbers_rise}
+use Rattle.ps_serve.proofs.Rows.{contains_none}
 
 -- ---- Begins among the commands of a place
 
@@ -62,27 +63,21 @@ only_one x y c = by_index c.0 c.1 c.2 where
   by_index zero lt e = e
   by_index (suc k) lt e = absurd (omega arith)
 
-nothing_in : (y : Start) → Contains [] y → ⊥
-nothing_in y c = let lt : c.0 < 0 = c.1 in omega arith
-
-in_one : (x : Start) → Contains (x ∷ []) x
-in_one x = (0, omega arith, refl)
-
 at_its_place : (number : ℕ) (start : Start) → number ≡ 15 + start.number → Contains (cond (eqb (15 + start.number) number) (start ∷ []) []) start
-at_its_place number start e = subst (λ (b : Bool). Contains (cond b (start ∷ []) []) start) (sym (eq-eqb (15 + start.number) number (sym e))) (in_one start)
+at_its_place number start e = subst (λ (b : Bool). Contains (cond b (start ∷ []) []) start) (sym (eq-eqb (15 + start.number) number (sym e))) (Contains-push [] start)
 
 act_begins : (number : ℕ) (a : Act) (start : Start) → Contains (begun_by a) start → number ≡ 15 + start.number → Contains (begins_by number a) start
-act_begins number quiet start c e = absurd (nothing_in start c)
-act_begins number (heard bytes moment (in_hall cmd badge None)) start c e = absurd (nothing_in start c)
+act_begins number quiet start c e = contains_none start c
+act_begins number (heard bytes moment (in_hall cmd badge None)) start c e = contains_none start c
 act_begins number (heard bytes moment (in_hall cmd badge (Some s))) start c e =
     let same : s ≡ start = only_one s start c in
     subst (λ (x : Start). Contains (cond (eqb (15 + x.number) number) (x ∷ []) []) start) (sym same) (at_its_place number start e)
-act_begins number (heard bytes moment (in_room other id cmd badge ended)) start c e = absurd (nothing_in start c)
-act_begins number (heard bytes moment (nowhere asked id cmd)) start c e = absurd (nothing_in start c)
+act_begins number (heard bytes moment (in_room other id cmd badge ended)) start c e = contains_none start c
+act_begins number (heard bytes moment (nowhere asked id cmd)) start c e = contains_none start c
 
 -- a battle that was started is begun at the place of its number
 pub begun_there : (number : ℕ) (acts : List Act) (start : Start) → Contains (all_begun acts) start → number ≡ 15 + start.number → Contains (begins number acts) start
-begun_there number [] start c e = absurd (nothing_in start c)
+begun_there number [] start c e = contains_none start c
 begun_there number (a ∷ later) start c e =
     ⊎_elim
     (λ (here : Contains (begun_by a) start). Contains-append_left (begins_by number a) (begins number later) start (act_begins number a start here e))
@@ -97,18 +92,18 @@ started_if : (b : Bool) (number : ℕ) (s start : Start) → eqb (15 + s.number)
 started_if true number s start e c =
     let same : s ≡ start = only_one s start c in
     let is : 15 + s.number ≡ number = grind (arith, nat_tests) in
-    (subst (λ (x : Start). Contains (s ∷ []) x) same (in_one s), sym is ∙ ap (λ (x : Start). 15 + x.number) same)
-started_if false number s start e c = absurd (nothing_in start c)
+    (subst (λ (x : Start). Contains (s ∷ []) x) same (Contains-push [] s), sym is ∙ ap (λ (x : Start). 15 + x.number) same)
+started_if false number s start e c = contains_none start c
 
 act_started : (number : ℕ) (a : Act) (start : Start) → Contains (begins_by number a) start → IsFromAct number (begun_by a) start
-act_started number quiet start c = absurd (nothing_in start c)
-act_started number (heard bytes moment (in_hall cmd badge None)) start c = absurd (nothing_in start c)
+act_started number quiet start c = contains_none start c
+act_started number (heard bytes moment (in_hall cmd badge None)) start c = contains_none start c
 act_started number (heard bytes moment (in_hall cmd badge (Some s))) start c = started_if (eqb (15 + s.number) number) number s start refl c
-act_started number (heard bytes moment (in_room other id cmd badge ended)) start c = absurd (nothing_in start c)
-act_started number (heard bytes moment (nowhere asked id cmd)) start c = absurd (nothing_in start c)
+act_started number (heard bytes moment (in_room other id cmd badge ended)) start c = contains_none start c
+act_started number (heard bytes moment (nowhere asked id cmd)) start c = contains_none start c
 
 started_by : (number : ℕ) (acts : List Act) (start : Start) → Contains (begins number acts) start → IsFromAct number (all_begun acts) start
-started_by number [] start c = absurd (nothing_in start c)
+started_by number [] start c = contains_none start c
 started_by number (a ∷ later) start c =
     ⊎_elim
     (λ (here : Contains (begins_by number a) start). (let r = act_started number a start here in (Contains-append_left (begun_by a) (all_begun later) start r.0, r.1)))

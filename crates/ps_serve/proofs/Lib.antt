@@ -30,7 +30,6 @@ pub mod SendingLemmas
 pub mod ServedLemmas
 pub mod Sides
 pub mod StandLemmas
-pub mod StartedLemmas
 pub mod Stopped
 pub mod TakeLemmas
 pub mod TellingLemmas
