@@ -154,14 +154,14 @@ RoomEndsAtMost badge conn moment h k = QuitsRoom badge conn moment h k ⊎ ((k.n
 abbrev pub HallEndsAtMost : ℕ → ℕ → HallPass → HallPass → Type 0
 HallEndsAtMost conn moment h k = QuitsHall conn moment h k ⊎ ((k.at ≡ h.at) × ((k.pass.1 ≡ h.pass.1) ⊎ TurnsAtLast h.pass.1 None k.pass.1))
 
-held_by_some : {A : Type 0} (o : Option A) → IsSome o → (x : A) × (o ≡ Some x)
-held_by_some None is = absurd (false≢true is)
-held_by_some (Some x) is = (x, refl)
+pub some_value : {A : Type 0} (o : Option A) → IsSome o → (x : A) × (o ≡ Some x)
+some_value None is = absurd (false≢true is)
+some_value (Some x) is = (x, refl)
 
 room_ends : (hub : Hub) (badge : Option Badge) (conn moment : ℕ) (h k : RoomPass) → QuitsRoomAtMost hub badge conn moment h k → RoomEndsAtMost badge conn moment h k
 room_ends hub badge conn moment h k q =
     let quit = Play (room_entry conn q.1 moment room_commands.Quit) in
-    let held = held_by_some h.id q.0 in
+    let held = some_value h.id q.0 in
     ⊎_elim
     (λ (e : k.pass.1 ≡ h.pass.1). inr (q.5, q.6, q.4, inl e))
     (λ (rest : TurnsAtLast h.pass.1 None k.pass.1 ⊎ TurnsAtLast h.pass.1 (Some quit) k.pass.1). ⊎_elim

@@ -15,9 +15,6 @@ use Rattle.ps_hub.specs.Hubs.{Hub, site_of, lock_of, name_of, AreAt}
 use Rattle.ps_hub.specs.Names.{IsNoChat, IsBattleId, Names}
 use Rattle.ps_hub.specs.Calls.{NamesNone}
 
-site_at : Settings → Tables → ℕ → Site
-site_at config dex number = record { number = number; config = config; dex = dex }
-
 -- the origin of the lock at a place
 pub origin_at : (config : Settings) (dex : Tables) (first : ℕ) (ls : List (TableId × Site)) (i : ℕ) (l : TableId × Site) → AreAt config dex first ls → slice_get ls i ≡ Some l → l.1 ≡ record { number = first + i; config = config; dex = dex }
 origin_at config dex first [] i l are e = absurd (none-some l e)

@@ -1,5 +1,5 @@
 -- The parts of the id of a battle.
-use Rattle.std.proofs.Common.{◌≡◌, ◌≢◌, ℕ, ◌+◌, ◌%◌, ◌<◌, ◌≤◌, ◌^◌, ◌==◌, Bool, true, false, if◌then◌else◌, List, [], ◌∷◌, ◌++◌, length, drop, codes, Option, Some, None, refl, sym, ap, ◌∙◌, inl, inr, arith, append_assoc}
+use Rattle.std.proofs.Common.{◌≡◌, ◌≢◌, ℕ, ◌+◌, ◌%◌, ◌<◌, ◌≤◌, ◌^◌, ◌==◌, Bool, true, false, if◌then◌else◌, List, [], ◌∷◌, ◌++◌, length, drop, codes, Option, Some, None, refl, sym, ap, ◌∙◌, inl, inr, arith, append_assoc, eq-eqb, ne_eqb}
 use Rattle.std.specs.Prelude.{All, IfNone, slice_get}
 use Rattle.std.specs.Fmt.{decimal}
 use Rattle.std.proofs.lemmas.Bool.Decides.{eqb_tells}
@@ -14,10 +14,10 @@ use Rattle.ps_lines.specs.Parts.{before_parts, later_or_here, at_last}
 use Rattle.ps_hub.specs.Names.{IsChatId, IsBattleId, IsFirstChat, IsNoChat, Names}
 
 same_byte : (c : ℕ) → (c == c) ≡ true
-same_byte c = elim (eqb_tells c c) [ inl h ↦ h.0 | inr h ↦ absurd (h.1 refl) ]
+same_byte c = eq-eqb c c refl
 
 other_byte : (b c : ℕ) → b ≢ c → (b == c) ≡ false
-other_byte b c h = elim (eqb_tells b c) [ inl e ↦ absurd (h e.1) | inr e ↦ e.0 ]
+other_byte b c h = ne_eqb b c h
 
 -- ---- the last of a byte
 

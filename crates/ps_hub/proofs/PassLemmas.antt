@@ -24,6 +24,7 @@ use Rattle.ps_places.specs.Rooms.{cursor_of, Answers, Pulls, Shows, StandsAt}
 use Rattle.ps_places.specs.Halls.{hall_cursor, HallAnswers, HallPulls, HallShows, HallStandsAt}
 use Rattle.ps_places.proofs.GoOnLemmas.{pulls_go_on}
 use Rattle.ps_places.proofs.HallLemmas.{hall_goes_on}
+use Rattle.ps_places.proofs.StandLemmas.{no_chat}
 use Rattle.ps_places.proofs.TellLemmas.{tells_more, going_on}
 use Rattle.ps_hub.specs.Hubs.{Hub, root_of, site_of, lock_of}
 use Rattle.ps_hub.specs.Names.{IsChatId, Names}
@@ -233,9 +234,6 @@ chat_held hub h id names low =
 id_of_cursor : (conn : ℕ) (told : Option Story) (n : ℕ) → (cursor_of conn told n).id ≡ id_told told
 id_of_cursor conn None n = refl
 id_of_cursor conn (Some s) n = refl
-
-no_chat : (site : Site) → 16 ≤ site.number → chat_at site ≡ None
-no_chat site high = let test : nat_lt site.number 16 ≡ false = grind (arith, nat_tests) in rw test refl
 
 -- the id that a cursor behind the commands of a battle's place has is that of the battle
 known_id : (conn : ℕ) (site : Site) (cmds : List RoomCmd) (x : RoomCursor) → 16 ≤ site.number → StandsAt conn site cmds x → (told : Option Story) × Tells site cmds told × (id_told told ≡ x.id)

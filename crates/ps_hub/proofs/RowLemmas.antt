@@ -39,19 +39,21 @@ get_set (z ∷ xs) (suc i) x y e = get_set xs i x y e
 
 -- ---- what is true of each
 
-all_seam : {A : Type 0} (P : A → Type 0) (xs : List A) (x : A) (ys : List A) → All P xs → P x → All P ys → All P (xs ++ x ∷ ys)
-all_seam P xs x ys front here back = All-append P xs (x ∷ ys) front (All-cons P x ys here back)
-
-all_left : {A : Type 0} (P : A → Type 0) (xs ys : List A) → All P (xs ++ ys) → All P xs
+pub all_left : {A : Type 0} (P : A → Type 0) (xs ys : List A) → All P (xs ++ ys) → All P xs
 all_left P xs ys all = subst (All P) (take_at xs ys (length xs) refl) (All-take P (length xs) (xs ++ ys) all)
 
-all_right : {A : Type 0} (P : A → Type 0) (xs ys : List A) → All P (xs ++ ys) → All P ys
+pub all_right : {A : Type 0} (P : A → Type 0) (xs ys : List A) → All P (xs ++ ys) → All P ys
 all_right P xs ys all = subst (All P) (drop_at xs ys (length xs) refl) (All-drop P (length xs) (xs ++ ys) all)
 
+pub all_at : {A : Type 0} (P : A → Type 0) (xs : List A) (x : A) (ys : List A) → All P (xs ++ x ∷ ys) → P x
+all_at P xs x ys all = All-head P x ys (all_right P xs (x ∷ ys) all)
+
+-- one is added, or put in the place of another
+pub all_add : {A : Type 0} (P : A → Type 0) (xs : List A) (x : A) (ys : List A) → P x → All P (xs ++ ys) → All P (xs ++ x ∷ ys)
+all_add P xs x ys here all = All-append P xs (x ∷ ys) (all_left P xs ys all) (All-cons P x ys here (all_right P xs ys all))
+
 pub at_place : {A : Type 0} (P : A → Type 0) (xs : List A) (i : ℕ) (x : A) → slice_get xs i ≡ Some x → All P xs → P x
-at_place P xs i x e all =
-    let parts : All P (take i xs ++ x ∷ drop (suc i) xs) = subst (All P) (parted xs i x e).0 all in
-    All-head P x (drop (suc i) xs) (all_right P (take i xs) (x ∷ drop (suc i) xs) parts)
+at_place P xs i x e all = all_at P (take i xs) x (drop (suc i) xs) (subst (All P) (parted xs i x e).0 all)
 
 pub after_set : {A : Type 0} (P : A → Type 0) (xs : List A) (i : ℕ) (y : A) → P y → All P xs → All P (slice_set xs i y)
 after_set P xs i y here all = All-set P xs i y here all
@@ -132,7 +134,7 @@ are_as_before hub old new are same =
 pub kept_pass : (hub : Hub) (number place : ℕ) (old : Passes) (k : RoomPass) (new : Passes) → AreOf hub old → Keeps hub number place old k new → IsRoomPass hub old.conn k
 kept_pass hub number place old k new are keeps =
     ⊎_elim
-    (λ (was : old.rooms.items ≡ keeps.before ++ k ∷ keeps.behind). All-head (IsRoomPass hub old.conn) k keeps.behind (all_right (IsRoomPass hub old.conn) keeps.before (k ∷ keeps.behind) (subst (All (IsRoomPass hub old.conn)) was are.rooms)))
+    (λ (was : old.rooms.items ≡ keeps.before ++ k ∷ keeps.behind). all_at (IsRoomPass hub old.conn) keeps.before k keeps.behind (subst (All (IsRoomPass hub old.conn)) was are.rooms))
     (λ (new_one : (old.rooms.items ≡ keeps.before ++ keeps.behind) × All (λ (other : RoomPass). other.number ≢ number) old.rooms.items × IsNewPass hub old.conn number k). room_new hub old.conn number k new_one.2)
     keeps.was
 
@@ -142,8 +144,7 @@ kept_rooms hub number place old k new are keeps =
     subst (All P) (sym keeps.is) (⊎_elim
     (λ (was : old.rooms.items ≡ keeps.before ++ k ∷ keeps.behind). subst (All P) was are.rooms)
     (λ (new_one : (old.rooms.items ≡ keeps.before ++ keeps.behind) × All (λ (other : RoomPass). other.number ≢ number) old.rooms.items × IsNewPass hub old.conn number k).
-    let all : All P (keeps.before ++ keeps.behind) = subst (All P) new_one.0 are.rooms in
-    all_seam P keeps.before k keeps.behind (all_left P keeps.before keeps.behind all) (room_new hub old.conn number k new_one.2) (all_right P keeps.before keeps.behind all))
+    all_add P keeps.before k keeps.behind (room_new hub old.conn number k new_one.2) (subst (All P) new_one.0 are.rooms))
     keeps.was)
 
 pub are_kept : (hub : Hub) (number place : ℕ) (old : Passes) (k : RoomPass) (new : Passes) → AreOf hub old → Keeps hub number place old k new → AreOf hub new

@@ -30,7 +30,7 @@ chat_stands o p chat room count = record {
   count = count;
 }
 
-no_chat : (site : Site) → 16 ≤ site.number → chat_at site ≡ None
+pub no_chat : (site : Site) → 16 ≤ site.number → chat_at site ≡ None
 no_chat site high = let not : nat_lt site.number 16 ≡ false = grind (arith, nat_tests) in rw not refl
 
 pub battle_stands : (p : Place) → 16 ≤ p.site.number → p.room ≡ None → p.count ≡ 0 → Stands [] p

@@ -34,14 +34,12 @@ use Rattle.ps_hall.specs.Lines.{challstr_line, guest_line, formats_line, user_li
 use Rattle.ps_hall.specs.Steps.{applied}
 use Rattle.ps_hall.specs.Told.{notice, to_conn, to_user, told_of_name, told_partners, told_of_quit, told_matched, told_both, told_of_cancel_challenge, accept_lines, told_whisper, rating_lines, told_player, told_of_report, told_of_named, told_by, told}
 use Rattle.ps_hall.specs.Halls.{verdict, after, notices_by, notices, lines_for, message_of, message, sent, view}
+use Rattle.ps_serve.specs.Ends.{IsOfHall}
 
 -- a line that begins with `|`
-abbrev pub IsBar : List ℕ → Type 0
-IsBar line = (rest : List ℕ) × (line ≡ 124 ∷ rest)
-
 abbrev Bars : List (List ℕ) → Type 0
 Bars [] = Unit {0}
-Bars (line ∷ lines) = IsBar line × Bars lines
+Bars (line ∷ lines) = IsOfHall line × Bars lines
 
 abbrev AllBars : List Notice → Type 0
 AllBars [] = Unit {0}
@@ -51,32 +49,32 @@ AllBars (n ∷ ns) = Bars n.lines × AllBars ns
 abbrev pub IsBarred : List (List ℕ) → Type 0
 IsBarred m = (rest : List ℕ) × (lines : List (List ℕ)) × (m ≡ (124 ∷ rest) ∷ lines)
 
-longer : (x y : List ℕ) → IsBar x → IsBar (x ++ y)
+longer : (x y : List ℕ) → IsOfHall x → IsOfHall (x ++ y)
 longer x y b = (b.0 ++ y, ap (λ (l : List ℕ). l ++ y) b.1)
 
 -- ---- lines
 
-challstr_bar : (nonce : List ℕ) (conn : ℕ) → IsBar (challstr_line nonce conn)
+challstr_bar : (nonce : List ℕ) (conn : ℕ) → IsOfHall (challstr_line nonce conn)
 challstr_bar nonce conn = longer (codes "|challstr|") (challstr_of nonce conn) (codes "challstr|", refl)
 
-guest_bar : (conn : ℕ) → IsBar (guest_line conn)
+guest_bar : (conn : ℕ) → IsOfHall (guest_line conn)
 guest_bar conn = longer (codes "|updateuser| Guest " ++ decimal conn) (codes "|0|0|{}") (longer (codes "|updateuser| Guest ") (decimal conn) (codes "updateuser| Guest ", refl))
 
-formats_bar : (fs : List Format) → IsBar (formats_line fs)
+formats_bar : (fs : List Format) → IsOfHall (formats_line fs)
 formats_bar fs = longer (codes "|formats|") (join_with_byte 124 (map (λ (f : Format). f.name) fs)) (codes "formats|", refl)
 
-user_bar : (groups : List Group) (badge : Badge) → IsBar (user_line groups badge)
+user_bar : (groups : List Group) (badge : Badge) → IsOfHall (user_line groups badge)
 user_bar groups badge = longer (codes "|updateuser|" ++ sname groups badge.rank badge.name) (codes "|1|0|{}") (longer (codes "|updateuser|") (sname groups badge.rank badge.name) (codes "updateuser|", refl))
 
-search_bar : (gs : List Game) (ss : List Waiting) (id : List ℕ) → IsBar (search_line gs ss id)
+search_bar : (gs : List Game) (ss : List Waiting) (id : List ℕ) → IsOfHall (search_line gs ss id)
 unfolding search_line
 search_bar gs ss id = longer (codes "|updatesearch|") _ (codes "updatesearch|", refl)
 
-challenge_bar : (asked : List Asked) (id : List ℕ) → IsBar (challenge_line asked id)
+challenge_bar : (asked : List Asked) (id : List ℕ) → IsOfHall (challenge_line asked id)
 unfolding challenge_line
 challenge_bar asked id = longer (codes "|updatechallenges|") _ (codes "updatechallenges|", refl)
 
-whisper_bar : (groups : List Group) (from to : Badge) (text : List ℕ) → IsBar (whisper_line groups from to text)
+whisper_bar : (groups : List Group) (from to : Badge) (text : List ℕ) → IsOfHall (whisper_line groups from to text)
 whisper_bar groups from to text =
     let one = codes "|pm|" ++ sname groups from.rank from.name in
     let two = one ++ codes "|" in
@@ -84,7 +82,7 @@ whisper_bar groups from to text =
     let four = three ++ codes "|" in
     longer four text (longer three (codes "|") (longer two (sname groups to.rank to.name) (longer one (codes "|") (longer (codes "|pm|") (sname groups from.rank from.name) (codes "pm|", refl)))))
 
-rating_bar : (id format : List ℕ) (rating : ℤ) → IsBar (rating_line id format rating)
+rating_bar : (id format : List ℕ) (rating : ℤ) → IsOfHall (rating_line id format rating)
 rating_bar id format rating =
     let one = codes "|popup|" ++ id in
     let two = one ++ codes " " in
@@ -92,21 +90,21 @@ rating_bar id format rating =
     let four = three ++ codes " " in
     longer four (signed_decimal rating) (longer three (codes " ") (longer two format (longer one (codes " ") (longer (codes "|popup|") id (codes "popup|", refl)))))
 
-popup_bar : (reason : HallWhy) → IsBar (popup_line reason)
+popup_bar : (reason : HallWhy) → IsOfHall (popup_line reason)
 popup_bar reason =
     let one = codes "|popup|[" ++ hall_why_name reason in
     let two = one ++ codes "]" in
     longer two (popup_end reason) (longer one (codes "]") (longer (codes "|popup|[") (hall_why_name reason) (codes "popup|[", refl)))
 
-taken_by_bar : (name : Option (List ℕ)) → IsBar (taken_by name)
+taken_by_bar : (name : Option (List ℕ)) → IsOfHall (taken_by name)
 taken_by_bar None = popup_bar why.NameTaken
 taken_by_bar (Some name) = longer (codes "|nametaken|" ++ name) (codes "|[NameTaken]") (longer (codes "|nametaken|") name (codes "nametaken|", refl))
 
-taken_bar : (cmd : HallCmd) → IsBar (taken_line cmd)
+taken_bar : (cmd : HallCmd) → IsOfHall (taken_line cmd)
 taken_bar (Name name assertion) = taken_by_bar (read_of name)
 taken_bar other = popup_bar why.NameTaken
 
-refused_bar : (reason : HallWhy) (cmd : HallCmd) → IsBar (refused_line reason cmd)
+refused_bar : (reason : HallWhy) (cmd : HallCmd) → IsOfHall (refused_line reason cmd)
 refused_bar why.NameTaken cmd = taken_bar cmd
 refused_bar reason cmd = popup_bar reason
 
@@ -149,7 +147,7 @@ cancel_bars online asked conn me (Some a) = both_ends online asked conn me a.to
 accept_bars : (gs : List Game) (ss : List Waiting) (asked : List Asked) (id : List ℕ) → Bars (accept_lines gs ss asked id)
 accept_bars gs ss asked id = (challenge_bar asked id, (search_bar gs ss id, tt))
 
-ends_bars : (b : Bool) (conn other : ℕ) (line : List ℕ) → IsBar line → AllBars (cond b (notice conn (line ∷ []) ∷ []) (notice conn (line ∷ []) ∷ notice other (line ∷ []) ∷ []))
+ends_bars : (b : Bool) (conn other : ℕ) (line : List ℕ) → IsOfHall line → AllBars (cond b (notice conn (line ∷ []) ∷ []) (notice conn (line ∷ []) ∷ notice other (line ∷ []) ∷ []))
 ends_bars true conn other line bar = ((bar, tt), tt)
 ends_bars false conn other line bar = ((bar, tt), ((bar, tt), tt))
 

@@ -5,6 +5,7 @@ use Rattle.ps_openings.specs.Openings.{first_battle}
 use Rattle.ps_lines.specs.declared.command.Command.{Command}
 use Rattle.ps_hall.specs.declared.entry.HallEntry.{HallEntry}
 use Rattle.ps_histlock.specs.Histories.{commands, entry, entries_of}
+use Rattle.ps_histlock.proofs.Lists.{prefix_length}
 use Rattle.ps_places.specs.declared.command.RoomCmd.TheVariants.{Play}
 use Rattle.ps_places.specs.Halls.{HallShows}
 use Rattle.ps_hub.specs.Hubs.{Hub, root_of}
@@ -15,7 +16,7 @@ use Rattle.ps_hub.specs.declared.pass.RoomPass.{RoomPass}
 use Rattle.ps_serve.specs.Acts.{Made, in_hall, in_room, nowhere, Act, quiet, heard, since, hall_entries, room_cmds}
 use Rattle.ps_serve.specs.Sendings.{Sending, AreLooksAnswered}
 use Rattle.ps_serve.specs.Sittings.{IsSent, HasOpen, RoomGave, IsUnfound, IsOthers, IsNowhere, GaveMade, Gave, AreGiven, SaysNothing, LastGave, AreAlmostGiven}
-use Rattle.ps_serve.proofs.Prefixes.{prefix_trans, prefix_commands, prefix_longer, sent_grows, looks_grow}
+use Rattle.ps_serve.proofs.Prefixes.{prefix_trans, prefix_commands, sent_grows, looks_grow}
 use Rattle.ps_serve.proofs.Rows.{IsKin, Grows}
 use Rattle.ps_serve.proofs.Moves.{Moves}
 
@@ -43,7 +44,7 @@ pub record IsHall (hub : Hub) (conn open_at : ℕ) (made : List HallEntry) (look
 pub hall_moved : (hub : Hub) (conn open_at : ℕ) (made : List HallEntry) (looked : ℕ) (ss : List Sending) (h : HallPass) (more : List HallEntry) (k : HallPass) → k.at ≡ h.at → Moves h.pass.1 more k.pass.1 → IsHall hub conn open_at made looked ss h → IsHall hub conn open_at (made ++ more) looked ss k
 hall_moved hub conn open_at made looked ss h more k at m p =
     let grown : IsPrefix (commands h.pass.1.seen) (commands k.pass.1.seen) = prefix_commands h.pass.1.seen k.pass.1.seen m.seen in
-    let longer : length (commands h.pass.1.seen) ≤ length (commands k.pass.1.seen) = prefix_longer _ _ grown in
+    let longer : length (commands h.pass.1.seen) ≤ length (commands k.pass.1.seen) = prefix_length _ _ grown in
     let within : h.at ≤ length (commands h.pass.1.seen) = p.within in
     record {
       entries = m.mine ∙ ap (λ l. l ++ more) p.entries;

@@ -1,6 +1,6 @@
 -- Each text that was sent tells its place by its first line.
-use Rattle.std.proofs.Common.{◌≡◌, ℕ, ◌<◌, Bool, true, false, zero, suc, List, [], ◌∷◌, ◌++◌, map, length, take, get_or, eq-eqb, Option, Some, None, refl, ap, sym, ◌∙◌, subst, arith}
-use Rattle.std.specs.Prelude.{All, Contains, IsSome, IfSome}
+use Rattle.std.proofs.Common.{◌≡◌, ℕ, ◌<◌, Bool, true, false, zero, suc, List, [], ◌∷◌, ◌++◌, map, length, take, get_or, Option, Some, None, refl, ap, sym, ◌∙◌, subst, arith}
+use Rattle.std.specs.Prelude.{All, Contains, IfSome}
 use Rattle.std.specs.List.{cons_option}
 use Rattle.std.proofs.lemmas.List.Elements.{All-contains, Contains-get_or, Contains-append_left, Contains-append_right}
 use mathlib.Core.List.{IsPrefix}
@@ -12,9 +12,11 @@ use Rattle.ps_hub.specs.Hubs.{Hub, root_of, site_of}
 use Rattle.ps_hub.specs.Names.{Names}
 use Rattle.ps_hub.specs.declared.pass.HallPass.{HallPass}
 use Rattle.ps_hub.specs.declared.pass.RoomPass.{RoomPass}
-use Rattle.ps_serve.specs.Sendings.{Sending, is_place, text_if, text_from, texts_from, message_text, message_texts}
+use Rattle.ps_hub.proofs.CallLemmas.{some_value}
+use Rattle.ps_serve.specs.Sendings.{Sending, text_if, text_from, texts_from, message_text, message_texts}
 use Rattle.ps_serve.specs.Sittings.{IsFromBy, IsFrom}
 use Rattle.ps_serve.proofs.BarLemmas.{IsBarred, view_barred}
+use Rattle.ps_serve.proofs.SendingLemmas.{is_place_self}
 use Rattle.ps_serve.specs.Ends.{Told, IsSentSo, HallSent, RoomSent, IsOfRoom, IsOfHall, IsLabelledBy, IsLabelled}
 
 -- ---- members of lists
@@ -40,12 +42,8 @@ push_option (Some x) xs y c = later_in x xs y c
 
 -- ---- the texts of a place
 
-same_place : (place : Option ℕ) → is_place place place ≡ true
-same_place None = refl
-same_place (Some n) = eq-eqb n n refl
-
 text_there : (s : Sending) (ss : List Sending) → Contains (texts_from s.place (s ∷ ss)) s.text
-text_there s ss = subst (λ (b : Bool). Contains (cons_option (text_if b s) (texts_from s.place ss)) s.text) (sym (same_place s.place)) (first_in s.text (texts_from s.place ss))
+text_there s ss = subst (λ (b : Bool). Contains (cons_option (text_if b s) (texts_from s.place ss)) s.text) (sym (is_place_self s.place)) (first_in s.text (texts_from s.place ss))
 
 pub text_in : (ss : List Sending) (s : Sending) → Contains ss s → Contains (texts_from s.place ss) s.text
 text_in [] s c = absurd (let lt : c.0 < 0 = c.1 in omega arith)
@@ -73,17 +71,13 @@ module _ {C : Type 0} (shows : List C → List (List (List ℕ)) → Type 0) whe
 
 -- ---- rooms
 
-some_id : (o : Option (List ℕ)) → IsSome o → (id : List ℕ) × (o ≡ Some id)
-some_id None held = absurd (cc)
-some_id (Some id) held = (id, refl)
-
 -- what is known of the pass of a room
 abbrev pub IsKnown : Bool → Hub → ℕ → Told → RoomPass → Type 0
 IsKnown b hub conn t k = RoomSent b hub conn t k × IfSome k.id (λ id. Names hub.config id k.number)
 
 of_room : (b : Bool) (hub : Hub) (conn : ℕ) (t : Told) (rooms : List RoomPass) (number : ℕ) (text : List ℕ) → All (IsKnown b hub conn t) rooms → IsFromBy (Some number) rooms → Contains (texts_from (Some number) t.sendings) text → IsOfRoom hub rooms number text
 of_room b hub conn t rooms number text known (k, there, place, held) c =
-    let i = some_id k.id held in
+    let i = some_value k.id held in
     let facts = All-contains (IsKnown b hub conn t) rooms k known there in
     let sent = subst (λ (o : Option (List ℕ)). IsSentSo (Shows conn (site_of hub k.number)) b (commands k.pass.1.seen) k.at o (Some k.number) t.sendings) i.1 facts.0 in
     let named : Names hub.config i.0 k.number = subst (λ (o : Option (List ℕ)). IfSome o (λ id. Names hub.config id k.number)) i.1 facts.1 in

@@ -39,10 +39,6 @@ use Rattle.ps_serve.proofs.RoomOrders.{AtRoom, hall_from, reach_quiet, reach_hal
 not_stop : {P : Type 0} → (stop : Stop) → None ≡ Some stop → P
 not_stop stop e = absurd (true≢false (sym (ap is_some e)))
 
-pub badge_of : (o : Option Badge) → IsSome o → (b : Badge) × (o ≡ Some b)
-badge_of None some = absurd (true≢false (sym some))
-badge_of (Some b) some = (b, refl)
-
 -- an uncounted text leaves the badge
 badge_if : (b : Bool) (r with_one : Record) → with_one.badge ≡ r.badge → (if b then r else with_one).badge ≡ r.badge
 badge_if true r with_one e = refl

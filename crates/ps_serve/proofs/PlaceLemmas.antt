@@ -1,7 +1,6 @@
 -- What telling makes of the place of a room and of the hall.
-use Rattle.std.proofs.Common.{◌≡◌, ℕ, suc, ◌+◌, ◌-◌, ◌≤◌, Bool, true, false, List, [], ◌∷◌, ◌++◌, length, take, Option, Some, None, ap, sym, ◌∙◌, subst, cond, arith}
+use Rattle.std.proofs.Common.{◌≡◌, ℕ, ◌+◌, ◌-◌, ◌≤◌, Bool, true, false, List, [], ◌∷◌, ◌++◌, length, take, Option, Some, None, ap, sym, ◌∙◌, subst, arith}
 use Rattle.std.specs.Prelude.{All, IsSome}
-use Rattle.std.proofs.lemmas.List.{length-append, length-map}
 use Rattle.std.proofs.lemmas.Grind.{flat_map-append}
 use Rattle.ps_base.specs.declared.msg.Msg.{Msg}
 use mathlib.Core.List.{IsPrefix}
@@ -21,9 +20,11 @@ use Rattle.ps_hub.specs.Hubs.{Hub, root_of, site_of}
 use Rattle.ps_hub.specs.Calls.{HallCaught, Caught}
 use Rattle.ps_hub.specs.declared.pass.HallPass.{HallPass}
 use Rattle.ps_hub.specs.declared.pass.RoomPass.{RoomPass}
-use Rattle.ps_serve.specs.Acts.{Act, is_at, since, hall_of, hall_entries, room_of, room_cmds}
+use Rattle.ps_hub.proofs.ToldLemmas.{length-commands}
+use Rattle.ps_serve.specs.Acts.{Act, since, hall_of, hall_entries, room_of, room_cmds}
 use Rattle.ps_serve.specs.Sendings.{Sending, texts_from}
 use Rattle.ps_serve.specs.Sittings.{IsSent, IsPartSent, HallSits, RoomWaits, SitsBy, PlaceSits, IsAs, HallLeft, LooksLeft, PlaceLeft}
+use Rattle.ps_serve.proofs.ActLemmas.{acts_length, since_within}
 use Rattle.ps_serve.proofs.Prefixes.{prefix_same, prefix_front, prefix_commands}
 use Rattle.ps_serve.proofs.LookLemmas.{Looked, looked, one_look_more, IsOne, handed, sent_more, part_sent, still_sent, sent_apart, whole_part, looks_stay, looks_more, all_answered, almost_answered}
 use Rattle.ps_serve.proofs.Goings.{Goes}
@@ -36,11 +37,6 @@ hall_one conn r cmds one two a b = a ∙ sym b
 
 room_one : (conn : ℕ) (site : Site) → IsOne (Shows conn site)
 room_one conn site cmds one two a b = a.2 ∙ ap (view_told conn) (one_story site cmds a.0 b.0 a.1 b.1) ∙ sym b.2
-
--- ---- the commands that a pass has seen
-
-commands_length : {C : Type 0} (xs : List (Entry C)) → length (commands xs) ≡ length xs
-commands_length xs = length-map xs (λ e. e.cmd)
 
 -- ---- a pass that had a look
 
@@ -57,7 +53,7 @@ pub hall_tells : (hub : Hub) (conn : ℕ) (acts : List Act) (m : ℕ) (ss news :
 hall_tells hub conn acts m ss news h k msgs sits caught from time =
     let l : Looked h.pass.1 k.pass.1 caught.0.0 = looked h.pass.1 k.pass.1 h.cursor.passed caught.0 in
     let now = sent_more (HallShows conn (root_of hub)) (commands h.pass.1.seen) h.at None None ss news msgs (commands k.pass.1.seen) k.at (handed (HallShows conn (root_of hub)) (hall_one conn (root_of hub)) (commands h.pass.1.seen) h.at None None ss msgs (commands k.pass.1.seen) k.at sits.sent caught.1) from in
-    let within : caught.0.0 ≤ length (commands k.pass.1.seen) = omega (arith, caught.0.2, commands_length k.pass.1.seen) in
+    let within : caught.0.0 ≤ length (commands k.pass.1.seen) = omega (arith, caught.0.2, length-commands k.pass.1.seen) in
     record {
       entries = ap (λ (es : List (Entry HallEntry)). commands es) l.mine ∙ sits.entries;
       count = one_look_more h.pass.1 k.pass.1 caught.0.0 l ∙ ap (λ (n : ℕ). n + 1) sits.count;
@@ -75,7 +71,7 @@ hall_sits_on hub conn acts m ss news h sits others = record {
 }
 
 pub hall_up : (hub : Hub) (conn : ℕ) (h k : HallPass) (msgs : List Msg) → HallCaught hub conn msgs h k → k.at ≡ length k.pass.1.seen
-hall_up hub conn h k msgs caught = caught.1.end ∙ commands_length k.pass.1.seen
+hall_up hub conn h k msgs caught = caught.1.end ∙ length-commands k.pass.1.seen
 
 -- ---- a place, all told
 
@@ -86,14 +82,6 @@ as_was h k = record k { number = h.number; id = h.id }
 pub as_is : (h k : RoomPass) → k.number ≡ h.number → k.id ≡ h.id → as_was h k ≡ k
 as_is h k number id = λ i. record k { number = sym number i; id = sym id i }
 
-since_by : (b : Bool) (a : Act) (others rest : List Act) → length rest ≤ length others → length (cond b (a ∷ others) rest) ≤ suc (length others)
-since_by true a others rest le = omega arith
-since_by false a others rest le = omega arith
-
-since_length : (number : ℕ) (acts : List Act) → length (since number acts) ≤ length acts
-since_length number [] = omega arith
-since_length number (a ∷ others) = since_by (is_at number a) a others (since number others) (since_length number others)
-
 absent : {P : Type 0} → false ≡ true → P
 absent e = absurd (cc)
 
@@ -102,7 +90,7 @@ held_tells : (hub : Hub) (conn : ℕ) (acts : List Act) (m : ℕ) (ss news : Lis
 held_tells hub conn acts m ss news h k n None held sits l now end within time last = absent held
 held_tells hub conn acts m ss news h k n (Some id) held sits l now end within time last =
     let more = one_look_more h.pass.1 k.pass.1 n l in
-    let short = since_length h.number acts in
+    let short = since_within h.number acts in
     let before = sits.count in
     record {
       count = omega arith;
@@ -115,12 +103,12 @@ pub place_tells : (hub : Hub) (conn : ℕ) (acts : List Act) (m : ℕ) (ss news 
 place_tells hub conn acts m ss news h k msgs sits held caught number id from time last =
     let l : Looked h.pass.1 k.pass.1 caught.0.0 = looked h.pass.1 k.pass.1 h.cursor.passed caught.0 in
     let now = sent_more (Shows conn (site_of hub h.number)) (commands h.pass.1.seen) h.at h.id (Some h.number) ss news msgs (commands k.pass.1.seen) k.at (handed (Shows conn (site_of hub h.number)) (room_one conn (site_of hub h.number)) (commands h.pass.1.seen) h.at h.id (Some h.number) ss msgs (commands k.pass.1.seen) k.at sits.1 caught.1) from in
-    let within : caught.0.0 ≤ length (commands k.pass.1.seen) = omega (arith, caught.0.2, commands_length k.pass.1.seen) in
+    let within : caught.0.0 ≤ length (commands k.pass.1.seen) = omega (arith, caught.0.2, length-commands k.pass.1.seen) in
     subst (PlaceSits hub conn acts (m + 1) (ss ++ news)) (as_is h k number id)
     (ap (λ (es : List (Entry RoomCmd)). commands es) l.mine ∙ sits.0, now, held_tells hub conn acts m ss news h k caught.0.0 h.id held sits.2 l now caught.1.end within time last)
 
 pub place_up : (hub : Hub) (conn : ℕ) (h k : RoomPass) (msgs : List Msg) → Caught hub conn msgs h k → k.at ≡ length k.pass.1.seen
-place_up hub conn h k msgs caught = caught.1.end ∙ commands_length k.pass.1.seen
+place_up hub conn h k msgs caught = caught.1.end ∙ length-commands k.pass.1.seen
 
 -- ---- a place from which nothing was sent now
 
@@ -155,13 +143,10 @@ hall_early conn acts a = subst (IsPrefix (hall_entries conn acts)) (sym (flat_ma
 room_early : (conn number : ℕ) (acts : List Act) (a : Act) → IsPrefix (room_cmds conn number acts) (room_cmds conn number (acts ++ a ∷ []))
 room_early conn number acts a = subst (IsPrefix (room_cmds conn number acts)) (sym (flat_map-append (room_of conn number) acts (a ∷ []))) (prefix_front (room_cmds conn number acts) (room_cmds conn number (a ∷ [])))
 
-one_act_more : (acts : List Act) (a : Act) → length (acts ++ a ∷ []) ≡ length acts + 1
-one_act_more acts a = length-append acts (a ∷ [])
-
 -- where all was told so far
 pub hall_left : (whole : Bool) (hub : Hub) (conn : ℕ) (acts : List Act) (a : Act) (ss : List Sending) (h : HallPass) → HallSits hub conn (acts ++ a ∷ []) (length acts + 1) ss h → HallLeft whole hub conn acts (acts ++ a ∷ []) ss h
 hall_left whole hub conn acts a ss h sits =
-    let more = one_act_more acts a in
+    let more = acts_length acts a in
     let count = sits.count in
     record {
       entries = as_all whole (hall_entries conn acts) (commands h.pass.1.mine) (hall_entries conn (acts ++ a ∷ [])) (hall_early conn acts a) sits.entries;
@@ -173,7 +158,7 @@ hall_left whole hub conn acts a ss h sits =
 pub hall_left_late : (whole : Bool) (hub : Hub) (conn : ℕ) (acts : List Act) (a : Act) (ss news : List Sending) (h k : HallPass) (n : ℕ) → HallSits hub conn (acts ++ a ∷ []) (length acts) ss h → Looked h.pass.1 k.pass.1 n → IsPartSent (HallShows conn (root_of hub)) (commands k.pass.1.seen) k.at None None (ss ++ news)
     → HallLeft whole hub conn acts (acts ++ a ∷ []) (ss ++ news) k
 hall_left_late whole hub conn acts a ss news h k n sits l part =
-    let more = one_act_more acts a in
+    let more = acts_length acts a in
     let count = sits.count in
     record {
       entries = as_all whole (hall_entries conn acts) (commands k.pass.1.mine) (hall_entries conn (acts ++ a ∷ [])) (hall_early conn acts a) (ap (λ (es : List (Entry HallEntry)). commands es) l.mine ∙ sits.entries);
@@ -194,7 +179,7 @@ waits_left hub conn acts looked ss k (Some id) e sits = absurd (let bad : Some i
 pub place_left : (whole : Bool) (hub : Hub) (conn : ℕ) (acts : List Act) (a : Act) (looked : ℕ) (ss : List Sending) (k : RoomPass) → length acts ≤ looked → PlaceSits hub conn (acts ++ a ∷ []) looked ss k → PlaceLeft whole hub conn acts (acts ++ a ∷ []) ss k
 place_left whole hub conn acts a looked ss k le sits = record {
   entries = as_all whole (room_cmds conn k.number acts) (commands k.pass.1.mine) (room_cmds conn k.number (acts ++ a ∷ [])) (room_early conn k.number acts a) sits.0;
-  looks = looks_left hub conn (acts ++ a ∷ []) looked ss k k.id (omega (arith, one_act_more acts a)) sits.2;
+  looks = looks_left hub conn (acts ++ a ∷ []) looked ss k k.id (omega (arith, acts_length acts a)) sits.2;
   sent = whole_part (Shows conn (site_of hub k.number)) (commands k.pass.1.seen) k.at k.id (Some k.number) ss sits.1;
   waits = λ w e. waits_left hub conn (acts ++ a ∷ []) looked ss k k.id e sits.2;
 }
@@ -216,7 +201,7 @@ pub place_left_late : (whole : Bool) (hub : Hub) (conn : ℕ) (acts : List Act) 
 place_left_late whole hub conn acts a ss news h k n sits held l number id part =
     subst (PlaceLeft whole hub conn acts (acts ++ a ∷ []) (ss ++ news)) (as_is h k number id) (record {
       entries = as_all whole (room_cmds conn h.number acts) (commands k.pass.1.mine) (room_cmds conn h.number (acts ++ a ∷ [])) (room_early conn h.number acts a) (ap (λ (es : List (Entry RoomCmd)). commands es) l.mine ∙ sits.0);
-      looks = looks_left_late hub conn (acts ++ a ∷ []) (length acts) ss news h k n h.id held (sym (one_act_more acts a)) sits.2 l;
+      looks = looks_left_late hub conn (acts ++ a ∷ []) (length acts) ss news h k n h.id held (sym (acts_length acts a)) sits.2 l;
       sent = part;
       waits = λ w e. absurd (never_free h.id held e);
     })

@@ -1,12 +1,14 @@
 -- The passes of places while an order is obeyed.
-use Rattle.std.proofs.Common.{◌≡◌, ◌≢◌, ◌⊎◌, ℕ, ◌+◌, ◌-◌, ◌≤◌, List, [], ◌∷◌, ◌++◌, length, take, refl, sym, ap, ◌∙◌, subst, inl, inr, ⊎_elim, arith, All, Option, Some, None, is_some, true≢false}
+use Rattle.std.proofs.Common.{◌≡◌, ◌≢◌, ◌⊎◌, ℕ, ◌+◌, ◌-◌, ◌≤◌, List, [], ◌∷◌, ◌++◌, length, take, refl, sym, ap, ◌∙◌, subst, inl, inr, ⊎_elim, arith, All, Option, Some, None, is_some, true≢false, append-nil}
 use Rattle.std.specs.Prelude.{IsSome}
 use Rattle.std.proofs.lemmas.List.Elements.{All-weaker}
+use Rattle.std.proofs.lemmas.Option.{same_Some}
 use Rattle.ps_openings.specs.Openings.{first_battle}
 use Rattle.ps_room.specs.Openings.{Opening}
 use Rattle.ps_histlock.specs.Histories.{commands}
 use Rattle.ps_histlock.specs.Seated.{TableId}
 use Rattle.ps_histlock.specs.declared.view.View.{View}
+use Rattle.ps_histlock.proofs.Lists.{prefix_length}
 use Rattle.ps_places.specs.declared.command.RoomCmd.{RoomCmd}
 use Rattle.ps_places.specs.declared.site.Site.{Site}
 use Rattle.ps_places.specs.Sites.{chat_at, Story, story, TellsBy, Tells, view_told}
@@ -18,7 +20,7 @@ use Rattle.ps_hub.specs.declared.pass.RoomPass.{RoomPass}
 use Rattle.ps_serve.specs.Acts.{Act, room_cmds, since, asked, begins}
 use Rattle.ps_serve.specs.Sendings.{Sending, texts_from, message_texts, AreLooksAnswered}
 use Rattle.ps_serve.specs.Sittings.{IsSent, RoomSits, LastLacks, RoomWaits, SitsBy, PlaceSits, IsUntouched, AreApart}
-use Rattle.ps_serve.proofs.Prefixes.{prefix_commands, prefix_longer, sent_grows, looks_grow}
+use Rattle.ps_serve.proofs.Prefixes.{prefix_commands, sent_grows, looks_grow}
 use Rattle.ps_serve.proofs.Rows.{Lack, IsBeside, IsKin, new_all, before_is, new_apart, old_lack}
 use Rattle.ps_serve.proofs.Actions.{IsQuietAt, cmds_quiet, asked_quiet, begins_quiet, since_away, untouched_on, room_on, since_still}
 use Rattle.ps_serve.proofs.Moves.{Moves, IsSameView}
@@ -88,7 +90,7 @@ module _ (hub : Hub) (conn : ℕ) (ss : List Sending) where
 
   pub within_moved : (h : RoomPass) (more : List RoomCmd) (k : RoomPass) → IsMoved h more k → h.at ≤ length (commands h.pass.1.seen) → k.at ≤ length (commands k.pass.1.seen)
   within_moved h more k m within =
-      let longer : length (commands h.pass.1.seen) ≤ length (commands k.pass.1.seen) = prefix_longer _ _ (prefix_commands h.pass.1.seen k.pass.1.seen m.moves.seen) in
+      let longer : length (commands h.pass.1.seen) ≤ length (commands k.pass.1.seen) = prefix_length _ _ (prefix_commands h.pass.1.seen k.pass.1.seen m.moves.seen) in
       let same : k.at ≡ h.at = m.at in
       omega arith
 
@@ -213,12 +215,12 @@ module _ (hub : Hub) (conn : ℕ) (ss : List Sending) where
       let at : k.at ≡ 0 = m.at ∙ w.at in
       let texts : texts_from (Some k.number) ss ≡ [] = ap (λ (n : ℕ). texts_from (Some n) ss) m.place ∙ unsent conn (site_of hub h.number) (commands h.pass.1.seen) h.at h.id (Some h.number) ss w.at p.told in
       record {
-        entries = m.moves.mine ∙ nothing_behind (commands h.pass.1.mine) ∙ p.entries ∙ ap (λ (n : ℕ). room_cmds conn n acts) (sym m.place);
+        entries = m.moves.mine ∙ append-nil (commands h.pass.1.mine) ∙ p.entries ∙ ap (λ (n : ℕ). room_cmds conn n acts) (sym m.place);
         told = sent_none conn (site_of hub k.number) (commands k.pass.1.seen) k.at k.id (Some k.number) ss at texts;
         within = within_moved h [] k m p.within;
         waiting = λ e. never_some id (sym e ∙ is);
         holding = λ other e. (
-            let same : other ≡ id = one_some other id (sym e ∙ is) in (
+            let same : other ≡ id = same_Some other id (sym e ∙ is) in (
               record {
                 count = omega arith;
                 looks = subst (λ (l : List ℕ). AreLooksAnswered (Shows conn (site_of hub k.number)) (commands k.pass.1.seen) (Some other) (Some k.number) ss (length acts - length (since k.number acts) + 1) l) (sym bare) tt;
@@ -228,17 +230,6 @@ module _ (hub : Hub) (conn : ℕ) (ss : List Sending) where
             )
             );
       }
-    where
-      nothing_behind : (xs : List RoomCmd) → xs ++ [] ≡ xs
-      nothing_behind [] = refl
-      nothing_behind (x ∷ xs) = ap (λ l. x ∷ l) (nothing_behind xs)
-
-      text_or : Option (List ℕ) → List ℕ
-      text_or None = []
-      text_or (Some id) = id
-
-      one_some : (a b : List ℕ) → Some a ≡ Some b → a ≡ b
-      one_some a b e = ap text_or e
 
   -- ---- one act more
 

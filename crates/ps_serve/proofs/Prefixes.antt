@@ -1,10 +1,11 @@
 -- Lists that begin with others, and what stays true of what was sent and answered when a history goes on.
-use Rattle.std.proofs.Common.{◌≡◌, ℕ, ◌+◌, ◌≤◌, List, [], ◌∷◌, ◌++◌, length, take, refl, sym, ap, ◌∙◌, subst, arith, append_assoc, append-nil, length-append, flat_map, Option}
+use Rattle.std.proofs.Common.{◌≡◌, ℕ, ◌+◌, ◌≤◌, List, [], ◌∷◌, ◌++◌, length, take, refl, sym, ap, ◌∙◌, subst, arith, append_assoc, append-nil, flat_map, Option}
 use Rattle.std.proofs.lemmas.List.{take-append-le}
 use Rattle.std.proofs.lemmas.Grind.{flat_map-append}
 use mathlib.Core.List.{IsPrefix}
 use Rattle.ps_histlock.specs.declared.view.Entry.{Entry}
 use Rattle.ps_histlock.specs.Histories.{commands}
+use Rattle.ps_histlock.proofs.Lists.{prefix_length}
 use Rattle.ps_histlock.proofs.TurnLemmas.{commands-append}
 use Rattle.ps_serve.specs.Sendings.{Sending, IsLookAnswered, AreLooksAnswered}
 use Rattle.ps_serve.specs.Sittings.{IsSent}
@@ -24,9 +25,6 @@ prefix_commands xs ys p = (commands p.0, sym (commands-append xs p.0) ∙ ap (λ
 pub take_prefix : {A : Type 0} (n : ℕ) (xs ys : List A) → n ≤ length xs → IsPrefix xs ys → take n ys ≡ take n xs
 take_prefix n xs ys le p = ap (take n) (sym p.1) ∙ take-append-le n xs p.0 le
 
-pub prefix_longer : {A : Type 0} (xs ys : List A) → IsPrefix xs ys → length xs ≤ length ys
-prefix_longer xs ys p = omega (arith, sym (ap length p.1) ∙ length-append xs p.0)
-
 -- what one more gives
 pub flat_snoc : {A B : Type 0} (f : A → List B) (xs : List A) (x : A) → flat_map f (xs ++ x ∷ []) ≡ flat_map f xs ++ f x
 flat_snoc f xs x = flat_map-append f xs (x ∷ []) ∙ ap (λ l. flat_map f xs ++ l) (append-nil (f x))
@@ -37,7 +35,7 @@ module _ {C : Type 0} (shows : List C → List (List (List ℕ)) → Type 0) whe
 
   look_grows : (cmds more : List C) (room : Option (List ℕ)) (sent : List (List ℕ)) (n : ℕ) → IsPrefix cmds more → IsLookAnswered shows cmds room sent n → IsLookAnswered shows more room sent n
   look_grows cmds more room sent n p a =
-      let longer : length cmds ≤ length more = prefix_longer cmds more p in
+      let longer : length cmds ≤ length more = prefix_length cmds more p in
       let within : n ≤ length cmds = a.within in
       let there : a.entries ≤ length cmds = a.there in
       record {

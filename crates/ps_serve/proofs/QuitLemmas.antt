@@ -1,9 +1,9 @@
 -- What the Quits at the end of a session leave of its passes.
-use Rattle.std.proofs.Common.{◌≡◌, ◌⊎◌, ℕ, ◌+◌, ◌-◌, ◌<◌, ◌≤◌, Bool, true, false, List, [], ◌∷◌, ◌++◌, length, take, get_or, Option, Some, None, refl, ap, sym, ◌∙◌, subst, inl, inr, arith}
+use Rattle.std.proofs.Common.{◌≡◌, ◌⊎◌, ℕ, ◌+◌, ◌-◌, ◌≤◌, Bool, true, false, List, [], ◌∷◌, ◌++◌, length, take, Option, Some, None, refl, ap, sym, ◌∙◌, subst, inl, inr, arith}
 use Rattle.std.specs.Prelude.{All, IsSome, IfSome}
 use Rattle.std.specs.List.{AllZip}
 use Rattle.std.proofs.lemmas.List.{append-nil, length-map}
-use Rattle.std.proofs.lemmas.List.Elements.{All-head, All-tail, AllZip-get_or, length_all_zip}
+use Rattle.std.proofs.lemmas.List.Elements.{All-head, All-tail}
 use mathlib.Core.List.{IsPrefix}
 use Rattle.ps_base.specs.declared.badge.Badge.{Badge}
 use Rattle.ps_lines.specs.declared.command.Command.TheVariants as room_commands
@@ -11,9 +11,8 @@ use Rattle.ps_lines.specs.declared.command.HallCmd.TheVariants as hall_commands
 use Rattle.ps_hall.specs.declared.entry.HallEntry.{HallEntry}
 use Rattle.ps_histlock.specs.declared.view.Entry.{Entry}
 use Rattle.ps_histlock.specs.declared.view.View.{View}
-use Rattle.ps_histlock.specs.Histories.{commands, entry, entries_of}
-use Rattle.ps_histlock.proofs.Lists.{prefix_self, prefix_more}
-use Rattle.ps_histlock.proofs.TurnLemmas.{commands-append}
+use Rattle.ps_histlock.specs.Histories.{commands, entries_of}
+use Rattle.ps_histlock.proofs.Lists.{prefix_self}
 use Rattle.ps_places.specs.declared.command.RoomCmd.{RoomCmd}
 use Rattle.ps_places.specs.declared.command.RoomCmd.TheVariants.{Play}
 use Rattle.ps_places.specs.Rooms.{Shows}
@@ -21,11 +20,10 @@ use Rattle.ps_places.specs.Halls.{HallShows}
 use Rattle.ps_hub.specs.Hubs.{Hub, root_of, site_of}
 use Rattle.ps_hub.specs.Names.{Names}
 use Rattle.ps_hub.specs.Passes.{IsHallPass, IsRoomPass}
-use Rattle.ps_hub.specs.Turns.{TurnsAtLast}
 use Rattle.ps_hub.specs.Calls.{hall_entry, room_entry, QuitsHall, QuitsBy, QuitsRoom}
 use Rattle.ps_hub.specs.declared.pass.HallPass.{HallPass}
 use Rattle.ps_hub.specs.declared.pass.RoomPass.{RoomPass}
-use Rattle.ps_hub.proofs.CallLemmas.{RoomEndsAtMost, HallEndsAtMost}
+use Rattle.ps_hub.proofs.CallLemmas.{some_value, RoomEndsAtMost, HallEndsAtMost}
 use Rattle.ps_serve.specs.declared.closed.End.{End}
 use Rattle.ps_serve.specs.Acts.{hall_entries, room_cmds, since}
 use Rattle.ps_serve.specs.Sendings.{Sending}
@@ -33,26 +31,9 @@ use Rattle.ps_serve.specs.Ends.{Told, AllOrPart, AllThenQuit, hall_quit, room_qu
 use Rattle.ps_serve.specs.Rests.{HallRests, RoomRests}
 use Rattle.ps_serve.proofs.Prefixes.{prefix_commands, take_prefix, looks_grow, sent_grows}
 use Rattle.ps_serve.proofs.Halls.{IsHallKin}
-use Rattle.ps_serve.proofs.Goings.{Goes, stays}
+use Rattle.ps_serve.proofs.Goings.{Goes, stays as is_still}
+use Rattle.ps_serve.proofs.Moves.{Moves, stays, last_turns_move, last_enters_move}
 use Rattle.ps_serve.proofs.RestLemmas.{asked_so}
-
--- ---- a pass that saw more, and made these entries
-
-module _ {O C : Type 0} where
-  pub record Went (v w : View O C) (more : List (Entry C)) : Type 0 where
-    pub number : w.number ≡ v.number
-    pub looks : w.looks ≡ v.looks
-    pub grows : IsPrefix v.seen w.seen
-    pub mine : w.mine ≡ v.mine ++ more
-
-  pub went_nowhere : (v w : View O C) → w ≡ v → Went v w []
-  went_nowhere v w is = subst (λ (u : View O C). Went v u []) (sym is) (record { number = refl; looks = refl; grows = prefix_self v.seen; mine = sym (append-nil v.mine) })
-
-  pub went_reading : (v w : View O C) → TurnsAtLast v None w → Went v w []
-  went_reading v w t = subst (λ (u : View O C). Went v u []) (sym t.1.2) (record { number = refl; looks = refl; grows = t.1.1.0; mine = sym (append-nil v.mine) })
-
-  pub went_writing : (v w : View O C) (c : C) → TurnsAtLast v (Some c) w → Went v w (entry v.number c ∷ [])
-  went_writing v w c t = subst (λ (u : View O C). Went v u (entry v.number c ∷ [])) (sym t.1.2) (record { number = refl; looks = refl; grows = prefix_more v.seen t.1.0 (entry v.number c ∷ []) t.1.1.0; mine = refl })
 
 -- ---- what was sent and looked at stays
 
@@ -74,32 +55,30 @@ then_quit true was now all quit made is = (was, made, inr is)
 pub at_most_quit : {C : Type 0} (was now all quit : List C) → AllOrPart true was all → (now ≡ was) ⊎ (now ≡ was ++ quit) → AllThenQuit true now all quit
 at_most_quit was now all quit made is = (was, made, is)
 
-cmds_more : {O C : Type 0} (v w : View O C) (c : C) → Went v w (entry v.number c ∷ []) → commands w.mine ≡ commands v.mine ++ c ∷ []
-cmds_more v w c went = ap (λ l. commands l) went.mine ∙ commands-append v.mine (entry v.number c ∷ [])
-
-cmds_same : {O C : Type 0} (v w : View O C) → Went v w [] → commands w.mine ≡ commands v.mine
-cmds_same v w went = ap (λ l. commands l) (went.mine ∙ append-nil v.mine)
+cmds_same : {O C : Type 0} (v w : View O C) → Moves v [] w → commands w.mine ≡ commands v.mine
+cmds_same v w m = m.mine ∙ append-nil (commands v.mine)
 
 -- ---- the hall
 
-pub record HallWent (h k : HallPass) (more : List (Entry HallEntry)) : Type 0 where
-  pub went : Went h.pass.1 k.pass.1 more
+-- it made these entries more, and handed out nothing
+pub record HallWent (h k : HallPass) (more : List HallEntry) : Type 0 where
+  pub went : Moves h.pass.1 more k.pass.1
   pub at : k.at ≡ h.at
 
-pub quits_hall : (conn moment : ℕ) (h k : HallPass) → QuitsHall conn moment h k → HallWent h k (entry h.pass.1.number (hall_entry conn moment hall_commands.Quit) ∷ [])
-quits_hall conn moment h k q = record { went = went_writing h.pass.1 k.pass.1 (hall_entry conn moment hall_commands.Quit) q.0; at = q.1 }
+pub quits_hall : (conn moment : ℕ) (h k : HallPass) → QuitsHall conn moment h k → HallWent h k (hall_quit conn moment)
+quits_hall conn moment h k q = record { went = last_enters_move h.pass.1 (hall_entry conn moment hall_commands.Quit) k.pass.1 q.0; at = q.1 }
 
 -- with the Quit, or without
 abbrev pub HallWentAtMost : ℕ → ℕ → HallPass → HallPass → Type 0
-HallWentAtMost conn moment h k = HallWent h k [] ⊎ HallWent h k (entry h.pass.1.number (hall_entry conn moment hall_commands.Quit) ∷ [])
+HallWentAtMost conn moment h k = HallWent h k [] ⊎ HallWent h k (hall_quit conn moment)
 
 pub quits_hall_at_most : (conn moment : ℕ) (h k : HallPass) → HallEndsAtMost conn moment h k → HallWentAtMost conn moment h k
 quits_hall_at_most conn moment h k (inl q) = inr (quits_hall conn moment h k q)
-quits_hall_at_most conn moment h k (inr (at, inl is)) = inl (record { went = went_nowhere h.pass.1 k.pass.1 is; at = at })
-quits_hall_at_most conn moment h k (inr (at, inr t)) = inl (record { went = went_reading h.pass.1 k.pass.1 t; at = at })
+quits_hall_at_most conn moment h k (inr (at, inl is)) = inl (record { went = stays h.pass.1 k.pass.1 is; at = at })
+quits_hall_at_most conn moment h k (inr (at, inr t)) = inl (record { went = last_turns_move h.pass.1 k.pass.1 t; at = at })
 
-pub hall_grew : (h k : HallPass) (more : List (Entry HallEntry)) → HallWent h k more → IsHallKin h k
-hall_grew h k more w = record { number = w.went.number; seen = w.went.grows }
+pub hall_grew : (h k : HallPass) (more : List HallEntry) → HallWent h k more → IsHallKin h k
+hall_grew h k more w = record { number = w.went.number; seen = w.went.seen }
 
 pub hall_within : (hub : Hub) (conn : ℕ) (h : HallPass) → IsHallPass hub conn h → h.at ≤ length h.pass.1.seen
 hall_within hub conn h is =
@@ -108,12 +87,12 @@ hall_within hub conn h is =
     let long = length-map h.pass.1.seen (λ (x : Entry HallEntry). x.cmd) in
     omega arith
 
-hall_given_on : (b : Bool) (conn : ℕ) (t : Told) (h k : HallPass) (more : List (Entry HallEntry)) → HallWent h k more → h.at ≤ length h.pass.1.seen → HallGiven b conn t h → HallGiven b conn t k
+hall_given_on : (b : Bool) (conn : ℕ) (t : Told) (h k : HallPass) (more : List HallEntry) → HallWent h k more → h.at ≤ length h.pass.1.seen → HallGiven b conn t h → HallGiven b conn t k
 hall_given_on true conn t h k more w le g = tt
 hall_given_on false conn t h k more w le g =
     ap (λ (n : ℕ). commands (entries_of n (take k.at k.pass.1.seen))) w.went.number
     ∙ ap (λ (n : ℕ). commands (entries_of h.pass.1.number (take n k.pass.1.seen))) w.at
-    ∙ ap (λ (l : List (Entry HallEntry)). commands (entries_of h.pass.1.number l)) (take_prefix h.at h.pass.1.seen k.pass.1.seen le w.went.grows)
+    ∙ ap (λ (l : List (Entry HallEntry)). commands (entries_of h.pass.1.number l)) (take_prefix h.at h.pass.1.seen k.pass.1.seen le w.went.seen)
     ∙ g
 
 -- what was sent, shown and handed out of the hall
@@ -122,11 +101,11 @@ pub record HallKeeps (broken : Bool) (hub : Hub) (conn : ℕ) (t : Told) (k : Ha
   pub looks : HallLooks broken hub conn t k
   pub sent : HallSent broken hub conn t k
 
-pub hall_keeps : (b s : Bool) (hub : Hub) (conn : ℕ) (t : Told) (h k : HallPass) (more : List (Entry HallEntry)) → HallWent h k more → h.at ≤ length h.pass.1.seen → HallRests b s hub conn t h → HallKeeps b hub conn t k
+pub hall_keeps : (b s : Bool) (hub : Hub) (conn : ℕ) (t : Told) (h k : HallPass) (more : List HallEntry) → HallWent h k more → h.at ≤ length h.pass.1.seen → HallRests b s hub conn t h → HallKeeps b hub conn t k
 hall_keeps b s hub conn t h k more w le r =
     let cmds = commands h.pass.1.seen in
     let now = commands k.pass.1.seen in
-    let grows : IsPrefix cmds now = prefix_commands h.pass.1.seen k.pass.1.seen w.went.grows in
+    let grows : IsPrefix cmds now = prefix_commands h.pass.1.seen k.pass.1.seen w.went.seen in
     let long = length-map h.pass.1.seen (λ (x : Entry HallEntry). x.cmd) in
     let within : h.at ≤ length cmds = omega arith in
     record {
@@ -136,8 +115,8 @@ hall_keeps b s hub conn t h k more w le r =
       sent = subst (λ (n : ℕ). IsSentSo (HallShows conn (root_of hub)) b now n None None t.sendings) (sym w.at) (sent_on (HallShows conn (root_of hub)) b cmds now h.at None None t.sendings grows within r.sent);
     }
 
-pub hall_made : (s : Bool) (conn : ℕ) (t : Told) (h k : HallPass) → HallWent h k (entry h.pass.1.number (hall_entry conn t.left hall_commands.Quit) ∷ []) → AllOrPart s (commands h.pass.1.mine) (hall_entries conn t.acts) → HallMade s conn t k
-hall_made s conn t h k w made = then_quit s (commands h.pass.1.mine) (commands k.pass.1.mine) (hall_entries conn t.acts) (hall_quit conn t.left) made (cmds_more h.pass.1 k.pass.1 (hall_entry conn t.left hall_commands.Quit) w.went)
+pub hall_made : (s : Bool) (conn : ℕ) (t : Told) (h k : HallPass) → HallWent h k (hall_quit conn t.left) → AllOrPart s (commands h.pass.1.mine) (hall_entries conn t.acts) → HallMade s conn t k
+hall_made s conn t h k w made = then_quit s (commands h.pass.1.mine) (commands k.pass.1.mine) (hall_entries conn t.acts) (hall_quit conn t.left) made w.went.mine
 
 pub hall_made_at_most : (conn : ℕ) (t : Told) (h k : HallPass) → HallWentAtMost conn t.left h k → AllOrPart true (commands h.pass.1.mine) (hall_entries conn t.acts) → HallMade true conn t k
 hall_made_at_most conn t h k (inl w) made = at_most_quit (commands h.pass.1.mine) (commands k.pass.1.mine) (hall_entries conn t.acts) (hall_quit conn t.left) made (inl (cmds_same h.pass.1 k.pass.1 w.went))
@@ -145,14 +124,15 @@ hall_made_at_most conn t h k (inr w) made = hall_made true conn t h k w made
 
 -- ---- rooms
 
-pub record RoomWent (h k : RoomPass) (more : List (Entry RoomCmd)) : Type 0 where
-  pub went : Went h.pass.1 k.pass.1 more
+-- it made these entries more, handed out nothing, and is held as it was
+pub record RoomWent (h k : RoomPass) (more : List RoomCmd) : Type 0 where
+  pub went : Moves h.pass.1 more k.pass.1
   pub at : k.at ≡ h.at
   pub place : k.number ≡ h.number
   pub id : k.id ≡ h.id
 
-pub room_goes : (h k : RoomPass) (more : List (Entry RoomCmd)) → RoomWent h k more → Goes h k
-room_goes h k more w = record { grew = record { place = w.place; id = λ id e. w.id ∙ e; number = w.went.number; seen = w.went.grows }; id = w.id }
+pub room_goes : (h k : RoomPass) (more : List RoomCmd) → RoomWent h k more → Goes h k
+room_goes h k more w = record { grew = record { place = w.place; id = λ id e. w.id ∙ e; number = w.went.number; seen = w.went.seen }; id = w.id }
 
 pub room_within : (hub : Hub) (conn : ℕ) (k : RoomPass) → IsRoomPass hub conn k → k.at ≤ length k.pass.1.seen
 room_within hub conn k is =
@@ -161,9 +141,6 @@ room_within hub conn k is =
     let long = length-map k.pass.1.seen (λ (x : Entry RoomCmd). x.cmd) in
     omega arith
 
-abbrev quit_of : Badge → ℕ → ℕ → RoomCmd
-quit_of badge conn moment = Play (room_entry conn badge moment room_commands.Quit)
-
 -- the looks and the texts of a place by its number, and the place up to which was handed out
 abbrev LooksAt : List ℕ → Bool → Hub → ℕ → Told → ℕ → ℕ → List RoomCmd → List ℕ → Type 0
 LooksAt id b hub conn t n at cmds looks = AreLooksSo (Shows conn (site_of hub n)) b cmds at (Some id) (Some n) t.sendings (length t.acts - length (since n t.acts) + 1) (length (since n t.acts)) looks
@@ -171,23 +148,23 @@ LooksAt id b hub conn t n at cmds looks = AreLooksSo (Shows conn (site_of hub n)
 abbrev SentAt : Option (List ℕ) → Bool → Hub → ℕ → Told → ℕ → ℕ → List RoomCmd → Type 0
 SentAt id b hub conn t n at cmds = IsSentSo (Shows conn (site_of hub n)) b cmds at id (Some n) t.sendings
 
-room_looks_on : (id : Option (List ℕ)) (b : Bool) (hub : Hub) (conn : ℕ) (t : Told) (h k : RoomPass) (more : List (Entry RoomCmd)) → RoomWent h k more → RoomLooksBy id b hub conn t h → RoomLooksBy id b hub conn t k
+room_looks_on : (id : Option (List ℕ)) (b : Bool) (hub : Hub) (conn : ℕ) (t : Told) (h k : RoomPass) (more : List RoomCmd) → RoomWent h k more → RoomLooksBy id b hub conn t h → RoomLooksBy id b hub conn t k
 room_looks_on None b hub conn t h k more w l = w.went.looks ∙ l
 room_looks_on (Some id) b hub conn t h k more w l =
     let now = commands k.pass.1.seen in
-    let grows : IsPrefix (commands h.pass.1.seen) now = prefix_commands h.pass.1.seen k.pass.1.seen w.went.grows in
+    let grows : IsPrefix (commands h.pass.1.seen) now = prefix_commands h.pass.1.seen k.pass.1.seen w.went.seen in
     subst (λ (n : ℕ). LooksAt id b hub conn t n k.at now k.pass.1.looks) (sym w.place)
     (subst (λ (n : ℕ). LooksAt id b hub conn t h.number n now k.pass.1.looks) (sym w.at)
     (subst (λ (l : List ℕ). LooksAt id b hub conn t h.number h.at now l) (sym w.went.looks)
     (looks_on (Shows conn (site_of hub h.number)) b (commands h.pass.1.seen) now h.at (Some id) (Some h.number) t.sendings (length t.acts - length (since h.number t.acts) + 1) (length (since h.number t.acts)) h.pass.1.looks grows l)))
 
-room_given_on : (id : Option (List ℕ)) (b : Bool) (conn : ℕ) (t : Told) (h k : RoomPass) (more : List (Entry RoomCmd)) → RoomWent h k more → h.at ≤ length h.pass.1.seen → RoomGivenBy id b conn t h → RoomGivenBy id b conn t k
+room_given_on : (id : Option (List ℕ)) (b : Bool) (conn : ℕ) (t : Told) (h k : RoomPass) (more : List RoomCmd) → RoomWent h k more → h.at ≤ length h.pass.1.seen → RoomGivenBy id b conn t h → RoomGivenBy id b conn t k
 room_given_on None b conn t h k more w le g = tt
 room_given_on (Some id) true conn t h k more w le g = tt
 room_given_on (Some id) false conn t h k more w le g =
     ap (λ (n : ℕ). commands (entries_of n (take k.at k.pass.1.seen))) w.went.number
     ∙ ap (λ (n : ℕ). commands (entries_of h.pass.1.number (take n k.pass.1.seen))) w.at
-    ∙ ap (λ (l : List (Entry RoomCmd)). commands (entries_of h.pass.1.number l)) (take_prefix h.at h.pass.1.seen k.pass.1.seen le w.went.grows)
+    ∙ ap (λ (l : List (Entry RoomCmd)). commands (entries_of h.pass.1.number l)) (take_prefix h.at h.pass.1.seen k.pass.1.seen le w.went.seen)
     ∙ g
     ∙ ap (λ (n : ℕ). room_cmds conn n t.acts) (sym w.place)
 
@@ -197,11 +174,11 @@ pub record RoomKeeps (broken : Bool) (hub : Hub) (conn : ℕ) (t : Told) (k : Ro
   pub sent : RoomSent broken hub conn t k
   pub named : IfSome k.id (λ id. Names hub.config id k.number)
 
-room_keeps : (b s : Bool) (hub : Hub) (conn : ℕ) (t : Told) (h k : RoomPass) (more : List (Entry RoomCmd)) → RoomWent h k more → h.at ≤ length h.pass.1.seen → RoomRests b s hub conn t h → RoomKeeps b hub conn t k
+room_keeps : (b s : Bool) (hub : Hub) (conn : ℕ) (t : Told) (h k : RoomPass) (more : List RoomCmd) → RoomWent h k more → h.at ≤ length h.pass.1.seen → RoomRests b s hub conn t h → RoomKeeps b hub conn t k
 room_keeps b s hub conn t h k more w le r =
     let cmds = commands h.pass.1.seen in
     let now = commands k.pass.1.seen in
-    let grows : IsPrefix cmds now = prefix_commands h.pass.1.seen k.pass.1.seen w.went.grows in
+    let grows : IsPrefix cmds now = prefix_commands h.pass.1.seen k.pass.1.seen w.went.seen in
     let long = length-map h.pass.1.seen (λ (x : Entry RoomCmd). x.cmd) in
     let within : h.at ≤ length cmds = omega arith in
     record {
@@ -223,18 +200,18 @@ pub record RoomQuit (broken short : Bool) (hub : Hub) (conn : ℕ) (badge : Opti
 
 quit_nothing : (b s : Bool) (hub : Hub) (conn : ℕ) (badge : Option Badge) (t : Told) (h : RoomPass) → h.id ≡ None → RoomRests b s hub conn t h → RoomQuit b s hub conn badge t h h
 quit_nothing b s hub conn badge t h free r = record {
-  goes = stays h;
+  goes = is_still h;
   keeps = record { given = r.given; looks = r.looks; sent = r.sent; named = r.named };
   made = subst (λ (i : Option (List ℕ)). RoomMadeBy i s conn badge t h) (sym free) r.entries;
   more = prefix_self (commands h.pass.1.mine);
 }
 
-quit_went : (b s : Bool) (hub : Hub) (conn : ℕ) (badge : Option Badge) (kept : Badge) (id : List ℕ) (t : Told) (h k : RoomPass) → h.id ≡ Some id → badge ≡ Some kept → RoomWent h k (entry h.pass.1.number (quit_of kept conn t.left) ∷ []) → h.at ≤ length h.pass.1.seen → RoomRests b s hub conn t h → RoomQuit b s hub conn badge t h k
+quit_went : (b s : Bool) (hub : Hub) (conn : ℕ) (badge : Option Badge) (kept : Badge) (id : List ℕ) (t : Told) (h k : RoomPass) → h.id ≡ Some id → badge ≡ Some kept → RoomWent h k (room_quit conn kept t.left) → h.at ≤ length h.pass.1.seen → RoomRests b s hub conn t h → RoomQuit b s hub conn badge t h k
 quit_went b s hub conn badge kept id t h k held is w le r =
-    let now : commands k.pass.1.mine ≡ commands h.pass.1.mine ++ room_quit conn kept t.left = cmds_more h.pass.1 k.pass.1 (quit_of kept conn t.left) w.went in
+    let now : commands k.pass.1.mine ≡ commands h.pass.1.mine ++ room_quit conn kept t.left = w.went.mine in
     record {
-      goes = room_goes h k (entry h.pass.1.number (quit_of kept conn t.left) ∷ []) w;
-      keeps = room_keeps b s hub conn t h k (entry h.pass.1.number (quit_of kept conn t.left) ∷ []) w le r;
+      goes = room_goes h k (room_quit conn kept t.left) w;
+      keeps = room_keeps b s hub conn t h k (room_quit conn kept t.left) w le r;
       made = subst (λ (i : Option (List ℕ)). RoomMadeBy i s conn badge t k) (sym (w.id ∙ held))
           (kept, is, subst (λ (n : ℕ). AllThenQuit s (commands k.pass.1.mine) (room_cmds conn n t.acts) (room_quit conn kept t.left)) (sym w.place) (then_quit s (commands h.pass.1.mine) (commands k.pass.1.mine) (room_cmds conn h.number t.acts) (room_quit conn kept t.left) r.entries now));
       more = (room_quit conn kept t.left, sym now);
@@ -243,20 +220,16 @@ quit_went b s hub conn badge kept id t h k held is w le r =
 by_quit : (id : Option (List ℕ)) (b s : Bool) (hub : Hub) (conn : ℕ) (badge : Option Badge) (t : Told) (h k : RoomPass) → h.id ≡ id → QuitsBy id badge conn t.left h k → h.at ≤ length h.pass.1.seen → RoomRests b s hub conn t h → RoomQuit b s hub conn badge t h k
 by_quit None b s hub conn badge t h k free q le r = subst (λ (x : RoomPass). RoomQuit b s hub conn badge t h x) (sym q) (quit_nothing b s hub conn badge t h free r)
 by_quit (Some id) b s hub conn badge t h k held q le r =
-    quit_went b s hub conn badge q.0 id t h k held q.1 (record { went = went_writing h.pass.1 k.pass.1 (quit_of q.0 conn t.left) q.2; at = q.3; place = q.4; id = q.5 }) le r
+    quit_went b s hub conn badge q.0 id t h k held q.1 (record { went = last_enters_move h.pass.1 (Play (room_entry conn q.0 t.left room_commands.Quit)) k.pass.1 q.2; at = q.3; place = q.4; id = q.5 }) le r
 
 pub quits_room : (b s : Bool) (hub : Hub) (conn : ℕ) (badge : Option Badge) (t : Told) (h k : RoomPass) → QuitsRoom badge conn t.left h k → h.at ≤ length h.pass.1.seen → RoomRests b s hub conn t h → RoomQuit b s hub conn badge t h k
 quits_room b s hub conn badge t h k q le r = by_quit h.id b s hub conn badge t h k refl q le r
 
 -- ---- where memory was wanting
 
-some_badge : (badge : Option Badge) → IsSome badge → (b : Badge) × (badge ≡ Some b)
-some_badge None is = absurd (cc)
-some_badge (Some b) is = (b, refl)
-
 without_quit : (id : Option (List ℕ)) (conn : ℕ) (badge : Option Badge) (t : Told) (k : RoomPass) → (IsSome id → IsSome badge) → IsPrefix (commands k.pass.1.mine) (room_cmds conn k.number t.acts) → RoomMadeBy id true conn badge t k
 without_quit None conn badge t k named made = made
-without_quit (Some id) conn badge t k named made = let b = some_badge badge (named refl) in (b.0, b.1, (commands k.pass.1.mine, made, inl refl))
+without_quit (Some id) conn badge t k named made = let b = some_value badge (named refl) in (b.0, b.1, (commands k.pass.1.mine, made, inl refl))
 
 quit_missing : (b : Bool) (hub : Hub) (conn : ℕ) (badge : Option Badge) (t : Told) (h k : RoomPass) → RoomWent h k [] → h.at ≤ length h.pass.1.seen → (IsSome h.id → IsSome badge) → RoomRests b true hub conn t h → RoomQuit b true hub conn badge t h k
 quit_missing b hub conn badge t h k w le named r =
@@ -270,8 +243,8 @@ quit_missing b hub conn badge t h k w le named r =
 
 pub quits_room_at_most : (b : Bool) (hub : Hub) (conn : ℕ) (badge : Option Badge) (t : Told) (h k : RoomPass) → RoomEndsAtMost badge conn t.left h k → h.at ≤ length h.pass.1.seen → (IsSome h.id → IsSome badge) → RoomRests b true hub conn t h → RoomQuit b true hub conn badge t h k
 quits_room_at_most b hub conn badge t h k (inl q) le named r = quits_room b true hub conn badge t h k q le r
-quits_room_at_most b hub conn badge t h k (inr (place, id, at, inl is)) le named r = quit_missing b hub conn badge t h k (record { went = went_nowhere h.pass.1 k.pass.1 is; at = at; place = place; id = id }) le named r
-quits_room_at_most b hub conn badge t h k (inr (place, id, at, inr read)) le named r = quit_missing b hub conn badge t h k (record { went = went_reading h.pass.1 k.pass.1 read; at = at; place = place; id = id }) le named r
+quits_room_at_most b hub conn badge t h k (inr (place, id, at, inl is)) le named r = quit_missing b hub conn badge t h k (record { went = stays h.pass.1 k.pass.1 is; at = at; place = place; id = id }) le named r
+quits_room_at_most b hub conn badge t h k (inr (place, id, at, inr read)) le named r = quit_missing b hub conn badge t h k (record { went = last_turns_move h.pass.1 k.pass.1 read; at = at; place = place; id = id }) le named r
 
 -- ---- rows
 
@@ -280,12 +253,6 @@ zip_more R S P step [] [] all z = tt
 zip_more R S P step [] (k ∷ ks) all z = absurd z
 zip_more R S P step (h ∷ hs) [] all z = absurd z
 zip_more R S P step (h ∷ hs) (k ∷ ks) all z = (step h k (All-head P h hs all) z.0, zip_more R S P step hs ks (All-tail P h hs all) z.1)
-
-pub zip_all : (R : RoomPass → RoomPass → Type 0) (P Q : RoomPass → Type 0) → ((h k : RoomPass) → R h k → P h → Q k) → (old new : List RoomPass) → AllZip R old new → All P old → All Q new
-zip_all R P Q step old new z all i d lt =
-    let same : length old ≡ length new = length_all_zip R old new z in
-    let within : i < length old = omega arith in
-    step (get_or old i d) (get_or new i d) (AllZip-get_or R old new i d d z within) (all i d within)
 
 -- ---- what was asked of a place that isn't held
 

@@ -18,6 +18,7 @@ use Rattle.ps_hub.specs.Passes.{AreOf, IsHallPass, IsRoomPass}
 use Rattle.ps_hub.specs.declared.pass.HallPass.{HallPass}
 use Rattle.ps_hub.specs.declared.pass.RoomPass.{RoomPass}
 use Rattle.ps_hub.specs.declared.passes.Passes.{Passes}
+use Rattle.ps_hub.proofs.RowLemmas.{hall_of}
 use Rattle.ps_serve.specs.declared.closed.End.{End}
 use Rattle.ps_serve.specs.declared.closed.End.TheVariants as ends
 use Rattle.ps_serve.specs.Acts.{Act, after_acts, AreActs, moments_of, hall_entries, room_cmds, since, all_begun}
@@ -176,13 +177,6 @@ pub record Whole (hub : Hub) (conn : ℕ) (t : Told) (passes : Passes) : Type 0 
   pub begun_all : All (IsBegun passes.rooms.items) (all_begun t.acts)
   pub opened : HasOpen conn t.opened hall_pass
 
--- the hall pass of a hub's passes is one of its hall
-pub hall_of_hub : (hub : Hub) (passes : Passes) (h : HallPass) → AreOf hub passes → passes.hall ≡ Some h → IsHallPass hub passes.conn h
-hall_of_hub hub passes h are is =
-    let same : Some are.hall_pass ≡ Some h = sym are.hall ∙ is in
-    let one : are.hall_pass ≡ h = cc in
-    subst (IsHallPass hub passes.conn) one are.hall_is
-
 -- what is known of a session that is up to date, or has done nothing yet
 abbrev pub IsUp : List Act → Passes → Type 0
 IsUp acts passes = (acts ≡ []) ⊎ IsUpToDate passes
@@ -202,7 +196,7 @@ whole_sits hub conn t session passes s up = record {
   way = s.way;
   hall_pass = s.hall_pass;
   hall = s.hall;
-  hall_rests = hall_whole hub conn t s.hall_pass (subst (λ (n : ℕ). IsHallPass hub n s.hall_pass) s.conn_is (hall_of_hub hub passes s.hall_pass s.are s.hall)) s.hall_sits (hall_end t.acts passes s.hall_pass s.hall up);
+  hall_rests = hall_whole hub conn t s.hall_pass (subst (λ (n : ℕ). IsHallPass hub n s.hall_pass) s.conn_is (hall_of hub passes s.hall_pass s.are s.hall)) s.hall_sits (hall_end t.acts passes s.hall_pass s.hall up);
   rooms = λ i d lt. room_whole hub conn t (get_or passes.rooms.items i d) (subst (λ (n : ℕ). IsRoomPass hub n (get_or passes.rooms.items i d)) s.conn_is (s.are.rooms i d lt)) (s.rooms i d lt).0 (s.rooms i d lt).1 (by_sits (get_or passes.rooms.items i d).id hub conn t (get_or passes.rooms.items i d) (s.rooms i d lt).2) (room_end t.acts passes i d lt up);
   apart = s.apart;
   from = s.from;
@@ -220,7 +214,7 @@ whole_full hub conn t passes s up badge = record {
   way = s.way;
   hall_pass = s.hall_pass;
   hall = s.hall;
-  hall_rests = hall_whole hub conn t s.hall_pass (subst (λ (n : ℕ). IsHallPass hub n s.hall_pass) s.conn_is (hall_of_hub hub passes s.hall_pass s.are s.hall)) s.hall_sits (hall_end t.acts passes s.hall_pass s.hall up);
+  hall_rests = hall_whole hub conn t s.hall_pass (subst (λ (n : ℕ). IsHallPass hub n s.hall_pass) s.conn_is (hall_of hub passes s.hall_pass s.are s.hall)) s.hall_sits (hall_end t.acts passes s.hall_pass s.hall up);
   rooms = λ i d lt. room_whole hub conn t (get_or passes.rooms.items i d) (subst (λ (n : ℕ). IsRoomPass hub n (get_or passes.rooms.items i d)) s.conn_is (s.are.rooms i d lt)) (s.rooms i d lt).0 (s.rooms i d lt).1 (by_full (get_or passes.rooms.items i d).id hub conn t (get_or passes.rooms.items i d) (s.rooms i d lt).2) (room_end t.acts passes i d lt up);
   apart = s.apart;
   from = s.from;

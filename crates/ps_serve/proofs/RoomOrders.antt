@@ -3,6 +3,7 @@ use Rattle.std.proofs.Common.{◌≡◌, ◌≢◌, ◌⊎◌, ℕ, ◌+◌, ◌
 use Rattle.std.specs.Prelude.{IsSome}
 use Rattle.std.proofs.lemmas.List.{length-map}
 use Rattle.std.proofs.lemmas.List.Elements.{All-nil, All-weaker}
+use Rattle.std.proofs.lemmas.Option.{same_Some}
 use mathlib.Core.List.{IsPrefix}
 use Rattle.ps_base.specs.declared.badge.Badge.{Badge}
 use Rattle.ps_lines.specs.declared.command.Command.{Command}
@@ -43,7 +44,7 @@ use Rattle.ps_serve.proofs.Moves.{Moves, stays, turns_move, enters_move, entered
 use Rattle.ps_serve.proofs.Places.{never_some, IsMoved, kin_moved, told_moved, IsPlace, IsBattle, HasPlace, AreSitting, sitting_at, sitting_on, place_on}
 use Rattle.ps_serve.proofs.Halls.{IsHallKin, hall_as}
 use Rattle.ps_serve.proofs.Tries.{Between, hall_start, InHall, beside_of, place_was}
-use Rattle.ps_serve.proofs.Sides.{one_id_of, held_on, place_plays, place_asked, IsFull, place_full, place_full_asked, place_left, left_whole, left_before, left_moved}
+use Rattle.ps_serve.proofs.Sides.{held_on, place_plays, place_asked, IsFull, place_full, place_full_asked, place_left, left_whole, left_before, left_moved}
 use Rattle.ps_serve.proofs.Reached.{Reaches, Breaks}
 use Rattle.ps_serve.proofs.HallTurns.{HallDone, HallBroken, high_of}
 
@@ -155,7 +156,7 @@ module _ (hub : Hub) (conn open_at : ℕ) (acts : List Act) (ss : List Sending) 
 
   -- what a change of the place of the order leaves of the others
   not_there : (id : List ℕ) (number : ℕ) → Names hub.config id number → (o : RoomPass) → o.number ≢ number → (other : List ℕ) → o.id ≡ Some other → Some id ≡ Some other → Names hub.config other o.number → ⊥
-  not_there id number named o ne other e who names = ne (one_place hub.config id o.number number (subst (λ (x : List ℕ). Names hub.config x o.number) (sym (one_id_of id other who)) names) named)
+  not_there id number named o ne other e who names = ne (one_place hub.config id o.number number (subst (λ (x : List ℕ). Names hub.config x o.number) (sym (same_Some id other who)) names) named)
 
   grows_at : (id : List ℕ) (mid : Passes) (h k : RoomPass) (new : Passes) → (b : AtRoom id mid) → IsBeside hub conn mid.rooms.items h k new.rooms.items → IsKin h k → Grows old.rooms.items new.rooms.items
   grows_at id mid h k new b bes kin = grows_trans old.rooms.items mid.rooms.items new.rooms.items b.grows (grows_beside hub conn mid.rooms.items h k new.rooms.items bes kin)
@@ -203,7 +204,7 @@ module _ (hub : Hub) (conn open_at : ℕ) (acts : List Act) (ss : List Sending) 
 
   names_none : (bytes : List ℕ) (moment : ℕ) (id : List ℕ) (cmd : Command) (mid : Passes) → AtRoom id mid → NamesNone hub id → FindsNone bytes moment id cmd mid
   names_none bytes moment id cmd mid b none =
-      let not : (o : RoomPass) (other : List ℕ) → o.id ≡ Some other → Some id ≡ Some other → Names hub.config other o.number → ⊥ = (λ o other e who names. no_name hub.config id none.0 none.1 o.number (subst (λ (x : List ℕ). Names hub.config x o.number) (sym (one_id_of id other who)) names)) in
+      let not : (o : RoomPass) (other : List ℕ) → o.id ≡ Some other → Some id ≡ Some other → Names hub.config other o.number → ⊥ = (λ o other e who names. no_name hub.config id none.0 none.1 o.number (subst (λ (x : List ℕ). Names hub.config x o.number) (sym (same_Some id other who)) names)) in
       record {
         asked = None;
         reach = record {
@@ -223,10 +224,10 @@ module _ (hub : Hub) (conn open_at : ℕ) (acts : List Act) (ss : List Sending) 
   held_by_other bytes moment id cmd mid new other b e held differs same =
       let bes = beside_of hub conn acts ss (IsUpToDate old) old id mid e.before e.behind new b e.but in
       let p = place_was hub conn acts ss (IsUpToDate old) old id mid e.before e.behind new e.but b in
-      let not : (x : List ℕ) → e.before.id ≡ Some x → Some id ≡ Some x → Names hub.config x e.before.number → ⊥ = (λ x is who names. differs (one_id_of other id (sym held ∙ is ∙ sym who))) in
+      let not : (x : List ℕ) → e.before.id ≡ Some x → Some id ≡ Some x → Names hub.config x e.before.number → ⊥ = (λ x is who names. differs (same_Some other id (sym held ∙ is ∙ sym who))) in
       let joined : since e.before.number acts ≢ [] = ⊎_elim
       (λ (j : (since e.before.number acts ≢ []) × (IsUpToDate old → e.before.at ≡ length e.before.pass.1.seen)). j.0)
-      (λ (j : (Some id ≡ Some other) × (since e.before.number acts ≡ [])). absurd (differs (one_id_of other id (sym j.0))))
+      (λ (j : (Some id ≡ Some other) × (since e.before.number acts ≡ [])). absurd (differs (same_Some other id (sym j.0))))
       (p.holding other held).1 in
       let others : IsOthers hub acts id e.before = record { named = e.named; battle = e.done.0; joined = at_least_one (since e.before.number acts) joined; other = other; held = held; differs = differs } in
       record {
@@ -374,7 +375,7 @@ module _ (hub : Hub) (conn open_at : ℕ) (acts : List Act) (ss : List Sending) 
       (subst (λ l. IsPrefix l (room_cmds conn g.behind.number (acts ++ heard bytes moment (in_room g.before.number id cmd badge None) ∷ []))) (sym made) (subst (IsPrefix (room_cmds conn g.behind.number acts ++ more)) (sym all) high))
       (told_moved hub conn ss g.before more g.behind m (g.held_on ∙ sym g.held) p.within p.told)
       (λ none. never_some id (sym none ∙ g.held_on))
-      (λ other e. subst (λ (x : List ℕ). RoomSits hub conn (acts ++ heard bytes moment (in_room g.before.number id cmd badge None) ∷ []) (length acts) ss x g.behind) (one_id_of id other (sym g.held_on ∙ e)) joined.0) in
+      (λ other e. subst (λ (x : List ℕ). RoomSits hub conn (acts ++ heard bytes moment (in_room g.before.number id cmd badge None) ∷ []) (length acts) ss x g.behind) (same_Some id other (sym g.held_on ∙ e)) joined.0) in
       record {
         are = are;
         conn_is = g.but.conn ∙ b.conn_is;

@@ -9,6 +9,7 @@ use Rattle.ps_hub.specs.Hubs.{Hub}
 use Rattle.ps_hub.specs.Passes.{ButFor, IsNewPass}
 use Rattle.ps_hub.specs.declared.pass.RoomPass.{RoomPass}
 use Rattle.ps_hub.specs.declared.passes.Passes.{Passes}
+use Rattle.ps_hub.proofs.RowLemmas.{all_left, all_right, all_at, all_add}
 use Rattle.ps_serve.specs.Sittings.{AreApart, IsBegun, IsFrom, IsFromBy}
 use Rattle.ps_serve.specs.Sendings.{Sending}
 use Rattle.ps_serve.proofs.Prefixes.{prefix_trans}
@@ -16,21 +17,6 @@ use Rattle.ps_serve.proofs.Prefixes.{prefix_trans}
 -- ---- all of a row
 
 module _ {A : Type 0} where
-  pub all_left : (P : A → Type 0) (xs ys : List A) → All P (xs ++ ys) → All P xs
-  all_left P [] ys all = All-nil P
-  all_left P (x ∷ xs) ys all = All-cons P x xs (All-head P x (xs ++ ys) all) (all_left P xs ys (All-tail P x (xs ++ ys) all))
-
-  pub all_right : (P : A → Type 0) (xs ys : List A) → All P (xs ++ ys) → All P ys
-  all_right P [] ys all = all
-  all_right P (x ∷ xs) ys all = all_right P xs ys (All-tail P x (xs ++ ys) all)
-
-  pub all_at : (P : A → Type 0) (xs : List A) (x : A) (ys : List A) → All P (xs ++ x ∷ ys) → P x
-  all_at P xs x ys all = All-head P x ys (all_right P xs (x ∷ ys) all)
-
-  -- one is added, or put in the place of another
-  pub all_add : (P : A → Type 0) (xs : List A) (x : A) (ys : List A) → P x → All P (xs ++ ys) → All P (xs ++ x ∷ ys)
-  all_add P xs x ys p all = All-append P xs (x ∷ ys) (all_left P xs ys all) (All-cons P x ys p (all_right P xs ys all))
-
   pub all_but : (P : A → Type 0) (xs : List A) (x : A) (ys : List A) → All P (xs ++ x ∷ ys) → All P (xs ++ ys)
   all_but P xs x ys all = All-append P xs ys (all_left P xs (x ∷ ys) all) (All-tail P x ys (all_right P xs (x ∷ ys) all))
 

@@ -23,7 +23,7 @@ sendings place after texts = map (sending place after) texts
 
 -- ---- the texts of a place
 
-is_place_self : (place : Option ℕ) → is_place place place ≡ true
+pub is_place_self : (place : Option ℕ) → is_place place place ≡ true
 is_place_self None = refl
 is_place_self (Some n) = eq-eqb n n refl
 

@@ -6,9 +6,8 @@ use Rattle.std.proofs.lemmas.List.{append-nil}
 use Rattle.std.proofs.lemmas.List.Elements.{All-weaker, All-contains, All-contains_itself, Contains-get_or, AllZip-get_or, length_all_zip}
 use mathlib.Core.List.{IsPrefix}
 use Rattle.ps_base.specs.declared.badge.Badge.{Badge}
-use Rattle.ps_lines.specs.declared.command.HallCmd.TheVariants as hall_commands
 use Rattle.ps_valid.specs.declared.start.Start.{Start}
-use Rattle.ps_histlock.specs.Histories.{commands, entry}
+use Rattle.ps_histlock.specs.Histories.{commands}
 use Rattle.ps_histlock.proofs.Lists.{prefix_length}
 use Rattle.ps_outside.specs.Clocks.{IsNow, after_now}
 use Rattle.ps_outside.specs.Links.{Talk, LinkCounts}
@@ -18,25 +17,26 @@ use Rattle.ps_places.specs.Rooms.{Shows}
 use Rattle.ps_places.specs.Halls.{HallShows}
 use Rattle.ps_hub.specs.Names.{Names}
 use Rattle.ps_hub.specs.Passes.{AreOf, IsRoomPass}
-use Rattle.ps_hub.specs.Calls.{hall_entry, QuitsHall, QuitsRoom, QuitsWith, Quits}
+use Rattle.ps_hub.specs.Calls.{QuitsHall, QuitsRoom, QuitsWith, Quits}
 use Rattle.ps_hub.specs.declared.pass.HallPass.{HallPass}
 use Rattle.ps_hub.specs.declared.pass.RoomPass.{RoomPass}
 use Rattle.ps_hub.specs.declared.passes.Passes.{Passes}
 use Rattle.ps_hub.proofs.CallLemmas.{RoomEndsAtMost, HallEndsAtMost, quits_each}
+use Rattle.ps_hub.proofs.RowLemmas.{hall_of}
 use Rattle.ps_serve.specs.declared.closed.End.{End}
 use Rattle.ps_serve.specs.declared.closed.End.TheVariants as ends
 use Rattle.ps_serve.specs.Acts.{Act, moments_of, hall_entries, room_cmds, since, begins, all_begun}
 use Rattle.ps_serve.specs.Sittings.{IsFrom, IsBegun, AreApart}
 use Rattle.ps_serve.specs.Steps.{Hours, Asked}
-use Rattle.ps_serve.specs.Ends.{Told, is_short, is_broken, AllOrPart, AllThenQuit, room_quit, HallMade, HallGiven, RoomMadeBy, RoomMade, RoomGiven, HallLooks, RoomLooksBy, RoomLooks, HallSent, RoomSent, AreAnswers, IsAsked, IsOpen, moments_in, HasExtra, TellsMoments, starts_in, IsBegunBy, AreSure, IsOwnStart, OneBegin, HallElsewhere, IsHallOf, IsRoomOf, OneHistory, IsTooMany, HasTextCause, HasCause, Served}
+use Rattle.ps_serve.specs.Ends.{Told, is_short, is_broken, AllOrPart, AllThenQuit, hall_quit, room_quit, HallMade, HallGiven, RoomMadeBy, RoomMade, RoomGiven, HallLooks, RoomLooksBy, RoomLooks, HallSent, RoomSent, AreAnswers, IsAsked, IsOpen, moments_in, HasExtra, TellsMoments, starts_in, IsBegunBy, AreSure, IsOwnStart, OneBegin, HallElsewhere, IsHallOf, IsRoomOf, OneHistory, IsTooMany, HasTextCause, HasCause, Served}
 use Rattle.ps_serve.specs.Rests.{HallRests, RoomRests, HasExtraAt, Rests, ComesToRest}
 use Rattle.ps_serve.proofs.Prefixes.{prefix_same, prefix_trans}
 use Rattle.ps_serve.proofs.Rows.{Grows, from_grows}
 use Rattle.ps_serve.proofs.Halls.{IsHallKin, open_grows, nowhere_grows, given_grows, almost_grows}
-use Rattle.ps_serve.proofs.Goings.{Goes, kept_in, apart_on}
+use Rattle.ps_serve.proofs.Goings.{Goes, kept_in, zip_all, apart_on}
 use Rattle.ps_serve.proofs.StandLemmas.{asked_on}
-use Rattle.ps_serve.proofs.RestLemmas.{hall_of_hub, looks_so, sent_so, answers_so, given_broken}
-use Rattle.ps_serve.proofs.QuitLemmas.{HallWent, quits_hall, quits_hall_at_most, hall_grew, hall_within, HallKeeps, hall_keeps, hall_made, hall_made_at_most, room_within, RoomQuit, quits_room, quits_room_at_most, zip_more, zip_all, asked_quit}
+use Rattle.ps_serve.proofs.RestLemmas.{looks_so, sent_so, answers_so, given_broken}
+use Rattle.ps_serve.proofs.QuitLemmas.{HallWent, quits_hall, quits_hall_at_most, hall_grew, hall_within, HallKeeps, hall_keeps, hall_made, hall_made_at_most, room_within, RoomQuit, quits_room, quits_room_at_most, zip_more, asked_quit}
 use Rattle.ps_serve.proofs.BeginLemmas.{starts-append, starts_are, begun_there, own_starts, one_each, almost_each}
 use Rattle.ps_serve.proofs.CountLemmas.{complete_of}
 use Rattle.ps_serve.proofs.NowhereLemmas.{answers_rightly, made_before}
@@ -357,8 +357,8 @@ quitted_ok end hub conn t old new talk0 talk counts0 counts hours0 hours1 r are 
     let h = r.hall_pass in
     let same : q.before ≡ h = same_hall old q.before h q.was r.hall in
     let went = quits_hall conn t.left h q.behind (subst (λ (x : HallPass). QuitsHall conn t.left x q.behind) same q.done) in
-    let quit = entry h.pass.1.number (hall_entry conn t.left hall_commands.Quit) ∷ [] in
-    let within = hall_within hub old.conn h (hall_of_hub hub old h r.are r.hall) in
+    let quit = hall_quit conn t.left in
+    let within = hall_within hub old.conn h (hall_of hub old h r.are r.hall) in
     record {
       are = are;
       conn_is = q.conn ∙ r.conn_is;
@@ -379,8 +379,8 @@ quitted_short hub conn t old new talk0 talk counts0 counts hours0 hours1 r are q
     let h = r.hall_pass in
     let same : q.before ≡ h = same_hall old q.before h q.was r.hall in
     let went = quits_hall_at_most conn t.left h q.behind (subst (λ (x : HallPass). HallEndsAtMost conn t.left x q.behind) same q.done) in
-    let within = hall_within hub old.conn h (hall_of_hub hub old h r.are r.hall) in
-    let quit = entry h.pass.1.number (hall_entry conn t.left hall_commands.Quit) ∷ [] in
+    let within = hall_within hub old.conn h (hall_of hub old h r.are r.hall) in
+    let quit = hall_quit conn t.left in
     record {
       are = are;
       conn_is = q.conn ∙ r.conn_is;

@@ -23,13 +23,6 @@ use Rattle.ps_serve.proofs.Prefixes.{prefix_front, prefix_same}
 use Rattle.ps_serve.proofs.Actions.{cmds_more, asked_more, begins_more, since_away, since_still, since_here, room_on, room_joins, cmds_here, joins_here, starts_here, asks_here}
 use Rattle.ps_serve.proofs.Places.{never_some, IsMoved, IsTold, told_moved, sits_moved, IsPlace, HasPlace}
 
-pub one_id_of : (a b : List ℕ) → Some a ≡ Some b → a ≡ b
-one_id_of a b e = ap text_or e
-  where
-    text_or : Option (List ℕ) → List ℕ
-    text_or None = []
-    text_or (Some id) = id
-
 not_empty : {A P : Type 0} → (xs : List A) (x : A) → xs ++ x ∷ [] ≡ [] → P
 not_empty xs x e = absurd (let l = ap length e in let m = length-append xs (x ∷ []) in omega arith)
 

@@ -22,6 +22,7 @@ use Rattle.ps_hub.specs.declared.out.HubFault.TheVariants as hub_faults
 use Rattle.ps_hub.specs.declared.out.HubOut.{HubOut}
 use Rattle.ps_hub.specs.declared.pass.RoomPass.{RoomPass}
 use Rattle.ps_hub.specs.declared.passes.Passes.{Passes}
+use Rattle.ps_hub.proofs.CallLemmas.{some_value}
 use Rattle.ps_serve.specs.declared.obey.Stop.{Stop}
 use Rattle.ps_serve.specs.declared.obey.Stop.TheVariants as stops
 use Rattle.ps_serve.specs.declared.obey.Unmade.TheVariants as unmade
@@ -38,7 +39,7 @@ use Rattle.ps_serve.proofs.Reached.{Breaks, left_next, left_here, full_next}
 use Rattle.ps_serve.proofs.HallTurns.{hall_made, hall_unmade}
 use Rattle.ps_serve.proofs.HallOrders.{in_hall_start, hall_breaks, begins_break, begins_none}
 use Rattle.ps_serve.proofs.RoomOrders.{hall_from, break_hall, room_done, entry_breaks, no_memory_breaks, own_limit_breaks}
-use Rattle.ps_serve.proofs.Obeyed.{badge_of, at_room, none_found, no_badge_lost}
+use Rattle.ps_serve.proofs.Obeyed.{at_room, none_found, no_badge_lost}
 
 one_stop : (a b : Stop) → Some a ≡ Some b → a ≡ b
 one_stop a b e = ap (stop_or a) e
@@ -173,7 +174,7 @@ module _ (hub : Hub) (conn open_at : ℕ) (acts : List Act) (ss : List Sending) 
     -- no entry
     room_fails : (id : List ℕ) (cmd : Command) → taken r bytes ≡ Ok (Room id cmd) → IsSome old.badge → Unmakes hub (Room id cmd) moment old unmade.NoMemory new → StopsShort hub conn open_at acts ss bytes r hours now new
     room_fails id cmd take has u =
-        let badge = badge_of old.badge has in
+        let badge = some_value old.badge has in
         let act : r.badge ≡ Some badge.0 = sym s.badge_is ∙ badge.1 in
         ⊎_elim
         (λ (t : OrdersAtLast hub (Room id cmd) moment old (Err hub_faults.NoMemory) new). ⊎_elim

@@ -18,18 +18,19 @@ use Rattle.ps_hub.specs.Calls.{HallCaught, LooksAtMost}
 use Rattle.ps_hub.specs.declared.pass.HallPass.{HallPass}
 use Rattle.ps_hub.specs.declared.pass.RoomPass.{RoomPass}
 use Rattle.ps_hub.specs.declared.passes.Passes.{Passes}
+use Rattle.ps_hub.proofs.RowLemmas.{all_left}
 use Rattle.ps_serve.specs.declared.closed.End.{End}
 use Rattle.ps_serve.specs.Acts.{Act, after_acts, AreActs, since, begun_by, all_begun}
 use Rattle.ps_serve.specs.Sendings.{Sending, is_place, texts_from}
 use Rattle.ps_serve.specs.Sittings.{HasOpen, HallSits, PlaceSits, AreGiven, AreGivenSo, IsFromBy, IsFrom, IsBegun, AreApart, IsUntouched, Sits, sure_acts, HallLeft, PlaceLeft, Left}
 use Rattle.ps_serve.specs.Steps.{after_sendings, TellsPart, is_fault}
 use Rattle.ps_serve.specs.Tellings.{TellsHall, TellsHallPart}
-use Rattle.ps_serve.proofs.Rows.{begun_grows, from_grows, all_left}
+use Rattle.ps_serve.proofs.Rows.{begun_grows, from_grows}
 use Rattle.ps_serve.proofs.Actions.{given_parts}
 use Rattle.ps_serve.proofs.Halls.{IsHallKin, open_grows, given_grows}
 use Rattle.ps_serve.proofs.SendingLemmas.{sendings, sending, is_place_other, from_self, from_other, from_still, all_sent_at, no_sendings, texts_after}
 use Rattle.ps_serve.proofs.LookLemmas.{Looked, looked, looked_at_most}
-use Rattle.ps_serve.proofs.Goings.{Goes, all_stay, kept_in, all_go, all_went, apart_on}
+use Rattle.ps_serve.proofs.Goings.{Goes, all_stay, kept_in, zip_all, all_went, apart_on}
 use Rattle.ps_serve.proofs.PlaceLemmas.{hall_grew, hall_tells, hall_up, place_apart, hall_left_late, place_left, hall_part, hall_still}
 
 -- ---- what telling leaves as it is
@@ -64,11 +65,11 @@ all_from place n (text ∷ texts) rooms f = All-cons (IsFrom rooms) (sending pla
 
 pub based_on : (hub : Hub) (conn open_at : ℕ) (acts : List Act) (ss news : List Sending) (h k : HallPass) (old new : List RoomPass) (badge : Option Badge) → IsHallKin h k → AllZip Goes old new → All (IsFrom new) news → Based hub conn open_at acts ss h old badge → Based hub conn open_at acts (ss ++ news) k new badge
 based_on hub conn open_at acts ss news h k old new badge more row here b = record {
-  joined = all_go (λ (x : RoomPass). IsSome x.id → since x.number acts ≢ []) (λ (x : RoomPass). IsSome x.id → since x.number acts ≢ []) (λ x y g p held. subst (λ (n : ℕ). since n acts ≢ []) (sym g.grew.place) (p (subst (λ (o : Option (List ℕ)). IsSome o) g.id held))) old new row b.joined;
+  joined = zip_all Goes (λ (x : RoomPass). IsSome x.id → since x.number acts ≢ []) (λ (x : RoomPass). IsSome x.id → since x.number acts ≢ []) (λ x y g p held. subst (λ (n : ℕ). since n acts ≢ []) (sym g.grew.place) (p (subst (λ (o : Option (List ℕ)). IsSome o) g.id held))) old new row b.joined;
   others = λ number all. untouched number (b.others number (all_went (λ (x : RoomPass). x.number ≢ number) (λ (x : RoomPass). x.number ≢ number) (λ x y g p e. p (g.grew.place ∙ e)) old new row all)) all;
   apart = apart_on old new row b.apart;
   begins_are = All-weaker (IsBegun old) (IsBegun new) (begun_grows old new (kept_in old new row)) (all_begun acts) b.begins_are;
-  named = all_go (λ (x : RoomPass). IsSome x.id → IsSome badge) (λ (x : RoomPass). IsSome x.id → IsSome badge) (λ x y g p held. p (subst (λ (o : Option (List ℕ)). IsSome o) g.id held)) old new row b.named;
+  named = zip_all Goes (λ (x : RoomPass). IsSome x.id → IsSome badge) (λ (x : RoomPass). IsSome x.id → IsSome badge) (λ x y g p held. p (subst (λ (o : Option (List ℕ)). IsSome o) g.id held)) old new row b.named;
   gave = given_grows hub conn [] acts h k old new more (kept_in old new row) b.gave;
   from = All-append (IsFrom new) ss news (All-weaker (IsFrom old) (IsFrom new) (from_grows old new (kept_in old new row)) ss b.from) here;
   opened = open_grows conn open_at h k more b.opened;
