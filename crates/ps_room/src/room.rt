@@ -458,6 +458,13 @@ impl Room {
         self.id.as_str()
     }
 
+    /// The members in join order, each with its rank in the room. Takes no memory.
+    pub fn members(&self) -> &[Present]
+        ensures { result.now ≡ presents_of (record_in self.now) }
+    {
+        self.chat.members()
+    }
+
     /// What a connection is to the room. Takes no memory.
     pub fn role(&self, conn: ConnNo) -> Role
         ensures { result ≡ role conn (record_in self.now) }
