@@ -1,6 +1,6 @@
 -- What a replay prints and counts line by line, by the state that its code keeps in the place of histories. No statement of the top call
 -- rests on this file.
-use Rattle.std.specs.Prelude.{ℕ, zero, suc, ◌+◌, Bool, List, [], ◌∷◌, ◌++◌, length}
+use Rattle.std.specs.Prelude.{ℕ, zero, suc, ◌+◌, Bool, List, [], ◌∷◌, ◌++◌, length, codes}
 use Rattle.ps_script.specs.declared.item.Item.{Item}
 use Rattle.ps_world.specs.declared.place.Placed.{Placed}
 use Rattle.ps_world.specs.declared.place.Happening.{Happening}
@@ -31,6 +31,13 @@ fresh s = record { moment = 0; house = house_opening s; sessions = [] }
 abbrev pub each_to : (ℕ → List ℕ) → ℕ → List ℕ
 each_to f zero = []
 each_to f (suc n) = each_to f n ++ f (suc n)
+
+-- a line behind the digits of its connection: the first of a message, and a further one
+abbrev pub first_behind : List ℕ → List ℕ → List ℕ
+first_behind digits line = digits ++ codes "< " ++ line ++ 10 ∷ []
+
+abbrev pub further_behind : List ℕ → List ℕ → List ℕ
+further_behind digits line = digits ++ codes ". " ++ line ++ 10 ∷ []
 
 -- what is printed for a connection at an entry
 abbrev pub printed_for : House → Placed → ℕ → List ℕ

@@ -3,8 +3,10 @@ ghost use Rattle.std.specs.Prelude.{◌≡◌, ◌++◌, OnOk, codes, string_byt
 ghost use Rattle.std.specs.List.{flat_map};
 ghost use Rattle.ps_splitlog.specs.Lines.{shown_lines};
 ghost use Rattle.ps_hall.specs.Halls.{message_of};
-ghost use Rattle.ps_world.specs.Transcript.{first_line, further_line, printed, with_id, over_line};
+ghost use Rattle.ps_world.specs.Transcript.{further_line, printed, with_id, over_line};
+ghost use Rattle.ps_world.specs.Tables.{first_behind, further_behind};
 
+use itoa::Buffer;
 use ps_base::number::ConnNo;
 use ps_base::text::Text;
 use ps_hall::notice::Notice;
@@ -13,26 +15,46 @@ use ps_view::role::Role;
 use std::alloc::AllocError;
 use std::fmt::Write;
 
-fn push_first(out: &mut String, conn: ConnNo, line: &str) -> Result<(), AllocError>
-    ensures { OnOk result (string_bytes out.new ≡ string_bytes out.old ++ first_line conn line.now) }
+// ---- lines behind the digits of their connection, which are made once for a message
+
+fn push_first(out: &mut String, digits: &str, line: &str) -> Result<(), AllocError>
+    ensures { OnOk result (string_bytes out.new ≡ string_bytes out.old ++ first_behind digits.now line.now) }
 {
-    writeln!(out, "{conn}< {line}")
+    out.push_str(digits)?;
+    out.push_str("< ")?;
+    out.push_str(line)?;
+    out.push_str("\n")
 }
 
-fn push_further(out: &mut String, conn: ConnNo, line: &str) -> Result<(), AllocError>
-    ensures { OnOk result (string_bytes out.new ≡ string_bytes out.old ++ further_line conn line.now) }
+// The line of a room's id, which begins a message of it.
+fn push_place(out: &mut String, digits: &str, id: &str) -> Result<(), AllocError>
+    ensures { OnOk result (string_bytes out.new ≡ string_bytes out.old ++ first_behind digits.now (codes ">" ++ id.now)) }
 {
-    writeln!(out, "{conn}. {line}")
+    out.push_str(digits)?;
+    out.push_str("< >")?;
+    out.push_str(id)?;
+    out.push_str("\n")
 }
 
-fn push_rest(out: &mut String, conn: ConnNo, lines: &[Text]) -> Result<(), AllocError>
-    ensures { OnOk result (string_bytes out.new ≡ string_bytes out.old ++ flat_map (further_line conn) lines.now) }
+fn push_further(out: &mut String, digits: &str, line: &str) -> Result<(), AllocError>
+    ensures { OnOk result (string_bytes out.new ≡ string_bytes out.old ++ further_behind digits.now line.now) }
+{
+    out.push_str(digits)?;
+    out.push_str(". ")?;
+    out.push_str(line)?;
+    out.push_str("\n")
+}
+
+fn push_rest(out: &mut String, digits: &str, lines: &[Text]) -> Result<(), AllocError>
+    ensures { OnOk result (string_bytes out.new ≡ string_bytes out.old ++ flat_map (further_behind digits.now) lines.now) }
 {
     for line in lines {
-        push_further(out, conn, line.as_str())?;
+        push_further(out, digits, line.as_str())?;
     }
     Ok(())
 }
+
+// ---- messages
 
 fn push_lines(out: &mut String, conn: ConnNo, lines: &[Text]) -> Result<(), AllocError>
     ensures { OnOk result (string_bytes out.new ≡ string_bytes out.old ++ printed conn lines.now) }
@@ -40,10 +62,19 @@ fn push_lines(out: &mut String, conn: ConnNo, lines: &[Text]) -> Result<(), Allo
     match lines {
         [] => Ok(()),
         [first, rest @ ..] => {
-            push_first(out, conn, first.as_str())?;
-            push_rest(out, conn, rest)
+            let mut buffer = Buffer::new();
+            let digits = buffer.format(conn.0);
+            push_first(out, digits, first.as_str())?;
+            push_rest(out, digits, rest)
         }
     }
+}
+
+fn push_more_lines(out: &mut String, conn: ConnNo, lines: &[Text]) -> Result<(), AllocError>
+    ensures { OnOk result (string_bytes out.new ≡ string_bytes out.old ++ flat_map (further_line conn) lines.now) }
+{
+    let mut buffer = Buffer::new();
+    push_rest(out, buffer.format(conn.0), lines)
 }
 
 // The first notice for a connection with lines begins the message, and the others follow.
@@ -54,7 +85,7 @@ fn push_more_notices(out: &mut String, conn: ConnNo, notices: &[Notice]) -> Resu
         [] => Ok(()),
         [notice, rest @ ..] => {
             if notice.conn == conn {
-                push_rest(out, conn, notice.lines.as_slice())?;
+                push_more_lines(out, conn, notice.lines.as_slice())?;
                 push_more_notices(out, conn, rest)
             } else {
                 push_more_notices(out, conn, rest)
@@ -84,12 +115,6 @@ pub fn push_notices(out: &mut String, conn: ConnNo, notices: &[Notice]) -> Resul
     }
 }
 
-fn push_place(out: &mut String, conn: ConnNo, id: &str) -> Result<(), AllocError>
-    ensures { OnOk result (string_bytes out.new ≡ string_bytes out.old ++ first_line conn (codes ">" ++ id.now)) }
-{
-    writeln!(out, "{conn}< >{id}")
-}
-
 /// Prints a message of the room with an id to a connection, if it has lines.
 pub fn push_room_message(
     out: &mut String,
@@ -102,8 +127,10 @@ pub fn push_room_message(
     match lines {
         [] => Ok(()),
         [_, ..] => {
-            push_place(out, conn, id)?;
-            push_rest(out, conn, lines)
+            let mut buffer = Buffer::new();
+            let digits = buffer.format(conn.0);
+            push_place(out, digits, id)?;
+            push_rest(out, digits, lines)
         }
     }
 }
@@ -112,19 +139,20 @@ pub fn push_room_message(
 fn push_shown_rest(
     out: &mut String,
     conn: ConnNo,
+    digits: &str,
     role: Role,
     lines: &[Stored],
 ) -> Result<(), AllocError>
-    ensures { OnOk result (string_bytes out.new ≡ string_bytes out.old ++ flat_map (further_line conn) (shown_lines conn role lines.now)) }
+    ensures { OnOk result (string_bytes out.new ≡ string_bytes out.old ++ flat_map (further_behind digits.now) (shown_lines conn role lines.now)) }
 {
     match lines {
         [] => Ok(()),
         [line, rest @ ..] => match shown(conn, role, line) {
             Some(text) => {
-                push_further(out, conn, text.as_str())?;
-                push_shown_rest(out, conn, role, rest)
+                push_further(out, digits, text.as_str())?;
+                push_shown_rest(out, conn, digits, role, rest)
             }
-            None => push_shown_rest(out, conn, role, rest),
+            None => push_shown_rest(out, conn, digits, role, rest),
         },
     }
 }
@@ -142,9 +170,12 @@ pub fn push_shown(
     match lines {
         [] => Ok(()),
         [line, rest @ ..] => match shown(conn, role, line) {
-            Some(_) => {
-                push_place(out, conn, id)?;
-                push_shown_rest(out, conn, role, lines)
+            Some(text) => {
+                let mut buffer = Buffer::new();
+                let digits = buffer.format(conn.0);
+                push_place(out, digits, id)?;
+                push_further(out, digits, text.as_str())?;
+                push_shown_rest(out, conn, digits, role, rest)
             }
             None => push_shown(out, conn, id, role, rest),
         },
