@@ -20,3 +20,4 @@ pub mod OneEntryLemmas
 pub mod OrderLemmas
 pub mod EndLemmas
 pub mod EntryCounts
+pub mod HearerLemmas

@@ -1,18 +1,25 @@
 -- The hall and the rooms as the code keeps them: of each room its log in the place of what was logged. No statement of the top
 -- call rests on this file.
 use Rattle.std.specs.Prelude.{ℕ, ◌-◌, List, [], ◌∷◌, ◌++◌, map, slice_get, slice_set, nat_lt, Option, Some, None, if◌then◌else◌}
+use Rattle.std.specs.List.{filter_map}
 use Rattle.std.specs.Option.{option_map_or}
 use Rattle.std.specs.FinMap.{empty}
 use Rattle.ps_roster.specs.ById.{ById}
 use Rattle.ps_valid.specs.declared.start.Start.{Start}
+use Rattle.ps_event.specs.declared.audience.Audience.{Audience}
+use Rattle.ps_event.specs.declared.audience.Audience.TheVariants as audiences
 use Rattle.ps_hall.specs.declared.entry.HallEntry.{HallEntry}
+use Rattle.ps_hall.specs.declared.notice.Notice.{Notice}
 use Rattle.ps_hall.specs.Records.{Record as HallRecord}
 use Rattle.ps_hall.specs.Halls as halls
 use Rattle.ps_splitlog.specs.declared.entry.Held.{Held}
+use Rattle.ps_splitlog.specs.declared.stored.Stored.{Stored}
+use Rattle.ps_splitlog.specs.declared.stored.Stored.TheVariants.{Same, Split}
 use Rattle.ps_splitlog.specs.Entries.{logged_lines, message_of}
 use Rattle.ps_room.specs.declared.entry.Entry.{Entry}
 use Rattle.ps_room.specs.Rooms.{role}
-use Rattle.ps_room.specs.Logs.{Seen, record_in, given, seen_opened, seen_after, run_seen}
+use Rattle.ps_room.specs.Records.{presents_of}
+use Rattle.ps_room.specs.Logs.{Seen, conn_of, record_in, given, seen_opened, seen_after, run_seen}
 use Rattle.ps_laws.specs.Stories.{Story}
 use Rattle.ps_world.specs.declared.place.Placed.{Placed}
 use Rattle.ps_world.specs.declared.place.Placed.TheVariants.{Hall, Room}
@@ -84,6 +91,30 @@ seen_message conn e (Some s) = next_message conn s (given (record_in s) e)
 abbrev pub house_message : ℕ → House → Placed → List (List ℕ)
 house_message conn k (Hall e) = halls.message conn k.hall e
 house_message conn k (Room number e) = seen_message conn e (seen_at number k)
+
+-- ---- who may hear
+
+-- the connection that this is for, where it is for one
+abbrev pub one_of : Audience → Option ℕ
+one_of (audiences.One conn) = Some conn
+one_of other = None
+
+abbrev pub own_conn : Stored → Option ℕ
+own_conn (Same audience logged text) = one_of audience
+own_conn (Split side logged secret public) = None
+
+-- who may be sent something at a room's next entry: who made it, the members, and who has a line of its own
+abbrev pub room_hearers : Seen → Held → List ℕ
+room_hearers s h = h.conn ∷ map conn_of (presents_of (record_in s)) ++ filter_map own_conn h.lines
+
+abbrev pub told_conn : Notice → ℕ
+told_conn n = n.conn
+
+-- whom these notices tell something
+abbrev pub notice_hearers : List Notice → List ℕ
+notice_hearers ns = map told_conn ns
+
+-- ---- the start
 
 -- before the first entry
 abbrev pub house_opening : Setup → House

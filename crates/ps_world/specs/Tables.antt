@@ -1,6 +1,6 @@
 -- What a replay prints and counts line by line, by the state that its code keeps in the place of histories. No statement of the top call
 -- rests on this file.
-use Rattle.std.specs.Prelude.{ℕ, zero, suc, ◌+◌, Bool, List, [], ◌∷◌, ◌++◌, length, codes}
+use Rattle.std.specs.Prelude.{ℕ, zero, suc, ◌+◌, ◌&&◌, Bool, List, [], ◌∷◌, ◌++◌, length, codes, nat_lt, nat_le, if◌then◌else◌}
 use Rattle.ps_script.specs.declared.item.Item.{Item}
 use Rattle.ps_world.specs.declared.place.Placed.{Placed}
 use Rattle.ps_world.specs.declared.place.Happening.{Happening}
@@ -31,6 +31,15 @@ fresh s = record { moment = 0; house = house_opening s; sessions = [] }
 abbrev pub each_to : (ℕ → List ℕ) → ℕ → List ℕ
 each_to f zero = []
 each_to f (suc n) = each_to f n ++ f (suc n)
+
+-- whether a number comes behind the last one, and up to n
+abbrev pub is_next : ℕ → ℕ → ℕ → Bool
+is_next last n conn = nat_lt last conn && nat_le conn n
+
+-- f of those of these numbers that each come behind the last one that was taken, up to n
+abbrev pub each_of : (ℕ → List ℕ) → ℕ → ℕ → List ℕ → List ℕ
+each_of f n last [] = []
+each_of f n last (conn ∷ conns) = if is_next last n conn then f conn ++ each_of f n conn conns else each_of f n last conns
 
 -- a line behind the digits of its connection: the first of a message, and a further one
 abbrev pub first_behind : List ℕ → List ℕ → List ℕ

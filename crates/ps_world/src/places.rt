@@ -316,7 +316,7 @@ impl Places {
             badge,
             start,
         } = self.hall.apply(alloc, entry)?;
-        play::push_hall(&mut out.text, conns, self.hall.told())?;
+        play::push_hall(alloc, &mut out.text, conns, self.hall.told())?;
         count(&mut out.counts, hall_refuses(&verdict))?;
         match start {
             None => {}

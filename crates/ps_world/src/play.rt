@@ -6,9 +6,9 @@ ghost use Rattle.ps_hall.specs.Halls as halls;
 ghost use Rattle.ps_world.specs.Houses.{standing, id_of, next_message, seen_message, seen_rooms_after};
 ghost use Rattle.ps_world.specs.Entries.{out_at};
 ghost use Rattle.ps_world.specs.Transcript.{printed, with_id};
-ghost use Rattle.ps_world.specs.Tables.{each_to};
+ghost use Rattle.ps_world.specs.Tables.{is_next, each_of, each_to};
 
-use crate::print;
+use crate::{hearers, print};
 use ps_base::number::ConnNo;
 use ps_hall::notice::Notice;
 use ps_room::entry::Entry;
@@ -18,14 +18,45 @@ use ps_splitlog::entry::Held;
 use ps_splitlog::read::join_for;
 use std::alloc::{AllocError, Global};
 
+// Whether a connection comes behind the last one, and up to `count`.
+fn is_next(last: u32, count: u32, conn: u32) -> bool
+    ensures { result ≡ is_next last count conn }
+{
+    last < conn && conn <= count
+}
+
+// Prints what notices of the hall tell to these connections, in ascending number up to `count`, to each once.
+fn push_each_told(
+    out: &mut String,
+    count: u32,
+    notices: &[Notice],
+    conns: &[u32],
+) -> Result<(), AllocError>
+    ensures { OnOk result (string_bytes out.new ≡ string_bytes out.old
+        ++ each_of (λ conn. printed conn (with_id None (halls.message_of conn notices.now))) count 0 conns.now) }
+{
+    let mut last = 0;
+    for conn in conns {
+        if is_next(last, count, *conn) {
+            print::push_notices(out, ConnNo(*conn), notices)?;
+            last = *conn;
+        }
+    }
+    Ok(())
+}
+
 /// Prints what notices of the hall tell to the connections from 1 to `count`.
-pub fn push_hall(out: &mut String, count: u32, notices: &[Notice]) -> Result<(), AllocError>
+pub fn push_hall(
+    alloc: Global,
+    out: &mut String,
+    count: u32,
+    notices: &[Notice],
+) -> Result<(), AllocError>
     ensures { OnOk result (string_bytes out.new ≡ string_bytes out.old
         ++ each_to (λ conn. printed conn (with_id None (halls.message_of conn notices.now))) count) }
 {
-    for i in 0..count {
-        print::push_notices(out, ConnNo(i + 1), notices)?;
-    }
+    let conns = hearers::of_notices(alloc, notices)?;
+    push_each_told(out, count, notices, conns.as_slice())?;
     Ok(())
 }
 
@@ -64,6 +95,28 @@ fn push_held(
     }
 }
 
+// Prints what an entry of a room gives to these connections, in ascending number up to `count`, to each once.
+fn push_each_held(
+    alloc: Global,
+    out: &mut String,
+    count: u32,
+    room: &Room,
+    held: &Held,
+    conns: &[u32],
+) -> Result<(), AllocError>
+    ensures { OnOk result (string_bytes out.new ≡ string_bytes out.old
+        ++ each_of (λ conn. printed conn (with_id (Some room.now.id) (next_message conn room.now held.now))) count 0 conns.now) }
+{
+    let mut last = 0;
+    for conn in conns {
+        if is_next(last, count, *conn) {
+            push_held(alloc, out, ConnNo(*conn), room, held)?;
+            last = *conn;
+        }
+    }
+    Ok(())
+}
+
 // Prints what an entry of a room gives, to the connections from 1 to `count`.
 fn push_room(
     alloc: Global,
@@ -75,9 +128,8 @@ fn push_room(
     ensures { OnOk result (string_bytes out.new ≡ string_bytes out.old
         ++ each_to (λ conn. printed conn (with_id (Some room.now.id) (next_message conn room.now held.now))) count) }
 {
-    for i in 0..count {
-        push_held(alloc, out, ConnNo(i + 1), room, held)?;
-    }
+    let conns = hearers::of_room(alloc, room, held)?;
+    push_each_held(alloc, out, count, room, held, conns.as_slice())?;
     Ok(())
 }
 
