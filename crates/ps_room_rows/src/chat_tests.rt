@@ -18,7 +18,6 @@ use ps_valid::config::Config;
 use std::alloc::Global;
 use std::process::Abort;
 use std::sync::Arc;
-use std::test::Fail;
 
 /// The connections from 1 on: a name, and a rank of the standard groups. Eve's is past them.
 const WHO: [(&str, u8); 7] = [
@@ -174,355 +173,404 @@ const RANKS: Rows = &[
 
 // ---- playing
 
-pub(crate) fn command(alloc: Global, text: &str) -> Result<Command, Fail> {
+// Memory that is refused ends a test at once: what may return in between would be slow to prove. So would a value of many parts
+// be that ends beside others: each kind of them has one function in which it ends alone.
+
+fn parsed(rt: &impl Abort, alloc: Global, text: &str) -> Parsed {
+    read_command(alloc, text).expect(rt, "a command")
+}
+
+/// In place of a command of the hall a room is told to undo.
+fn room_command(parsed: Parsed) -> Command {
+    match parsed {
+        Parsed::Room(cmd) => cmd,
+        Parsed::Hall(_) => Command::Undo,
+    }
+}
+
+pub(crate) fn command(rt: &impl Abort, alloc: Global, text: &str) -> Command {
     if text == "quit" {
-        return Ok(Command::Quit);
+        return Command::Quit;
     }
-    match read_command(alloc, text)? {
-        Parsed::Room(cmd) => Ok(cmd),
-        Parsed::Hall(_) => Ok(Command::Undo),
-    }
+    room_command(parsed(rt, alloc, text))
 }
 
-pub(crate) fn badge_of(alloc: Global, conn: u32) -> Result<Badge, Fail> {
+pub(crate) fn badge_of(rt: &impl Abort, alloc: Global, conn: u32) -> Badge {
     let (name, rank) = WHO.get(conn as usize).copied().unwrap_or(("Zed", 5));
-    Ok(Badge {
-        name: Name::new(alloc, name)?,
+    Badge {
+        name: Name::new(alloc, name).expect(rt, "memory"),
         rank,
-    })
+    }
 }
 
-fn opened(rt: &impl Abort, alloc: Global) -> Result<Room, Fail> {
-    let config = Arc::new(alloc, Config::standard(alloc)?)?;
-    let dex = Arc::new(alloc, Dex::empty(alloc))?;
-    let (id, title) = (
-        Text::copy_of(alloc, "lobby")?,
-        Text::copy_of(alloc, "Lobby")?,
-    );
-    let opening = Opening::new(RoomNo(0), id, title, config, dex, None);
+fn copy(rt: &impl Abort, alloc: Global, text: &str) -> Text {
+    Text::copy_of(alloc, text).expect(rt, "memory")
+}
+
+fn config(rt: &impl Abort, alloc: Global) -> Arc<Config> {
+    let config = Config::standard(alloc).expect(rt, "memory");
+    Arc::new(alloc, config).expect(rt, "memory")
+}
+
+fn opening(rt: &impl Abort, alloc: Global) -> Opening {
+    let dex = Arc::new(alloc, Dex::empty(alloc)).expect(rt, "memory");
+    let config = config(rt, alloc);
+    let id = copy(rt, alloc, "lobby");
+    let title = copy(rt, alloc, "Lobby");
+    Opening::new(RoomNo(0), id, title, config, dex, None)
+}
+
+fn opened(rt: &impl Abort, alloc: Global) -> Room {
+    let opening = opening(rt, alloc);
     let fit = Room::fit(&opening);
     assert!(rt; fit);
-    Ok(Room::new(alloc, opening)?)
+    Room::new(alloc, opening).expect(rt, "memory")
 }
+
+/// Ends a room.
+pub(crate) fn close(_room: Room) {}
 
 /// Applies a connection's text.
 pub(crate) fn entered(
+    rt: &impl Abort,
     alloc: Global,
     room: &mut Room,
     conn: u32,
     moment: u64,
     text: &str,
-) -> Result<RoomOut, Fail> {
-    let cmd = command(alloc, text)?;
-    let badge = badge_of(alloc, conn)?;
-    Ok(room.apply(alloc, ConnNo(conn), badge, Moment(moment), cmd)?)
+) -> RoomOut {
+    let cmd = command(rt, alloc, text);
+    let badge = badge_of(rt, alloc, conn);
+    room.apply(alloc, ConnNo(conn), badge, Moment(moment), cmd)
+        .expect(rt, "memory")
 }
 
 pub(crate) fn enter(
+    rt: &impl Abort,
     alloc: Global,
     room: &mut Room,
     conn: u32,
     moment: u64,
     text: &str,
-) -> Result<(), Fail> {
-    entered(alloc, room, conn, moment, text)?;
-    Ok(())
+) {
+    entered(rt, alloc, room, conn, moment, text);
 }
 
 // ---- what is sent
 
-fn push_lines(message: &Msg, out: &mut String) -> Result<(), Fail> {
-    for line in message.lines.as_slice() {
-        if !out.is_empty() {
-            out.push_str("/")?;
-        }
-        out.push_str(line.as_str())?;
+fn push(rt: &impl Abort, out: &mut String, text: &str) {
+    out.push_str(text).expect(rt, "memory");
+}
+
+fn push_line(rt: &impl Abort, out: &mut String, line: &str) {
+    if !out.is_empty() {
+        push(rt, out, "/");
     }
-    Ok(())
+    push(rt, out, line);
+}
+
+fn push_lines(rt: &impl Abort, message: &Msg, out: &mut String) {
+    for line in message.lines.as_slice() {
+        push_line(rt, out, line.as_str());
+    }
 }
 
 /// The lines past a cursor.
-fn pulled(alloc: Global, room: &Room, cursor: &mut Cursor) -> Result<String, Fail> {
+fn pulled(rt: &impl Abort, alloc: Global, room: &Room, cursor: &mut Cursor) -> String {
     let mut out = String::new(alloc);
-    for message in &room.pull(alloc, cursor)? {
-        push_lines(message, &mut out)?;
+    let messages = room.pull(alloc, cursor).expect(rt, "memory");
+    for message in messages.as_slice() {
+        push_lines(rt, message, &mut out);
     }
-    Ok(out)
+    out
 }
 
-fn cursors(alloc: Global) -> Result<Vec<Cursor>, Fail> {
+fn cursors(rt: &impl Abort, alloc: Global) -> Vec<Cursor> {
     let mut cursors = Vec::new(alloc);
     for conn in 1..7 {
-        cursors.push(Cursor::new(ConnNo(conn)))?;
+        cursors.push(Cursor::new(ConnNo(conn))).expect(rt, "memory");
     }
-    Ok(cursors)
+    cursors
 }
 
-fn looks(alloc: Global, room: &Room, cursors: &mut [Cursor]) -> Result<Vec<String>, Fail> {
+fn looks(rt: &impl Abort, alloc: Global, room: &Room, cursors: &mut [Cursor]) -> Vec<String> {
     let mut texts = Vec::new(alloc);
     for cursor in cursors.iter_mut() {
-        texts.push(pulled(alloc, room, cursor)?)?;
+        let text = pulled(rt, alloc, room, cursor);
+        texts.push(text).expect(rt, "memory");
     }
-    Ok(texts)
+    texts
 }
 
 fn is_new(texts: &[String], text: &str) -> bool {
     !text.is_empty() && !texts.iter().any(|other| other.as_str() == text)
 }
 
-fn push_conns(alloc: Global, texts: &[String], text: &str, out: &mut String) -> Result<(), Fail> {
+fn push_conn(rt: &impl Abort, alloc: Global, place: usize, out: &mut String) {
+    let conn = place.saturating_add(1);
+    let digits = format!(in alloc; "{conn}").expect(rt, "memory");
+    push(rt, out, digits.as_str());
+}
+
+fn push_conns(rt: &impl Abort, alloc: Global, texts: &[String], text: &str, out: &mut String) {
     for (place, other) in texts.iter().enumerate() {
         if other.as_str() == text {
-            let conn = place.saturating_add(1);
-            let digits = format!(in alloc; "{conn}")?;
-            out.push_str(digits.as_str())?;
+            push_conn(rt, alloc, place, out);
         }
     }
-    Ok(())
+}
+
+/// Puts a text that is new behind the connections that get it.
+fn push_new(rt: &impl Abort, alloc: Global, texts: &[String], text: &str, out: &mut String) {
+    if !out.is_empty() {
+        push(rt, out, "\n");
+    }
+    push_conns(rt, alloc, texts, text, out);
+    push(rt, out, " ");
+    push(rt, out, text);
 }
 
 /// Each message once, behind those that get it.
-fn told(alloc: Global, texts: &[String]) -> Result<String, Fail> {
+fn told(rt: &impl Abort, alloc: Global, texts: &[String]) -> String {
     let mut out = String::new(alloc);
     for (place, text) in texts.iter().enumerate() {
         let earlier = texts.get(..place).unwrap_or(&[]);
         if is_new(earlier, text.as_str()) {
-            if !out.is_empty() {
-                out.push_str("\n")?;
-            }
-            push_conns(alloc, texts, text.as_str(), &mut out)?;
-            out.push_str(" ")?;
-            out.push_str(text.as_str())?;
+            push_new(rt, alloc, texts, text.as_str(), &mut out);
         }
     }
-    Ok(out)
+    out
 }
 
-fn row(
-    alloc: Global,
-    room: &mut Room,
-    cursors: &mut [Cursor],
-    conn: u32,
-    moment: u64,
-    text: &str,
-) -> Result<String, Fail> {
-    enter(alloc, room, conn, moment, text)?;
-    let texts = looks(alloc, room, cursors)?;
-    told(alloc, texts.as_slice())
-}
-
-/// A text of a row is sent what the row says.
-fn holds(
+/// What is sent at the text of a row, which the room applies.
+fn sent_at(
     rt: &impl Abort,
     alloc: Global,
     room: &mut Room,
     cursors: &mut [Cursor],
     said: &Row,
-) -> Result<(), Fail> {
+) -> String {
+    let (conn, moment, text, _) = said;
+    enter(rt, alloc, room, *conn, *moment, text);
+    let texts = looks(rt, alloc, room, cursors);
+    told(rt, alloc, texts.as_slice())
+}
+
+/// A text of a row is sent what the row says.
+fn holds(rt: &impl Abort, alloc: Global, room: &mut Room, cursors: &mut [Cursor], said: &Row) {
     let (conn, moment, text, sent) = said;
-    let given = row(alloc, room, cursors, *conn, *moment, text)?;
+    let given = sent_at(rt, alloc, room, cursors, said);
     assert_eq!(rt; given.as_str(), *sent, "{conn} at {moment}: {text}");
-    Ok(())
 }
 
-fn play(rt: &impl Abort, alloc: Global, rows: Rows) -> Result<(), Fail> {
-    let mut room = opened(rt, alloc)?;
-    let mut cursors = cursors(alloc)?;
+fn all_hold(rt: &impl Abort, alloc: Global, room: &mut Room, cursors: &mut [Cursor], rows: Rows) {
     for row in rows {
-        holds(rt, alloc, &mut room, &mut cursors, row)?;
+        holds(rt, alloc, room, cursors, row);
     }
-    Ok(())
+}
+
+fn play(rt: &impl Abort, alloc: Global, rows: Rows) {
+    let mut room = opened(rt, alloc);
+    let mut cursors = cursors(rt, alloc);
+    all_hold(rt, alloc, &mut room, &mut cursors, rows);
+    close(room);
 }
 
 #[test]
-fn talk_in_a_room(rt: HostRuntime) -> Result<(), Fail> {
-    play(&rt, rt.alloc(), TALK)
+fn talk_in_a_room(rt: HostRuntime) {
+    play(&rt, rt.alloc(), TALK);
 }
 
 #[test]
-fn mutes_in_a_room(rt: HostRuntime) -> Result<(), Fail> {
-    play(&rt, rt.alloc(), MUTES)
+fn mutes_in_a_room(rt: HostRuntime) {
+    play(&rt, rt.alloc(), MUTES);
 }
 
 #[test]
-fn bans_from_a_room(rt: HostRuntime) -> Result<(), Fail> {
-    play(&rt, rt.alloc(), BANS)
+fn bans_from_a_room(rt: HostRuntime) {
+    play(&rt, rt.alloc(), BANS);
 }
 
 #[test]
-fn ranks_in_a_room(rt: HostRuntime) -> Result<(), Fail> {
-    play(&rt, rt.alloc(), RANKS)
+fn ranks_in_a_room(rt: HostRuntime) {
+    play(&rt, rt.alloc(), RANKS);
 }
 
-fn letters(alloc: Global, count: u32) -> Result<String, Fail> {
+fn letters(rt: &impl Abort, alloc: Global, count: u32) -> String {
     let mut text = String::new(alloc);
     for _ in 0..count {
-        text.push_str("a")?;
+        push(rt, &mut text, "a");
     }
-    Ok(text)
+    text
 }
 
 /// The room with Ann in it.
-fn opened_by_ann(rt: &impl Abort, alloc: Global) -> Result<Room, Fail> {
-    let mut room = opened(rt, alloc)?;
-    enter(alloc, &mut room, 1, 0, "/join lobby")?;
-    Ok(room)
+fn opened_by_ann(rt: &impl Abort, alloc: Global) -> Room {
+    let mut room = opened(rt, alloc);
+    enter(rt, alloc, &mut room, 1, 0, "/join lobby");
+    room
 }
 
 /// What a connection is sent from the room, from its begin on.
-fn sent_to(alloc: Global, room: &Room, conn: u32) -> Result<String, Fail> {
+fn sent_to(rt: &impl Abort, alloc: Global, room: &Room, conn: u32) -> String {
     let mut cursor = Cursor::new(ConnNo(conn));
-    pulled(alloc, room, &mut cursor)
+    pulled(rt, alloc, room, &mut cursor)
 }
 
-fn say_letters(alloc: Global, room: &mut Room, count: u32) -> Result<(), Fail> {
-    let text = letters(alloc, count)?;
-    enter(alloc, room, 1, 0, text.as_str())
+fn say_letters(rt: &impl Abort, alloc: Global, room: &mut Room, count: u32) {
+    let text = letters(rt, alloc, count);
+    enter(rt, alloc, room, 1, 0, text.as_str());
 }
 
 /// What Ann is sent who says so many letters.
-fn sent_for_letters(rt: &impl Abort, alloc: Global, count: u32) -> Result<String, Fail> {
-    let mut room = opened_by_ann(rt, alloc)?;
-    say_letters(alloc, &mut room, count)?;
-    sent_to(alloc, &room, 1)
+fn sent_for_letters(rt: &impl Abort, alloc: Global, count: u32) -> String {
+    let mut room = opened_by_ann(rt, alloc);
+    say_letters(rt, alloc, &mut room, count);
+    let sent = sent_to(rt, alloc, &room, 1);
+    close(room);
+    sent
 }
 
 /// A text of 300 characters is said.
 #[test]
-fn longest_text(rt: HostRuntime) -> Result<(), Fail> {
-    let sent = sent_for_letters(&rt, rt.alloc(), 300)?;
+fn longest_text(rt: HostRuntime) {
+    let sent = sent_for_letters(&rt, rt.alloc(), 300);
     assert!(rt; sent.starts_with("|init|chat/|title|Lobby/|users|1,%Ann/|c:|0|%Ann|aaa"));
     assert_eq!(rt; sent.len(), 349);
-    Ok(())
 }
 
 /// One of 301 is too long.
 #[test]
-fn longer_text(rt: HostRuntime) -> Result<(), Fail> {
-    let sent = sent_for_letters(&rt, rt.alloc(), 301)?;
+fn longer_text(rt: HostRuntime) {
+    let sent = sent_for_letters(&rt, rt.alloc(), 301);
     assert_eq!(rt;
         sent.as_str(),
         "|init|chat/|title|Lobby/|users|1,%Ann/|error|[TooLong]"
     );
-    Ok(())
 }
 
-fn say_numbers(alloc: Global, room: &mut Room, count: u32) -> Result<(), Fail> {
+fn say_number(rt: &impl Abort, alloc: Global, room: &mut Room, number: u32) {
+    let text = format!(in alloc; "{number}").expect(rt, "memory");
+    enter(rt, alloc, room, 1, 0, text.as_str());
+}
+
+fn say_numbers(rt: &impl Abort, alloc: Global, room: &mut Room, count: u32) {
     for number in 0..count {
-        let text = format!(in alloc; "{number}")?;
-        enter(alloc, room, 1, 0, text.as_str())?;
+        say_number(rt, alloc, room, number);
     }
-    Ok(())
 }
 
 /// What Bob is sent who joins after so many lines of Ann and a staff note.
-fn sent_after(rt: &impl Abort, alloc: Global, count: u32) -> Result<String, Fail> {
-    let mut room = opened_by_ann(rt, alloc)?;
-    say_numbers(alloc, &mut room, count)?;
-    enter(alloc, &mut room, 1, 0, "/modnote hush")?;
-    enter(alloc, &mut room, 2, 0, "/join lobby")?;
-    sent_to(alloc, &room, 2)
+fn sent_after(rt: &impl Abort, alloc: Global, count: u32) -> String {
+    let mut room = opened_by_ann(rt, alloc);
+    say_numbers(rt, alloc, &mut room, count);
+    enter(rt, alloc, &mut room, 1, 0, "/modnote hush");
+    enter(rt, alloc, &mut room, 2, 0, "/join lobby");
+    let sent = sent_to(rt, alloc, &room, 2);
+    close(room);
+    sent
 }
 
 /// Who joins is sent the last hundred of 101 logged lines, without the staff note behind them.
 #[test]
-fn last_hundred_lines(rt: HostRuntime) -> Result<(), Fail> {
-    let sent = sent_after(&rt, rt.alloc(), 101)?;
+fn last_hundred_lines(rt: HostRuntime) {
+    let sent = sent_after(&rt, rt.alloc(), 101);
     assert_eq!(rt; sent.as_str().split("/").count(), 103);
     assert!(rt;
         sent.starts_with("|init|chat/|title|Lobby/|users|2,%Ann, Bob/|c:|0|%Ann|1/|c:|0|%Ann|2/")
     );
     assert!(rt; sent.ends_with("/|c:|0|%Ann|99/|c:|0|%Ann|100"));
-    Ok(())
 }
 
-fn join_all(alloc: Global, room: &mut Room, count: u32) -> Result<(), Fail> {
+fn join_all(rt: &impl Abort, alloc: Global, room: &mut Room, count: u32) {
     for conn in 0..count {
-        enter(alloc, room, conn, 0, "/join lobby")?;
+        enter(rt, alloc, room, conn, 0, "/join lobby");
     }
-    Ok(())
 }
 
 /// What the last of so many who join is sent.
-fn sent_to_last(rt: &impl Abort, alloc: Global, count: u32) -> Result<String, Fail> {
-    let mut room = opened(rt, alloc)?;
-    join_all(alloc, &mut room, count)?;
-    sent_to(alloc, &room, count.saturating_sub(1))
+fn sent_to_last(rt: &impl Abort, alloc: Global, count: u32) -> String {
+    let mut room = opened(rt, alloc);
+    join_all(rt, alloc, &mut room, count);
+    let sent = sent_to(rt, alloc, &room, count.saturating_sub(1));
+    close(room);
+    sent
 }
 
 /// A room has place for 256 members.
 #[test]
-fn full_room(rt: HostRuntime) -> Result<(), Fail> {
-    let sent = sent_to_last(&rt, rt.alloc(), 256)?;
+fn full_room(rt: HostRuntime) {
+    let sent = sent_to_last(&rt, rt.alloc(), 256);
     assert!(rt; sent.starts_with("|init|chat/|title|Lobby/|users|256, Zed,%Ann,"));
-    Ok(())
 }
 
 /// It has none for another one.
 #[test]
-fn overfull_room(rt: HostRuntime) -> Result<(), Fail> {
-    let sent = sent_to_last(&rt, rt.alloc(), 257)?;
+fn overfull_room(rt: HostRuntime) {
+    let sent = sent_to_last(&rt, rt.alloc(), 257);
     assert_eq!(rt; sent.as_str(), "|error|[RoomFull]");
-    Ok(())
 }
 
 // ---- a chat by itself
 
-fn chat(rt: &impl Abort, alloc: Global) -> Result<Chat, Fail> {
-    let groups = Groups::standard(alloc)?;
+fn chat(rt: &impl Abort, alloc: Global) -> Chat {
+    let groups = Groups::standard(alloc).expect(rt, "memory");
     let fit = 3 < groups.count();
     assert!(rt; fit);
-    Ok(Chat::new(alloc, "Lobby", false, &groups, 3)?)
+    Chat::new(alloc, "Lobby", false, &groups, 3).expect(rt, "memory")
 }
 
-fn apply_allowed(alloc: Global, chat: &mut Chat, badge: &Badge, cmd: &Command) -> Result<(), Fail> {
+fn apply_allowed(rt: &impl Abort, alloc: Global, chat: &mut Chat, badge: &Badge, cmd: &Command) {
     match chat.verdict(ConnNo(1), badge, Moment(0), cmd) {
-        Some(_) => Ok(()),
+        Some(_) => {}
         None => {
-            chat.apply(alloc, ConnNo(1), badge, Moment(0), cmd)?;
-            Ok(())
+            chat.apply(alloc, ConnNo(1), badge, Moment(0), cmd)
+                .expect(rt, "memory");
         }
     }
 }
 
-fn enter_chat(alloc: Global, chat: &mut Chat, text: &str) -> Result<(), Fail> {
-    let cmd = command(alloc, text)?;
-    let badge = badge_of(alloc, 1)?;
-    apply_allowed(alloc, chat, &badge, &cmd)
+pub(crate) fn discard(_cmd: Command) {}
+
+fn enter_chat(rt: &impl Abort, alloc: Global, chat: &mut Chat, text: &str) {
+    let cmd = command(rt, alloc, text);
+    let badge = badge_of(rt, alloc, 1);
+    apply_allowed(rt, alloc, chat, &badge, &cmd);
+    discard(cmd);
 }
 
-fn push_texts(lines: &[ChatLine], out: &mut String) -> Result<(), Fail> {
+fn push_texts(rt: &impl Abort, lines: &[ChatLine], out: &mut String) {
     for line in lines {
-        out.push_str(line.text.as_str())?;
-        out.push_str("/")?;
+        push(rt, out, line.text.as_str());
+        push(rt, out, "/");
     }
-    Ok(())
 }
 
-fn push_row(alloc: Global, chat: &mut Chat, text: &str, out: &mut String) -> Result<(), Fail> {
-    enter_chat(alloc, chat, text)?;
-    push_texts(chat.lines(), out)
+fn push_row(rt: &impl Abort, alloc: Global, chat: &mut Chat, text: &str, out: &mut String) {
+    enter_chat(rt, alloc, chat, text);
+    push_texts(rt, chat.lines(), out);
 }
 
-fn push_rows(alloc: Global, chat: &mut Chat, texts: &[&str], out: &mut String) -> Result<(), Fail> {
+fn push_rows(rt: &impl Abort, alloc: Global, chat: &mut Chat, texts: &[&str], out: &mut String) {
     for text in texts {
-        push_row(alloc, chat, text, out)?;
+        push_row(rt, alloc, chat, text, out);
     }
-    Ok(())
 }
+
+pub(crate) fn close_chat(_chat: Chat) {}
 
 /// What a chat's lines are after each of some texts.
-fn lines_of(rt: &impl Abort, alloc: Global, texts: &[&str]) -> Result<String, Fail> {
-    let mut chat = chat(rt, alloc)?;
+fn lines_of(rt: &impl Abort, alloc: Global, texts: &[&str]) -> String {
+    let mut chat = chat(rt, alloc);
     let mut out = String::new(alloc);
-    push_rows(alloc, &mut chat, texts, &mut out)?;
-    Ok(out)
+    push_rows(rt, alloc, &mut chat, texts, &mut out);
+    close_chat(chat);
+    out
 }
 
 /// The lines are those of the last entry that was allowed.
 #[test]
-fn chat_by_itself(rt: HostRuntime) -> Result<(), Fail> {
-    let lines = lines_of(&rt, rt.alloc(), &["/join lobby", "hi", "  "])?;
+fn chat_by_itself(rt: HostRuntime) {
+    let lines = lines_of(&rt, rt.alloc(), &["/join lobby", "hi", "  "]);
     assert_eq!(rt; lines.as_str(), "|j|%Ann/|c:|0|%Ann|hi/|c:|0|%Ann|hi/");
-    Ok(())
 }

@@ -4,8 +4,8 @@ ghost use Rattle.std.specs.Prelude.{◌≡◌, ◌<◌, [], IfSome};
 ghost use Rattle.std.specs.Arc.{arc_value};
 ghost use Rattle.ps_start.specs.Fits.{IsFit};
 
-use crate::chat_tests::{badge_of, command, enter};
-use crate::room_tests::{CONFIG, DEX, Texts, opened, start};
+use crate::chat_tests::{badge_of, close, close_chat, command, discard, enter};
+use crate::room_tests::{Texts, config, dex, opened, start};
 use ps_base::list::List;
 use ps_base::number::{ConnNo, Moment};
 use ps_base::text::Text;
@@ -35,7 +35,6 @@ use ps_view::role::Role;
 use std::alloc::Global;
 use std::process::Abort;
 use std::sync::Arc;
-use std::test::Fail;
 
 /// What stays in the backlog: a line of the chat, or an event of the battle, whose line each role is shown in its own form.
 #[derive(Drop)]
@@ -148,15 +147,19 @@ fn opened_with(
     }
 }
 
+fn discard_config(_config: Config) {}
+
 /// The plain program for the room of Ann's Tauros and Bob's Snorlax.
 fn opened_plainly(rt: &impl Abort, alloc: Global) -> Plain {
-    let dex = Dex::read(alloc, DEX.as_bytes()).expect(rt, "a dex");
-    let config = Config::read(alloc, CONFIG.as_bytes(), &dex).expect(rt, "a configuration");
+    let dex = dex(rt, alloc);
+    let config = config(rt, alloc, &dex);
     let start = start(rt, alloc, &dex, &config, false);
     let fit = is_fit(&start, &config, &dex);
     assert!(rt; fit);
     let dex = Arc::new(alloc, dex).expect(rt, "memory");
-    opened_with(rt, alloc, &config, dex, start)
+    let plain = opened_with(rt, alloc, &config, dex, start);
+    discard_config(config);
+    plain
 }
 
 // ---- the verdict
@@ -483,7 +486,8 @@ fn apply(rt: &impl Abort, alloc: Global, plain: &mut Plain, entry: &Entry, told:
 
 // ---- what is sent, as a text: each connection's part begins with dashes, and each message with `>`
 
-fn push(rt: &impl Abort, out: &mut String, text: &str) {
+/// Puts a line behind the rest.
+pub(crate) fn push(rt: &impl Abort, out: &mut String, text: &str) {
     out.push_str(text).expect(rt, "memory");
     out.push_str("\n").expect(rt, "memory");
 }
@@ -513,16 +517,23 @@ fn all_sent(rt: &impl Abort, alloc: Global, plain: &Plain, sender: ConnNo, told:
     out
 }
 
-fn entry(alloc: Global, conn: u32, text: &str) -> Result<Entry, Fail> {
-    let cmd = command(alloc, text)?;
-    let badge = badge_of(alloc, conn)?;
-    Ok(Entry {
+fn entry(rt: &impl Abort, alloc: Global, conn: u32, text: &str) -> Entry {
+    let cmd = command(rt, alloc, text);
+    let badge = badge_of(rt, alloc, conn);
+    Entry {
         conn: ConnNo(conn),
         badge,
         moment: Moment(0),
         cmd,
-    })
+    }
 }
+
+fn discard_entry(entry: Entry) {
+    let Entry { cmd, .. } = entry;
+    discard(cmd);
+}
+
+fn discard_told(_told: Told) {}
 
 /// What the plain program sends at a connection's text, which it applies.
 fn enter_plainly(
@@ -531,12 +542,14 @@ fn enter_plainly(
     plain: &mut Plain,
     conn: u32,
     text: &str,
-) -> Result<String, Fail> {
-    let entry = entry(alloc, conn, text)?;
+) -> String {
+    let entry = entry(rt, alloc, conn, text);
     let told = given(rt, alloc, plain, &entry);
     let sent = all_sent(rt, alloc, plain, entry.conn, &told);
     apply(rt, alloc, plain, &entry, &told);
-    Ok(sent)
+    discard_told(told);
+    discard_entry(entry);
+    sent
 }
 
 /// Puts what a cursor pulls behind the rest. The answer is how many messages that is.
@@ -599,12 +612,11 @@ fn holds(
     cursors: &mut [Cursor],
     conn: u32,
     text: &str,
-) -> Result<(), Fail> {
-    let sent = enter_plainly(rt, alloc, plain, conn, text)?;
-    enter(alloc, room, conn, 0, text)?;
+) {
+    let sent = enter_plainly(rt, alloc, plain, conn, text);
+    enter(rt, alloc, room, conn, 0, text);
     let pulled = all_pulled(rt, alloc, room, cursors);
     assert_eq!(rt; pulled.as_str(), sent.as_str(), "{conn}: {text}");
-    Ok(())
 }
 
 fn all_hold(
@@ -614,11 +626,10 @@ fn all_hold(
     plain: &mut Plain,
     cursors: &mut [Cursor],
     texts: Texts,
-) -> Result<(), Fail> {
+) {
     for (conn, text) in texts {
-        holds(rt, alloc, room, plain, cursors, *conn, text)?;
+        holds(rt, alloc, room, plain, cursors, *conn, text);
     }
-    Ok(())
 }
 
 fn cursors(rt: &impl Abort, alloc: Global) -> Vec<Cursor> {
@@ -629,17 +640,24 @@ fn cursors(rt: &impl Abort, alloc: Global) -> Vec<Cursor> {
     cursors
 }
 
-fn play(rt: &impl Abort, alloc: Global) -> Result<(), Fail> {
+fn close_plainly(plain: Plain) {
+    let Plain { chat, .. } = plain;
+    close_chat(chat);
+}
+
+fn play(rt: &impl Abort, alloc: Global) {
     let mut room = opened(rt, alloc, false);
     let mut plain = opened_plainly(rt, alloc);
     let mut cursors = cursors(rt, alloc);
-    all_hold(rt, alloc, &mut room, &mut plain, &mut cursors, ROUND)?;
-    all_hold(rt, alloc, &mut room, &mut plain, &mut cursors, BACK)
+    all_hold(rt, alloc, &mut room, &mut plain, &mut cursors, ROUND);
+    all_hold(rt, alloc, &mut room, &mut plain, &mut cursors, BACK);
+    close(room);
+    close_plainly(plain);
 }
 
 #[test]
-fn the_log_sends_what_the_plain_program_does(rt: HostRuntime) -> Result<(), Fail> {
-    play(&rt, rt.alloc())
+fn the_log_sends_what_the_plain_program_does(rt: HostRuntime) {
+    play(&rt, rt.alloc());
 }
 
 /// Puts what a cursor pulls after each text behind the rest.
@@ -650,21 +668,20 @@ fn read_along(
     cursor: &mut Cursor,
     texts: Texts,
     out: &mut String,
-) -> Result<(), Fail> {
+) {
     for (conn, text) in texts {
-        enter(alloc, room, *conn, 0, text)?;
+        enter(rt, alloc, room, *conn, 0, text);
         push_pulled(rt, alloc, room, cursor, out);
     }
-    Ok(())
 }
 
 /// What Cy reads who looks after each text.
-fn read_by_cy(rt: &impl Abort, alloc: Global, room: &mut Room) -> Result<String, Fail> {
+fn read_by_cy(rt: &impl Abort, alloc: Global, room: &mut Room) -> String {
     let mut cursor = Cursor::new(ConnNo(3));
     let mut out = String::new(alloc);
-    read_along(rt, alloc, room, &mut cursor, ROUND, &mut out)?;
-    read_along(rt, alloc, room, &mut cursor, BACK, &mut out)?;
-    Ok(out)
+    read_along(rt, alloc, room, &mut cursor, ROUND, &mut out);
+    read_along(rt, alloc, room, &mut cursor, BACK, &mut out);
+    out
 }
 
 /// A cursor of Cy's that looks at the end alone pulls the same, ten messages.
@@ -676,9 +693,9 @@ fn late_holds(rt: &impl Abort, alloc: Global, room: &Room, along: &str) {
 }
 
 #[test]
-fn a_late_spectator_reads_the_same(rt: HostRuntime) -> Result<(), Fail> {
+fn a_late_spectator_reads_the_same(rt: HostRuntime) {
     let mut room = opened(&rt, rt.alloc(), false);
-    let along = read_by_cy(&rt, rt.alloc(), &mut room)?;
+    let along = read_by_cy(&rt, rt.alloc(), &mut room);
     late_holds(&rt, rt.alloc(), &room, along.as_str());
-    Ok(())
+    close(room);
 }

@@ -1,6 +1,8 @@
 //! What no clause says: the room of a battle, entry by entry.
-use crate::chat_tests::{enter, entered};
+use crate::chat_tests::{close, enter, entered};
+use crate::plain_tests::push;
 use ps_base::id::{Id, to_id};
+use ps_base::msg::Msg;
 use ps_base::name::Name;
 use ps_base::number::{ConnNo, RoomNo};
 use ps_base::text::Text;
@@ -13,6 +15,7 @@ use ps_room::opening::Opening;
 use ps_room::outcome::{Ending, RoomOut, Verdict};
 use ps_room::room::Room;
 use ps_rules::formats::resolve;
+use ps_rules::row::RuleTable;
 use ps_splitlog::cursor::Cursor;
 use ps_valid::check::check_team;
 use ps_valid::config::Config;
@@ -20,11 +23,9 @@ use ps_valid::start::{Legal, Start};
 use std::alloc::Global;
 use std::process::Abort;
 use std::sync::Arc;
-use std::test::Fail;
 
 /// The moves and species of the two teams, as `data/row/dex.json` has them.
-pub(crate) const DEX: &str =
-    r#"{"types":[{"name":"Normal","special":false},{"name":"Ground","special":false},
+const DEX: &str = r#"{"types":[{"name":"Normal","special":false},{"name":"Ground","special":false},
 {"name":"Psychic","special":true},{"name":"Ice","special":true}],"moves":[
 {"name":"Body Slam","type":"Normal","power":85,"accuracy":100,"pp":24,"priority":0,"effect":{"kind":"status","status":"par","chance":77}},
 {"name":"Hyper Beam","type":"Normal","power":150,"accuracy":90,"pp":8,"priority":0,"effect":{"kind":"recharge"}},
@@ -34,8 +35,7 @@ pub(crate) const DEX: &str =
 {"name":"Tauros","types":["Normal"],"stats":[75,100,95,70,110],"learns":["bodyslam","hyperbeam","blizzard","earthquake"]},
 {"name":"Snorlax","types":["Normal"],"stats":[160,110,65,65,30],"learns":["bodyslam","rest"]}]}"#;
 
-pub(crate) const CONFIG: &str =
-    r#"{"formats":[{"name":"[Gen 1] OU","rules":["speciesclause"]}],"seeds":[0]}"#;
+const CONFIG: &str = r#"{"formats":[{"name":"[Gen 1] OU","rules":["speciesclause"]}],"seeds":[0]}"#;
 
 const TAUROS: &str = "Tauros||||bodyslam,hyperbeam,blizzard,earthquake|||||||";
 
@@ -55,9 +55,13 @@ fn format(rt: &impl Abort, alloc: Global) -> Id {
     to_id(alloc, "gen1ou").expect(rt, "memory")
 }
 
+fn rules(rt: &impl Abort, alloc: Global, config: &Config) -> RuleTable {
+    resolve(alloc, config.formats(), &format(rt, alloc)).expect(rt, "rules")
+}
+
 fn legal(rt: &impl Abort, alloc: Global, dex: &Dex, config: &Config, text: &str) -> Legal {
     let team = read_team(alloc, text).expect(rt, "a team");
-    let rules = resolve(alloc, config.formats(), &format(rt, alloc)).expect(rt, "rules");
+    let rules = rules(rt, alloc, config);
     check_team(alloc, dex, &rules, &team).expect(rt, "a legal team")
 }
 
@@ -77,6 +81,18 @@ fn own(rt: &impl Abort, alloc: Global, dex: &Dex, config: &Config, is_tired: boo
     }
 }
 
+fn players(rt: &impl Abort, alloc: Global) -> [Name; 2] {
+    let first = name(rt, alloc, "Ann");
+    let second = name(rt, alloc, "Bob");
+    [first, second]
+}
+
+fn teams(rt: &impl Abort, alloc: Global, dex: &Dex, config: &Config, is_tired: bool) -> [Legal; 2] {
+    let first = own(rt, alloc, dex, config, is_tired);
+    let second = legal(rt, alloc, dex, config, SNORLAX);
+    [first, second]
+}
+
 pub(crate) fn start(
     rt: &impl Abort,
     alloc: Global,
@@ -84,10 +100,8 @@ pub(crate) fn start(
     config: &Config,
     is_tired: bool,
 ) -> Start {
-    let players = [name(rt, alloc, "Ann"), name(rt, alloc, "Bob")];
-    let first = own(rt, alloc, dex, config, is_tired);
-    let second = legal(rt, alloc, dex, config, SNORLAX);
-    let teams = [first, second];
+    let players = players(rt, alloc);
+    let teams = teams(rt, alloc, dex, config, is_tired);
     Start {
         number: 1,
         format: format(rt, alloc),
@@ -97,9 +111,17 @@ pub(crate) fn start(
     }
 }
 
+pub(crate) fn dex(rt: &impl Abort, alloc: Global) -> Dex {
+    Dex::read(alloc, DEX.as_bytes()).expect(rt, "a dex")
+}
+
+pub(crate) fn config(rt: &impl Abort, alloc: Global, dex: &Dex) -> Config {
+    Config::read(alloc, CONFIG.as_bytes(), dex).expect(rt, "a configuration")
+}
+
 fn opening(rt: &impl Abort, alloc: Global, is_tired: bool) -> Opening {
-    let dex = Dex::read(alloc, DEX.as_bytes()).expect(rt, "a dex");
-    let config = Config::read(alloc, CONFIG.as_bytes(), &dex).expect(rt, "a configuration");
+    let dex = dex(rt, alloc);
+    let config = config(rt, alloc, &dex);
     let start = start(rt, alloc, &dex, &config, is_tired);
     let config = Arc::new(alloc, config).expect(rt, "memory");
     let dex = Arc::new(alloc, dex).expect(rt, "memory");
@@ -119,47 +141,57 @@ pub(crate) fn opened(rt: &impl Abort, alloc: Global, is_tired: bool) -> Room {
 /// A connection and its text. 1 is Ann, 2 is Bob, and 3 is Cy, who plays no side.
 pub(crate) type Texts = &'static [(u32, &'static str)];
 
-fn enter_all(alloc: Global, room: &mut Room, texts: Texts) -> Result<(), Fail> {
+fn enter_all(rt: &impl Abort, alloc: Global, room: &mut Room, texts: Texts) {
     for (conn, text) in texts {
-        enter(alloc, room, *conn, 0, text)?;
+        enter(rt, alloc, room, *conn, 0, text);
     }
-    Ok(())
+}
+
+fn push_lines(rt: &impl Abort, message: &Msg, out: &mut String) {
+    for line in message.lines.as_slice() {
+        push(rt, out, line.as_str());
+    }
+}
+
+fn messages(rt: &impl Abort, alloc: Global, room: &Room, conn: u32) -> Vec<Msg> {
+    room.pull(alloc, &mut Cursor::new(ConnNo(conn)))
+        .expect(rt, "memory")
 }
 
 /// The last message to a connection, a line each.
-fn last_sent(alloc: Global, room: &Room, conn: u32) -> Result<String, Fail> {
+fn last_sent(rt: &impl Abort, alloc: Global, room: &Room, conn: u32) -> String {
     let mut out = String::new(alloc);
-    let messages = room.pull(alloc, &mut Cursor::new(ConnNo(conn)))?;
-    if let Some(message) = messages.last() {
-        for line in message.lines.as_slice() {
-            out.push_str(line.as_str())?;
-            out.push_str("\n")?;
-        }
+    let messages = messages(rt, alloc, room, conn);
+    match messages.last() {
+        None => {}
+        Some(message) => push_lines(rt, message, &mut out),
     }
-    Ok(out)
+    out
 }
 
 /// The last message to a connection after these texts.
-fn sent_after(
-    rt: &impl Abort,
-    alloc: Global,
-    is_tired: bool,
-    texts: Texts,
-    conn: u32,
-) -> Result<String, Fail> {
+fn sent_after(rt: &impl Abort, alloc: Global, is_tired: bool, texts: Texts, conn: u32) -> String {
     let mut room = opened(rt, alloc, is_tired);
-    enter_all(alloc, &mut room, texts)?;
-    last_sent(alloc, &room, conn)
+    enter_all(rt, alloc, &mut room, texts);
+    let sent = last_sent(rt, alloc, &room, conn);
+    close(room);
+    sent
 }
 
-type Rows = &'static [(Texts, u32, &'static str)];
+type Row = (Texts, u32, &'static str);
 
-fn hold(rt: &impl Abort, alloc: Global, is_tired: bool, rows: Rows) -> Result<(), Fail> {
-    for (texts, conn, sent) in rows {
-        let given = sent_after(rt, alloc, is_tired, texts, *conn)?;
-        assert_eq!(rt; given.as_str(), *sent);
+type Rows = &'static [Row];
+
+fn row_holds(rt: &impl Abort, alloc: Global, is_tired: bool, row: &Row) {
+    let (texts, conn, sent) = row;
+    let given = sent_after(rt, alloc, is_tired, texts, *conn);
+    assert_eq!(rt; given.as_str(), *sent);
+}
+
+fn hold(rt: &impl Abort, alloc: Global, is_tired: bool, rows: Rows) {
+    for row in rows {
+        row_holds(rt, alloc, is_tired, row);
     }
-    Ok(())
 }
 
 /// Who joins is sent the battle so far, with its own side's health exactly, and its request.
@@ -559,23 +591,23 @@ const BACK: Rows = &[
 ];
 
 #[test]
-fn who_joins_a_battle(rt: HostRuntime) -> Result<(), Fail> {
-    hold(&rt, rt.alloc(), false, JOINS)
+fn who_joins_a_battle(rt: HostRuntime) {
+    hold(&rt, rt.alloc(), false, JOINS);
 }
 
 #[test]
-fn a_round_for_each_role(rt: HostRuntime) -> Result<(), Fail> {
-    hold(&rt, rt.alloc(), false, TURNS)
+fn a_round_for_each_role(rt: HostRuntime) {
+    hold(&rt, rt.alloc(), false, TURNS);
 }
 
 #[test]
-fn choices_and_their_refusals(rt: HostRuntime) -> Result<(), Fail> {
-    hold(&rt, rt.alloc(), false, CHOICES)
+fn choices_and_their_refusals(rt: HostRuntime) {
+    hold(&rt, rt.alloc(), false, CHOICES);
 }
 
 #[test]
-fn who_comes_back_and_how_a_battle_ends(rt: HostRuntime) -> Result<(), Fail> {
-    hold(&rt, rt.alloc(), false, BACK)
+fn who_comes_back_and_how_a_battle_ends(rt: HostRuntime) {
+    hold(&rt, rt.alloc(), false, BACK);
 }
 
 /// Without PP the default is Struggle, also after a first turn by default.
@@ -601,8 +633,8 @@ const STRUGGLE: Rows = &[(
 )];
 
 #[test]
-fn default_without_pp_is_struggle(rt: HostRuntime) -> Result<(), Fail> {
-    hold(&rt, rt.alloc(), true, STRUGGLE)
+fn default_without_pp_is_struggle(rt: HostRuntime) {
+    hold(&rt, rt.alloc(), true, STRUGGLE);
 }
 
 /// How many messages a connection was sent in all: a choice that completes no round is none, and so is its undoing to the other
@@ -627,23 +659,25 @@ const COUNTS: &[(Texts, u32, usize)] = &[
     ),
 ];
 
-fn count_after(rt: &impl Abort, alloc: Global, texts: Texts, conn: u32) -> Result<usize, Fail> {
+fn count_after(rt: &impl Abort, alloc: Global, texts: Texts, conn: u32) -> usize {
     let mut room = opened(rt, alloc, false);
-    enter_all(alloc, &mut room, texts)?;
-    let messages = room.pull(alloc, &mut Cursor::new(ConnNo(conn)))?;
-    Ok(messages.len())
+    enter_all(rt, alloc, &mut room, texts);
+    let count = messages(rt, alloc, &room, conn).len();
+    close(room);
+    count
 }
 
 #[test]
-fn a_choice_is_told_nobody_until_the_round(rt: HostRuntime) -> Result<(), Fail> {
+fn a_choice_is_told_nobody_until_the_round(rt: HostRuntime) {
     for (texts, conn, count) in COUNTS {
-        assert_eq!(rt; count_after(&rt, rt.alloc(), texts, *conn)?, *count);
+        assert_eq!(rt; count_after(&rt, rt.alloc(), texts, *conn), *count);
     }
-    Ok(())
 }
 
+type Answer = (Texts, Verdict, Option<Ending>);
+
 /// What comes of the last text: whether it was applied, and the end of the battle.
-const ANSWERS: &[(Texts, Verdict, Option<Ending>)] = &[
+const ANSWERS: &[Answer] = &[
     (&[(1, "/join b")], Verdict::Applied, None),
     (
         &[(1, "/join b"), (1, "/join b")],
@@ -685,42 +719,47 @@ const ANSWERS: &[(Texts, Verdict, Option<Ending>)] = &[
     ),
 ];
 
-fn answer(alloc: Global, room: &mut Room, texts: Texts) -> Result<RoomOut, Fail> {
+fn last_out(rt: &impl Abort, alloc: Global, room: &mut Room, texts: Texts) -> RoomOut {
     let mut out = RoomOut {
         verdict: Verdict::Applied,
         ended: None,
     };
     for (conn, text) in texts {
-        out = entered(alloc, room, *conn, 0, text)?;
+        out = entered(rt, alloc, room, *conn, 0, text);
     }
-    Ok(out)
+    out
 }
 
-fn answers_hold(
-    rt: &impl Abort,
-    alloc: Global,
-    rows: &[(Texts, Verdict, Option<Ending>)],
-) -> Result<(), Fail> {
-    for (texts, verdict, ended) in rows {
-        let mut room = opened(rt, alloc, false);
-        let out = answer(alloc, &mut room, texts)?;
-        assert!(rt; out.verdict == *verdict);
-        assert!(rt; out.ended == *ended);
-    }
-    Ok(())
+fn out_after(rt: &impl Abort, alloc: Global, texts: Texts) -> RoomOut {
+    let mut room = opened(rt, alloc, false);
+    let out = last_out(rt, alloc, &mut room, texts);
+    close(room);
+    out
+}
+
+fn answer_holds(rt: &impl Abort, alloc: Global, answer: &Answer) {
+    let (texts, verdict, ended) = answer;
+    let out = out_after(rt, alloc, texts);
+    assert!(rt; out.verdict == *verdict);
+    assert!(rt; out.ended == *ended);
 }
 
 #[test]
-fn what_comes_of_an_entry(rt: HostRuntime) -> Result<(), Fail> {
-    answers_hold(&rt, rt.alloc(), ANSWERS)
+fn what_comes_of_an_entry(rt: HostRuntime) {
+    for answer in ANSWERS {
+        answer_holds(&rt, rt.alloc(), answer);
+    }
+}
+
+fn end_holds(rt: &impl Abort, before: Phase, after: Phase, end: Option<Option<u8>>) {
+    assert_eq!(rt; ended(before, after), end);
 }
 
 /// A battle ends once, with its winner or nobody.
 #[test]
-fn how_a_battle_ended(rt: HostRuntime) -> Result<(), Fail> {
-    assert_eq!(rt; ended(Phase::Turn, Phase::Won(1)), Some(Some(1)));
-    assert_eq!(rt; ended(Phase::Turn, Phase::Tied), Some(None));
-    assert_eq!(rt; ended(Phase::Turn, Phase::Turn), None);
-    assert_eq!(rt; ended(Phase::Tied, Phase::Tied), None);
-    Ok(())
+fn how_a_battle_ended(rt: HostRuntime) {
+    end_holds(&rt, Phase::Turn, Phase::Won(1), Some(Some(1)));
+    end_holds(&rt, Phase::Turn, Phase::Tied, Some(None));
+    end_holds(&rt, Phase::Turn, Phase::Turn, None);
+    end_holds(&rt, Phase::Tied, Phase::Tied, None);
 }
