@@ -1,19 +1,24 @@
 -- Who hears what an entry prints: all others are sent nothing at it.
-use Rattle.std.proofs.Common.{◌≡◌, ℕ, zero, suc, ◌<◌, ◌≤◌, Bool, true, false, List, [], ◌∷◌, ◌++◌, length, get_or, map, filter_map, nat_lt, nat_le, if◌then◌else◌, ◌==◌, None, Some, refl, sym, ap, ◌∙◌, append_assoc, append-nil, arith, inl, inr, lt-ltb, le-ltb, lt_irrefl, IsSorted, IsPermutation, nat_cmp}
+use Rattle.std.proofs.Common.{◌≡◌, ℕ, zero, suc, ◌<◌, ◌≤◌, Bool, true, false, List, [], ◌∷◌, ◌++◌, ◌||◌, length, get_or, map, filter_map, codes, nat_lt, nat_le, if◌then◌else◌, ◌==◌, Option, None, Some, refl, sym, ap, ◌∙◌, append_assoc, append-nil, arith, rules, inl, inr, lt-ltb, le-ltb, lt_irrefl, IsSorted, IsPermutation, nat_cmp}
 use Rattle.std.specs.List.{list_any}
 use Rattle.std.specs.List.Sorted.{IsNonDecreasing}
-use Rattle.std.proofs.lemmas.Bool.{cases_lt, eqb-false, ne_eqb, le-leb, lt-leb, and_left, and_right, and_from, or_parts}
+use Rattle.std.specs.Fmt.{decimal}
+use Rattle.std.proofs.lemmas.Bool.{cases_Bool, cases_lt, eqb-false, eq-eqb, ne_eqb, le-leb, lt-leb, and_left, and_right, and_from, or_parts, or_left, or_right, false≢true}
 use Rattle.std.proofs.lemmas.List.Sorted.{IsNonDecreasingBy-from_sort, list_any-IsPermutation}
 use Rattle.ps_chat.specs.declared.present.Present.{Present}
 use Rattle.ps_chat.specs.Looks.{member}
+use Rattle.ps_base.specs.Ids.{id_of}
+use Rattle.ps_bout.specs.Casts.{Cast, side_with_id, player_or_spectator}
+use Rattle.ps_event.specs.declared.audience.Audience.{Audience}
 use Rattle.ps_event.specs.declared.audience.Audience.TheVariants as audiences
 use Rattle.ps_hall.specs.declared.notice.Notice.{Notice}
 use Rattle.ps_hall.specs.Halls as halls
 use Rattle.ps_room.specs.Logs.{Seen, conn_of, record_in}
 use Rattle.ps_room.specs.Records.{presents_of, cast_in}
-use Rattle.ps_room.specs.Roles.{role_of}
+use Rattle.ps_room.specs.Roles.{role_of, role_of_member}
 use Rattle.ps_room.specs.Rooms.{role, role_in}
 use Rattle.ps_splitlog.specs.declared.entry.Held.{Held}
+use Rattle.ps_splitlog.specs.declared.entry.Joined.{Joined}
 use Rattle.ps_splitlog.specs.declared.stored.Stored.{Stored}
 use Rattle.ps_splitlog.specs.declared.stored.Stored.TheVariants.{Same, Split}
 use Rattle.ps_splitlog.specs.Entries.{join_for, logged_lines}
@@ -21,9 +26,10 @@ use Rattle.ps_splitlog.specs.Lines.{shown, shown_lines}
 use Rattle.ps_splitlog.proofs.MessageLemmas.{plain_message}
 use Rattle.ps_view.specs.declared.role.Role.{Role}
 use Rattle.ps_view.specs.declared.role.Role.TheVariants.{Outside}
-use Rattle.ps_world.specs.Houses.{own_conn, room_hearers, notice_hearers, next_message}
+use Rattle.ps_view.specs.Roles.{is_member}
+use Rattle.ps_world.specs.Houses.{own_conn, room_hearers, notice_hearers, next_message, text_for_all, common_of, common_line, common_unless, common_text}
 use Rattle.ps_world.specs.Transcript.{printed, with_id}
-use Rattle.ps_world.specs.Tables.{each_of, each_to}
+use Rattle.ps_world.specs.Tables.{each_of, each_to, both_behind, place_end, further_end}
 
 -- ---- numbers that are taken in order
 
@@ -160,6 +166,100 @@ no_notice : (k : ℕ) (ns : List Notice) → is_among k (notice_hearers ns) ≡ 
 no_notice k [] out = refl
 no_notice k (n ∷ ns) out = let parts = not_first k n.conn (notice_hearers ns) out in rw parts.0 (no_notice k ns parts.1)
 
+-- ---- a line that is the same for each member
+
+-- the first of several is among them
+first_among : (k : ℕ) (ns : List ℕ) → is_among k (k ∷ ns) ≡ true
+first_among k ns = or_left (k == k) (is_among k ns) (eq-eqb k k refl)
+
+-- functions that tell these the same tell all of them the same
+each_same : (f g : ℕ → List ℕ) (n last : ℕ) (conns : List ℕ) → ((k : ℕ) → is_among k conns ≡ true → f k ≡ g k) → each_of f n last conns ≡ each_of g n last conns
+each_same f g n last [] same = refl
+each_same f g n last (conn ∷ conns) same =
+    let others : (k : ℕ) → is_among k conns ≡ true → f k ≡ g k = λ k there. same k (or_right (conn == k) (is_among k conns) there) in
+    rw (same conn (first_among conn conns)) (rw (each_same f g n conn conns others) (rw (each_same f g n last conns others) refl))
+
+by_side : (side : Option ℕ) (rank : ℕ) → is_member (player_or_spectator side rank) ≡ true
+by_side None rank = refl
+by_side (Some side) rank = refl
+
+in_role : (cast : Option Cast) (p : Present) → is_member (role_of_member cast p) ≡ true
+in_role None p = refl
+in_role (Some c) p = by_side (side_with_id c.names (id_of p.badge.name)) p.rank
+
+-- who is among the members is one
+among_members : (k : ℕ) (cast : Option Cast) (ps : List Present) → is_among k (map conn_of ps) ≡ true → is_member (role_of cast (member k ps)) ≡ true
+among_members k cast [] there = absurd (false≢true there)
+among_members k cast (p ∷ ps) there = elim (cases_Bool (p.conn == k)) [
+  | inl here ↦ rw here (in_role cast p)
+  | inr other ↦ rw other (among_members k cast ps (sym (ap (λ (b : Bool). b || is_among k (map conn_of ps)) other) ∙ there))
+]
+
+inside : (k : ℕ) (s : Seen) → is_among k (map conn_of (presents_of (record_in s))) ≡ true → is_member (role k (record_in s)) ≡ true
+unfolding role_in
+inside k s there = among_members k (cast_in s.battle) (presents_of (record_in s)) there
+
+-- the text for who is a member, and none for who isn't
+abbrev for_member : Role → Option (List ℕ) → Option (List ℕ)
+for_member r text = if is_member r then text else None
+
+abbrev lines_for : Role → List ℕ → List (List ℕ)
+lines_for r text = if is_member r then text ∷ [] else []
+
+for_all_shown : (k : ℕ) (r : Role) (audience : Audience) (logged : Bool) (text t : List ℕ) → text_for_all audience text ≡ Some t → shown k r (Same audience logged text) ≡ for_member r (Some t)
+for_all_shown k r audiences.All logged text t is = ap (for_member r) is
+for_all_shown k r (audiences.Split side) logged text t is = absurd (let wrong : None ≡ Some t = is in cc)
+for_all_shown k r (audiences.Side side) logged text t is = absurd (let wrong : None ≡ Some t = is in cc)
+for_all_shown k r (audiences.Rank lowest) logged text t is = absurd (let wrong : None ≡ Some t = is in cc)
+for_all_shown k r (audiences.One conn) logged text t is = absurd (let wrong : None ≡ Some t = is in cc)
+
+one_shown : (k : ℕ) (r : Role) (l : Stored) (t : List ℕ) → common_of l ≡ Some t → shown k r l ≡ for_member r (Some t)
+one_shown k r (Same audience logged text) t is = for_all_shown k r audience logged text t is
+one_shown k r (Split side logged secret public) t is = absurd (let wrong : None ≡ Some t = is in cc)
+
+only_shown : (k : ℕ) (r : Role) (l : Stored) (t : List ℕ) → shown k r l ≡ for_member r (Some t) → shown_lines k r (l ∷ []) ≡ lines_for r t
+only_shown k r l t is = elim (cases_Bool (is_member r)) [
+  | inl full ↦ rw is (rw full refl)
+  | inr part ↦ rw is (rw part refl)
+]
+
+common_shown : (k : ℕ) (r : Role) (ls : List Stored) (t : List ℕ) → common_line ls ≡ Some t → shown_lines k r ls ≡ lines_for r t
+common_shown k r [] t is = absurd (let wrong : None ≡ Some t = is in cc)
+common_shown k r (l ∷ []) t is = only_shown k r l t (one_shown k r l t is)
+common_shown k r (l ∷ m ∷ ls) t is = absurd (let wrong : None ≡ Some t = is in cc)
+
+common_parts : (join : Option Joined) (ls : List Stored) (t : List ℕ) → common_unless join ls ≡ Some t → (join ≡ None) × (common_line ls ≡ Some t)
+common_parts None ls t is = (refl, is)
+common_parts (Some join) ls t is = absurd (let wrong : None ≡ Some t = is in cc)
+
+nobody_joins : (b : Bool) (join : Option Joined) → join ≡ None → (if b then join else None) ≡ None
+nobody_joins true join none = none
+nobody_joins false join none = refl
+
+common_message : (k : ℕ) (s : Seen) (h : Held) (t : List ℕ) → common_text h ≡ Some t → next_message k s h ≡ lines_for (role k (record_in s)) t
+unfolding next_message
+common_message k s h t is =
+    let parts = common_parts h.join h.lines t is in
+    plain_message k (role k (record_in s)) (logged_lines s.log) h (nobody_joins (k == h.conn) h.join parts.0)
+    ∙ common_shown k (role k (record_in s)) h.lines t parts.1
+
+both_flat : (d a i n b l : List ℕ) → d ++ (a ++ i ++ n) ++ d ++ (b ++ l ++ n) ≡ (d ++ a ++ i ++ n) ++ ((d ++ b ++ l ++ n) ++ [])
+both_flat d a i n b l = search (rules, append_assoc, append-nil)
+
+both_printed : (k : ℕ) (id line : List ℕ) → both_behind (place_end id) (further_end line) k ≡ printed k (with_id (Some id) (line ∷ []))
+both_printed k id line = both_flat (decimal k) (codes "< ") (codes ">" ++ id) (10 ∷ []) (codes ". ") line
+
+to_members : (k : ℕ) (s : Seen) (h : Held) (t : List ℕ) → common_text h ≡ Some t → is_among k (map conn_of (presents_of (record_in s))) ≡ true
+    → both_behind (place_end s.id) (further_end t) k ≡ printed k (with_id (Some s.id) (next_message k s h))
+to_members k s h t is there =
+    let shown : next_message k s h ≡ t ∷ [] = common_message k s h t is ∙ ap (λ (b : Bool). if b then t ∷ [] else []) (inside k s there) in
+    both_printed k s.id t ∙ ap (λ (ls : List (List ℕ)). printed k (with_id (Some s.id) ls)) (sym shown)
+
+to_others : (k : ℕ) (s : Seen) (h : Held) (t : List ℕ) → common_text h ≡ Some t → is_among k (map conn_of (presents_of (record_in s))) ≡ false
+    → printed k (with_id (Some s.id) (next_message k s h)) ≡ []
+to_others k s h t is out =
+    ap (λ (ls : List (List ℕ)). printed k (with_id (Some s.id) ls)) (common_message k s h t is ∙ ap (λ (r : Role). lines_for r t) (outside k s out))
+
 -- ---- what is printed for them is what is printed for all
 
 pub all_heard : (s : Seen) (h : Held) (count : ℕ) (conns : List ℕ) → IsPermutation (room_hearers s h) conns → IsSorted nat_cmp conns
@@ -173,3 +273,11 @@ pub all_told : (ns : List Notice) (count : ℕ) (conns : List ℕ) → IsPermuta
 all_told ns count conns same sorted =
     each_heard (λ conn. printed conn (with_id None (halls.message_of conn ns))) count (notice_hearers ns) conns same sorted
     (λ k out. ap (λ (ls : List (List ℕ)). printed k (with_id None ls)) (no_notice k ns out))
+
+pub all_common : (s : Seen) (h : Held) (t : List ℕ) (count : ℕ) (conns : List ℕ) → common_text h ≡ Some t → IsPermutation (map conn_of (presents_of (record_in s))) conns → IsSorted nat_cmp conns
+    → each_of (both_behind (place_end s.id) (further_end t)) count 0 conns ≡ each_to (λ conn. printed conn (with_id (Some s.id) (next_message conn s h))) count
+all_common s h t count conns is same sorted =
+    let members : List ℕ = map conn_of (presents_of (record_in s)) in
+    each_same (both_behind (place_end s.id) (further_end t)) (λ conn. printed conn (with_id (Some s.id) (next_message conn s h))) count zero conns
+    (λ k there. to_members k s h t is (list_any-IsPermutation (λ n. n == k) members conns same ∙ there))
+    ∙ each_heard (λ conn. printed conn (with_id (Some s.id) (next_message conn s h))) count members conns same sorted (λ k out. to_others k s h t is out)

@@ -18,7 +18,7 @@ use Rattle.ps_room.specs.declared.entry.Entry.{Entry}
 use Rattle.ps_laws.specs.Stories.{Story}
 use Rattle.ps_world.specs.declared.place.Placed.{Placed}
 use Rattle.ps_world.specs.declared.place.Placed.TheVariants.{Hall, Room}
-use Rattle.ps_openings.specs.Openings.{chats_from, chat_opening, first_battle}
+use Rattle.ps_openings.specs.Openings.{chats_from, chat_opening, first_battle, room_of_battle}
 use Rattle.ps_world.specs.Setup.{Setup, chat_openings}
 use Rattle.ps_world.specs.Worlds.{World, with_number, numbers_from, no_story, world_opening, hall_in, story_at, more, opening_in, with_battle, started_by, with_hall, with_room, world_after}
 use Rattle.ps_world.proofs.HallLemmas.{IsNext, next_start}
@@ -178,7 +178,7 @@ begun_numbered w v h None battles chats numbers next keep n = record {
 begun_numbered w v h (Some start) battles chats numbers next keep n =
     let opening = no_story (opening_in h start) in
     let count : length (v.battles ++ opening ∷ []) ≡ (hall_in w).started + 1 = length-append v.battles (opening ∷ []) ∙ ap (λ (x : ℕ). x + 1) (ap length battles ∙ n.started) in record {
-      found = λ id k is. elim (put_number v.numbers (opening_in h start).id id (15 + start.number) k is) [
+      found = λ id k is. elim (put_number v.numbers (opening_in h start).id id (room_of_battle start.number) k is) [
         | inl same ↦ battle_there k (hall_in w).started (with_battle h (Some start) v) (omega (arith, same, next.1)) (omega (arith, count))
         | inr old ↦ keep k (n.found id k (ap (λ (m : ById ℕ). get m id) (sym numbers) ∙ old))
       ];

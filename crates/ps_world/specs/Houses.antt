@@ -13,6 +13,7 @@ use Rattle.ps_hall.specs.declared.notice.Notice.{Notice}
 use Rattle.ps_hall.specs.Records.{Record as HallRecord}
 use Rattle.ps_hall.specs.Halls as halls
 use Rattle.ps_splitlog.specs.declared.entry.Held.{Held}
+use Rattle.ps_splitlog.specs.declared.entry.Joined.{Joined}
 use Rattle.ps_splitlog.specs.declared.stored.Stored.{Stored}
 use Rattle.ps_splitlog.specs.declared.stored.Stored.TheVariants.{Same, Split}
 use Rattle.ps_splitlog.specs.Entries.{logged_lines, message_of}
@@ -106,6 +107,29 @@ own_conn (Split side logged secret public) = None
 -- who may be sent something at a room's next entry: who made it, the members, and who has a line of its own
 abbrev pub room_hearers : Seen → Held → List ℕ
 room_hearers s h = h.conn ∷ map conn_of (presents_of (record_in s)) ++ filter_map own_conn h.lines
+
+-- the text of a line for all members
+abbrev pub text_for_all : Audience → List ℕ → Option (List ℕ)
+text_for_all audiences.All text = Some text
+text_for_all other text = None
+
+abbrev pub common_of : Stored → Option (List ℕ)
+common_of (Same audience logged text) = text_for_all audience text
+common_of (Split side logged secret public) = None
+
+-- of the only one of these
+abbrev pub common_line : List Stored → Option (List ℕ)
+common_line [] = None
+common_line (l ∷ []) = common_of l
+common_line (l ∷ m ∷ ls) = None
+
+abbrev pub common_unless : Option Joined → List Stored → Option (List ℕ)
+common_unless None ls = common_line ls
+common_unless (Some j) ls = None
+
+-- the text of an entry that is one line, the same for each member, and nothing for who is none
+abbrev pub common_text : Held → Option (List ℕ)
+common_text h = common_unless h.join h.lines
 
 abbrev pub told_conn : Notice → ℕ
 told_conn n = n.conn

@@ -1,6 +1,7 @@
 -- What a replay prints and counts line by line, by the state that its code keeps in the place of histories. No statement of the top call
 -- rests on this file.
 use Rattle.std.specs.Prelude.{ℕ, zero, suc, ◌+◌, ◌&&◌, Bool, List, [], ◌∷◌, ◌++◌, length, codes, nat_lt, nat_le, if◌then◌else◌}
+use Rattle.std.specs.Fmt.{decimal}
 use Rattle.ps_script.specs.declared.item.Item.{Item}
 use Rattle.ps_world.specs.declared.place.Placed.{Placed}
 use Rattle.ps_world.specs.declared.place.Happening.{Happening}
@@ -47,6 +48,18 @@ first_behind digits line = digits ++ codes "< " ++ line ++ 10 ∷ []
 
 abbrev pub further_behind : List ℕ → List ℕ → List ℕ
 further_behind digits line = digits ++ codes ". " ++ line ++ 10 ∷ []
+
+-- the lines of a message of two, each of which ends so behind the digits of its connection
+abbrev pub both_behind : List ℕ → List ℕ → ℕ → List ℕ
+both_behind first second conn = decimal conn ++ first ++ decimal conn ++ second
+
+-- the end of the line of a room's id
+abbrev pub place_end : List ℕ → List ℕ
+place_end id = codes "< " ++ (codes ">" ++ id) ++ 10 ∷ []
+
+-- the end of a further line
+abbrev pub further_end : List ℕ → List ℕ
+further_end line = codes ". " ++ line ++ 10 ∷ []
 
 -- what is printed for a connection at an entry
 abbrev pub printed_for : House → Placed → ℕ → List ℕ

@@ -3,9 +3,12 @@ ghost use Rattle.std.specs.Prelude.{◌≡◌, ◌++◌, OnOk, IfOk, map};
 ghost use Rattle.std.specs.List.{filter_map};
 ghost use Rattle.std.specs.List.Sorted.{IsPermutation, IsSorted};
 ghost use Rattle.std.specs.Ordering.{nat_cmp};
-ghost use Rattle.ps_room.specs.Logs.{conn_of};
-ghost use Rattle.ps_world.specs.Houses.{one_of, own_conn, room_hearers, told_conn, notice_hearers};
+ghost use Rattle.std.specs.Option.{option_copied};
+ghost use Rattle.ps_room.specs.Logs.{conn_of, record_in};
+ghost use Rattle.ps_room.specs.Records.{presents_of};
+ghost use Rattle.ps_world.specs.Houses.{one_of, own_conn, room_hearers, text_for_all, common_of, common_text, told_conn, notice_hearers};
 
+use ps_base::text::Text;
 use ps_chat::present::Present;
 use ps_event::audience::Audience;
 use ps_hall::notice::Notice;
@@ -64,6 +67,50 @@ pub fn of_room(alloc: Global, room: &Room, held: &Held) -> Result<Vec<u32>, Allo
     conns.push(held.conn.0)?;
     push_members(&mut conns, members)?;
     push_own(&mut conns, held.lines.as_slice())?;
+    conns.sort_unstable();
+    Ok(conns)
+}
+
+fn text_for_all(audience: Audience, text: &Text) -> Option<&Text>
+    ensures { option_copied result ≡ text_for_all audience text.now }
+{
+    match audience {
+        Audience::All => Some(text),
+        _ => None,
+    }
+}
+
+fn common_of(line: &Stored) -> Option<&Text>
+    ensures { option_copied result ≡ common_of line.now }
+{
+    match line {
+        Stored::Same { audience, text, .. } => text_for_all(*audience, text),
+        Stored::Split { .. } => None,
+    }
+}
+
+/// The text of an entry that is one line, the same for each member, and nothing for who is none.
+pub fn common_text(held: &Held) -> Option<&Text>
+    ensures { option_copied result ≡ common_text held.now }
+{
+    match &held.join {
+        Some(_) => None,
+        None => match held.lines.as_slice() {
+            [] => None,
+            [line] => common_of(line),
+            [_, _, ..] => None,
+        },
+    }
+}
+
+/// The members of a room. Each stands there once.
+pub fn of_members(alloc: Global, room: &Room) -> Result<Vec<u32>, AllocError>
+    ensures all { IfOk result (λ v. IsPermutation (map conn_of (presents_of (record_in room.now))) v.items) }
+    ensures sorted { IfOk result (λ v. IsSorted nat_cmp v.items) }
+{
+    let members = room.members();
+    let mut conns = Vec::with_capacity(alloc, members.len())?;
+    push_members(&mut conns, members)?;
     conns.sort_unstable();
     Ok(conns)
 }

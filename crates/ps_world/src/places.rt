@@ -26,7 +26,9 @@ use ps_hall::entry::HallEntry;
 use ps_hall::hall::Hall;
 use ps_hall::outcome::HallOut;
 use ps_lines::command::{Command, HallCmd};
-use ps_openings::opening::{FIRST_BATTLE, battle_opening, chat_opening};
+use ps_openings::opening::{
+    FIRST_BATTLE, MOST_BATTLES, battle_opening, chat_opening, room_of_battle,
+};
 use ps_room::entry::Entry;
 use ps_room::outcome::{Ending, RoomOut};
 use ps_room::room::Room;
@@ -38,9 +40,6 @@ use ps_view::role::Role;
 use std::alloc::{AllocError, Global};
 use std::marker::Model;
 use std::sync::Arc;
-
-/// As many battles as may start. The hall starts no more; past them memory is said to be wanting.
-const MOST_BATTLES: usize = 65_536;
 
 /// The hall, the chat rooms by their numbers, the rooms of battles in the order in which these started, and the number of
 /// each room by its id.
@@ -124,10 +123,11 @@ fn begin(
     ensures count { length battles.new.items ≤ 65536 }
     ensures numbers { OnOk result (numbers.new ≡ with_number numbers.old (battle_opening (arc_value config) (arc_value dex) start)) }
 {
-    if battles.len() >= MOST_BATTLES || start.number > 65_536 {
+    // The hall starts no more; past them memory is said to be wanting.
+    if battles.len() >= MOST_BATTLES as usize || start.number > MOST_BATTLES {
         return Err(AllocError);
     }
-    let no = 15 + start.number;
+    let no = room_of_battle(start.number);
     let opening = battle_opening(alloc, config, dex, start)?;
     let room = Room::new(alloc, opening)?;
     numbers.insert(alloc, room.id(), no)?;

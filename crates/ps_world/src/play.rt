@@ -3,13 +3,14 @@ ghost use Rattle.std.specs.Prelude.{◌≡◌, ◌++◌, ◌==◌, [], OnOk, IfO
 ghost use Rattle.std.specs.Option.{option_map};
 ghost use Rattle.ps_room.specs.Logs.{record_in, given, seen_after};
 ghost use Rattle.ps_hall.specs.Halls as halls;
-ghost use Rattle.ps_world.specs.Houses.{standing, id_of, next_message, seen_message, seen_rooms_after};
+ghost use Rattle.ps_world.specs.Houses.{standing, id_of, next_message, seen_message, seen_rooms_after, common_text};
 ghost use Rattle.ps_world.specs.Entries.{out_at};
 ghost use Rattle.ps_world.specs.Transcript.{printed, with_id};
-ghost use Rattle.ps_world.specs.Tables.{is_next, each_of, each_to};
+ghost use Rattle.ps_world.specs.Tables.{is_next, each_of, each_to, both_behind, place_end, further_end};
 
 use crate::{hearers, print};
 use ps_base::number::ConnNo;
+use ps_base::text::Text;
 use ps_hall::notice::Notice;
 use ps_room::entry::Entry;
 use ps_room::outcome::RoomOut;
@@ -117,8 +118,8 @@ fn push_each_held(
     Ok(())
 }
 
-// Prints what an entry of a room gives, to the connections from 1 to `count`.
-fn push_room(
+// Prints what an entry of a room gives, to the connections from 1 to `count`, by what each of them is to the room.
+fn push_by_role(
     alloc: Global,
     out: &mut String,
     count: u32,
@@ -131,6 +132,86 @@ fn push_room(
     let conns = hearers::of_room(alloc, room, held)?;
     push_each_held(alloc, out, count, room, held, conns.as_slice())?;
     Ok(())
+}
+
+// Prints two lines that end so to these connections, in ascending number up to `count`, to each once.
+fn push_each_both(
+    out: &mut String,
+    count: u32,
+    first: &str,
+    second: &str,
+    conns: &[u32],
+) -> Result<(), AllocError>
+    ensures { OnOk result (string_bytes out.new ≡ string_bytes out.old ++ each_of (both_behind first.now second.now) count 0 conns.now) }
+{
+    let mut last = 0;
+    for conn in conns {
+        if is_next(last, count, *conn) {
+            print::push_both(out, ConnNo(*conn), first, second)?;
+            last = *conn;
+        }
+    }
+    Ok(())
+}
+
+// Prints one line of a room to these connections, in ascending number up to `count`, to each once.
+fn push_each_line(
+    alloc: Global,
+    out: &mut String,
+    count: u32,
+    id: &str,
+    line: &str,
+    conns: &[u32],
+) -> Result<(), AllocError>
+    ensures { OnOk result (string_bytes out.new ≡ string_bytes out.old
+        ++ each_of (both_behind (place_end id.now) (further_end line.now)) count 0 conns.now) }
+{
+    let first = print::place_end(alloc, id)?;
+    let second = print::further_end(alloc, line)?;
+    push_each_both(out, count, first.as_str(), second.as_str(), conns)?;
+    Ok(())
+}
+
+// Prints an entry of a room that is one line, the same for each member, to the connections from 1 to `count`.
+fn push_common(
+    alloc: Global,
+    out: &mut String,
+    count: u32,
+    room: &Room,
+    held: &Held,
+    line: &Text,
+) -> Result<(), AllocError>
+    requires common { common_text held.now ≡ Some line.now }
+    ensures { OnOk result (string_bytes out.new ≡ string_bytes out.old
+        ++ each_to (λ conn. printed conn (with_id (Some room.now.id) (next_message conn room.now held.now))) count) }
+{
+    let conns = hearers::of_members(alloc, room)?;
+    push_each_line(
+        alloc,
+        out,
+        count,
+        room.id(),
+        line.as_str(),
+        conns.as_slice(),
+    )?;
+    Ok(())
+}
+
+// Prints what an entry of a room gives, to the connections from 1 to `count`.
+fn push_room(
+    alloc: Global,
+    out: &mut String,
+    count: u32,
+    room: &Room,
+    held: &Held,
+) -> Result<(), AllocError>
+    ensures { OnOk result (string_bytes out.new ≡ string_bytes out.old
+        ++ each_to (λ conn. printed conn (with_id (Some room.now.id) (next_message conn room.now held.now))) count) }
+{
+    match hearers::common_text(held) {
+        Some(line) => push_common(alloc, out, count, room, held, line),
+        None => push_by_role(alloc, out, count, room, held),
+    }
 }
 
 // Prints an entry of a room to the connections from 1 to `count`, and applies it.

@@ -3,7 +3,7 @@ use Rattle.ps_world.specs.Houses.{next_message}
 use Rattle.ps_world.specs.Transcript.{printed, with_id}
 use Rattle.ps_world.specs.Tables.{each_of}
 use Rattle.ps_world.proofs.HearerLemmas.{all_heard}
-use Rattle.ps_world.proofs.play.push_room.Goals as goal
+use Rattle.ps_world.proofs.play.push_by_role.Goals as goal
 
 pub returns : goal.returns
 returns c =
