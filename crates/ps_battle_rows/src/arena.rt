@@ -4,21 +4,22 @@ ghost use Rattle.ps_mon.specs.Choices.{IsChoiceOf};
 ghost use Rattle.ps_mon.specs.Facts.{AreFair, figures};
 ghost use Rattle.ps_mon.specs.Known.{AreKnown};
 ghost use Rattle.ps_mon.specs.Moves.{move_count};
-ghost use Rattle.ps_mon.specs.Reading.{member_at};
 ghost use Rattle.ps_mon.specs.Teams.{IsFresh, IsTeamKnown};
-ghost use Rattle.ps_mon.specs.Slots.{is_disabled};
-ghost use Rattle.ps_mon.specs.Valid.{IsSide, IsValid, is_over};
-ghost use Rattle.ps_mon.specs.declared.choice.Choice.TheVariants.{Continue, Move, Switch};
+ghost use Rattle.ps_mon.specs.Valid.{IsValid, is_over};
 
+use ps_base::list::List;
+use ps_base::text::Text;
 use ps_battle::{commit, open};
+use ps_choice::legality::legal;
 use ps_dex::dex::Dex;
 use ps_event::event::{Event, Events, Who};
 use ps_event::side::Side;
 use ps_mon::choice::Choice;
 use ps_mon::facts::Facts;
-use ps_mon::record::{Battle, Disabled, Phase, SideState};
+use ps_mon::record::{Battle, Phase};
 use ps_mon::status::Status;
 use ps_mon::team::{BattleTeam, Member, MoveSlot};
+use std::alloc::Global;
 use std::process::Abort;
 
 /// P1's first member.
@@ -41,7 +42,7 @@ pub(crate) const BOB: Who = Who {
 
 /// The moves and species of `data/row/dex.json`, over the types that they have: Body Slam, Hyper Beam, Blizzard, Earthquake,
 /// Quick Attack, Tackle, Rest and Soft-Boiled are 0 to 7, and Tauros, Snorlax, Chansey and Jynx 0 to 3.
-pub(crate) const ROW_DEX: &str =
+const ROW_DEX: &str =
     r#"{"types":[{"name":"Normal","special":false},{"name":"Ground","special":false},
 {"name":"Ghost","special":false},{"name":"Psychic","special":true},{"name":"Ice","special":true}],
 "factors":[["Ghost","Normal",0],["Normal","Ghost",0],["Ice","Ice",5]],"moves":[
@@ -137,107 +138,17 @@ fn begin(facts: Facts<'_>, kind: u8, own: [u16; 2], other: [u16; 2]) -> Option<B
     Some(open(&teams, CLAUSES, 0, &mut Events::new()))
 }
 
-fn bars(disabled: Option<Disabled>, slot: u8) -> bool
-    ensures { result ≡ is_disabled disabled slot }
-{
-    match disabled {
-        None => false,
-        Some(disabled) => disabled.slot == slot,
-    }
-}
-
-/// Whether a side can use a move.
-#[tactic(auto, unfolding(ps_mon::specs::Choices::fault_of))]
-fn can_use(battle: &Battle, side: u8, number: u8) -> bool
-    requires valid { IsValid battle.now }
-    requires side { side < 2 }
-    ensures legal { IsTrue result → IsChoiceOf battle.now side (Move number) }
-    ensures going { IsTrue result → is_over battle.now.phase ≡ false }
-{
-    let Phase::Turn = battle.phase else {
-        return false;
-    };
-    let state = &battle.sides[side as usize];
-    if state.vol.lock.is_some() {
-        return false;
-    }
-    if state.vol.recharge {
-        return false;
-    }
-    if number == 0 {
-        return false;
-    }
-    if state.slot_count() < number {
-        return false;
-    }
-    if state.slot(number - 1).pp == 0 {
-        return false;
-    }
-    !bars(state.vol.disabled, number - 1)
-}
-
-/// Whether a side must go on with a long move, or recharge.
-#[tactic(auto, unfolding(ps_mon::specs::Choices::fault_of))]
-fn must_go_on(battle: &Battle, side: u8) -> bool
-    requires valid { IsValid battle.now }
-    requires side { side < 2 }
-    ensures legal { IsTrue result → IsChoiceOf battle.now side Continue }
-    ensures going { IsTrue result → is_over battle.now.phase ≡ false }
-{
-    let Phase::Turn = battle.phase else {
-        return false;
-    };
-    let state = &battle.sides[side as usize];
-    state.vol.lock.is_some() || state.vol.recharge
-}
-
-fn health_at(state: &SideState, position: u8) -> u16
-    requires side { IsSide state.now }
-    requires low { 1 ≤ position }
-    requires high { position ≤ state.now.count }
-    ensures { result ≡ (member_at state.now position).hp }
-{
-    let place = state.order[position as usize - 1];
-    state.members[place as usize].hp
-}
-
-/// Whether a side can send in its second member.
-#[tactic(auto, unfolding(ps_mon::specs::Choices::fault_of))]
-fn can_switch(battle: &Battle, side: u8) -> bool
-    requires valid { IsValid battle.now }
-    requires side { side < 2 }
-    ensures legal { IsTrue result → IsChoiceOf battle.now side (Switch 2) }
-    ensures going { IsTrue result → is_over battle.now.phase ≡ false }
-{
-    let Phase::Turn = battle.phase else {
-        return false;
-    };
-    let state = &battle.sides[side as usize];
-    if state.vol.lock.is_some() {
-        return false;
-    }
-    if state.vol.recharge {
-        return false;
-    }
-    if state.count < 2 {
-        return false;
-    }
-    health_at(state, 2) != 0
-}
-
-/// Whether a side can choose that.
+/// Whether a side can choose that in a turn.
 fn can_choose(battle: &Battle, side: u8, choice: Choice) -> bool
     requires valid { IsValid battle.now }
     requires side { side < 2 }
     ensures legal { IsTrue result → IsChoiceOf battle.now side choice }
     ensures going { IsTrue result → is_over battle.now.phase ≡ false }
 {
-    match choice {
-        Choice::Move(number) => can_use(battle, side, number),
-        Choice::Continue => must_go_on(battle, side),
-        Choice::Switch(2) => can_switch(battle, side),
-        _ => false,
-    }
+    let Phase::Turn = battle.phase else {
+        return false;
+    };
+    legal(battle, side, choice).is_ok()
 }
 
 /// The choices of both sides in one turn, P1's first.
@@ -277,58 +188,99 @@ fn play_on(battle: &mut Battle, facts: Facts<'_>, turns: &[Turn]) -> Option<Even
     play_on(battle, facts, more)
 }
 
-/// The battle after some turns, and the events of the last of them; None where one can't be.
-fn play(
-    facts: Facts<'_>,
-    kind: u8,
-    own: [u16; 2],
-    other: [u16; 2],
-    turns: &[Turn],
-) -> Option<(Battle, Events)>
+/// Whether a battle could go through some turns.
+fn goes_through(battle: &mut Battle, facts: Facts<'_>, turns: &[Turn]) -> bool
+    requires valid { IsValid battle.old }
     requires fair { AreFair (figures facts) }
-    requires kind { kind < 32 }
+    requires known { AreKnown (move_count (figures facts)) battle.old }
 {
-    let mut battle = begin(facts, kind, own, other)?;
-    let out = play_on(&mut battle, facts, turns)?;
-    Some((battle, out))
+    play_on(battle, facts, turns).is_some()
 }
 
 /// A type and two moves of P1's members, the moves of P2's, the turns, and an event of the last one.
 pub(crate) type Row = (u8, [u16; 2], [u16; 2], &'static [Turn], Event);
 
-/// The battle after a row, and the events of its last turn; None where a choice can't be.
-pub(crate) fn last_turn(facts: Facts<'_>, row: &Row) -> Option<(Battle, Events)>
+/// The battle before the turns of a row; None where the row has another type, or moves that the dex hasn't.
+fn begin_row(facts: Facts<'_>, row: &Row) -> Option<Battle>
     requires { AreFair (figures facts) }
+    ensures valid { IfSome result IsValid }
+    ensures known { IfSome result (AreKnown (move_count (figures facts.entry))) }
 {
-    let (kind, own, other, turns, _) = row;
+    let (kind, own, other, _, _) = row;
     if *kind > 3 {
         return None;
     }
-    play(facts, *kind, *own, *other, turns)
+    begin(facts, *kind, *own, *other)
 }
 
-/// The first row, from 0, whose last turn doesn't have its event.
-fn first_without_event(facts: Facts<'_>, rows: &[Row]) -> Option<usize>
-    requires { AreFair (figures facts) }
-{
-    for (place, row) in rows.iter().enumerate() {
-        let Some((_, out)) = last_turn(facts, row) else {
-            return Some(place);
-        };
-        if !out.as_slice().contains(&row.4) {
-            return Some(place);
-        }
+/// The battle after a row; None where a choice can't be.
+pub(crate) fn battle_of(dex: &Dex, row: &Row) -> Option<Battle> {
+    let facts = dex.facts();
+    let mut battle = begin_row(facts, row)?;
+    if !goes_through(&mut battle, facts, row.3) {
+        return None;
     }
-    None
+    Some(battle)
+}
+
+/// The events of a row's last turn; None where a choice can't be.
+fn events_of(dex: &Dex, row: &Row) -> Option<Events> {
+    let facts = dex.facts();
+    let mut battle = begin_row(facts, row)?;
+    play_on(&mut battle, facts, row.3)
+}
+
+/// Whether a row's last turn has its event; None where a choice can't be.
+pub(crate) fn has_event(dex: &Dex, row: &Row) -> Option<bool> {
+    let out = events_of(dex, row)?;
+    Some(out.as_slice().contains(&row.4))
+}
+
+/// How many rows stand before the first one whose last turn doesn't have its event.
+fn count_before_fault(dex: &Dex, rows: &[Row]) -> usize {
+    for (place, row) in rows.iter().enumerate() {
+        let Some(true) = has_event(dex, row) else {
+            return place;
+        };
+    }
+    rows.len()
+}
+
+fn table_holds(rt: &impl Abort, dex: &Dex, place: usize, rows: &[Row]) {
+    assert_eq!(rt; (place, count_before_fault(dex, rows)), (place, rows.len()));
 }
 
 /// Each row's last turn has its event.
 pub(crate) fn hold(rt: &impl Abort, dex: &Dex, tables: &[&[Row]]) {
     for (place, rows) in tables.iter().enumerate() {
-        assert_eq!(rt;
-            first_without_event(dex.facts(), rows),
-            None,
-            "table {place}"
-        );
+        table_holds(rt, dex, place, rows);
     }
+}
+
+/// The dex that a text tells.
+pub(crate) fn dex_in(rt: &impl Abort, alloc: Global, text: &str) -> Dex {
+    Dex::read(alloc, text.as_bytes()).expect(rt, "a dex")
+}
+
+/// The dex of `ROW_DEX`.
+pub(crate) fn row_dex(rt: &impl Abort, alloc: Global) -> Dex {
+    dex_in(rt, alloc, ROW_DEX)
+}
+
+/// A text of its own that says that.
+pub(crate) fn text_of(rt: &impl Abort, alloc: Global, text: &str) -> Text {
+    Text::copy_of(alloc, text).expect(rt, "memory")
+}
+
+fn put_nick(rt: &impl Abort, nicks: &mut Vec<Text>, text: Text) {
+    nicks.push(text).expect(rt, "memory");
+}
+
+/// The nicknames of a team.
+pub(crate) fn nicks(rt: &impl Abort, alloc: Global, names: &[&str]) -> List<Text> {
+    let mut list = Vec::new(alloc);
+    for name in names {
+        put_nick(rt, &mut list, text_of(rt, alloc, name));
+    }
+    List::from_vec(list)
 }

@@ -5,7 +5,7 @@ ghost use Rattle.ps_mon.specs.Reading.{slot_of};
 ghost use Rattle.ps_mon.specs.Valid.{IsValid};
 ghost use Rattle.ps_mon.specs.Teams.{IsFresh, IsFreshMember, IsTeamKnown};
 
-use crate::arena::{ANN, BOB, next};
+use crate::arena::{ANN, BOB, dex_in, next};
 use ps_battle::{forfeit, open, phase};
 use ps_dex::dex::Dex;
 use ps_event::event::{Event, Events, Health, Who};
@@ -15,6 +15,7 @@ use ps_mon::facts::Facts;
 use ps_mon::record::{Battle, Phase};
 use ps_mon::status::Status;
 use ps_mon::team::{BattleTeam, Member, MoveSlot};
+use std::process::Abort;
 use std::test::Fail;
 
 /// A dex of one move.
@@ -92,38 +93,87 @@ fn first_turn(facts: Facts<'_>, foe: BattleTeam) -> Option<(Battle, Events)>
     Some((battle, out))
 }
 
+fn events_of_turn_1(dex: &Dex, foe: BattleTeam) -> Option<Events>
+    requires fresh { IsFresh foe }
+    requires known { (moves : ℕ) → 0 < moves → IsTeamKnown moves foe }
+{
+    let (_, out) = first_turn(dex.facts(), foe)?;
+    Some(out)
+}
+
+/// The turn, the phase and the PP of Tauros's move after turn 1.
+fn after_turn_1(dex: &Dex, foe: BattleTeam) -> Option<(u16, Phase, u8)>
+    requires fresh { IsFresh foe }
+    requires known { (moves : ℕ) → 0 < moves → IsTeamKnown moves foe }
+{
+    let (battle, _) = first_turn(dex.facts(), foe)?;
+    let slot = battle.sides[0].members[0].slots[0];
+    Some((battle.turn, battle.phase, slot.pp))
+}
+
+fn phase_after_turn_1(rt: &impl Abort, dex: &Dex, foe: BattleTeam) -> Phase
+    requires fresh { IsFresh foe }
+    requires known { (moves : ℕ) → 0 < moves → IsTeamKnown moves foe }
+{
+    let (_, phase, _) = after_turn_1(dex, foe).expect(rt, "a turn");
+    phase
+}
+
+fn starts_with(out: Option<Events>, events: &[Event]) -> bool {
+    match out {
+        None => false,
+        Some(out) => out.as_slice().starts_with(events),
+    }
+}
+
+/// Whether the last of all events are those.
+fn are_last(all: &[Event], events: &[Event]) -> bool {
+    match all.len().checked_sub(events.len()) {
+        None => false,
+        Some(place) => all.split_at(place).1 == events,
+    }
+}
+
+fn ends_with(out: Option<Events>, events: &[Event]) -> bool {
+    match out {
+        None => false,
+        Some(out) => are_last(out.as_slice(), events),
+    }
+}
+
+fn count(out: Option<Events>) -> usize {
+    match out {
+        None => 0,
+        Some(out) => out.len(),
+    }
+}
+
 /// The draws of Tauros's act are 0, 113 and 1: a hit, not critical, of 120.
+const HIT_OF_120: [Event; 2] = [
+    Event::Move {
+        who: ANN,
+        mv: 0,
+        target: BOB,
+        still: false,
+        from: None,
+    },
+    Event::Damage {
+        who: BOB,
+        health: Health {
+            hp: 403,
+            max: 523,
+            status: 0,
+        },
+        from: 0,
+    },
+];
+
 #[test]
 fn a_plain_move_deals_120(rt: HostRuntime) -> Result<(), Fail> {
-    let dex = Dex::read(rt.alloc(), DEX.as_bytes()).expect(&rt, "a dex");
-    let (battle, out) = first_turn(dex.facts(), alone(SNORLAX)).expect(&rt, "a turn");
-    let expected = [
-        Event::Move {
-            who: ANN,
-            mv: 0,
-            target: BOB,
-            still: false,
-            from: None,
-        },
-        Event::Damage {
-            who: BOB,
-            health: Health {
-                hp: 403,
-                max: 523,
-                status: 0,
-            },
-            from: 0,
-        },
-    ];
-    assert!(rt; out.as_slice().starts_with(&expected));
-    assert_eq!(rt;
-        (
-            battle.turn,
-            battle.phase,
-            battle.sides[0].members[0].slots[0].pp
-        ),
-        (2, Phase::Turn, 23)
-    );
+    let dex = dex_in(&rt, rt.alloc(), DEX);
+    assert!(rt; starts_with(events_of_turn_1(&dex, alone(SNORLAX)), &HIT_OF_120));
+    let left = after_turn_1(&dex, alone(SNORLAX)).expect(&rt, "a turn");
+    assert_eq!(rt; left, (2, Phase::Turn, 23));
     Ok(())
 }
 
@@ -133,29 +183,33 @@ const DIGLETT: Member = Member {
     ..SNORLAX
 };
 
+const BOB_LOSES: [Event; 2] = [Event::Faint { who: BOB }, Event::Win { side: Side::P1 }];
+
 /// Who faints doesn't act any more, and a side without a standing member loses.
 #[test]
 fn the_last_member_faints(rt: HostRuntime) -> Result<(), Fail> {
-    let dex = Dex::read(rt.alloc(), DEX.as_bytes()).expect(&rt, "a dex");
-    let (battle, out) = first_turn(dex.facts(), alone(DIGLETT)).expect(&rt, "a turn");
-    let expected = [Event::Faint { who: BOB }, Event::Win { side: Side::P1 }];
-    assert!(rt; out.as_slice().ends_with(&expected));
-    assert_eq!(rt; (out.len(), battle.phase), (4, Phase::Won(0)));
+    let dex = dex_in(&rt, rt.alloc(), DEX);
+    assert!(rt; ends_with(events_of_turn_1(&dex, alone(DIGLETT)), &BOB_LOSES));
+    assert_eq!(rt; count(events_of_turn_1(&dex, alone(DIGLETT))), 4);
+    assert_eq!(rt;
+        phase_after_turn_1(&rt, &dex, alone(DIGLETT)),
+        Phase::Won(0)
+    );
     Ok(())
 }
+
+const NOBODY_WINS: [Event; 3] = [
+    Event::Faint { who: BOB },
+    Event::Faint { who: ANN },
+    Event::Tie,
+];
 
 /// Where both last members faint, nobody wins.
 #[test]
 fn both_last_members_faint(rt: HostRuntime) -> Result<(), Fail> {
-    let dex = Dex::read(rt.alloc(), EXPLOSIVE_DEX.as_bytes()).expect(&rt, "a dex");
-    let (battle, out) = first_turn(dex.facts(), alone(DIGLETT)).expect(&rt, "a turn");
-    let expected = [
-        Event::Faint { who: BOB },
-        Event::Faint { who: ANN },
-        Event::Tie,
-    ];
-    assert!(rt; out.as_slice().ends_with(&expected));
-    assert_eq!(rt; battle.phase, Phase::Tied);
+    let dex = dex_in(&rt, rt.alloc(), EXPLOSIVE_DEX);
+    assert!(rt; ends_with(events_of_turn_1(&dex, alone(DIGLETT)), &NOBODY_WINS));
+    assert_eq!(rt; phase_after_turn_1(&rt, &dex, alone(DIGLETT)), Phase::Tied);
     Ok(())
 }
 
@@ -193,13 +247,10 @@ fn give_up(battle: &mut Battle, side: u8, out: &mut Events) -> bool
     true
 }
 
-/// The opening with HP Percentage Mod alone, and a forfeit.
-#[test]
-fn a_battle_is_opened_and_given_up(rt: HostRuntime) -> Result<(), Fail> {
-    let mut out = Events::new();
-    let mut battle = opened(&mut out);
+/// Both sides, the format, the clause, who is sent out, and what is asked.
+fn opening() -> [Event; 14] {
     let (p1, p2) = (Side::P1, Side::P2);
-    let expected = [
+    [
         Event::Player { side: p1 },
         Event::Player { side: p2 },
         Event::TeamSize { side: p1, count: 1 },
@@ -214,13 +265,30 @@ fn a_battle_is_opened_and_given_up(rt: HostRuntime) -> Result<(), Fail> {
         Event::Turn { turn: 1 },
         Event::Request { side: p1 },
         Event::Request { side: p2 },
-    ];
-    assert_eq!(rt; out.as_slice(), expected.as_slice());
+    ]
+}
+
+/// The opening with HP Percentage Mod alone.
+#[test]
+fn a_battle_is_opened(rt: HostRuntime) -> Result<(), Fail> {
+    let mut out = Events::new();
+    let battle = opened(&mut out);
+    assert_eq!(rt; out.as_slice(), opening().as_slice());
     assert_eq!(rt; phase(&battle), Phase::Turn);
+    Ok(())
+}
+
+const ANN_GIVES_UP: [Event; 2] = [
+    Event::Forfeit { side: Side::P1 },
+    Event::Win { side: Side::P2 },
+];
+
+#[test]
+fn a_battle_is_given_up(rt: HostRuntime) -> Result<(), Fail> {
+    let mut battle = opened(&mut Events::new());
     let mut out = Events::new();
     assert!(rt; give_up(&mut battle, 0, &mut out));
-    let expected = [Event::Forfeit { side: p1 }, Event::Win { side: p2 }];
-    assert_eq!(rt; out.as_slice(), expected.as_slice());
+    assert_eq!(rt; out.as_slice(), ANN_GIVES_UP.as_slice());
     assert_eq!(rt; phase(&battle), Phase::Won(1));
     Ok(())
 }

@@ -20,8 +20,13 @@ const BODY_SLAM: Hit = Hit {
 };
 
 #[test]
-fn a_member_of_level_100(rt: HostRuntime) -> Result<(), Fail> {
+fn dvs(rt: HostRuntime) -> Result<(), Fail> {
     assert_eq!(rt; (dv(31), dv(30), dv(1)), (15, 15, 0));
+    Ok(())
+}
+
+#[test]
+fn dvs_of_hp(rt: HostRuntime) -> Result<(), Fail> {
     assert_eq!(rt;
         (
             hp_dv([15, 15, 15, 15]),
@@ -30,11 +35,21 @@ fn a_member_of_level_100(rt: HostRuntime) -> Result<(), Fail> {
         ),
         (15, 8, 2)
     );
+    Ok(())
+}
+
+#[test]
+fn a_member_of_level_100(rt: HostRuntime) -> Result<(), Fail> {
     assert_eq!(rt; hp_stat(75, 15, 252, 100), 353);
     let stats = [(100, 298), (95, 288), (70, 238), (110, 318)];
     for (base, number) in &stats {
         assert_eq!(rt; stat(*base, 15, 252, 100), *number);
     }
+    Ok(())
+}
+
+#[test]
+fn the_greatest_stats(rt: HostRuntime) -> Result<(), Fail> {
     assert_eq!(rt;
         (hp_stat(255, 15, 255, 100), stat(255, 15, 255, 100)),
         (713, 608)
@@ -43,7 +58,7 @@ fn a_member_of_level_100(rt: HostRuntime) -> Result<(), Fail> {
 }
 
 #[test]
-fn hits_and_chances(rt: HostRuntime) -> Result<(), Fail> {
+fn hits(rt: HostRuntime) -> Result<(), Fail> {
     let weak = Hit {
         roll: 217,
         ..BODY_SLAM
@@ -56,6 +71,11 @@ fn hits_and_chances(rt: HostRuntime) -> Result<(), Fail> {
         (damage(&BODY_SLAM), damage(&weak), damage(&sharp)),
         (141, 119, 273)
     );
+    Ok(())
+}
+
+#[test]
+fn stages(rt: HostRuntime) -> Result<(), Fail> {
     assert_eq!(rt;
         (
             staged(100, -6),
@@ -65,6 +85,11 @@ fn hits_and_chances(rt: HostRuntime) -> Result<(), Fail> {
         ),
         (25, 150, 999, 1)
     );
+    Ok(())
+}
+
+#[test]
+fn chances(rt: HostRuntime) -> Result<(), Fail> {
     assert_eq!(rt;
         (
             accuracy_byte(100, 0, 0),
@@ -81,6 +106,11 @@ fn hits_and_chances(rt: HostRuntime) -> Result<(), Fail> {
         ),
         (55, 255, 13)
     );
+    Ok(())
+}
+
+#[test]
+fn hundredths_are_rounded_up(rt: HostRuntime) -> Result<(), Fail> {
     assert_eq!(rt;
         (
             hundredths(353, 353),

@@ -1,5 +1,5 @@
 //! What players ask for, and which choices are legal, on worked rows.
-use crate::arena::ROW_DEX;
+use crate::arena::{dex_in, row_dex};
 use crate::steps::{
     DISABLED, FALLEN, FALLEN_ON_THE_BENCH, FRESH, HELD, HELD_AND_FALLEN, MIMICKED,
     MIMICKED_AND_SPENT, SPENT, SPENT_AND_DISABLED, Steps, TIED, TIRED, TRANSFORMED, TWICE_FALLEN,
@@ -59,13 +59,22 @@ fn wanted_in(text: &str) -> Option<Wanted<'_>> {
     read_choice(text)
 }
 
+fn asks_for(rt: &impl Abort, text: &str, wanted: Option<Wanted<'_>>) {
+    assert_eq!(rt; (text, wanted_in(text)), (text, wanted));
+}
+
 #[test]
 fn texts_of_choices(rt: HostRuntime) -> Result<(), Fail> {
     for (text, wanted) in WANTS {
-        assert_eq!(rt; wanted_in(text), *wanted, "{text:?}");
+        asks_for(&rt, text, *wanted);
     }
+    Ok(())
+}
+
+#[test]
+fn texts_that_ask_for_nothing(rt: HostRuntime) -> Result<(), Fail> {
     for text in NEAR_MISSES {
-        assert_eq!(rt; wanted_in(text), None, "{text:?}");
+        asks_for(&rt, text, None);
     }
     Ok(())
 }
@@ -125,9 +134,24 @@ fn told_of(dex: &Dex, steps: Steps, text: &str) -> Answer {
     }
 }
 
-fn answers_hold(rt: &impl Abort, dex: &Dex, steps: Steps, rows: Rows) {
-    for (text, wanted) in rows {
-        assert_eq!(rt; told_of(dex, steps, text), *wanted, "{text:?}");
+fn answer_holds(rt: &impl Abort, dex: &Dex, steps: Steps, row: &(&'static str, Answer)) {
+    let (text, wanted) = row;
+    assert_eq!(rt; (text, told_of(dex, steps, text)), (text, *wanted));
+}
+
+/// What happens before, and what texts come to then.
+type Table = (Steps, Rows);
+
+fn table_holds(rt: &impl Abort, dex: &Dex, table: &Table) {
+    let (steps, rows) = table;
+    for row in *rows {
+        answer_holds(rt, dex, *steps, row);
+    }
+}
+
+fn answers_hold(rt: &impl Abort, dex: &Dex, tables: &[Table]) {
+    for table in tables {
+        table_holds(rt, dex, table);
     }
 }
 
@@ -245,27 +269,26 @@ const OF_TRANSFORMED: Rows = &[
     ("move earthquake", Answer::Not(NO_SUCH_MOVE)),
 ];
 
+const OF_A_TURN: &[Table] = &[
+    (FRESH, OF_FRESH),
+    (FRESH, SWITCHES_OF_FRESH),
+    (HELD, OF_HELD),
+    (TIRED, OF_TIRED),
+    (SPENT, OF_SPENT),
+    (DISABLED, OF_DISABLED),
+    (SPENT_AND_DISABLED, OF_SPENT_AND_DISABLED),
+    (USELESS, OF_USELESS),
+    (USELESS_AND_HELD, OF_USELESS_AND_HELD),
+    (FALLEN_ON_THE_BENCH, OF_FALLEN_ON_THE_BENCH),
+    (MIMICKED, OF_MIMICKED),
+    (MIMICKED_AND_SPENT, OF_MIMICKED_AND_SPENT),
+    (TRANSFORMED, OF_TRANSFORMED),
+];
+
 #[test]
 fn choices_of_a_turn(rt: HostRuntime) -> Result<(), Fail> {
-    let dex = Dex::read(rt.alloc(), ROW_DEX.as_bytes()).expect(&rt, "a dex");
-    let tables = [
-        (FRESH, OF_FRESH),
-        (FRESH, SWITCHES_OF_FRESH),
-        (HELD, OF_HELD),
-        (TIRED, OF_TIRED),
-        (SPENT, OF_SPENT),
-        (DISABLED, OF_DISABLED),
-        (SPENT_AND_DISABLED, OF_SPENT_AND_DISABLED),
-        (USELESS, OF_USELESS),
-        (USELESS_AND_HELD, OF_USELESS_AND_HELD),
-        (FALLEN_ON_THE_BENCH, OF_FALLEN_ON_THE_BENCH),
-        (MIMICKED, OF_MIMICKED),
-        (MIMICKED_AND_SPENT, OF_MIMICKED_AND_SPENT),
-        (TRANSFORMED, OF_TRANSFORMED),
-    ];
-    for (steps, rows) in tables {
-        answers_hold(&rt, &dex, steps, rows);
-    }
+    let dex = row_dex(&rt, rt.alloc());
+    answers_hold(&rt, &dex, OF_A_TURN);
     Ok(())
 }
 
@@ -308,20 +331,19 @@ const OF_WAITING: Rows = &[
     ("jump", Answer::Nothing),
 ];
 
+const OF_NO_TURN: &[Table] = &[
+    (FALLEN, OF_FALLEN),
+    (HELD_AND_FALLEN, OF_HELD_AND_FALLEN),
+    (TWICE_FALLEN, OF_TWICE_FALLEN),
+    (WAITING, OF_WAITING),
+    (WON, OF_WAITING),
+    (TIED, OF_WAITING),
+];
+
 #[test]
 fn choices_where_a_member_has_fainted_or_nobody_is_asked(rt: HostRuntime) -> Result<(), Fail> {
-    let dex = Dex::read(rt.alloc(), ROW_DEX.as_bytes()).expect(&rt, "a dex");
-    let tables = [
-        (FALLEN, OF_FALLEN),
-        (HELD_AND_FALLEN, OF_HELD_AND_FALLEN),
-        (TWICE_FALLEN, OF_TWICE_FALLEN),
-        (WAITING, OF_WAITING),
-        (WON, OF_WAITING),
-        (TIED, OF_WAITING),
-    ];
-    for (steps, rows) in tables {
-        answers_hold(&rt, &dex, steps, rows);
-    }
+    let dex = row_dex(&rt, rt.alloc());
+    answers_hold(&rt, &dex, OF_NO_TURN);
     Ok(())
 }
 
@@ -361,18 +383,17 @@ const ALIASES_OF_USELESS: Rows = &[
     ("move slam", Answer::Not(NO_PP)),
 ];
 
+const BY_ALIAS: &[Table] = &[
+    (FRESH, ALIASES),
+    (HELD, ALIASES_OF_HELD),
+    (TIRED, ALIASES_OF_TIRED),
+    (USELESS, ALIASES_OF_USELESS),
+];
+
 #[test]
 fn choices_by_alias(rt: HostRuntime) -> Result<(), Fail> {
-    let dex = Dex::read(rt.alloc(), ALIAS_DEX.as_bytes()).expect(&rt, "a dex");
-    let tables = [
-        (FRESH, ALIASES),
-        (HELD, ALIASES_OF_HELD),
-        (TIRED, ALIASES_OF_TIRED),
-        (USELESS, ALIASES_OF_USELESS),
-    ];
-    for (steps, rows) in tables {
-        answers_hold(&rt, &dex, steps, rows);
-    }
+    let dex = dex_in(&rt, rt.alloc(), ALIAS_DEX);
+    answers_hold(&rt, &dex, BY_ALIAS);
     Ok(())
 }
 
@@ -428,18 +449,28 @@ fn fault(dex: &Dex, row: &LegalRow) -> Option<ChoiceFault> {
     }
 }
 
+fn fault_holds(rt: &impl Abort, dex: &Dex, place: usize, row: &LegalRow) {
+    assert_eq!(rt; (place, fault(dex, row)), (place, row.2));
+}
+
 fn faults_hold(rt: &impl Abort, dex: &Dex, rows: &[LegalRow]) {
     for (place, row) in rows.iter().enumerate() {
-        assert_eq!(rt; fault(dex, row), row.2, "row {place}");
+        fault_holds(rt, dex, place, row);
     }
 }
 
 #[test]
+fn each_fault_is_told(rt: HostRuntime) -> Result<(), Fail> {
+    let dex = row_dex(&rt, rt.alloc());
+    let rows = SINGLE_FAULTS;
+    faults_hold(&rt, &dex, &rows);
+    Ok(())
+}
+
+#[test]
 fn faults_are_told_in_their_order(rt: HostRuntime) -> Result<(), Fail> {
-    let dex = Dex::read(rt.alloc(), ROW_DEX.as_bytes()).expect(&rt, "a dex");
-    let single = SINGLE_FAULTS;
-    faults_hold(&rt, &dex, &single);
-    let several = SEVERAL_FAULTS;
-    faults_hold(&rt, &dex, &several);
+    let dex = row_dex(&rt, rt.alloc());
+    let rows = SEVERAL_FAULTS;
+    faults_hold(&rt, &dex, &rows);
     Ok(())
 }

@@ -1,12 +1,10 @@
 //! Statuses, volatile effects and whether a member acts, on worked rows: what some turns of a battle come to.
-ghost use Rattle.std.specs.Prelude.{◌≡◌, ◌<◌};
-ghost use Rattle.ps_mon.specs.Facts.{AreFair, figures};
-
-use crate::arena::{ANN, ANN_2, BOB, Row, Turn, hold, last_turn};
+use crate::arena::{ANN, ANN_2, BOB, Row, Turn, battle_of, dex_in, has_event, hold};
 use ps_dex::dex::Dex;
 use ps_event::event::{Event, Events, Health};
 use ps_mon::choice::Choice;
-use ps_mon::facts::Facts;
+use std::alloc::Global;
+use std::process::Abort;
 use std::test::Fail;
 
 /// Moves that never miss. Electric is special, and does nothing to Ground.
@@ -35,6 +33,10 @@ const DEX: &str = r#"{"types":[{"name":"Normal","special":false},{"name":"Poison
 {"name":"Recover","type":"Normal","power":0,"accuracy":0,"pp":24,"priority":0,"effect":{"kind":"heal"}},
 {"name":"Counter","type":"Normal","power":0,"accuracy":0,"pp":24,"priority":0,"effect":{"kind":"counter"}},
 {"name":"Tackle","type":"Normal","power":10,"accuracy":0,"pp":24,"priority":0,"effect":{"kind":"plain"}}]}"#;
+
+fn dex(rt: &impl Abort, alloc: Global) -> Dex {
+    dex_in(rt, alloc, DEX)
+}
 
 const WAIT: u16 = 0;
 
@@ -227,17 +229,31 @@ const FAILS: Event = Event::Fail { who: ANN };
 const FOE_FAILS: Event = Event::Fail { who: BOB };
 
 /// Tauros's health and that of its substitute after a row.
-fn health_after(facts: Facts<'_>, row: &Row) -> Option<(u16, u16)>
-    requires { AreFair (figures facts) }
-{
-    let (battle, _) = last_turn(facts, row)?;
+fn health_after(dex: &Dex, row: &Row) -> Option<(u16, u16)> {
+    let battle = battle_of(dex, row)?;
     let side = &battle.sides[0];
     Some((side.members[0].hp, side.vol.substitute))
 }
 
+/// A row, and what it leaves Tauros and its substitute.
+type Loss = (Row, u16, u16);
+
+fn loss_holds(rt: &impl Abort, dex: &Dex, loss: &Loss) {
+    let (row, hp, substitute) = loss;
+    assert!(rt; has_event(dex, row).expect(rt, "a row"));
+    let left = health_after(dex, row).expect(rt, "a row");
+    assert_eq!(rt; left, (*hp, *substitute));
+}
+
+fn losses_hold(rt: &impl Abort, dex: &Dex, losses: &[Loss]) {
+    for loss in losses {
+        loss_holds(rt, dex, loss);
+    }
+}
+
 /// A poisoned member loses a sixteenth, a badly poisoned one once and then twice that; a substitute takes a quarter, and
 /// more has to be there.
-const LOSSES: [(Row, u16, u16); 8] = [
+const LOSSES: &[Loss] = &[
     (
         (NORMAL, [WAIT, WAIT], [POISON_POWDER, WAIT], ONE, POISONED),
         331,
@@ -280,16 +296,13 @@ const LOSSES: [(Row, u16, u16); 8] = [
 
 #[test]
 fn statuses_and_substitutes_cost_what_the_rows_say(rt: HostRuntime) -> Result<(), Fail> {
-    let dex = Dex::read(rt.alloc(), DEX.as_bytes()).expect(&rt, "a dex");
-    for (row, hp, substitute) in LOSSES {
-        hold(&rt, &dex, &[&[row]]);
-        assert_eq!(rt; health_after(dex.facts(), &row), Some((hp, substitute)));
-    }
+    let dex = dex(&rt, rt.alloc());
+    losses_hold(&rt, &dex, LOSSES);
     Ok(())
 }
 
 /// Sleep, ice, flinching, confusion with a hit on oneself and its end, paralysis.
-const ACTS: [Row; 8] = [
+const ACTS: &[Row] = &[
     (NORMAL, [REST, WAIT], [POKE, WAIT], TWO, ASLEEP),
     (NORMAL, [REST, WAIT], [POKE, WAIT], THREE, WAKES),
     (NORMAL, [WAIT, WAIT], [FREEZE, WAIT], ONE, FROZEN),
@@ -302,14 +315,14 @@ const ACTS: [Row; 8] = [
 
 #[test]
 fn who_cannot_act_is_told_why(rt: HostRuntime) -> Result<(), Fail> {
-    let dex = Dex::read(rt.alloc(), DEX.as_bytes()).expect(&rt, "a dex");
-    hold(&rt, &dex, &[&ACTS]);
+    let dex = dex(&rt, rt.alloc());
+    hold(&rt, &dex, &[ACTS]);
     Ok(())
 }
 
 /// What bars a status with power 0: a status that is there, the clauses, immunity, the type, a substitute. The first
 /// sleep lasts one act, so it takes two for the clause.
-const BARRED_STATUSES: [Row; 8] = [
+const BARRED_STATUSES: &[Row] = &[
     (NORMAL, [WAIT, WAIT], [TOXIC, POISON_POWDER], TWO, FOE_FAILS),
     (
         NORMAL,
@@ -327,7 +340,7 @@ const BARRED_STATUSES: [Row; 8] = [
 ];
 
 /// What doesn't bar it: a member that rests, a substitute against sleep and paralysis; and a strike does its secondary.
-const STATUSES: [Row; 4] = [
+const STATUSES: &[Row] = &[
     (NORMAL, [REST, WAIT], [POKE, SPORE], SWITCHED, SECOND_SLEEPS),
     (NORMAL, [SUBSTITUTE, WAIT], [WAIT, SPORE], TWO, SLEEPS),
     (
@@ -341,37 +354,38 @@ const STATUSES: [Row; 4] = [
 ];
 
 /// A strike doesn't poison through a substitute, nor its own type; no row has its event.
-const BARRED_SECONDARIES: [Row; 2] = [
+const BARRED_SECONDARIES: &[Row] = &[
     (POISON, [WAIT, WAIT], [SMOG, WAIT], ONE, IS_POISONED),
     (NORMAL, [SUBSTITUTE, WAIT], [WAIT, SMOG], TWO, IS_POISONED),
 ];
 
 #[test]
 fn statuses_come_unless_they_are_barred(rt: HostRuntime) -> Result<(), Fail> {
-    let dex = Dex::read(rt.alloc(), DEX.as_bytes()).expect(&rt, "a dex");
-    hold(&rt, &dex, &[&BARRED_STATUSES, &STATUSES]);
+    let dex = dex(&rt, rt.alloc());
+    hold(&rt, &dex, &[BARRED_STATUSES, STATUSES]);
     Ok(())
 }
 
-/// Whether a row's last turn has its event; None where a choice can't be.
-fn has_event(facts: Facts<'_>, row: &Row) -> Option<bool>
-    requires { AreFair (figures facts) }
-{
-    let (_, out) = last_turn(facts, row)?;
-    Some(out.as_slice().contains(&row.4))
+fn lacks(rt: &impl Abort, dex: &Dex, row: &Row) {
+    assert!(rt; !has_event(dex, row).expect(rt, "a row"));
+}
+
+/// No row's last turn has its event.
+fn lack(rt: &impl Abort, dex: &Dex, rows: &[Row]) {
+    for row in rows {
+        lacks(rt, dex, row);
+    }
 }
 
 #[test]
 fn barred_secondaries_do_not_come(rt: HostRuntime) -> Result<(), Fail> {
-    let dex = Dex::read(rt.alloc(), DEX.as_bytes()).expect(&rt, "a dex");
-    for row in BARRED_SECONDARIES {
-        assert_eq!(rt; has_event(dex.facts(), &row), Some(false));
-    }
+    let dex = dex(&rt, rt.alloc());
+    lack(&rt, &dex, BARRED_SECONDARIES);
     Ok(())
 }
 
 /// What bars confusion, changed stages and seeds.
-const BARRED_EFFECTS: [Row; 7] = [
+const BARRED_EFFECTS: &[Row] = &[
     (
         NORMAL,
         [WAIT, WAIT],
@@ -400,7 +414,7 @@ const BARRED_EFFECTS: [Row; 7] = [
 ];
 
 /// What Tauros can't have twice, nor without need.
-const FAILURES: [Row; 7] = [
+const FAILURES: &[Row] = &[
     (NORMAL, [SUBSTITUTE, SUBSTITUTE], [WAIT, WAIT], TWO, FAILS),
     (NORMAL, [MIST, MIST], [WAIT, WAIT], TWO, FAILS),
     (NORMAL, [REFLECT, REFLECT], [WAIT, WAIT], TWO, FAILS),
@@ -424,7 +438,7 @@ const FAILURES: [Row; 7] = [
 
 #[test]
 fn effects_fail_where_they_are_barred(rt: HostRuntime) -> Result<(), Fail> {
-    let dex = Dex::read(rt.alloc(), DEX.as_bytes()).expect(&rt, "a dex");
-    hold(&rt, &dex, &[&BARRED_EFFECTS, &FAILURES]);
+    let dex = dex(&rt, rt.alloc());
+    hold(&rt, &dex, &[BARRED_EFFECTS, FAILURES]);
     Ok(())
 }

@@ -1,12 +1,10 @@
 //! Long and copying moves on worked rows: the start, the middle and the end of each kind.
-ghost use Rattle.std.specs.Prelude.{◌≡◌, ◌<◌};
-ghost use Rattle.ps_mon.specs.Facts.{AreFair, figures};
-
-use crate::arena::{ANN, BOB, Row, Turn, hold, last_turn};
+use crate::arena::{ANN, BOB, Row, Turn, battle_of, dex_in, hold};
 use ps_dex::dex::Dex;
 use ps_event::event::{Event, Health};
 use ps_mon::choice::Choice;
-use ps_mon::facts::Facts;
+use std::alloc::Global;
+use std::process::Abort;
 use std::test::Fail;
 
 /// Moves that never miss, but Poke. Electric does nothing to Ground.
@@ -32,6 +30,10 @@ const DEX: &str = r#"{"types":[{"name":"Normal","special":false},{"name":"Poison
 {"name":"To 1","type":"Ground","power":0,"accuracy":0,"pp":24,"priority":0,"effect":{"kind":"fixed","amount":352}},
 {"name":"Substitute","type":"Ground","power":0,"accuracy":0,"pp":24,"priority":0,"effect":{"kind":"substitute"}},
 {"name":"Shock","type":"Electric","power":10,"accuracy":0,"pp":24,"priority":0}]}"#;
+
+fn dex(rt: &impl Abort, alloc: Global) -> Dex {
+    dex_in(rt, alloc, DEX)
+}
 
 const WAIT: u16 = 0;
 
@@ -671,7 +673,7 @@ const DISABLES: &[Row] = &[
 
 #[test]
 fn long_moves_start_go_on_and_end(rt: HostRuntime) -> Result<(), Fail> {
-    let dex = Dex::read(rt.alloc(), DEX.as_bytes()).expect(&rt, "a dex");
+    let dex = dex(&rt, rt.alloc());
     hold(
         &rt,
         &dex,
@@ -690,7 +692,7 @@ fn long_moves_start_go_on_and_end(rt: HostRuntime) -> Result<(), Fail> {
 
 #[test]
 fn copying_moves_do_what_the_rows_say(rt: HostRuntime) -> Result<(), Fail> {
-    let dex = Dex::read(rt.alloc(), DEX.as_bytes()).expect(&rt, "a dex");
+    let dex = dex(&rt, rt.alloc());
     hold(&rt, &dex, &[COPIES, CALLS, DISABLES]);
     Ok(())
 }
@@ -724,25 +726,27 @@ const CHAIN: Row = (
 );
 
 /// The PP of the first slot after a row, of 24.
-fn pp_after(facts: Facts<'_>, row: &Row) -> Option<u8>
-    requires { AreFair (figures facts) }
-{
-    let (battle, _) = last_turn(facts, row)?;
+fn pp_after(dex: &Dex, row: &Row) -> Option<u8> {
+    let battle = battle_of(dex, row)?;
     Some(battle.sides[0].members[0].slots[0].pp)
+}
+
+fn leaves_pp(rt: &impl Abort, dex: &Dex, row: &Row, pp: u8) {
+    assert_eq!(rt; pp_after(dex, row).expect(rt, "a row"), pp);
 }
 
 #[test]
 fn metronome_alone_fails(rt: HostRuntime) -> Result<(), Fail> {
-    let dex = Dex::read(rt.alloc(), METRONOME_ALONE.as_bytes()).expect(&rt, "a dex");
+    let dex = dex_in(&rt, rt.alloc(), METRONOME_ALONE);
     hold(&rt, &dex, &[&[ALONE]]);
     Ok(())
 }
 
 #[test]
 fn three_moves_take_the_pp_of_one(rt: HostRuntime) -> Result<(), Fail> {
-    let dex = Dex::read(rt.alloc(), CALLERS.as_bytes()).expect(&rt, "a dex");
+    let dex = dex_in(&rt, rt.alloc(), CALLERS);
     hold(&rt, &dex, &[&[CHAIN]]);
-    assert_eq!(rt; pp_after(dex.facts(), &CHAIN), Some(23));
+    leaves_pp(&rt, &dex, &CHAIN, 23);
     Ok(())
 }
 
@@ -781,11 +785,15 @@ const USES: &[(Row, u8)] = &[
     ),
 ];
 
+fn uses_hold(rt: &impl Abort, dex: &Dex, uses: &[(Row, u8)]) {
+    for (row, pp) in uses {
+        leaves_pp(rt, dex, row, *pp);
+    }
+}
+
 #[test]
 fn long_and_copied_moves_take_pp_once(rt: HostRuntime) -> Result<(), Fail> {
-    let dex = Dex::read(rt.alloc(), DEX.as_bytes()).expect(&rt, "a dex");
-    for (row, pp) in USES {
-        assert_eq!(rt; pp_after(dex.facts(), row), Some(*pp));
-    }
+    let dex = dex(&rt, rt.alloc());
+    uses_hold(&rt, &dex, USES);
     Ok(())
 }

@@ -1,44 +1,51 @@
 //! Requests on worked rows.
-use crate::arena::ROW_DEX;
+ghost use Rattle.std.specs.Prelude.{◌<◌};
+
+use crate::arena::{nicks, row_dex};
 use crate::steps::{
     FALLEN, FALLEN_ON_THE_BENCH, FRESH, HELD, MIMICKED, Step, Steps, TIRED, TRANSFORMED, USELESS,
     WAITING, battle_after,
 };
-use ps_base::text::Text;
 use ps_choice::request::{SideNames, request_text};
 use ps_dex::dex::Dex;
 use std::alloc::{AllocError, Global};
 use std::process::Abort;
 use std::test::Fail;
 
-fn nicks(alloc: Global, names: &[&str]) -> Result<Vec<Text>, AllocError> {
-    let mut list = Vec::new(alloc);
-    for name in names {
-        list.push(Text::copy_of(alloc, name)?)?;
-    }
-    Ok(list)
+/// A side's request after some steps, as its text says it.
+fn request_of(
+    rt: &impl Abort,
+    alloc: Global,
+    dex: &Dex,
+    steps: Steps,
+    names: SideNames<'_>,
+    side: u8,
+    round: u32,
+) -> String
+    requires { side < 2 }
+{
+    let battle = battle_after(dex.facts(), 2, steps);
+    request_text(alloc, &battle, dex, names, side, round).expect(rt, "memory")
 }
 
 /// Ann's request in round 7, with two members.
-fn request_of_ann(alloc: Global, dex: &Dex, steps: Steps) -> Result<String, AllocError> {
-    let nicks = nicks(alloc, &["Tauros", "Bull"])?;
+fn request_of_ann(rt: &impl Abort, alloc: Global, dex: &Dex, steps: Steps) -> String {
+    let nicks = nicks(rt, alloc, &["Tauros", "Bull"]);
     let names = SideNames {
         player: "Ann",
         nicks: nicks.as_slice(),
     };
-    let battle = battle_after(dex.facts(), 2, steps);
-    request_text(alloc, &battle, dex, names, 0, 7)
+    request_of(rt, alloc, dex, steps, names, 0, 7)
 }
 
 /// Bob's request in round 1.
-fn request_of_bob(alloc: Global, dex: &Dex) -> Result<String, AllocError> {
-    let nicks = nicks(alloc, &["Snorlax"])?;
+fn request_of_bob(rt: &impl Abort, alloc: Global, dex: &Dex) -> String {
+    let nicks = nicks(rt, alloc, &["Snorlax"]);
     let names = SideNames {
         player: "Bob",
         nicks: nicks.as_slice(),
     };
-    let battle = battle_after(dex.facts(), 2, FRESH);
-    request_text(alloc, &battle, dex, names, 1, 1)
+    request_of(rt, alloc, dex, FRESH, names, 1, 1)
 }
 
 const OF_BOB: &str =
@@ -46,8 +53,8 @@ const OF_BOB: &str =
 
 #[test]
 fn request_of_the_first_turn(rt: HostRuntime) -> Result<(), Fail> {
-    let dex = Dex::read(rt.alloc(), ROW_DEX.as_bytes()).expect(&rt, "a dex");
-    let text = request_of_bob(rt.alloc(), &dex)?;
+    let dex = row_dex(&rt, rt.alloc());
+    let text = request_of_bob(&rt, rt.alloc(), &dex);
     assert_eq!(rt; text.as_str(), OF_BOB);
     Ok(())
 }
@@ -203,33 +210,22 @@ fn whole(alloc: Global, parts: Parts) -> Result<String, AllocError> {
     Ok(text)
 }
 
-fn request_holds(
-    rt: &impl Abort,
-    alloc: Global,
-    dex: &Dex,
-    row: &(Steps, Parts),
-) -> Result<(), AllocError> {
+fn request_holds(rt: &impl Abort, alloc: Global, dex: &Dex, row: &(Steps, Parts)) {
     let (steps, parts) = row;
-    let text = request_of_ann(alloc, dex, *steps)?;
-    let wanted = whole(alloc, *parts)?;
+    let text = request_of_ann(rt, alloc, dex, *steps);
+    let wanted = whole(alloc, *parts).expect(rt, "memory");
     assert_eq!(rt; text.as_str(), wanted.as_str());
-    Ok(())
 }
 
-fn requests_hold(
-    rt: &impl Abort,
-    alloc: Global,
-    dex: &Dex,
-    rows: &[(Steps, Parts)],
-) -> Result<(), Fail> {
+fn requests_hold(rt: &impl Abort, alloc: Global, dex: &Dex, rows: &[(Steps, Parts)]) {
     for row in rows {
-        request_holds(rt, alloc, dex, row)?;
+        request_holds(rt, alloc, dex, row);
     }
-    Ok(())
 }
 
 #[test]
 fn requests_tell_what_can_be_chosen(rt: HostRuntime) -> Result<(), Fail> {
-    let dex = Dex::read(rt.alloc(), ROW_DEX.as_bytes()).expect(&rt, "a dex");
-    requests_hold(&rt, rt.alloc(), &dex, REQUESTS)
+    let dex = row_dex(&rt, rt.alloc());
+    requests_hold(&rt, rt.alloc(), &dex, REQUESTS);
+    Ok(())
 }

@@ -120,7 +120,7 @@ fn begin(count: u8) -> Battle
 }
 
 /// Something that happens to Ann's side.
-#[derive(Clone, Copy, Debug, PartialEq, Eq)]
+#[derive(Clone, Copy)]
 pub(crate) enum Step {
     /// Nothing.
     Stay,

@@ -1,6 +1,5 @@
 //! The line of each event of a battle, for each role, on worked rows.
-use crate::arena::{ANN, ANN_2, BOB, ROW_DEX};
-use ps_base::list::List;
+use crate::arena::{ANN, ANN_2, BOB, nicks, row_dex, text_of};
 use ps_base::name::Name;
 use ps_base::text::Text;
 use ps_dex::dex::Dex;
@@ -25,7 +24,7 @@ const REST: u16 = 6;
 const STRUGGLE: u16 = 1024;
 
 /// What lines are made over.
-#[derive(Debug, Drop)]
+#[derive(Drop)]
 struct Stage {
     names: Names,
     dex: Dex,
@@ -43,36 +42,22 @@ type HealthRow = (u16, u16, u8, &'static str, &'static str);
 /// A number of an event, and its line with exact health and in hundredths.
 type SplitRow = (u8, &'static str, &'static str);
 
-fn nicks(alloc: Global, names: &[&str]) -> Result<List<Text>, AllocError> {
-    let mut list = Vec::new(alloc);
-    for name in names {
-        list.push(Text::copy_of(alloc, name)?)?;
-    }
-    Ok(List::from_vec(list))
-}
-
-fn players(alloc: Global) -> Result<[Name; 2], AllocError> {
-    let ann = Name::new(alloc, "Ann")?;
-    let bob = Name::new(alloc, "Bob")?;
-    Ok([ann, bob])
-}
-
-fn members(alloc: Global) -> Result<[List<Text>; 2], AllocError> {
-    let own = nicks(alloc, &["Tauros", "Bull"])?;
-    let other = nicks(alloc, &["Snorlax"])?;
-    Ok([own, other])
+fn player(rt: &impl Abort, alloc: Global, name: &str) -> Name {
+    Name::new(alloc, name).expect(rt, "memory")
 }
 
 /// Ann with two members against Bob with one.
-fn names(alloc: Global) -> Result<Names, AllocError> {
-    let players = players(alloc)?;
-    let nicks = members(alloc)?;
-    let format = Text::copy_of(alloc, "[Gen 1] OU")?;
-    Ok(Names {
+fn names(rt: &impl Abort, alloc: Global) -> Names {
+    let players = [player(rt, alloc, "Ann"), player(rt, alloc, "Bob")];
+    let nicks = [
+        nicks(rt, alloc, &["Tauros", "Bull"]),
+        nicks(rt, alloc, &["Snorlax"]),
+    ];
+    Names {
         players,
         nicks,
-        format,
-    })
+        format: text_of(rt, alloc, "[Gen 1] OU"),
+    }
 }
 
 /// What an event shows a role: its line, or `nothing`.
@@ -84,17 +69,10 @@ fn shown(alloc: Global, stage: &Stage, role: Role, event: &Event) -> Result<Text
 }
 
 /// An event shows a role that line.
-fn shows(
-    rt: &impl Abort,
-    alloc: Global,
-    stage: &Stage,
-    role: Role,
-    row: &Row,
-) -> Result<(), AllocError> {
+fn shows(rt: &impl Abort, alloc: Global, stage: &Stage, role: Role, row: &Row) {
     let (event, wanted) = row;
-    let line = shown(alloc, stage, role, event)?;
+    let line = shown(alloc, stage, role, event).expect(rt, "memory");
     assert_eq!(rt; line.as_str(), *wanted);
-    Ok(())
 }
 
 const SPECTATOR: Role = Role::Spectator { rank: 5 };
@@ -118,33 +96,25 @@ const PLAYER_2_AND_STAFF: Role = Role::Player {
     rank: 0,
 };
 
-const MEMBERS: [Role; 5] = [SPECTATOR, STAFF, PLAYER_1, PLAYER_2, PLAYER_2_AND_STAFF];
+const MEMBERS: &[Role] = &[SPECTATOR, STAFF, PLAYER_1, PLAYER_2, PLAYER_2_AND_STAFF];
 
-/// All members are shown that line, and who is outside nothing.
-fn shows_all(
-    rt: &impl Abort,
-    alloc: Global,
-    stage: &Stage,
-    event: Event,
-    wanted: &'static str,
-) -> Result<(), AllocError> {
-    shows(rt, alloc, stage, Role::Outside, &(event, "nothing"))?;
-    for role in MEMBERS {
-        shows(rt, alloc, stage, role, &(event, wanted))?;
+/// An event shows each role that line.
+fn shows_each(rt: &impl Abort, alloc: Global, stage: &Stage, roles: &[Role], row: &Row) {
+    for role in roles {
+        shows(rt, alloc, stage, *role, row);
     }
-    Ok(())
 }
 
-fn rows_hold(
-    rt: &impl Abort,
-    alloc: Global,
-    stage: &Stage,
-    rows: &[Row],
-) -> Result<(), AllocError> {
-    for (event, wanted) in rows {
-        shows_all(rt, alloc, stage, *event, *wanted)?;
+/// All members are shown that line, and who is outside nothing.
+fn shows_all(rt: &impl Abort, alloc: Global, stage: &Stage, row: &Row) {
+    shows(rt, alloc, stage, Role::Outside, &(row.0, "nothing"));
+    shows_each(rt, alloc, stage, MEMBERS, row);
+}
+
+fn rows_hold(rt: &impl Abort, alloc: Global, stage: &Stage, rows: &[Row]) {
+    for row in rows {
+        shows_all(rt, alloc, stage, row);
     }
-    Ok(())
 }
 
 /// The opening but for the switches.
@@ -317,24 +287,26 @@ const NAMED: &[Row] = &[
 
 const TABLES: [&[Row]; 5] = [OPENING, TURNS, MOVES, OTHERS, NAMED];
 
-fn new_stage(rt: &impl Abort, alloc: Global) -> Result<Stage, AllocError> {
-    let dex = Dex::read(alloc, ROW_DEX.as_bytes()).expect(rt, "a dex");
-    let names = names(alloc)?;
-    Ok(Stage { names, dex })
+fn new_stage(rt: &impl Abort, alloc: Global) -> Stage {
+    let dex = row_dex(rt, alloc);
+    Stage {
+        names: names(rt, alloc),
+        dex,
+    }
 }
 
 /// All members read the same line of what tells no health, and who is outside nothing.
 #[test]
 fn events_have_the_lines_of_the_table(rt: HostRuntime) -> Result<(), Fail> {
-    let stage = new_stage(&rt, rt.alloc())?;
+    let stage = new_stage(&rt, rt.alloc());
     for rows in TABLES {
-        rows_hold(&rt, rt.alloc(), &stage, rows)?;
+        rows_hold(&rt, rt.alloc(), &stage, rows);
     }
     Ok(())
 }
 
 /// The kinds of events that say a number by a word.
-#[derive(Clone, Copy, Debug, PartialEq, Eq)]
+#[derive(Clone, Copy)]
 enum Kind {
     Rule,
     Cant,
@@ -475,24 +447,17 @@ const NUMBERS: [(Kind, &[NumberRow]); 9] = [
     (Kind::Activate, ACTIVATIONS),
 ];
 
-fn numbers_hold(
-    rt: &impl Abort,
-    alloc: Global,
-    stage: &Stage,
-    kind: Kind,
-    rows: &[NumberRow],
-) -> Result<(), AllocError> {
+fn numbers_hold(rt: &impl Abort, alloc: Global, stage: &Stage, kind: Kind, rows: &[NumberRow]) {
     for (number, wanted) in rows {
-        shows_all(rt, alloc, stage, numbered(kind, *number), *wanted)?;
+        shows_all(rt, alloc, stage, &(numbered(kind, *number), *wanted));
     }
-    Ok(())
 }
 
 #[test]
 fn numbers_are_told_by_their_words(rt: HostRuntime) -> Result<(), Fail> {
-    let stage = new_stage(&rt, rt.alloc())?;
+    let stage = new_stage(&rt, rt.alloc());
     for (kind, rows) in NUMBERS {
-        numbers_hold(&rt, rt.alloc(), &stage, kind, rows)?;
+        numbers_hold(&rt, rt.alloc(), &stage, kind, rows);
     }
     Ok(())
 }
@@ -506,13 +471,11 @@ fn splits(
     event: Event,
     exact: &'static str,
     public: &'static str,
-) -> Result<(), AllocError> {
-    shows(rt, alloc, stage, Role::Outside, &(event, "nothing"))?;
-    shows(rt, alloc, stage, PLAYER_1, &(event, exact))?;
-    for role in [SPECTATOR, STAFF, PLAYER_2, PLAYER_2_AND_STAFF] {
-        shows(rt, alloc, stage, role, &(event, public))?;
-    }
-    Ok(())
+) {
+    shows(rt, alloc, stage, Role::Outside, &(event, "nothing"));
+    shows(rt, alloc, stage, PLAYER_1, &(event, exact));
+    let others = [SPECTATOR, STAFF, PLAYER_2, PLAYER_2_AND_STAFF];
+    shows_each(rt, alloc, stage, &others, &(event, public));
 }
 
 /// A loss of health that leaves 331 of 353, by what has that number.
@@ -570,9 +533,9 @@ const LOSSES: &[SplitRow] = &[
 
 #[test]
 fn losses_name_what_they_are_from(rt: HostRuntime) -> Result<(), Fail> {
-    let stage = new_stage(&rt, rt.alloc())?;
+    let stage = new_stage(&rt, rt.alloc());
     for (from, exact, public) in LOSSES {
-        splits(&rt, rt.alloc(), &stage, hurt(*from), *exact, *public)?;
+        splits(&rt, rt.alloc(), &stage, hurt(*from), *exact, *public);
     }
     Ok(())
 }
@@ -613,9 +576,9 @@ const SWITCHES: &[SplitRow] = &[
 
 #[test]
 fn switches_tell_species_and_level(rt: HostRuntime) -> Result<(), Fail> {
-    let stage = new_stage(&rt, rt.alloc())?;
+    let stage = new_stage(&rt, rt.alloc());
     for (level, exact, public) in SWITCHES {
-        splits(&rt, rt.alloc(), &stage, comes_in(*level), *exact, *public)?;
+        splits(&rt, rt.alloc(), &stage, comes_in(*level), *exact, *public);
     }
     Ok(())
 }
@@ -685,28 +648,21 @@ fn heals(hp: u16, max: u16, status: u8) -> Event {
     Event::Heal { who: BOB, health }
 }
 
-fn health_holds(
-    rt: &impl Abort,
-    alloc: Global,
-    stage: &Stage,
-    row: &HealthRow,
-) -> Result<(), AllocError> {
+/// What is split is read exactly by the player of its side, of whatever rank, and by nobody else.
+fn health_holds(rt: &impl Abort, alloc: Global, stage: &Stage, row: &HealthRow) {
     let (hp, max, status, exact, public) = row;
     let event = heals(*hp, *max, *status);
-    shows(rt, alloc, stage, PLAYER_2, &(event, *exact))?;
-    shows(rt, alloc, stage, PLAYER_2_AND_STAFF, &(event, *exact))?;
-    for role in [SPECTATOR, STAFF, PLAYER_1] {
-        shows(rt, alloc, stage, role, &(event, *public))?;
-    }
-    Ok(())
+    let own = [PLAYER_2, PLAYER_2_AND_STAFF];
+    shows_each(rt, alloc, stage, &own, &(event, *exact));
+    let others = [SPECTATOR, STAFF, PLAYER_1];
+    shows_each(rt, alloc, stage, &others, &(event, *public));
 }
 
-/// What is split is read exactly by the player of its side, of whatever rank, and by nobody else.
 #[test]
 fn health_is_read_exactly_by_its_side(rt: HostRuntime) -> Result<(), Fail> {
-    let stage = new_stage(&rt, rt.alloc())?;
+    let stage = new_stage(&rt, rt.alloc());
     for row in HEALTHS {
-        health_holds(&rt, rt.alloc(), &stage, row)?;
+        health_holds(&rt, rt.alloc(), &stage, row);
     }
     Ok(())
 }
