@@ -1,5 +1,5 @@
 //! Configurations: the first faults of faulty ones, what good ones say, and the seeds of battles.
-use ps_base::id::to_id;
+use crate::made;
 use ps_dex::dex::Dex;
 use ps_group::group::Perm;
 use ps_rules::formats::resolve;
@@ -8,7 +8,6 @@ use ps_valid::fault::ConfigFault;
 use ps_valid::seed::seed_of;
 use std::alloc::{AllocError, Global};
 use std::process::Abort;
-use std::test::Fail;
 
 /// Configurations, and what is told of each.
 type Rows = &'static [(&'static str, &'static str)];
@@ -154,66 +153,66 @@ const SEEDS: &[(&str, u32, u64)] = &[
     ),
 ];
 
-/// What the lists of a configuration hold, and who is staff.
-fn lists(alloc: Global, config: &Config) -> Result<String, AllocError> {
+/// What the lists of a configuration hold, who is staff, and what battles and log-ins draw from.
+fn summary(alloc: Global, config: &Config) -> Result<String, AllocError> {
     let groups = config.groups().count();
     let staff = config.staff();
     let rooms = config.rooms().len();
     let users = config.users().len();
     let formats = config.formats().list().len();
-    format!(in alloc; "{groups} {staff} {rooms} {users} {formats}")
-}
-
-/// What battles and log-ins draw from.
-fn draws(alloc: Global, config: &Config) -> Result<String, AllocError> {
     let nonce = config.nonce();
     let seed = config.seed();
     let seeds = config.seeds().len();
-    format!(in alloc; "{nonce} {seed} {seeds}")
+    format!(in alloc; "{groups} {staff} {rooms} {users} {formats} {nonce} {seed} {seeds}")
 }
 
-fn summary(alloc: Global, config: &Config) -> Result<String, AllocError> {
-    let lists = lists(alloc, config)?;
-    let draws = draws(alloc, config)?;
-    format!(in alloc; "{lists} {draws}")
+fn fault_told(alloc: Global, fault: &ConfigFault) -> Result<String, AllocError> {
+    match fault {
+        ConfigFault::Fault { path, kind } => format!(in alloc; "{path} {kind:?}"),
+        ConfigFault::NoMemory => Err(AllocError),
+    }
+}
+
+fn read(alloc: Global, dex: &Dex, text: &str) -> Result<Config, ConfigFault> {
+    Config::read(alloc, text.as_bytes(), dex)
 }
 
 fn told(alloc: Global, dex: &Dex, text: &str) -> Result<String, AllocError> {
-    match Config::read(alloc, text.as_bytes(), dex) {
+    match read(alloc, dex, text) {
         Ok(config) => summary(alloc, &config),
-        Err(ConfigFault::Fault { path, kind }) => format!(in alloc; "{path} {kind:?}"),
-        Err(ConfigFault::NoMemory) => Err(AllocError),
+        Err(fault) => fault_told(alloc, &fault),
     }
 }
 
-fn told_rows(rt: &impl Abort, alloc: Global, dex: &Dex, rows: Rows) -> Result<(), Fail> {
+fn told_rows(rt: &impl Abort, alloc: Global, dex: &Dex, rows: Rows) {
     for (text, wanted) in rows {
-        let told = told(alloc, dex, text)?;
-        assert_eq!(rt; told.as_str(), *wanted);
+        made::assert_told(rt, told(alloc, dex, text), wanted);
     }
-    Ok(())
 }
 
 #[test]
-fn configurations(rt: HostRuntime) -> Result<(), Fail> {
-    let alloc = rt.alloc();
-    let dex = Dex::empty(alloc);
-    told_rows(&rt, alloc, &dex, FILES)?;
-    told_rows(&rt, alloc, &dex, ROOMS)?;
-    told_rows(&rt, alloc, &dex, USERS)?;
-    told_rows(&rt, alloc, &dex, LATER_KEYS)?;
-    told_rows(&rt, alloc, &dex, GOOD)
+fn configurations(rt: HostRuntime) {
+    let dex = Dex::empty(rt.alloc());
+    for rows in &[FILES, ROOMS, USERS, LATER_KEYS, GOOD] {
+        told_rows(&rt, rt.alloc(), &dex, rows);
+    }
+}
+
+fn seed(rt: &impl Abort, alloc: Global, dex: &Dex, text: &str, number: u32) -> u64 {
+    let config = made::config(rt, alloc, dex, text);
+    seed_of(&config, number)
+}
+
+fn told_seeds(rt: &impl Abort, alloc: Global, dex: &Dex) {
+    for (text, number, wanted) in SEEDS {
+        assert_eq!(rt; seed(rt, alloc, dex, text, *number), *wanted);
+    }
 }
 
 #[test]
-fn seeds_of_battles(rt: HostRuntime) -> Result<(), Fail> {
-    let alloc = rt.alloc();
-    let dex = Dex::empty(alloc);
-    for (text, number, seed) in SEEDS {
-        let config = Config::read(alloc, text.as_bytes(), &dex).expect(&rt, "a configuration");
-        assert_eq!(rt; seed_of(&config, *number), *seed);
-    }
-    Ok(())
+fn seeds_of_battles(rt: HostRuntime) {
+    let dex = Dex::empty(rt.alloc());
+    told_seeds(&rt, rt.alloc(), &dex);
 }
 
 fn standard(rt: &impl Abort, alloc: Global) -> Config {
@@ -238,22 +237,19 @@ fn rooms_of(alloc: Global, config: &Config) -> Result<String, AllocError> {
 }
 
 fn has_format(rt: &impl Abort, alloc: Global, config: &Config, name: &str) -> bool {
-    let id = to_id(alloc, name).expect(rt, "memory");
+    let id = made::id(rt, alloc, name);
     resolve(alloc, config.formats(), &id).is_ok()
 }
 
-fn standard_holds(rt: &impl Abort, alloc: Global, config: &Config) -> Result<(), Fail> {
-    let told = summary(alloc, config)?;
-    assert_eq!(rt; told.as_str(), "6 3 1 0 0 0 0 0");
-    let rooms = rooms_of(alloc, config)?;
-    assert_eq!(rt; rooms.as_str(), "lobby Lobby");
+fn standard_holds(rt: &impl Abort, alloc: Global, config: &Config) {
+    made::assert_told(rt, summary(alloc, config), "6 3 1 0 0 0 0 0");
+    made::assert_told(rt, rooms_of(alloc, config), "lobby Lobby");
     assert!(rt; staff_can_note(config));
     assert!(rt; has_format(rt, alloc, config, "Species Clause"));
-    Ok(())
 }
 
 #[test]
-fn without_a_file(rt: HostRuntime) -> Result<(), Fail> {
+fn without_a_file(rt: HostRuntime) {
     let config = standard(&rt, rt.alloc());
-    standard_holds(&rt, rt.alloc(), &config)
+    standard_holds(&rt, rt.alloc(), &config);
 }

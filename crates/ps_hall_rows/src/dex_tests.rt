@@ -1,5 +1,5 @@
 //! What no clause says: that the definitions mean the dex that a file writes.
-use ps_base::id::to_id;
+use crate::made;
 use ps_data::fault::DataKind;
 use ps_dex::dex::Dex;
 use ps_dex::fault::DexFault;
@@ -8,7 +8,6 @@ use ps_mon::facts::{MoveData, STRUGGLE};
 use ps_mon::status::Status;
 use std::alloc::Global;
 use std::process::Abort;
-use std::test::Fail;
 
 /// Texts between a front and an end that make a dex file, with the path and the kind of their first faults.
 type Faults = &'static [(&'static str, &'static str, DataKind)];
@@ -338,50 +337,79 @@ const TWO_TYPES: &str =
 const ONE_MOVE: &str =
     r#","moves":[{"name":"Tackle","type":"normal","power":35,"accuracy":95,"pp":56,"priority":0"#;
 
-/// The path and the kind of the first fault.
-fn first_fault(alloc: Global, file: &str) -> Result<(String, Option<DataKind>), Fail> {
+fn fault_of(alloc: Global, file: &str) -> Option<DexFault> {
     match Dex::read(alloc, file.as_bytes()) {
-        Ok(_) => Ok((String::from_str(alloc, "none")?, None)),
-        Err(DexFault::NoMemory) => Ok((String::from_str(alloc, "no memory")?, None)),
-        Err(DexFault::Fault { path, kind }) => {
-            Ok((String::from_str(alloc, path.as_str())?, Some(kind)))
-        }
+        Ok(_) => None,
+        Err(fault) => Some(fault),
     }
 }
 
-fn tell_first_faults<'a>(
+fn path_of(fault: &DexFault) -> &str {
+    match fault {
+        DexFault::Fault { path, .. } => path.as_str(),
+        DexFault::NoMemory => "no memory",
+    }
+}
+
+fn kind_of(fault: &DexFault) -> Option<DataKind> {
+    match fault {
+        DexFault::Fault { kind, .. } => Some(*kind),
+        DexFault::NoMemory => None,
+    }
+}
+
+/// The first fault of the file that these texts make.
+fn first_fault(rt: &impl Abort, alloc: Global, front: &str, text: &str, end: &str) -> DexFault {
+    let file = made::joined(rt, alloc, front, text, end);
+    fault_of(alloc, file.as_str()).expect(rt, "a fault")
+}
+
+fn assert_fault(rt: &impl Abort, fault: &DexFault, path: &str, kind: DataKind) {
+    assert_eq!(rt; path_of(fault), path);
+    assert_eq!(rt; kind_of(fault), Some(kind));
+}
+
+fn assert_first_fault(
     rt: &impl Abort,
     alloc: Global,
-    front: &'a str,
-    faults: Faults,
-    end: &'a str,
-) -> Result<(), Fail> {
+    file: (&str, &str, &str),
+    path: &str,
+    kind: DataKind,
+) {
+    let (front, text, end) = file;
+    let fault = first_fault(rt, alloc, front, text, end);
+    assert_fault(rt, &fault, path, kind);
+}
+
+fn tell_first_faults(rt: &impl Abort, alloc: Global, front: &str, faults: Faults, end: &str) {
     for (text, path, kind) in faults {
-        let mut file = String::from_str(alloc, front)?;
-        file.push_str(text)?;
-        file.push_str(end)?;
-        let (told_path, told_kind) = first_fault(alloc, file.as_str())?;
-        assert_eq!(rt; told_path.as_str(), *path);
-        assert_eq!(rt; told_kind, Some(*kind));
+        assert_first_fault(rt, alloc, (front, text, end), path, *kind);
     }
-    Ok(())
+}
+
+/// The same of texts behind two types, this move and this key.
+fn tell_behind_types(
+    rt: &impl Abort,
+    alloc: Global,
+    front: (&str, &str),
+    faults: Faults,
+    end: &str,
+) {
+    let (mv, key) = front;
+    let front = made::joined(rt, alloc, TWO_TYPES, mv, key);
+    tell_first_faults(rt, alloc, front.as_str(), faults, end);
 }
 
 #[test]
-fn first_faults(rt: HostRuntime) -> Result<(), Fail> {
+fn first_faults(rt: HostRuntime) {
     let alloc = rt.alloc();
-    tell_first_faults(&rt, alloc, "", FILES, "")?;
-    tell_first_faults(&rt, alloc, r#"{"types":["#, TYPES, "]}")?;
-    let front = format!(in alloc; r#"{TWO_TYPES},"factors":["#)?;
-    tell_first_faults(&rt, alloc, front.as_str(), FACTORS, "]}")?;
-    let front = format!(in alloc; r#"{TWO_TYPES},"moves":["#)?;
-    tell_first_faults(&rt, alloc, front.as_str(), MOVES, "]}")?;
-    let front = format!(in alloc; r#"{TWO_TYPES}{ONE_MOVE},"effect":"#)?;
-    tell_first_faults(&rt, alloc, front.as_str(), EFFECTS, "}]}")?;
-    let front = format!(in alloc; r#"{TWO_TYPES}{ONE_MOVE}}}],"species":["#)?;
-    tell_first_faults(&rt, alloc, front.as_str(), SPECIES, "]}")?;
-    let front = format!(in alloc; r#"{TWO_TYPES}{ONE_MOVE}}}],"aliases":{{"#)?;
-    tell_first_faults(&rt, alloc, front.as_str(), ALIASES, "}}")
+    tell_first_faults(&rt, alloc, "", FILES, "");
+    tell_first_faults(&rt, alloc, r#"{"types":["#, TYPES, "]}");
+    tell_behind_types(&rt, alloc, ("", r#","factors":["#), FACTORS, "]}");
+    tell_behind_types(&rt, alloc, ("", r#","moves":["#), MOVES, "]}");
+    tell_behind_types(&rt, alloc, (ONE_MOVE, r#","effect":"#), EFFECTS, "}]}");
+    tell_behind_types(&rt, alloc, (ONE_MOVE, r#"}],"species":["#), SPECIES, "]}");
+    tell_behind_types(&rt, alloc, (ONE_MOVE, r#"}],"aliases":{"#), ALIASES, "}}");
 }
 
 /// Effects as a file writes them.
@@ -485,16 +513,28 @@ fn only_effect(alloc: Global, file: &str) -> Option<Effect> {
     }
 }
 
-fn read_effects(rt: &impl Abort, alloc: Global, effects: Effects) -> Result<(), Fail> {
+/// The effect of the only move of the file that is this text between a front and an end.
+fn effect_read(rt: &impl Abort, alloc: Global, front: &str, text: &str) -> Option<Effect> {
+    let file = made::joined(rt, alloc, front, text, "}}]}");
+    only_effect(alloc, file.as_str())
+}
+
+fn tell_effects(rt: &impl Abort, alloc: Global, front: &str, effects: Effects) {
     for (text, effect) in effects {
-        let mut file = String::from_str(alloc, TWO_TYPES)?;
-        file.push_str(ONE_MOVE)?;
-        file.push_str(r#","effect":{"kind":""#)?;
-        file.push_str(text)?;
-        file.push_str("}}]}")?;
-        assert_eq!(rt; only_effect(alloc, file.as_str()), Some(*effect));
+        assert_eq!(rt; effect_read(rt, alloc, front, text), Some(*effect));
     }
-    Ok(())
+}
+
+fn read_effects(rt: &impl Abort, alloc: Global, effects: Effects) {
+    let front = made::joined(rt, alloc, TWO_TYPES, ONE_MOVE, r#","effect":{"kind":""#);
+    tell_effects(rt, alloc, front.as_str(), effects);
+}
+
+#[test]
+fn effects(rt: HostRuntime) {
+    read_effects(&rt, rt.alloc(), STRIKES);
+    read_effects(&rt, rt.alloc(), OTHERS);
+    read_effects(&rt, rt.alloc(), COPIES);
 }
 
 /// A dex with two aliases that count and two that don't.
@@ -524,13 +564,18 @@ const NUMBERS: [(&str, Option<u16>, Option<u16>); 7] = [
     ("", None, None),
 ];
 
-fn look_up(rt: &impl Abort, alloc: Global, dex: &Dex) -> Result<(), Fail> {
+/// The numbers of the species and of the move that an id names.
+fn numbers_of(rt: &impl Abort, alloc: Global, dex: &Dex, text: &str) -> (Option<u16>, Option<u16>) {
+    let id = made::id(rt, alloc, text);
+    (dex.species(&id), dex.move_of(&id))
+}
+
+fn look_up(rt: &impl Abort, alloc: Global, dex: &Dex) {
     for (text, species, mv) in &NUMBERS {
-        let id = to_id(alloc, text)?;
-        assert_eq!(rt; dex.species(&id), *species);
-        assert_eq!(rt; dex.move_of(&id), *mv);
+        let (told_species, told_move) = numbers_of(rt, alloc, dex, text);
+        assert_eq!(rt; told_species, *species);
+        assert_eq!(rt; told_move, *mv);
     }
-    Ok(())
 }
 
 /// Pairs of a species and a move, and whether it learns the move.
@@ -587,16 +632,19 @@ fn look_at_facts(rt: &impl Abort, dex: &Dex) {
 }
 
 #[test]
-fn a_small_dex(rt: HostRuntime) -> Result<(), Fail> {
-    let alloc = rt.alloc();
-    read_effects(&rt, alloc, STRIKES)?;
-    read_effects(&rt, alloc, OTHERS)?;
-    read_effects(&rt, alloc, COPIES)?;
-    let dex = Dex::read(alloc, SMALL.as_bytes()).expect(&rt, "a dex");
-    look_up(&rt, alloc, &dex)?;
+fn a_small_dex(rt: HostRuntime) {
+    let dex = made::dex(&rt, rt.alloc(), SMALL);
+    look_up(&rt, rt.alloc(), &dex);
     look_at_rows(&rt, &dex);
     look_at_facts(&rt, &dex);
-    let none = Dex::empty(alloc);
-    assert!(rt; none.facts().moves.is_empty() && none.factor(0, 0) == 10);
-    Ok(())
+}
+
+fn look_at_no_facts(rt: &impl Abort, dex: &Dex) {
+    assert!(rt; dex.facts().moves.is_empty() && dex.factor(0, 0) == 10);
+}
+
+#[test]
+fn an_empty_dex(rt: HostRuntime) {
+    let none = Dex::empty(rt.alloc());
+    look_at_no_facts(&rt, &none);
 }

@@ -1,15 +1,17 @@
 //! The hall: what each command tells, and what it starts.
+use crate::made;
 use ps_base::number::{ConnNo, Moment};
+use ps_base::text::Text;
 use ps_dex::dex::Dex;
 use ps_hall::cursor::Cursor;
 use ps_hall::entry::HallEntry;
 use ps_hall::hall::Hall;
 use ps_hall::notice::Notice;
 use ps_hall::outcome::HallOut;
-use ps_lines::command::{HallCmd, Parsed};
-use ps_lines::read::read_command;
+use ps_lines::command::HallCmd;
 use ps_roster::id_map::IdMap;
 use ps_valid::config::Config;
+use ps_valid::start::Start;
 use std::alloc::{AllocError, Global};
 use std::process::Abort;
 use std::sync::Arc;
@@ -135,72 +137,104 @@ fn report(winner: Option<u8>) -> HallCmd {
 
 fn command_of(rt: &impl Abort, alloc: Global, text: &str) -> HallCmd {
     match text {
-        "+" => HallCmd::Open,
-        "-" => HallCmd::Quit,
         "=0" => report(Some(0)),
         "=1" => report(Some(1)),
         "=2" => report(None),
-        _ => match read_command(alloc, text).expect(rt, "a command") {
-            Parsed::Hall(cmd) => cmd,
-            Parsed::Room(_) => HallCmd::Open,
-        },
+        _ => made::command(rt, alloc, text),
     }
 }
 
-fn push_notice(out: &mut String, notice: &Notice) -> Result<(), AllocError> {
-    let front = if out.as_str().is_empty() { "" } else { " " };
-    let conn = notice.conn;
-    out.push_str(front)?;
-    write!(out, "{conn}<")?;
+fn push_lines(out: &mut String, lines: &[Text]) -> Result<(), AllocError> {
     let mut between = " ";
-    for line in notice.lines.as_slice() {
+    for line in lines {
         write!(out, "{between}{line}")?;
         between = " . ";
     }
     Ok(())
 }
 
-fn push_start(out: &mut String, done: &HallOut) -> Result<(), AllocError> {
-    match &done.start {
+fn push_notice(out: &mut String, notice: &Notice) -> Result<(), AllocError> {
+    let front = if out.as_str().is_empty() { "" } else { " " };
+    let conn = notice.conn;
+    write!(out, "{front}{conn}<")?;
+    push_lines(out, notice.lines.as_slice())
+}
+
+fn push_start(out: &mut String, start: &Start) -> Result<(), AllocError> {
+    let [one, two] = &start.players;
+    write!(
+        out,
+        " start {} {} {one} {two} {}",
+        start.number, start.format, start.seed
+    )
+}
+
+fn push_if_started(out: &mut String, start: &Option<Start>) -> Result<(), AllocError> {
+    match start {
         None => Ok(()),
-        Some(start) => {
-            let [one, two] = &start.players;
-            write!(
-                out,
-                " start {} {} {one} {two} {}",
-                start.number, start.format, start.seed
-            )
-        }
+        Some(start) => push_start(out, start),
     }
 }
 
-fn answer(rt: &impl Abort, alloc: Global, hall: &mut Hall, conn: u32, text: &str) -> String {
-    let entry = HallEntry {
+fn entry(rt: &impl Abort, alloc: Global, conn: u32, text: &str) -> HallEntry {
+    HallEntry {
         conn: ConnNo(conn),
         moment: Moment(0),
         cmd: command_of(rt, alloc, text),
-    };
-    let done = hall.apply(alloc, &entry).expect(rt, "memory");
-    let mut out = String::new(alloc);
-    for notice in hall.told() {
-        push_notice(&mut out, notice).expect(rt, "memory");
     }
-    push_start(&mut out, &done).expect(rt, "memory");
-    out
+}
+
+/// Applies what a connection does.
+fn enter(rt: &impl Abort, alloc: Global, hall: &mut Hall, conn: u32, text: &str) -> HallOut {
+    let entry = entry(rt, alloc, conn, text);
+    hall.apply(alloc, &entry).expect(rt, "memory")
+}
+
+/// Puts down what the last entry told and started.
+fn push_told(out: &mut String, hall: &Hall, done: &HallOut) -> Result<(), AllocError> {
+    for notice in hall.told() {
+        push_notice(out, notice)?;
+    }
+    push_if_started(out, &done.start)
+}
+
+fn told(alloc: Global, hall: &Hall, done: &HallOut) -> Result<String, AllocError> {
+    let mut out = String::new(alloc);
+    push_told(&mut out, hall, done)?;
+    Ok(out)
+}
+
+fn answer(
+    rt: &impl Abort,
+    alloc: Global,
+    hall: &mut Hall,
+    conn: u32,
+    text: &str,
+) -> Result<String, AllocError> {
+    let done = enter(rt, alloc, hall, conn, text);
+    told(alloc, hall, &done)
+}
+
+fn shared_config(rt: &impl Abort, alloc: Global, dex: &Dex) -> Arc<Config> {
+    let config = made::config(rt, alloc, dex, CONFIG);
+    Arc::new(alloc, config).expect(rt, "memory")
+}
+
+fn opened(rt: &impl Abort, alloc: Global, config: Arc<Config>, dex: Dex) -> Hall {
+    let dex = Arc::new(alloc, dex).expect(rt, "memory");
+    Hall::new(alloc, config, dex, IdMap::new(alloc)).expect(rt, "memory")
 }
 
 fn hall(rt: &impl Abort, alloc: Global) -> Hall {
-    let dex = Dex::read(alloc, DEX.as_bytes()).expect(rt, "a dex");
-    let config = Config::read(alloc, CONFIG.as_bytes(), &dex).expect(rt, "a configuration");
-    let config = Arc::new(alloc, config).expect(rt, "memory");
-    let dex = Arc::new(alloc, dex).expect(rt, "memory");
-    Hall::new(alloc, config, dex, IdMap::new(alloc)).expect(rt, "memory")
+    let dex = made::dex(rt, alloc, DEX);
+    let config = shared_config(rt, alloc, &dex);
+    opened(rt, alloc, config, dex)
 }
 
 fn play(rt: &impl Abort, alloc: Global, hall: &mut Hall, rows: Rows) {
     for (conn, text, wanted) in rows {
         let told = answer(rt, alloc, hall, *conn, text);
-        assert_eq!(rt; told.as_str(), *wanted);
+        made::assert_told(rt, told, wanted);
     }
 }
 
@@ -232,15 +266,24 @@ fn count_pulled(rt: &impl Abort, alloc: Global, hall: &Hall, cursor: &mut Cursor
     pulled.len()
 }
 
+/// Two looks of a connection, one after the other.
+fn count_looks(rt: &impl Abort, alloc: Global, hall: &Hall, conn: ConnNo) -> (usize, usize) {
+    let mut cursor = Cursor::new(conn);
+    let first = count_pulled(rt, alloc, hall, &mut cursor);
+    let second = count_pulled(rt, alloc, hall, &mut cursor);
+    (first, second)
+}
+
 /// A connection that looks late is given its messages alone, and then nothing.
+fn assert_late_look(rt: &impl Abort, alloc: Global, hall: &Hall) {
+    let (first, second) = count_looks(rt, alloc, hall, ConnNo(2));
+    assert_eq!(rt; first, 3);
+    assert_eq!(rt; second, 0);
+}
+
 #[test]
 fn a_late_look(rt: HostRuntime) {
-    let alloc = rt.alloc();
-    let mut hall = hall(&rt, alloc);
-    play(&rt, alloc, &mut hall, NAMED);
-    let mut cursor = Cursor::new(ConnNo(2));
-    let first = count_pulled(&rt, alloc, &hall, &mut cursor);
-    assert_eq!(rt; first, 3);
-    let second = count_pulled(&rt, alloc, &hall, &mut cursor);
-    assert_eq!(rt; second, 0);
+    let mut hall = hall(&rt, rt.alloc());
+    play(&rt, rt.alloc(), &mut hall, NAMED);
+    assert_late_look(&rt, rt.alloc(), &hall);
 }

@@ -1,10 +1,11 @@
 //! Ratings and searches.
-use ps_base::id::{Id, to_id};
+use crate::made;
+use ps_base::id::Id;
+use ps_ladder::gain::gain_of;
 use ps_ladder::ladder::Ladder;
 use ps_ladder::searches::{AddFault, Found, Searches};
 use std::alloc::{AllocError, Global};
 use std::process::Abort;
-use std::test::Fail;
 
 /// Who wins against whom, in order, and the new ratings of both.
 const RESULTS: &[(&str, &str, (i32, i32))] = &[
@@ -24,34 +25,59 @@ const SEARCHES: &[(&str, &str, i32, &str)] = &[
     ("ann", "ou", 1000, "waits"),
 ];
 
-fn id(rt: &impl Abort, alloc: Global, text: &str) -> Id {
-    to_id(alloc, text).expect(rt, "memory")
+/// The new ratings of both, and the winner's as the ladder tells it then.
+fn settle(
+    rt: &impl Abort,
+    alloc: Global,
+    ladder: &mut Ladder,
+    winner: &Id,
+    loser: &Id,
+) -> Option<((i32, i32), i32)> {
+    if ladder.count() < 10 && winner.as_str() != loser.as_str() {
+        let new = ladder.settle(alloc, winner, loser).expect(rt, "memory");
+        return Some((new, ladder.rating(winner)));
+    }
+    None
+}
+
+fn settle_named(
+    rt: &impl Abort,
+    alloc: Global,
+    ladder: &mut Ladder,
+    winner: &str,
+    loser: &str,
+) -> Option<((i32, i32), i32)> {
+    let winner = made::id(rt, alloc, winner);
+    let loser = made::id(rt, alloc, loser);
+    settle(rt, alloc, ladder, &winner, &loser)
+}
+
+fn settle_all(rt: &impl Abort, alloc: Global, ladder: &mut Ladder) {
+    for (winner, loser, wanted) in RESULTS {
+        let told = settle_named(rt, alloc, ladder, winner, loser);
+        assert_eq!(rt; told, Some((*wanted, wanted.0)));
+    }
+}
+
+fn assert_count(rt: &impl Abort, ladder: &Ladder, wanted: u32) {
+    assert_eq!(rt; ladder.count(), wanted);
 }
 
 #[test]
-fn results(rt: HostRuntime) -> Result<(), Fail> {
-    let alloc = rt.alloc();
-    let mut ladder = Ladder::new(alloc);
-    for (winner, loser, wanted) in RESULTS {
-        let winner = id(&rt, alloc, winner);
-        let loser = id(&rt, alloc, loser);
-        if ladder.count() < 10 && winner.as_str() != loser.as_str() {
-            let new = ladder.settle(alloc, &winner, &loser).expect(&rt, "memory");
-            assert_eq!(rt; new, *wanted);
-            assert_eq!(rt; ladder.rating(&winner), wanted.0);
-        }
-    }
-    assert_eq!(rt; ladder.count(), 3);
-    Ok(())
+fn results(rt: HostRuntime) {
+    let mut ladder = Ladder::new(rt.alloc());
+    settle_all(&rt, rt.alloc(), &mut ladder);
+    assert_count(&rt, &ladder, 3);
 }
 
 /// A rating far above, one far below, and what it gains.
+const GAINS: &[(i32, i32, i32)] = &[(1400, 1000, 2), (1000, 1400, 29), (-50, -50, 16)];
+
 #[test]
-fn unequal_results(rt: HostRuntime) -> Result<(), Fail> {
-    assert_eq!(rt; ps_ladder::gain::gain_of(1400, 1000), 2);
-    assert_eq!(rt; ps_ladder::gain::gain_of(1000, 1400), 29);
-    assert_eq!(rt; ps_ladder::gain::gain_of(-50, -50), 16);
-    Ok(())
+fn unequal_results(rt: HostRuntime) {
+    for (winner, loser, gain) in GAINS {
+        assert_eq!(rt; gain_of(*winner, *loser), *gain);
+    }
 }
 
 fn learned(alloc: Global, found: Result<Found, AddFault>) -> Result<String, AllocError> {
@@ -63,20 +89,42 @@ fn learned(alloc: Global, found: Result<Found, AddFault>) -> Result<String, Allo
     }
 }
 
-#[test]
-fn searches(rt: HostRuntime) -> Result<(), Fail> {
-    let alloc = rt.alloc();
-    let mut searches = Searches::new(alloc);
+/// What a user learns that begins to search.
+fn search(
+    rt: &impl Abort,
+    alloc: Global,
+    searches: &mut Searches,
+    names: (&str, &str),
+    rating: i32,
+) -> Result<Found, AddFault> {
+    let (user, format) = names;
+    let user = made::id(rt, alloc, user);
+    let format = made::id(rt, alloc, format);
+    searches.add(alloc, &user, &format, rating)
+}
+
+fn cancel(rt: &impl Abort, alloc: Global, searches: &mut Searches, user: &str) -> bool {
+    let user = made::id(rt, alloc, user);
+    searches.cancel(&user)
+}
+
+fn search_all(rt: &impl Abort, alloc: Global, searches: &mut Searches) {
     for (user, format, rating, wanted) in SEARCHES {
-        let user = id(&rt, alloc, user);
-        let format = id(&rt, alloc, format);
-        let found = searches.add(alloc, &user, &format, *rating);
-        let told = learned(alloc, found).expect(&rt, "memory");
-        assert_eq!(rt; told.as_str(), *wanted);
+        let found = search(rt, alloc, searches, (user, format), *rating);
+        made::assert_told(rt, learned(alloc, found), wanted);
     }
-    let cy = id(&rt, alloc, "cy");
-    assert!(rt; searches.cancel(&cy));
-    assert!(rt; !searches.cancel(&cy));
+}
+
+/// Who searches can cancel it once, and the others go on.
+fn assert_cancels(rt: &impl Abort, alloc: Global, searches: &mut Searches) {
+    assert!(rt; cancel(rt, alloc, searches, "cy"));
+    assert!(rt; !cancel(rt, alloc, searches, "cy"));
     assert_eq!(rt; searches.list().len(), 1);
-    Ok(())
+}
+
+#[test]
+fn searches(rt: HostRuntime) {
+    let mut searches = Searches::new(rt.alloc());
+    search_all(&rt, rt.alloc(), &mut searches);
+    assert_cancels(&rt, rt.alloc(), &mut searches);
 }

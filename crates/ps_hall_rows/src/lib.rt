@@ -11,6 +11,8 @@ mod hall_tests;
 #[cfg(test)]
 mod ladder_tests;
 #[cfg(test)]
+mod made;
+#[cfg(test)]
 mod pms_tests;
 #[cfg(test)]
 mod rules_tests;

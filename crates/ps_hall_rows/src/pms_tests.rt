@@ -1,11 +1,11 @@
 //! Blocks and challenges.
-use ps_base::id::{Id, to_id};
-use ps_lines::command::{HallCmd, Parsed};
-use ps_lines::read::read_command;
+use crate::made;
+use ps_base::hall_why::HallWhy;
+use ps_base::id::Id;
+use ps_lines::command::HallCmd;
 use ps_pms::pms::Pms;
-use std::alloc::Global;
+use std::alloc::{AllocError, Global};
 use std::process::Abort;
-use std::test::Fail;
 
 /// Who does what (`-` closes), in order, and why it is refused, or how many challenges are open then.
 type Rows = &'static [(&'static str, &'static str, &'static str)];
@@ -32,36 +32,51 @@ const PAIRS: Rows = &[
     ("ann", "-", "0"),
 ];
 
-fn command_of(rt: &impl Abort, alloc: Global, text: &str) -> HallCmd {
-    if text == "-" {
-        return HallCmd::Quit;
+/// Why the command is refused; where it isn't, it is done.
+fn refusal(
+    rt: &impl Abort,
+    alloc: Global,
+    pms: &mut Pms,
+    actor: &Id,
+    cmd: &HallCmd,
+) -> Option<HallWhy> {
+    let refusal = pms.verdict(actor, cmd);
+    if refusal.is_none() {
+        pms.apply(alloc, actor, cmd).expect(rt, "memory");
     }
-    match read_command(alloc, text).expect(rt, "a command") {
-        Parsed::Hall(cmd) => cmd,
-        Parsed::Room(_) => HallCmd::Open,
+    refusal
+}
+
+/// Does what a user does.
+fn done(rt: &impl Abort, alloc: Global, pms: &mut Pms, actor: &str, text: &str) -> Option<HallWhy> {
+    let actor = made::id(rt, alloc, actor);
+    let cmd = made::command(rt, alloc, text);
+    refusal(rt, alloc, pms, &actor, &cmd)
+}
+
+fn told(alloc: Global, pms: &Pms, refusal: &Option<HallWhy>) -> Result<String, AllocError> {
+    match refusal {
+        Some(why) => String::from_str(alloc, why.name()),
+        None => format!(in alloc; "{}", pms.challenges().len()),
     }
 }
 
-fn answer(rt: &impl Abort, alloc: Global, pms: &mut Pms, actor: &Id, text: &str) -> String {
-    let cmd = command_of(rt, alloc, text);
-    match pms.verdict(actor, &cmd) {
-        Some(why) => String::from_str(alloc, why.name()).expect(rt, "memory"),
-        None => {
-            pms.apply(alloc, actor, &cmd).expect(rt, "memory");
-            let count = pms.challenges().len();
-            format!(in alloc; "{count}").expect(rt, "memory")
-        }
-    }
+fn answer(
+    rt: &impl Abort,
+    alloc: Global,
+    pms: &mut Pms,
+    actor: &str,
+    text: &str,
+) -> Result<String, AllocError> {
+    let refusal = done(rt, alloc, pms, actor, text);
+    told(alloc, pms, &refusal)
 }
 
 #[test]
-fn pairs(rt: HostRuntime) -> Result<(), Fail> {
-    let alloc = rt.alloc();
-    let mut pms = Pms::new(alloc);
+fn pairs(rt: HostRuntime) {
+    let mut pms = Pms::new(rt.alloc());
     for (actor, text, wanted) in PAIRS {
-        let actor = to_id(alloc, actor).expect(&rt, "memory");
-        let told = answer(&rt, alloc, &mut pms, &actor, text);
-        assert_eq!(rt; told.as_str(), *wanted);
+        let told = answer(&rt, rt.alloc(), &mut pms, actor, text);
+        made::assert_told(&rt, told, wanted);
     }
-    Ok(())
 }

@@ -1,12 +1,12 @@
 //! Rule lists and formats on small configurations.
-use ps_base::id::to_id;
+use crate::made;
 use ps_dex::dex::Dex;
 use ps_rules::fault::{FormatFault, RuleFault};
 use ps_rules::formats::{Formats, resolve};
+use ps_rules::row::RuleTable;
 use serde_json::Value;
 use std::alloc::{AllocError, Global};
 use std::process::Abort;
-use std::test::Fail;
 
 /// A configuration, an id to resolve, and the answer: the set of clauses, how many bans there are, the
 /// sizes, the levels and whether it is rated, or else the fault.
@@ -151,46 +151,87 @@ const FORMATS: Rows = &[
     ),
 ];
 
-fn resolved(alloc: Global, formats: &Formats, id: &str) -> Result<String, AllocError> {
-    let id = to_id(alloc, id)?;
-    match resolve(alloc, formats, &id) {
-        Ok(table) => {
-            let bans = table.bans.as_slice().len();
-            let levels = table.levels;
-            format!(in alloc;
-                "{} {} {} {} {} {} {}",
-                table.clauses, bans, table.min, table.max, levels[0], levels[1], table.rated
-            )
-        }
-        Err(RuleFault::UnknownRule { id }) => format!(in alloc; "UnknownRule {id}"),
-        Err(RuleFault::Cycle { id }) => format!(in alloc; "Cycle {id}"),
-        Err(RuleFault::Contradiction { id }) => format!(in alloc; "Contradiction {id}"),
-        Err(RuleFault::NoMemory) => Err(AllocError),
+fn table_told(alloc: Global, table: &RuleTable) -> Result<String, AllocError> {
+    let bans = table.bans.as_slice().len();
+    let [lowest, highest] = table.levels;
+    format!(in alloc;
+        "{} {bans} {} {} {lowest} {highest} {}",
+        table.clauses, table.min, table.max, table.rated
+    )
+}
+
+fn rule_fault_told(alloc: Global, fault: &RuleFault) -> Result<String, AllocError> {
+    match fault {
+        RuleFault::UnknownRule { id } => format!(in alloc; "UnknownRule {id}"),
+        RuleFault::Cycle { id } => format!(in alloc; "Cycle {id}"),
+        RuleFault::Contradiction { id } => format!(in alloc; "Contradiction {id}"),
+        RuleFault::NoMemory => Err(AllocError),
     }
 }
 
-fn answer(alloc: Global, dex: &Dex, value: &Value, id: &str) -> Result<String, AllocError> {
-    match Formats::from_value(alloc, value, dex) {
-        Ok(formats) => resolved(alloc, &formats, id),
-        Err(FormatFault::Fault { path, kind }) => format!(in alloc; "{path} {kind:?}"),
-        Err(FormatFault::NoMemory) => Err(AllocError),
+fn resolve_named(
+    rt: &impl Abort,
+    alloc: Global,
+    formats: &Formats,
+    id: &str,
+) -> Result<RuleTable, RuleFault> {
+    let id = made::id(rt, alloc, id);
+    resolve(alloc, formats, &id)
+}
+
+fn resolved(
+    rt: &impl Abort,
+    alloc: Global,
+    formats: &Formats,
+    id: &str,
+) -> Result<String, AllocError> {
+    match resolve_named(rt, alloc, formats, id) {
+        Ok(table) => table_told(alloc, &table),
+        Err(fault) => rule_fault_told(alloc, &fault),
     }
 }
 
-fn answer_rows(rt: &impl Abort, alloc: Global, dex: &Dex, rows: Rows) -> Result<(), Fail> {
+/// The formats of a configuration.
+fn read_formats(
+    rt: &impl Abort,
+    alloc: Global,
+    dex: &Dex,
+    text: &str,
+) -> Result<Formats, FormatFault> {
+    let value = Value::from_str(alloc, text).expect(rt, "a JSON text");
+    Formats::from_value(alloc, &value, dex)
+}
+
+fn format_fault_told(alloc: Global, fault: &FormatFault) -> Result<String, AllocError> {
+    match fault {
+        FormatFault::Fault { path, kind } => format!(in alloc; "{path} {kind:?}"),
+        FormatFault::NoMemory => Err(AllocError),
+    }
+}
+
+fn answer(
+    rt: &impl Abort,
+    alloc: Global,
+    dex: &Dex,
+    text: &str,
+    id: &str,
+) -> Result<String, AllocError> {
+    match read_formats(rt, alloc, dex, text) {
+        Ok(formats) => resolved(rt, alloc, &formats, id),
+        Err(fault) => format_fault_told(alloc, &fault),
+    }
+}
+
+fn answer_rows(rt: &impl Abort, alloc: Global, dex: &Dex, rows: Rows) {
     for (text, id, wanted) in rows {
-        let value = Value::from_str(alloc, text).expect(rt, "a JSON text");
-        let told = answer(alloc, dex, &value, id)?;
-        assert_eq!(rt; told.as_str(), *wanted);
+        made::assert_told(rt, answer(rt, alloc, dex, text, id), wanted);
     }
-    Ok(())
 }
 
 #[test]
-fn rules_and_formats(rt: HostRuntime) -> Result<(), Fail> {
-    let alloc = rt.alloc();
-    let dex = Dex::read(alloc, DEX.as_bytes()).expect(&rt, "a dex");
-    answer_rows(&rt, alloc, &dex, WALKS)?;
-    answer_rows(&rt, alloc, &dex, RULESETS)?;
-    answer_rows(&rt, alloc, &dex, FORMATS)
+fn rules_and_formats(rt: HostRuntime) {
+    let dex = made::dex(&rt, rt.alloc(), DEX);
+    for rows in &[WALKS, RULESETS, FORMATS] {
+        answer_rows(&rt, rt.alloc(), &dex, rows);
+    }
 }

@@ -1,4 +1,5 @@
 //! One connection's texts, as orders.
+use crate::made;
 use ps_base::badge::Badge;
 use ps_base::list::List;
 use ps_base::msg::Msg;
@@ -8,9 +9,8 @@ use ps_base::text::Text;
 use ps_lines::command::{BadWhy, HallCmd};
 use ps_lines::order::Order;
 use ps_session::session::{MOST_ROOMS, MOST_TEXTS, Session, TakeFault};
-use std::alloc::Global;
+use std::alloc::{AllocError, Global};
 use std::process::Abort;
-use std::test::Fail;
 
 /// A text, whether the connection has a name, and what the text is taken for.
 const TAKEN: &[(&str, bool, &str)] = &[
@@ -81,41 +81,40 @@ fn order(alloc: Global, session: &mut Session, text: &[u8]) -> Result<Order, Tak
 }
 
 /// Where a text's order goes, or its fault.
-fn taken(rt: &impl Abort, alloc: Global, session: &mut Session, text: &[u8]) -> String {
-    let told = match order(alloc, session, text) {
+fn taken(alloc: Global, session: &mut Session, text: &[u8]) -> Result<String, AllocError> {
+    match order(alloc, session, text) {
         Ok(order) => String::from_str(alloc, place(&order)),
         Err(why) => String::from_str(alloc, fault(&why)),
-    };
-    told.expect(rt, "memory")
+    }
+}
+
+/// Asserts where a text's order goes, or its fault.
+fn assert_taken(rt: &impl Abort, alloc: Global, session: &mut Session, text: &[u8], wanted: &str) {
+    made::assert_told(rt, taken(alloc, session, text), wanted);
+}
+
+/// Asserts the same of the first text of a connection.
+fn assert_first_taken(rt: &impl Abort, alloc: Global, is_named: bool, text: &[u8], wanted: &str) {
+    let mut session = session(rt, alloc, is_named);
+    assert_taken(rt, alloc, &mut session, text, wanted);
 }
 
 #[test]
-fn orders(rt: HostRuntime) -> Result<(), Fail> {
-    let alloc = rt.alloc();
+fn orders(rt: HostRuntime) {
     for (text, is_named, wanted) in TAKEN {
-        let mut session = session(&rt, alloc, *is_named);
-        let told = taken(&rt, alloc, &mut session, text.as_bytes());
-        assert_eq!(rt; told.as_str(), *wanted);
+        assert_first_taken(&rt, rt.alloc(), *is_named, text.as_bytes(), wanted);
     }
-    let mut session = named(&rt, alloc);
-    let told = taken(&rt, alloc, &mut session, &[b'|', 0xFF]);
-    assert_eq!(rt; told.as_str(), "bad text");
-    Ok(())
+    assert_first_taken(&rt, rt.alloc(), true, &[b'|', 0xFF], "bad text");
 }
 
 #[test]
-fn limit_of_a_room(rt: HostRuntime) -> Result<(), Fail> {
-    let alloc = rt.alloc();
-    let mut session = named(&rt, alloc);
+fn limit_of_a_room(rt: HostRuntime) {
+    let mut session = named(&rt, rt.alloc());
     for _ in 0..MOST_TEXTS {
-        let told = taken(&rt, alloc, &mut session, b"lobby|hi");
-        assert_eq!(rt; told.as_str(), "lobby");
+        assert_taken(&rt, rt.alloc(), &mut session, b"lobby|hi", "lobby");
     }
-    let told = taken(&rt, alloc, &mut session, b"lobby|hi");
-    assert_eq!(rt; told.as_str(), "limit");
-    let told = taken(&rt, alloc, &mut session, b"den|hi");
-    assert_eq!(rt; told.as_str(), "den");
-    Ok(())
+    assert_taken(&rt, rt.alloc(), &mut session, b"lobby|hi", "limit");
+    assert_taken(&rt, rt.alloc(), &mut session, b"den|hi", "den");
 }
 
 /// A text to a room of this number.
@@ -123,24 +122,19 @@ fn text_to(rt: &impl Abort, alloc: Global, number: u32) -> String {
     format!(in alloc; "r{number}|hi").expect(rt, "memory")
 }
 
-/// Orders to as many rooms as a session takes.
-fn fill(rt: &impl Abort, alloc: Global, session: &mut Session) {
-    for number in 0..MOST_ROOMS {
-        let text = text_to(rt, alloc, number);
-        let _ = order(alloc, session, text.as_bytes());
-    }
+fn send_to(rt: &impl Abort, alloc: Global, session: &mut Session, number: u32) {
+    let text = text_to(rt, alloc, number);
+    let _ = order(alloc, session, text.as_bytes());
 }
 
 #[test]
-fn most_rooms(rt: HostRuntime) -> Result<(), Fail> {
-    let alloc = rt.alloc();
-    let mut session = named(&rt, alloc);
-    fill(&rt, alloc, &mut session);
-    let told = taken(&rt, alloc, &mut session, b"den|hi");
-    assert_eq!(rt; told.as_str(), "RoomLimit");
-    let told = taken(&rt, alloc, &mut session, b"r255|hi");
-    assert_eq!(rt; told.as_str(), "r255");
-    Ok(())
+fn most_rooms(rt: HostRuntime) {
+    let mut session = named(&rt, rt.alloc());
+    for number in 0..MOST_ROOMS {
+        send_to(&rt, rt.alloc(), &mut session, number);
+    }
+    assert_taken(&rt, rt.alloc(), &mut session, b"den|hi", "RoomLimit");
+    assert_taken(&rt, rt.alloc(), &mut session, b"r255|hi", "r255");
 }
 
 /// A message of two lines.
@@ -163,12 +157,24 @@ fn given(rt: &impl Abort, alloc: Global, session: &Session, msg: Msg) -> Vec<Tex
         .expect(rt, "memory")
 }
 
+fn given_to_ann(rt: &impl Abort, alloc: Global) -> Vec<Text> {
+    let session = named(rt, alloc);
+    given(rt, alloc, &session, message(rt, alloc))
+}
+
+fn only(texts: &[Text]) -> Option<&str> {
+    match texts {
+        [text] => Some(text.as_str()),
+        _ => None,
+    }
+}
+
+fn assert_only(rt: &impl Abort, texts: &[Text], wanted: &str) {
+    assert_eq!(rt; only(texts), Some(wanted));
+}
+
 #[test]
-fn texts_given(rt: HostRuntime) -> Result<(), Fail> {
-    let alloc = rt.alloc();
-    let session = named(&rt, alloc);
-    let texts = given(&rt, alloc, &session, message(&rt, alloc));
-    assert_eq!(rt; texts.len(), 1);
-    assert_eq!(rt; texts[0].as_str(), ">lobby\n|a\n|b");
-    Ok(())
+fn texts_given(rt: HostRuntime) {
+    let texts = given_to_ann(&rt, rt.alloc());
+    assert_only(&rt, texts.as_slice(), ">lobby\n|a\n|b");
 }

@@ -1,17 +1,15 @@
 //! What a battle can start with, and what it can't.
-use ps_base::id::to_id;
+use crate::made;
+use crate::made::Setup;
 use ps_base::list::List;
 use ps_base::name::Name;
 use ps_base::text::Text;
-use ps_dex::dex::Dex;
 use ps_mon::status::Status;
 use ps_mon::team::{BattleTeam, Member, MoveSlot};
 use ps_start::fit::is_fit;
-use ps_valid::config::Config;
 use ps_valid::start::{Legal, Start};
 use std::alloc::{AllocError, Global};
 use std::process::Abort;
-use std::test::Fail;
 
 /// A dex of one move and one species.
 const DEX: &str = r#"{"types":[{"name":"Normal","special":false}],
@@ -75,50 +73,51 @@ fn nicks(alloc: Global, count: u8) -> Result<List<Text>, AllocError> {
 }
 
 /// A team of so many members that are alike, and its nicknames.
-fn legal(alloc: Global, member: Member, count: u8, nicked: u8) -> Result<Legal, AllocError> {
-    let nicks = nicks(alloc, nicked)?;
+fn legal(rt: &impl Abort, alloc: Global, member: Member, counts: (u8, u8)) -> Legal {
+    let (count, nicked) = counts;
+    let nicks = nicks(alloc, nicked).expect(rt, "memory");
     let team = BattleTeam {
         members: [member; 6],
         count,
     };
-    Ok(Legal { team, nicks })
+    Legal { team, nicks }
+}
+
+fn name(rt: &impl Abort, alloc: Global, text: &str) -> Name {
+    Name::new(alloc, text).expect(rt, "memory")
 }
 
 /// A start of Ann with a good team, in this format, against this name and team.
-fn start_of(alloc: Global, format: &str, foe: &str, team: Legal) -> Result<Start, AllocError> {
-    let format = to_id(alloc, format)?;
-    let own = Name::new(alloc, "Ann")?;
-    let other = Name::new(alloc, foe)?;
-    let good = legal(alloc, TAUROS, 1, 1)?;
-    Ok(Start {
+fn start_of(rt: &impl Abort, alloc: Global, names: (&str, &str), team: Legal) -> Start {
+    let (format, foe) = names;
+    let players = [name(rt, alloc, "Ann"), name(rt, alloc, foe)];
+    let teams = [legal(rt, alloc, TAUROS, (1, 1)), team];
+    Start {
         number: 1,
-        format,
-        players: [own, other],
-        teams: [good, team],
+        format: made::id(rt, alloc, format),
+        players,
+        teams,
         seed: 0,
-    })
+    }
 }
 
 /// Whether a battle with this start can begin over the dex and the configuration.
-fn fits(rt: &impl Abort, alloc: Global, start: &Start) -> bool {
-    let dex = Dex::read(alloc, DEX.as_bytes()).expect(rt, "a dex");
-    let config = Config::read(alloc, CONFIG.as_bytes(), &dex).expect(rt, "a configuration");
-    is_fit(start, &config, &dex)
+fn fits(setup: &Setup, start: &Start) -> bool {
+    is_fit(start, &setup.config, &setup.dex)
 }
 
 /// Whether a start of so many members and nicknames fits.
 fn fits_with(
     rt: &impl Abort,
     alloc: Global,
+    setup: &Setup,
     names: (&str, &str),
     member: Member,
     counts: (u8, u8),
-) -> Result<bool, AllocError> {
-    let (format, foe) = names;
-    let (count, nicked) = counts;
-    let team = legal(alloc, member, count, nicked)?;
-    let start = start_of(alloc, format, foe, team)?;
-    Ok(fits(rt, alloc, &start))
+) -> bool {
+    let team = legal(rt, alloc, member, counts);
+    let start = start_of(rt, alloc, names, team);
+    fits(setup, &start)
 }
 
 /// A format, the foe's name, its numbers of members and of nicknames, and whether a battle can start.
@@ -130,21 +129,29 @@ const STARTS: &[(&str, &str, u8, u8, bool)] = &[
     ("[Gen 1] OU", "Bob", 0, 0, false),
 ];
 
-#[test]
-fn starts(rt: HostRuntime) -> Result<(), Fail> {
+fn tell_starts(rt: &impl Abort, alloc: Global, setup: &Setup) {
     for (format, foe, count, nicked, wanted) in STARTS {
-        let fits = fits_with(&rt, rt.alloc(), (format, foe), TAUROS, (*count, *nicked))?;
+        let fits = fits_with(rt, alloc, setup, (format, foe), TAUROS, (*count, *nicked));
         assert_eq!(rt; fits, *wanted);
     }
-    Ok(())
 }
 
 #[test]
-fn members_that_do_not_fit(rt: HostRuntime) -> Result<(), Fail> {
+fn starts(rt: HostRuntime) {
+    let setup = made::set_up(&rt, rt.alloc(), DEX, CONFIG);
+    tell_starts(&rt, rt.alloc(), &setup);
+}
+
+fn tell_unfit(rt: &impl Abort, alloc: Global, setup: &Setup) {
     let unfit = [FAINTED, BURNT, SPENT, UNKNOWN_MOVE, UNKNOWN_SPECIES];
     for (place, member) in unfit.iter().enumerate() {
-        let fits = fits_with(&rt, rt.alloc(), ("gen1ou", "Bob"), *member, (1, 1))?;
+        let fits = fits_with(rt, alloc, setup, ("gen1ou", "Bob"), *member, (1, 1));
         assert!(rt; !fits, "member {place}");
     }
-    Ok(())
+}
+
+#[test]
+fn members_that_do_not_fit(rt: HostRuntime) {
+    let setup = made::set_up(&rt, rt.alloc(), DEX, CONFIG);
+    tell_unfit(&rt, rt.alloc(), &setup);
 }

@@ -1,18 +1,16 @@
 //! Teams against the rules of formats, and the members of legal ones.
-use ps_base::id::to_id;
-use ps_dex::dex::Dex;
+use crate::made;
+use crate::made::Setup;
 use ps_mon::status::Status;
-use ps_mon::team::{Member, MoveSlot};
-use ps_packed::team::read_team;
+use ps_mon::team::{BattleTeam, Member, MoveSlot};
+use ps_packed::team::{Team, read_team};
 use ps_rules::formats::resolve;
 use ps_rules::row::RuleTable;
 use ps_valid::check::check_team;
-use ps_valid::config::Config;
 use ps_valid::start::Legal;
-use ps_valid::verdict::TeamFault;
+use ps_valid::verdict::{TeamFault, Verdict};
 use std::alloc::{AllocError, Global};
 use std::process::Abort;
-use std::test::Fail;
 
 /// A format, a packed team, and what is told: the set, the rule and the subject, or `legal`.
 type Rows = &'static [(&'static str, &'static str, &'static str)];
@@ -136,82 +134,62 @@ const PAIRS: Rows = &[
     ),
 ];
 
-fn rules_of(
-    rt: &impl Abort,
-    alloc: Global,
-    config: &Config,
-    format: &str,
-) -> Result<RuleTable, AllocError> {
-    let id = to_id(alloc, format)?;
-    Ok(resolve(alloc, config.formats(), &id).expect(rt, "a format"))
+fn rules_of(rt: &impl Abort, alloc: Global, setup: &Setup, format: &str) -> RuleTable {
+    let id = made::id(rt, alloc, format);
+    resolve(alloc, setup.config.formats(), &id).expect(rt, "a format")
+}
+
+fn team_of(rt: &impl Abort, alloc: Global, text: &str) -> Team {
+    read_team(alloc, text).expect(rt, "a team")
 }
 
 fn checked(
     rt: &impl Abort,
     alloc: Global,
-    dex: &Dex,
-    config: &Config,
+    setup: &Setup,
     format: &str,
     text: &str,
 ) -> Result<Legal, TeamFault> {
-    let rules = rules_of(rt, alloc, config, format)?;
-    let team = read_team(alloc, text).expect(rt, "a team");
-    check_team(alloc, dex, &rules, &team)
+    let rules = rules_of(rt, alloc, setup, format);
+    let team = team_of(rt, alloc, text);
+    check_team(alloc, &setup.dex, &rules, &team)
 }
 
-fn told(
-    rt: &impl Abort,
-    alloc: Global,
-    dex: &Dex,
-    config: &Config,
-    format: &str,
-    text: &str,
-) -> Result<String, AllocError> {
-    match checked(rt, alloc, dex, config, format, text) {
+fn verdict_told(alloc: Global, verdict: &Verdict) -> Result<String, AllocError> {
+    format!(in alloc; "{} {:?} {}", verdict.set, verdict.rule, verdict.subject)
+}
+
+fn told(alloc: Global, checked: &Result<Legal, TeamFault>) -> Result<String, AllocError> {
+    match checked {
         Ok(_) => String::from_str(alloc, "legal"),
-        Err(TeamFault::Verdict(v)) => { format!(in alloc; "{} {:?} {}", v.set, v.rule, v.subject) }
+        Err(TeamFault::Verdict(verdict)) => verdict_told(alloc, verdict),
         Err(TeamFault::NoMemory) => Err(AllocError),
     }
 }
 
-fn told_rows(
+fn check_told(
     rt: &impl Abort,
     alloc: Global,
-    dex: &Dex,
-    config: &Config,
-    rows: Rows,
-) -> Result<(), Fail> {
+    setup: &Setup,
+    format: &str,
+    text: &str,
+) -> Result<String, AllocError> {
+    let checked = checked(rt, alloc, setup, format, text);
+    told(alloc, &checked)
+}
+
+fn told_rows(rt: &impl Abort, alloc: Global, setup: &Setup, rows: Rows) {
     for (format, text, wanted) in rows {
-        let told = told(rt, alloc, dex, config, format, text)?;
-        assert_eq!(rt; told.as_str(), *wanted);
+        made::assert_told(rt, check_told(rt, alloc, setup, format, text), wanted);
     }
-    Ok(())
-}
-
-/// The dex and the configuration of these rows, as one value: two that live beside each other are slow to prove.
-#[derive(Drop)]
-struct Setup {
-    dex: Dex,
-    config: Config,
-}
-
-fn make_setup(rt: &impl Abort, alloc: Global) -> Setup {
-    let dex = Dex::read(alloc, DEX.as_bytes()).expect(rt, "a dex");
-    let config = Config::read(alloc, CONFIG.as_bytes(), &dex).expect(rt, "a configuration");
-    Setup { dex, config }
-}
-
-fn told_tables(rt: &impl Abort, alloc: Global, setup: &Setup, tables: &[Rows]) -> Result<(), Fail> {
-    for rows in tables {
-        told_rows(rt, alloc, &setup.dex, &setup.config, rows)?;
-    }
-    Ok(())
 }
 
 #[test]
-fn team_rules(rt: HostRuntime) -> Result<(), Fail> {
-    let setup = make_setup(&rt, rt.alloc());
-    told_tables(&rt, rt.alloc(), &setup, &[SETS, MOVES, PAIRS])
+fn team_rules(rt: HostRuntime) {
+    let setup = made::set_up(&rt, rt.alloc(), DEX, CONFIG);
+    for rows in &[SETS, MOVES, PAIRS] {
+        told_rows(&rt, rt.alloc(), &setup, rows);
+    }
 }
 
 const NO_MOVE: MoveSlot = MoveSlot {
@@ -285,27 +263,28 @@ fn nicks_of(alloc: Global, legal: &Legal) -> Result<String, AllocError> {
 }
 
 /// What a team is in the format that bars nothing.
-fn free_team(rt: &impl Abort, alloc: Global, text: &str) -> Result<Legal, TeamFault> {
-    let setup = make_setup(rt, alloc);
-    checked(rt, alloc, &setup.dex, &setup.config, "free", text)
+fn free_team(rt: &impl Abort, alloc: Global, text: &str) -> Legal {
+    let setup = made::set_up(rt, alloc, DEX, CONFIG);
+    checked(rt, alloc, &setup, "free", text).expect(rt, "a legal team")
 }
 
 const TWO: &str =
     "Bull||||fissure,slam|||||||]Ice|Jynx|||bodyslam||4,40,0,252,8,252||31,30,29,28,0,3||50|";
 
-#[test]
-fn members_of_a_legal_team(rt: HostRuntime) -> Result<(), Fail> {
-    let legal = free_team(&rt, rt.alloc(), TWO).expect(&rt, "a legal team");
-    assert_eq!(rt; legal.team.count, 2);
-    assert_eq!(rt; legal.team.members[0], TAUROS);
-    assert_eq!(rt; legal.team.members[1], JYNX);
-    Ok(())
+fn assert_members(rt: &impl Abort, team: &BattleTeam) {
+    assert_eq!(rt; team.count, 2);
+    assert_eq!(rt; team.members[0], TAUROS);
+    assert_eq!(rt; team.members[1], JYNX);
 }
 
 #[test]
-fn nicknames_of_a_legal_team(rt: HostRuntime) -> Result<(), Fail> {
-    let legal = free_team(&rt, rt.alloc(), TWO).expect(&rt, "a legal team");
-    let nicks = nicks_of(rt.alloc(), &legal)?;
-    assert_eq!(rt; nicks.as_str(), "Bull Ice ");
-    Ok(())
+fn members_of_a_legal_team(rt: HostRuntime) {
+    let legal = free_team(&rt, rt.alloc(), TWO);
+    assert_members(&rt, &legal.team);
+}
+
+#[test]
+fn nicknames_of_a_legal_team(rt: HostRuntime) {
+    let legal = free_team(&rt, rt.alloc(), TWO);
+    made::assert_told(&rt, nicks_of(rt.alloc(), &legal), "Bull Ice ");
 }

@@ -1,16 +1,15 @@
 //! Names, log-ins, ranks, and who is online.
+use crate::made;
 use ps_base::badge::Badge;
-use ps_base::id::to_id;
+use ps_base::hall_why::HallWhy;
 use ps_base::number::ConnNo;
 use ps_base::text::Text;
-use ps_lines::command::{HallCmd, Parsed};
-use ps_lines::read::read_command;
+use ps_lines::command::HallCmd;
 use ps_roster::id_map::IdMap;
 use ps_users::account::Account;
 use ps_users::users::Users;
 use std::alloc::{AllocError, Global};
 use std::process::Abort;
-use std::test::Fail;
 
 /// A connection, what it does (`+` opens, `-` closes), and the answer: why it is refused, or the name and rank
 /// that it has from then on.
@@ -42,57 +41,80 @@ const LOG_INS: Rows = &[
     (3, "/trn b o b,0,", "b o b 4"),
 ];
 
-fn set_up(alloc: Global) -> Result<Users, AllocError> {
+fn accounts(alloc: Global) -> Result<IdMap<Account>, AllocError> {
     let mut accounts = IdMap::new(alloc);
     let secret = Text::copy_of(alloc, "s")?;
     accounts.insert(alloc, "ann", Account { secret, rank: 1 })?;
+    Ok(accounts)
+}
+
+fn ranks(alloc: Global) -> Result<IdMap<u8>, AllocError> {
     let mut ranks = IdMap::new(alloc);
     ranks.insert(alloc, "bob", 200)?;
-    let nonce = Text::copy_of(alloc, "0")?;
-    Ok(Users::new(alloc, nonce, accounts, ranks, 4))
+    Ok(ranks)
 }
 
-fn command_of(rt: &impl Abort, alloc: Global, text: &str) -> HallCmd {
-    if text == "+" {
-        return HallCmd::Open;
-    }
-    if text == "-" {
-        return HallCmd::Quit;
-    }
-    match read_command(alloc, text).expect(rt, "a command") {
-        Parsed::Hall(cmd) => cmd,
-        Parsed::Room(_) => HallCmd::Open,
+fn set_up(rt: &impl Abort, alloc: Global) -> Users {
+    let nonce = Text::copy_of(alloc, "0").expect(rt, "memory");
+    let accounts = accounts(alloc).expect(rt, "memory");
+    let ranks = ranks(alloc).expect(rt, "memory");
+    Users::new(alloc, nonce, accounts, ranks, 4)
+}
+
+/// Why the command is refused, or the badge from then on.
+fn refusal_or_badge(
+    rt: &impl Abort,
+    alloc: Global,
+    users: &mut Users,
+    conn: ConnNo,
+    cmd: &HallCmd,
+) -> Result<Option<Badge>, HallWhy> {
+    match users.verdict(alloc, conn, cmd).expect(rt, "memory") {
+        Some(why) => Err(why),
+        None => Ok(users.apply(alloc, conn, cmd).expect(rt, "memory")),
     }
 }
 
-fn told(alloc: Global, badge: Option<Badge>) -> Result<String, AllocError> {
-    match badge {
-        None => String::from_str(alloc, "none"),
-        Some(badge) => format!(in alloc; "{} {}", badge.name, badge.rank),
+/// Does what a connection does.
+fn done(
+    rt: &impl Abort,
+    alloc: Global,
+    users: &mut Users,
+    conn: u32,
+    text: &str,
+) -> Result<Option<Badge>, HallWhy> {
+    let cmd = made::command(rt, alloc, text);
+    refusal_or_badge(rt, alloc, users, ConnNo(conn), &cmd)
+}
+
+fn badge_told(alloc: Global, badge: &Badge) -> Result<String, AllocError> {
+    format!(in alloc; "{} {}", badge.name, badge.rank)
+}
+
+fn told(alloc: Global, done: &Result<Option<Badge>, HallWhy>) -> Result<String, AllocError> {
+    match done {
+        Ok(None) => String::from_str(alloc, "none"),
+        Ok(Some(badge)) => badge_told(alloc, badge),
+        Err(why) => String::from_str(alloc, why.name()),
     }
 }
 
-fn answer(rt: &impl Abort, alloc: Global, users: &mut Users, conn: u32, text: &str) -> String {
-    let cmd = command_of(rt, alloc, text);
-    match users
-        .verdict(alloc, ConnNo(conn), &cmd)
-        .expect(rt, "memory")
-    {
-        Some(why) => String::from_str(alloc, why.name()).expect(rt, "memory"),
-        None => {
-            let badge = users.apply(alloc, ConnNo(conn), &cmd).expect(rt, "memory");
-            told(alloc, badge).expect(rt, "memory")
-        }
-    }
+fn answer(
+    rt: &impl Abort,
+    alloc: Global,
+    users: &mut Users,
+    conn: u32,
+    text: &str,
+) -> Result<String, AllocError> {
+    let done = done(rt, alloc, users, conn, text);
+    told(alloc, &done)
 }
 
 #[test]
-fn log_ins(rt: HostRuntime) -> Result<(), Fail> {
-    let alloc = rt.alloc();
-    let mut users = set_up(alloc).expect(&rt, "memory");
+fn log_ins(rt: HostRuntime) {
+    let mut users = set_up(&rt, rt.alloc());
     for (conn, text, wanted) in LOG_INS {
-        let told = answer(&rt, alloc, &mut users, *conn, text);
-        assert_eq!(rt; told.as_str(), *wanted);
+        let told = answer(&rt, rt.alloc(), &mut users, *conn, text);
+        made::assert_told(&rt, told, wanted);
     }
-    Ok(())
 }
