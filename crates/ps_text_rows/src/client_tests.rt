@@ -1,13 +1,16 @@
 //! Texts and what they stand for, one for each row and each refusal of the two tables at the least.
-use ps_base::name::read_name;
+use ps_base::name::{Name, NameFault, read_name};
 use ps_lines::client::read_client;
+use ps_lines::command::{CommandFault, Parsed};
 use ps_lines::read::read_command;
-use std::alloc::Global;
+use std::alloc::{AllocError, Global};
 use std::process::Abort;
-use std::test::Fail;
+
+/// Texts, and how what each stands for is shown, or its fault.
+type Rows = &'static [(&'static str, &'static str)];
 
 /// Who comes and goes, and who speaks: a text, and how the command that it stands for is shown, or its fault.
-const SPEAKING: &[(&str, &str)] = &[
+const SPEAKING: Rows = &[
     (
         "/join lobby",
         "Ok(Room(Join { room: Text { inner: \"lobby\" } }))",
@@ -48,7 +51,7 @@ const SPEAKING: &[(&str, &str)] = &[
 ];
 
 /// What staff does to users: a text, and how the command that it stands for is shown, or its fault.
-const STAFF: &[(&str, &str)] = &[
+const STAFF: Rows = &[
     (
         "/warn Bob, no, spam",
         "Ok(Room(Warn { user: Id { text: Text { inner: \"bob\" } }, reason: Some(Text { inner: \"no, spam\" }) }))",
@@ -87,7 +90,7 @@ const STAFF: &[(&str, &str)] = &[
 ];
 
 /// Ranks: a text, and how the command that it stands for is shown, or its fault.
-const RANK: &[(&str, &str)] = &[
+const RANK: Rows = &[
     (
         "/roompromote Bob, %",
         "Ok(Room(Promote { user: Id { text: Text { inner: \"bob\" } }, symbol: '%' }))",
@@ -113,7 +116,7 @@ const RANK: &[(&str, &str)] = &[
 ];
 
 /// Battles: a text, and how the command that it stands for is shown, or its fault.
-const BATTLE: &[(&str, &str)] = &[
+const BATTLE: Rows = &[
     (
         "/choose move 1",
         "Ok(Room(Choose { choice: Text { inner: \"move 1\" }, rqid: None }))",
@@ -141,7 +144,7 @@ const BATTLE: &[(&str, &str)] = &[
 ];
 
 /// A user's own name, team and searches: a text, and how the command that it stands for is shown, or its fault.
-const OWN: &[(&str, &str)] = &[
+const OWN: Rows = &[
     (
         "/trn Ann,0,",
         "Ok(Hall(Name { name: Text { inner: \"Ann\" }, assertion: Text { inner: \"\" } }))",
@@ -176,7 +179,7 @@ const OWN: &[(&str, &str)] = &[
 ];
 
 /// Challenges: a text, and how the command that it stands for is shown, or its fault.
-const CHALLENGE: &[(&str, &str)] = &[
+const CHALLENGE: Rows = &[
     (
         "/challenge Bob, gen1ou",
         "Ok(Hall(Challenge { user: Id { text: Text { inner: \"bob\" } }, format: Id { text: Text { inner: \"gen1ou\" } } }))",
@@ -200,7 +203,7 @@ const CHALLENGE: &[(&str, &str)] = &[
 ];
 
 /// Whispers, blocks and ratings: a text, and how the command that it stands for is shown, or its fault.
-const USER: &[(&str, &str)] = &[
+const USER: Rows = &[
     (
         "/pm Bob, hi, there",
         "Ok(Hall(Whisper { user: Id { text: Text { inner: \"bob\" } }, text: Text { inner: \"hi, there\" } }))",
@@ -231,7 +234,7 @@ const USER: &[(&str, &str)] = &[
 ];
 
 /// Texts without a command: a text, and how the command that it stands for is shown, or its fault.
-const OTHER: &[(&str, &str)] = &[
+const OTHER: Rows = &[
     ("/jump", "Err(UnknownCommand)"),
     ("/", "Err(UnknownCommand)"),
     ("//leave", "Err(UnknownCommand)"),
@@ -242,26 +245,44 @@ const OTHER: &[(&str, &str)] = &[
     ("/roompromote ,\n", "Err(BadArgs { which: 0 })"),
 ];
 
-fn read_all(rt: &impl Abort, alloc: Global, texts: &[(&str, &str)]) -> Result<(), Fail> {
-    for (text, shown) in texts {
-        let read = read_command(alloc, text);
-        let told = format!(in alloc; "{read:?}")?;
-        assert_eq!(rt; told.as_str(), *shown, "{text}");
+// Memory that is refused ends a test at once: what may return in between would be slow to prove. So would a command be that ends
+// beside other values: it has a function in which it ends alone.
+
+fn assert_shown(rt: &impl Abort, shown: &str, row: &(&str, &str)) {
+    let (text, wanted) = row;
+    assert_eq!(rt; shown, *wanted, "{text}");
+}
+
+fn end_command(_read: Result<Parsed, CommandFault>) {}
+
+fn show_command(alloc: Global, read: &Result<Parsed, CommandFault>) -> Result<String, AllocError> {
+    format!(in alloc; "{read:?}")
+}
+
+/// How the command that a text stands for is shown.
+fn command_shown(rt: &impl Abort, alloc: Global, text: &str) -> String {
+    let read = read_command(alloc, text);
+    let shown = show_command(alloc, &read).expect(rt, "memory");
+    end_command(read);
+    shown
+}
+
+fn command_holds(rt: &impl Abort, alloc: Global, row: &(&str, &str)) {
+    let shown = command_shown(rt, alloc, row.0);
+    assert_shown(rt, shown.as_str(), row);
+}
+
+fn commands_hold(rt: &impl Abort, alloc: Global, rows: Rows) {
+    for row in rows {
+        command_holds(rt, alloc, row);
     }
-    Ok(())
 }
 
 #[test]
-fn commands(rt: HostRuntime) -> Result<(), Fail> {
-    read_all(&rt, rt.alloc(), SPEAKING)?;
-    read_all(&rt, rt.alloc(), STAFF)?;
-    read_all(&rt, rt.alloc(), RANK)?;
-    read_all(&rt, rt.alloc(), BATTLE)?;
-    read_all(&rt, rt.alloc(), OWN)?;
-    read_all(&rt, rt.alloc(), CHALLENGE)?;
-    read_all(&rt, rt.alloc(), USER)?;
-    read_all(&rt, rt.alloc(), OTHER)?;
-    Ok(())
+fn commands(rt: HostRuntime) {
+    for rows in &[SPEAKING, STAFF, RANK, BATTLE, OWN, CHALLENGE, USER, OTHER] {
+        commands_hold(&rt, rt.alloc(), rows);
+    }
 }
 
 /// What a client sent, and how its two parts are shown, or its fault.
@@ -282,7 +303,7 @@ const CLIENT_TEXTS: &[(&[u8], &str)] = &[
 ];
 
 /// A text, and how the name that it is is shown, or its fault.
-const NAMES: &[(&str, &str)] = &[
+const NAMES: Rows = &[
     (
         " Mr. Mime ",
         "Ok(Name { text: Text { inner: \"Mr. Mime\" }, id: Id { text: Text { inner: \"mrmime\" } } })",
@@ -304,22 +325,68 @@ const NAMES: &[(&str, &str)] = &[
     ("", "Err(Empty)"),
 ];
 
+fn client_shown(rt: &impl Abort, alloc: Global, bytes: &[u8]) -> String {
+    let read = read_client(bytes);
+    format!(in alloc; "{read:?}").expect(rt, "memory")
+}
+
+fn client_holds(rt: &impl Abort, alloc: Global, bytes: &[u8], wanted: &str) {
+    let shown = client_shown(rt, alloc, bytes);
+    assert_eq!(rt; shown.as_str(), wanted);
+}
+
 #[test]
-fn client_texts_and_names(rt: HostRuntime) -> Result<(), Fail> {
+fn client_texts(rt: HostRuntime) {
     for (bytes, shown) in CLIENT_TEXTS {
-        let read = read_client(bytes);
-        let told = format!(in rt.alloc(); "{read:?}")?;
-        assert_eq!(rt; told.as_str(), *shown);
+        client_holds(&rt, rt.alloc(), bytes, shown);
     }
-    let longest = "|".repeat(rt.alloc(), 8192)?;
-    assert!(rt; read_client(longest.as_bytes()).is_ok());
-    let longer = "|".repeat(rt.alloc(), 8193)?;
-    let told = format!(in rt.alloc(); "{:?}", read_client(longer.as_bytes()))?;
-    assert_eq!(rt; told.as_str(), "Err(Long { bytes: 8193 })");
-    for (text, shown) in NAMES {
-        let read = read_name(rt.alloc(), text);
-        let told = format!(in rt.alloc(); "{read:?}")?;
-        assert_eq!(rt; told.as_str(), *shown, "{text}");
+}
+
+fn is_read(bytes: &[u8]) -> bool {
+    read_client(bytes).is_ok()
+}
+
+/// A client's text of 8,192 bytes is read.
+#[test]
+fn longest_client_text(rt: HostRuntime) {
+    let text = "|".repeat(rt.alloc(), 8192).expect(&rt, "memory");
+    assert!(rt; is_read(text.as_bytes()));
+}
+
+/// One of 8,193 is too long.
+#[test]
+fn longer_client_text(rt: HostRuntime) {
+    let text = "|".repeat(rt.alloc(), 8193).expect(&rt, "memory");
+    client_holds(
+        &rt,
+        rt.alloc(),
+        text.as_bytes(),
+        "Err(Long { bytes: 8193 })",
+    );
+}
+
+fn end_name(_read: Result<Name, NameFault>) {}
+
+fn show_name(alloc: Global, read: &Result<Name, NameFault>) -> Result<String, AllocError> {
+    format!(in alloc; "{read:?}")
+}
+
+/// How the name that a text is is shown.
+fn name_shown(rt: &impl Abort, alloc: Global, text: &str) -> String {
+    let read = read_name(alloc, text);
+    let shown = show_name(alloc, &read).expect(rt, "memory");
+    end_name(read);
+    shown
+}
+
+fn name_holds(rt: &impl Abort, alloc: Global, row: &(&str, &str)) {
+    let shown = name_shown(rt, alloc, row.0);
+    assert_shown(rt, shown.as_str(), row);
+}
+
+#[test]
+fn names(rt: HostRuntime) {
+    for row in NAMES {
+        name_holds(&rt, rt.alloc(), row);
     }
-    Ok(())
 }

@@ -8,10 +8,15 @@ use ps_group::rank::higher;
 use ps_group::read::GroupFault;
 use serde_json::Value;
 use std::alloc::Global;
-use std::test::Fail;
+use std::process::Abort;
 
-/// Lists of groups as JSON, and the first fault of each: its path, the group's place and the kind.
-const ROWS: [(&str, &str, u32, DataKind); 25] = [
+/// A list of groups as JSON, and its first fault: the path, the group's place and the kind.
+type Row = (&'static str, &'static str, u32, DataKind);
+
+type Rows = &'static [Row];
+
+/// Lists, and symbols.
+const SYMBOLS: Rows = &[
     ("5", "", 0, DataKind::Shape),
     ("[]", "", 0, DataKind::Range),
     ("[5]", "[0]", 0, DataKind::Shape),
@@ -52,6 +57,10 @@ const ROWS: [(&str, &str, u32, DataKind); 25] = [
         1,
         DataKind::Repeat,
     ),
+];
+
+/// Ids, names, and which group is inherited.
+const PARTS: Rows = &[
     (
         r#"[{"symbol":" ","id":"","name":""}]"#,
         "[0].id",
@@ -112,6 +121,10 @@ const ROWS: [(&str, &str, u32, DataKind); 25] = [
         1,
         DataKind::Range,
     ),
+];
+
+/// Permissions, and too many groups.
+const PERMISSIONS: Rows = &[
     (
         r#"[{"symbol":" ","id":"u","name":"","permissions":[]}]"#,
         "[0].permissions",
@@ -144,42 +157,99 @@ const ROWS: [(&str, &str, u32, DataKind); 25] = [
     ),
 ];
 
-/// The path and the kind of the first fault.
-fn first_fault(alloc: Global, value: &Value) -> Result<(String, Option<DataKind>), Fail> {
+// Memory that is refused ends a test at once: what may return in between would be slow to prove. So would a value of many parts
+// be that ends beside others: each kind of them has one function in which it ends alone.
+
+fn json(rt: &impl Abort, alloc: Global, text: &str) -> Value {
+    Value::from_str(alloc, text).expect(rt, "a JSON text")
+}
+
+fn end_json(_value: Value) {}
+
+fn end_groups(_groups: Groups) {}
+
+fn end_refusal(_refusal: Option<Refusal>) {}
+
+/// Why a value is refused.
+fn refusal(alloc: Global, value: &Value) -> Option<Refusal> {
     match Groups::read(alloc, value) {
-        Ok(_) => Ok((String::from_str(alloc, "none")?, None)),
-        Err(Refusal::NoMemory) => Ok((String::from_str(alloc, "no memory")?, None)),
-        Err(Refusal::Fault(fault)) => Ok((fault.path.text(alloc)?, Some(fault.kind))),
+        Ok(_) => None,
+        Err(refusal) => Some(refusal),
+    }
+}
+
+fn path(rt: &impl Abort, alloc: Global, refusal: &Option<Refusal>) -> String {
+    match refusal {
+        None => String::from_str(alloc, "none").expect(rt, "memory"),
+        Some(Refusal::NoMemory) => String::from_str(alloc, "no memory").expect(rt, "memory"),
+        Some(Refusal::Fault(fault)) => fault.path.text(alloc).expect(rt, "memory"),
+    }
+}
+
+fn kind(refusal: &Option<Refusal>) -> Option<DataKind> {
+    match refusal {
+        Some(Refusal::Fault(fault)) => Some(fault.kind),
+        _ => None,
+    }
+}
+
+fn path_holds(rt: &impl Abort, alloc: Global, refusal: &Option<Refusal>, wanted: &str) {
+    let path = path(rt, alloc, refusal);
+    assert_eq!(rt; path.as_str(), wanted);
+}
+
+fn refusal_holds(rt: &impl Abort, alloc: Global, value: &Value, row: &Row) {
+    let refusal = refusal(alloc, value);
+    path_holds(rt, alloc, &refusal, row.1);
+    assert_eq!(rt; kind(&refusal), Some(row.3));
+    end_refusal(refusal);
+}
+
+/// The place and the kind of the first fault.
+fn fault(alloc: Global, value: &Value) -> Option<GroupFault> {
+    match Groups::from_value(alloc, value) {
+        Ok(_) => None,
+        Err(fault) => Some(fault),
+    }
+}
+
+fn fault_holds(rt: &impl Abort, alloc: Global, value: &Value, row: &Row) {
+    let wanted = GroupFault::Fault {
+        index: row.2,
+        kind: row.3,
+    };
+    assert_eq!(rt; fault(alloc, value), Some(wanted));
+}
+
+fn row_holds(rt: &impl Abort, alloc: Global, row: &Row) {
+    let value = json(rt, alloc, row.0);
+    refusal_holds(rt, alloc, &value, row);
+    fault_holds(rt, alloc, &value, row);
+    end_json(value);
+}
+
+fn rows_hold(rt: &impl Abort, alloc: Global, rows: Rows) {
+    for row in rows {
+        row_holds(rt, alloc, row);
     }
 }
 
 #[test]
-fn first_faults(rt: HostRuntime) -> Result<(), Fail> {
-    let alloc = rt.alloc();
-    for (json, path, index, kind) in &ROWS {
-        let value = Value::from_str(alloc, json)?;
-        let (told_path, told_kind) = first_fault(alloc, &value)?;
-        assert_eq!(rt; told_path.as_str(), *path);
-        assert_eq!(rt; told_kind, Some(*kind));
-        let told = match Groups::from_value(alloc, &value) {
-            Ok(_) => None,
-            Err(fault) => Some(fault),
-        };
-        let wanted = GroupFault::Fault {
-            index: *index,
-            kind: *kind,
-        };
-        assert_eq!(rt; told, Some(wanted));
+fn first_faults(rt: HostRuntime) {
+    for rows in &[SYMBOLS, PARTS, PERMISSIONS] {
+        rows_hold(&rt, rt.alloc(), rows);
     }
-    Ok(())
 }
 
 /// Its upper group has an empty text of its own, which is not inherited.
 const TWO_GROUPS: &str =
     r#"[{"symbol":"+","id":"v","name":"","inherit":" ","permissions":{"warn":"","ban":"us"}},{"symbol":" ","id":"u","name":"","more":1,"permissions":{"warn":"s","mute":"s"}}]"#;
 
-/// An actor's rank, a target's rank if there is one, whether the target is the actor, and whether the default groups let it.
-const CASES: [(u8, Option<u8>, bool, Perm, bool); 16] = [
+/// An actor's rank, a target's rank if there is one, whether the target is the actor, what it would do, and whether groups let it.
+type Case = (u8, Option<u8>, bool, Perm, bool);
+
+/// What the default groups let.
+const DEFAULT_CASES: &[Case] = &[
     (2, Some(3), false, Perm::Mute, true),
     (3, Some(2), false, Perm::Mute, false),
     (3, Some(3), true, Perm::Mute, false),
@@ -198,31 +268,76 @@ const CASES: [(u8, Option<u8>, bool, Perm, bool); 16] = [
     (2, None, false, Perm::Modchat, true),
 ];
 
-#[test]
-fn what_ranks_may(rt: HostRuntime) -> Result<(), Fail> {
-    let groups = Groups::standard(rt.alloc())?.copy(rt.alloc())?;
+/// What the two groups let.
+const TWO_GROUPS_CASES: &[Case] = &[
+    (0, Some(0), true, Perm::Warn, false),
+    (0, None, false, Perm::Warn, false),
+    (1, Some(1), true, Perm::Warn, true),
+    (0, Some(0), true, Perm::Mute, true),
+    (0, Some(1), false, Perm::Ban, true),
+    (1, Some(0), false, Perm::Mute, false),
+];
+
+fn case_holds(rt: &impl Abort, groups: &Groups, case: &Case) {
+    let (actor, target, is_self, perm, may) = case;
+    assert_eq!(rt; groups.can(*actor, *target, *is_self, *perm), *may);
+}
+
+fn cases_hold(rt: &impl Abort, groups: &Groups, cases: &[Case]) {
+    for case in cases {
+        case_holds(rt, groups, case);
+    }
+}
+
+fn copy(rt: &impl Abort, alloc: Global, groups: &Groups) -> Groups {
+    groups.copy(alloc).expect(rt, "memory")
+}
+
+/// A copy of the default groups.
+fn standard(rt: &impl Abort, alloc: Global) -> Groups {
+    let groups = Groups::standard(alloc).expect(rt, "memory");
+    let copy = copy(rt, alloc, &groups);
+    end_groups(groups);
+    copy
+}
+
+fn ranks_hold(rt: &impl Abort, groups: &Groups) {
     assert_eq!(rt; groups.count(), 6);
     assert_eq!(rt; groups.rank_of(DEFAULT_STAFF), Some(3));
     assert_eq!(rt; groups.rank_of('*'), None);
+}
+
+fn symbols_hold(rt: &impl Abort, groups: &Groups) {
     assert_eq!(rt; groups.symbol(1), '#');
     assert_eq!(rt; groups.symbol(200), ' ');
+}
+
+fn reach_holds(rt: &impl Abort, groups: &Groups) {
     assert_eq!(rt; higher(groups.in_force(9), 4), 4);
-    assert!(rt; groups.reaches_all(0, Perm::Promote) && !groups.reaches_all(1, Perm::Promote));
-    for (actor, target, is_self, perm, may) in &CASES {
-        assert_eq!(rt; groups.can(*actor, *target, *is_self, *perm), *may);
-    }
-    let groups = Groups::from_value(rt.alloc(), &Value::from_str(rt.alloc(), TWO_GROUPS)?).expect(
-        &rt,
-        "in their form",
-    );
-    assert!(rt;
-        !groups.can(0, Some(0), true, Perm::Warn) && !groups.can(0, None, false, Perm::Warn)
-    );
-    assert!(rt;
-        groups.can(1, Some(1), true, Perm::Warn) && groups.can(0, Some(0), true, Perm::Mute)
-    );
-    assert!(rt;
-        groups.can(0, Some(1), false, Perm::Ban) && !groups.can(1, Some(0), false, Perm::Mute)
-    );
-    Ok(())
+    assert!(rt; groups.reaches_all(0, Perm::Promote));
+    assert!(rt; !groups.reaches_all(1, Perm::Promote));
+}
+
+#[test]
+fn what_ranks_may_by_default(rt: HostRuntime) {
+    let groups = standard(&rt, rt.alloc());
+    ranks_hold(&rt, &groups);
+    symbols_hold(&rt, &groups);
+    reach_holds(&rt, &groups);
+    cases_hold(&rt, &groups, DEFAULT_CASES);
+    end_groups(groups);
+}
+
+fn two_groups(rt: &impl Abort, alloc: Global) -> Groups {
+    let value = json(rt, alloc, TWO_GROUPS);
+    let groups = Groups::from_value(alloc, &value).expect(rt, "in their form");
+    end_json(value);
+    groups
+}
+
+#[test]
+fn what_ranks_may_in_two_groups(rt: HostRuntime) {
+    let groups = two_groups(&rt, rt.alloc());
+    cases_hold(&rt, &groups, TWO_GROUPS_CASES);
+    end_groups(groups);
 }

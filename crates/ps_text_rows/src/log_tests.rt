@@ -16,7 +16,6 @@ use ps_view::names::Names;
 use ps_view::role::Role;
 use std::alloc::Global;
 use std::process::Abort;
-use std::test::Fail;
 
 const SPECTATOR: Role = Role::Spectator { rank: 5 };
 
@@ -51,7 +50,8 @@ const DAMAGE: Event = Event::Damage {
     from: 0,
 };
 
-// Memory that is refused ends a test at once: what may return in between would be slow to prove.
+// Memory that is refused ends a test at once: what may return in between would be slow to prove. So would a value of many parts
+// be that ends beside others: each kind of them has one function in which it ends alone.
 
 fn text(rt: &impl Abort, alloc: Global, text: &str) -> Text {
     Text::copy_of(alloc, text).expect(rt, "memory")
@@ -77,6 +77,26 @@ fn names(rt: &impl Abort, alloc: Global) -> Names {
     }
 }
 
+/// What the events of an entry are told with, as one value.
+#[derive(Drop)]
+struct Known {
+    names: Names,
+    dex: Dex,
+}
+
+fn make_known(rt: &impl Abort, alloc: Global) -> Known {
+    Known {
+        names: names(rt, alloc),
+        dex: Dex::empty(alloc),
+    }
+}
+
+fn forget(_known: Known) {}
+
+fn close(_log: SplitLog) {}
+
+fn discard(_held: Held) {}
+
 fn line(rt: &impl Abort, alloc: Global, said: &str) -> ChatLine<Text> {
     ChatLine {
         audience: Audience::All,
@@ -86,50 +106,85 @@ fn line(rt: &impl Abort, alloc: Global, said: &str) -> ChatLine<Text> {
 }
 
 /// Ann's entry.
-fn append(
-    rt: &impl Abort,
-    alloc: Global,
-    log: &mut SplitLog,
-    events: &[Event],
-    lines: &[ChatLine<Text>],
-    roles: &[(ConnNo, Role)],
-) {
-    let names = names(rt, alloc);
-    let entry = Entry {
+fn entry<'a>(
+    events: &'a [Event],
+    lines: &'a [ChatLine<Text>],
+    roles: &'a [(ConnNo, Role)],
+) -> Entry<'a> {
+    Entry {
         conn: ConnNo(1),
         events,
         lines,
         join: None,
         roles,
-    };
-    log.append_whole(alloc, entry, &names, &Dex::empty(alloc))
+    }
+}
+
+fn append_known(
+    rt: &impl Abort,
+    alloc: Global,
+    log: &mut SplitLog,
+    entry: Entry<'_>,
+    known: &Known,
+) {
+    log.append_whole(alloc, entry, &known.names, &known.dex)
         .expect(rt, "memory");
 }
 
-/// The fourth connection joins, and is sent the last line that was logged.
-fn join(rt: &impl Abort, alloc: Global) -> Held {
-    let joined = Joined {
+fn append(rt: &impl Abort, alloc: Global, log: &mut SplitLog, entry: Entry<'_>) {
+    let known = make_known(rt, alloc);
+    append_known(rt, alloc, log, entry, &known);
+    forget(known);
+}
+
+/// Ann's entry of one event.
+fn append_event(rt: &impl Abort, alloc: Global, log: &mut SplitLog) {
+    append(rt, alloc, log, entry(&[DAMAGE], &[], &[]));
+}
+
+/// Two lines, and roles from the next entry on.
+fn append_first(rt: &impl Abort, alloc: Global, log: &mut SplitLog) {
+    let lines = [line(rt, alloc, "one"), line(rt, alloc, "two")];
+    append(rt, alloc, log, entry(&[], &lines, &ROLES));
+}
+
+/// A third line.
+fn append_line(rt: &impl Abort, alloc: Global, log: &mut SplitLog) {
+    let lines = [line(rt, alloc, "three")];
+    append(rt, alloc, log, entry(&[], &lines, &[]));
+}
+
+fn joined(rt: &impl Abort, alloc: Global) -> Joined {
+    Joined {
         role: SPECTATOR,
         head: texts(rt, alloc, "|init|battle"),
         keep: 1,
         tail: None,
-    };
+    }
+}
+
+/// The fourth connection joins, and is sent the last line that was logged.
+fn join(rt: &impl Abort, alloc: Global) -> Held {
+    let joined = joined(rt, alloc);
     held_of_lines(alloc, ConnNo(4), &[], Some(joined)).expect(rt, "memory")
 }
 
-/// Two lines, and roles from the next entry on.
+/// The log of the first entry.
 fn opened(rt: &impl Abort, alloc: Global) -> SplitLog {
     let mut log = SplitLog::new(alloc);
-    let lines = [line(rt, alloc, "one"), line(rt, alloc, "two")];
-    append(rt, alloc, &mut log, &[], &lines, &ROLES);
+    append_first(rt, alloc, &mut log);
     log
+}
+
+fn push(rt: &impl Abort, out: &mut String, text: &str) {
+    out.push_str(text).expect(rt, "memory");
 }
 
 /// Puts each line behind others, with a blank at its end.
 fn push_lines(rt: &impl Abort, out: &mut String, lines: &[Text]) {
     for line in lines {
-        out.push_str(line.as_str()).expect(rt, "memory");
-        out.push_str(" ").expect(rt, "memory");
+        push(rt, out, line.as_str());
+        push(rt, out, " ");
     }
 }
 
@@ -137,7 +192,7 @@ fn push_lines(rt: &impl Abort, out: &mut String, lines: &[Text]) {
 fn push_shown(rt: &impl Abort, out: &mut String, messages: &[Msg]) {
     for message in messages {
         push_lines(rt, out, message.lines.as_slice());
-        out.push_str("\n").expect(rt, "memory");
+        push(rt, out, "\n");
     }
 }
 
@@ -155,17 +210,37 @@ fn read_once(rt: &impl Abort, alloc: Global, log: &SplitLog, conn: u32) -> Strin
     out
 }
 
-#[test]
-fn split_line_for_each_role(rt: HostRuntime) -> Result<(), Fail> {
-    let mut log = opened(&rt, rt.alloc());
-    append(&rt, rt.alloc(), &mut log, &[DAMAGE], &[], &[]);
-    let own = read_once(&rt, rt.alloc(), &log, 1);
-    assert_eq!(rt; own.as_str(), "|-damage|p1a: Tauros|331/353 \n");
+/// A connection reads this of a log.
+fn reads(rt: &impl Abort, alloc: Global, log: &SplitLog, conn: u32, wanted: &str) {
+    let read = read_once(rt, alloc, log, conn);
+    assert_eq!(rt; read.as_str(), wanted);
+}
+
+fn split_line_holds(rt: &impl Abort, alloc: Global, log: &SplitLog) {
+    reads(rt, alloc, log, 1, "|-damage|p1a: Tauros|331/353 \n");
     for conn in 2..4 {
-        let other = read_once(&rt, rt.alloc(), &log, conn);
-        assert_eq!(rt; other.as_str(), "|-damage|p1a: Tauros|94/100 \n");
+        reads(rt, alloc, log, conn, "|-damage|p1a: Tauros|94/100 \n");
     }
-    Ok(())
+}
+
+#[test]
+fn split_line_for_each_role(rt: HostRuntime) {
+    let mut log = opened(&rt, rt.alloc());
+    append_event(&rt, rt.alloc(), &mut log);
+    split_line_holds(&rt, rt.alloc(), &log);
+    close(log);
+}
+
+fn message_next(
+    rt: &impl Abort,
+    alloc: Global,
+    log: &SplitLog,
+    conn: u32,
+    role: Role,
+    held: &Held,
+) -> List<Text> {
+    log.message_next(alloc, ConnNo(conn), role, held)
+        .expect(rt, "memory")
 }
 
 /// What a connection in this role is sent at an entry that comes next.
@@ -177,74 +252,110 @@ fn next(
     role: Role,
     held: &Held,
 ) -> String {
-    let lines = log
-        .message_next(alloc, ConnNo(conn), role, held)
-        .expect(rt, "memory");
+    let lines = message_next(rt, alloc, log, conn, role, held);
     let mut out = String::new(alloc);
     push_lines(rt, &mut out, lines.as_slice());
     out
 }
 
-#[test]
-fn joiner_is_sent_the_last_line(rt: HostRuntime) -> Result<(), Fail> {
-    let mut log = opened(&rt, rt.alloc());
-    let held = join(&rt, rt.alloc());
-    let told = next(&rt, rt.alloc(), &log, 4, Role::Outside, &held);
+fn joiner_is_sent(rt: &impl Abort, alloc: Global, log: &SplitLog, held: &Held) {
+    let told = next(rt, alloc, log, 4, Role::Outside, held);
     assert_eq!(rt; told.as_str(), "|init|battle two ");
-    log.push(held).expect(&rt, "memory");
-    let sent = read_once(&rt, rt.alloc(), &log, 4);
-    assert_eq!(rt; sent.as_str(), "|init|battle two \n");
-    Ok(())
+}
+
+fn push_held(rt: &impl Abort, log: &mut SplitLog, held: Held) {
+    log.push(held).expect(rt, "memory");
+}
+
+/// The fourth connection joins the log, and is sent the same before and after.
+fn join_holds(rt: &impl Abort, alloc: Global, log: &mut SplitLog) {
+    let held = join(rt, alloc);
+    joiner_is_sent(rt, alloc, log, &held);
+    push_held(rt, log, held);
+    reads(rt, alloc, log, 4, "|init|battle two \n");
 }
 
 #[test]
-fn one_call_or_one_after_each_entry(rt: HostRuntime) -> Result<(), Fail> {
-    let alloc = rt.alloc();
+fn joiner_is_sent_the_last_line(rt: HostRuntime) {
+    let mut log = opened(&rt, rt.alloc());
+    join_holds(&rt, rt.alloc(), &mut log);
+    close(log);
+}
+
+/// Puts what the third connection reads that reads after each of three entries.
+fn read_each(rt: &impl Abort, alloc: Global, log: &mut SplitLog, out: &mut String) {
     let mut cursor = Cursor::new(ConnNo(3));
+    read(rt, alloc, log, &mut cursor, out);
+    append_event(rt, alloc, log);
+    read(rt, alloc, log, &mut cursor, out);
+    append_line(rt, alloc, log);
+    read(rt, alloc, log, &mut cursor, out);
+}
+
+fn each_holds(rt: &impl Abort, alloc: Global, log: &mut SplitLog) {
     let mut each = String::new(alloc);
-    let mut log = opened(&rt, alloc);
-    read(&rt, alloc, &log, &mut cursor, &mut each);
-    append(&rt, alloc, &mut log, &[DAMAGE], &[], &[]);
-    read(&rt, alloc, &log, &mut cursor, &mut each);
-    let lines = [line(&rt, alloc, "three")];
-    append(&rt, alloc, &mut log, &[], &lines, &[]);
-    read(&rt, alloc, &log, &mut cursor, &mut each);
-    let once = read_once(&rt, alloc, &log, 3);
+    read_each(rt, alloc, log, &mut each);
     assert_eq!(rt; each.as_str(), "|-damage|p1a: Tauros|94/100 \nthree \n");
-    assert_eq!(rt; once.as_str(), each.as_str());
-    Ok(())
+    reads(rt, alloc, log, 3, each.as_str());
+}
+
+#[test]
+fn one_call_or_one_after_each_entry(rt: HostRuntime) {
+    let mut log = opened(&rt, rt.alloc());
+    each_holds(&rt, rt.alloc(), &mut log);
+    close(log);
+}
+
+fn append_damage_known(rt: &impl Abort, alloc: Global, log: &mut SplitLog, known: &Known) {
+    log.append(alloc, ConnNo(1), &[DAMAGE], &known.names, &known.dex)
+        .expect(rt, "memory");
 }
 
 /// An entry of Ann's of one event alone.
 fn append_damage(rt: &impl Abort, alloc: Global, log: &mut SplitLog) {
-    let names = names(rt, alloc);
-    log.append(alloc, ConnNo(1), &[DAMAGE], &names, &Dex::empty(alloc))
-        .expect(rt, "memory");
+    let known = make_known(rt, alloc);
+    append_damage_known(rt, alloc, log, &known);
+    forget(known);
+}
+
+fn damage_known(rt: &impl Abort, alloc: Global, known: &Known) -> Held {
+    let entry = entry(&[DAMAGE], &[], &[]);
+    held_of(alloc, &known.names, &known.dex, entry).expect(rt, "memory")
 }
 
 /// The same entry, which isn't in the log yet.
 fn damage(rt: &impl Abort, alloc: Global) -> Held {
-    let names = names(rt, alloc);
-    let entry = Entry {
-        conn: ConnNo(1),
-        events: &[DAMAGE],
-        lines: &[],
-        join: None,
-        roles: &[],
-    };
-    held_of(alloc, &names, &Dex::empty(alloc), entry).expect(rt, "memory")
+    let known = make_known(rt, alloc);
+    let held = damage_known(rt, alloc, &known);
+    forget(known);
+    held
+}
+
+/// The third connection is sent this of an entry that comes next, in this role.
+fn is_sent(rt: &impl Abort, alloc: Global, log: &SplitLog, held: &Held, role: Role, wanted: &str) {
+    let sent = next(rt, alloc, log, 3, role, held);
+    assert_eq!(rt; sent.as_str(), wanted);
+}
+
+fn damage_is_sent(rt: &impl Abort, alloc: Global, log: &SplitLog) {
+    let held = damage(rt, alloc);
+    is_sent(
+        rt,
+        alloc,
+        log,
+        &held,
+        PLAYER_1,
+        "|-damage|p1a: Tauros|331/353 ",
+    );
+    is_sent(rt, alloc, log, &held, Role::Outside, "");
+    discard(held);
 }
 
 #[test]
-fn next_entry_is_sent_as_it_is_read(rt: HostRuntime) -> Result<(), Fail> {
+fn next_entry_is_sent_as_it_is_read(rt: HostRuntime) {
     let mut log = opened(&rt, rt.alloc());
-    let held = damage(&rt, rt.alloc());
-    let own = next(&rt, rt.alloc(), &log, 3, PLAYER_1, &held);
-    assert_eq!(rt; own.as_str(), "|-damage|p1a: Tauros|331/353 ");
-    let outside = next(&rt, rt.alloc(), &log, 3, Role::Outside, &held);
-    assert_eq!(rt; outside.as_str(), "");
+    damage_is_sent(&rt, rt.alloc(), &log);
     append_damage(&rt, rt.alloc(), &mut log);
-    let read = read_once(&rt, rt.alloc(), &log, 3);
-    assert_eq!(rt; read.as_str(), "|-damage|p1a: Tauros|94/100 \n");
-    Ok(())
+    reads(&rt, rt.alloc(), &log, 3, "|-damage|p1a: Tauros|94/100 \n");
+    close(log);
 }

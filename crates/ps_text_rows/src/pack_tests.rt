@@ -1,11 +1,12 @@
 //! Texts with what is known of them by hand.
-ghost use Rattle.std.specs.Prelude.{◌≡◌};
-
 use ps_base::pack_kind::PackKind;
+use ps_base::text::Text;
 use ps_packed::fault::PackFault;
+use ps_packed::set::Set;
 use ps_packed::team::{Team, read_team};
 use ps_packed::write::write_team;
-use std::test::Fail;
+use std::alloc::Global;
+use std::process::Abort;
 
 /// Texts that are no packed teams, each with its fault.
 static FAULTS: [(&str, u32, PackKind); 74] = [
@@ -151,61 +152,134 @@ static LONG: [(&str, u32, &str, u32, PackKind); 8] = [
     ("a||||", 9000, "|||||||", 4089, PackKind::Long),
 ];
 
-fn is_fault(answer: &Result<Team, PackFault>, at: u32, kind: PackKind) -> bool {
-    match answer {
-        Err(
-            PackFault::Fault {
-                at: found_at,
-                kind: found,
-            },
-        ) => *found_at == at && *found == kind,
-        _ => false,
+// Memory that is refused ends a test at once: what may return in between would be slow to prove. So would a team be that ends
+// beside other values: it ends alone.
+
+fn read(alloc: Global, text: &str) -> Result<Team, PackFault> {
+    read_team(alloc, text)
+}
+
+/// What a text is refused for.
+fn fault(alloc: Global, text: &str) -> Option<PackFault> {
+    match read(alloc, text) {
+        Ok(_) => None,
+        Err(fault) => Some(fault),
+    }
+}
+
+fn wanted(at: u32, kind: PackKind) -> Option<PackFault> {
+    Some(PackFault::Fault { at, kind })
+}
+
+fn fault_holds(rt: &impl Abort, alloc: Global, row: &(&str, u32, PackKind)) {
+    let (text, at, kind) = row;
+    assert_eq!(rt; fault(alloc, text), wanted(*at, *kind), "{text}");
+}
+
+#[test]
+fn tells_each_fault(rt: HostRuntime) {
+    for row in &FAULTS {
+        fault_holds(&rt, rt.alloc(), row);
+    }
+}
+
+fn push_commas(rt: &impl Abort, out: &mut String, count: u32) {
+    for _ in 0..count {
+        out.push(',').expect(rt, "memory");
+    }
+}
+
+fn long_text(rt: &impl Abort, alloc: Global, front: &str, commas: u32, end: &str) -> String {
+    let mut text = String::from_str(alloc, front).expect(rt, "memory");
+    push_commas(rt, &mut text, commas);
+    text.push_str(end).expect(rt, "memory");
+    text
+}
+
+fn long_fault(
+    rt: &impl Abort,
+    alloc: Global,
+    row: &(&str, u32, &str, u32, PackKind),
+) -> Option<PackFault> {
+    let text = long_text(rt, alloc, row.0, row.1, row.2);
+    fault(alloc, text.as_str())
+}
+
+fn long_fault_holds(rt: &impl Abort, alloc: Global, row: &(&str, u32, &str, u32, PackKind)) {
+    let (_, commas, _, at, kind) = row;
+    assert_eq!(rt;
+        long_fault(rt, alloc, row),
+        wanted(*at, *kind),
+        "{commas} commas"
+    );
+}
+
+#[test]
+fn tells_faults_of_long_texts(rt: HostRuntime) {
+    for row in &LONG {
+        long_fault_holds(&rt, rt.alloc(), row);
+    }
+}
+
+fn team(rt: &impl Abort, alloc: Global, text: &str) -> Team {
+    read(alloc, text).expect(rt, "a team")
+}
+
+fn end_team(_team: Team) {}
+
+fn written(rt: &impl Abort, alloc: Global, team: &Team) -> Text {
+    write_team(alloc, team).expect(rt, "memory")
+}
+
+fn is_written(rt: &impl Abort, alloc: Global, team: &Team, canonical: &str) {
+    let written = written(rt, alloc, team);
+    assert_eq!(rt; written.as_str(), canonical);
+}
+
+fn team_holds(rt: &impl Abort, alloc: Global, row: &(&str, &str)) {
+    let (text, canonical) = row;
+    let team = team(rt, alloc, text);
+    is_written(rt, alloc, &team, canonical);
+    end_team(team);
+}
+
+#[test]
+fn reads_and_writes(rt: HostRuntime) {
+    for row in &TEAMS {
+        team_holds(&rt, rt.alloc(), row);
+    }
+}
+
+fn sets(team: &Team) -> &[Set] {
+    team.sets()
+}
+
+fn texts_hold(rt: &impl Abort, set: &Set) {
+    assert_eq!(rt; set.nick.as_str(), "Tauros");
+    assert_eq!(rt; set.species.as_str(), "Tauros");
+    assert_eq!(rt; set.moves.as_slice().len(), 4);
+}
+
+fn numbers_hold(rt: &impl Abort, set: &Set) {
+    assert!(rt; set.evs == [252; 6] && set.ivs == [31; 6]);
+    assert!(rt; set.level == 100 && !set.shiny);
+}
+
+fn sets_hold(rt: &impl Abort, sets: &[Set]) {
+    assert_eq!(rt; sets.len(), 1);
+    for set in sets {
+        texts_hold(rt, set);
+        numbers_hold(rt, set);
     }
 }
 
 #[test]
-fn tells_each_fault(rt: HostRuntime) -> Result<(), Fail> {
-    for (text, at, kind) in &FAULTS {
-        let answer = read_team(rt.alloc(), text);
-        assert!(rt; is_fault(&answer, *at, *kind), "{text}: {answer:?}");
-    }
-    for (front, commas, end, at, kind) in &LONG {
-        let mut text = String::from_str(rt.alloc(), front)?;
-        for _ in 0..*commas {
-            text.push(',')?;
-        }
-        text.push_str(end)?;
-        let answer = read_team(rt.alloc(), text.as_str());
-        assert!(rt;
-            is_fault(&answer, *at, *kind),
-            "{commas} commas: {answer:?}"
-        );
-    }
-    Ok(())
-}
-
-#[test]
-fn reads_and_writes(rt: HostRuntime) -> Result<(), Fail> {
-    for (text, canonical) in &TEAMS {
-        let Ok(team) = read_team(rt.alloc(), text) else {
-            return Err(Fail::from("no team"))
-        };
-        let written = write_team(rt.alloc(), &team)?;
-        assert_eq!(rt; written.as_str(), *canonical);
-    }
-    let Ok(team) = read_team(
+fn reads_each_part_of_a_set(rt: HostRuntime) {
+    let team = team(
+        &rt,
         rt.alloc(),
         "Tauros||||bodyslam,hyperbeam,blizzard,earthquake|||||||",
-    ) else {
-        return Err(Fail::from("no team"))
-    };
-    assert_eq!(rt; team.sets().len(), 1);
-    for set in team.sets() {
-        assert_eq!(rt; set.nick.as_str(), "Tauros");
-        assert_eq!(rt; set.species.as_str(), "Tauros");
-        assert_eq!(rt; set.moves.as_slice().len(), 4);
-        assert!(rt; set.evs == [252; 6] && set.ivs == [31; 6]);
-        assert!(rt; set.level == 100 && !set.shiny);
-    }
-    Ok(())
+    );
+    sets_hold(&rt, sets(&team));
+    end_team(team);
 }
