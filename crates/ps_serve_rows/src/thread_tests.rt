@@ -1,24 +1,21 @@
 //! What no clause says: two sessions in two threads.
-use crate::files::{ANN, BOB, clock, inbox_of, make_hub, was_sent, word_of};
+use crate::files::{ANN, BOB, assert_ended, close, end_of, inbox_of, make_hub, was_sent};
 use crate::waiting::{Steps, Waiting};
 use crate::watching::count_at;
-use ps_base::number::ConnNo;
 use ps_hub::hub::Hub;
-use ps_outside::link::{Link, MemLink};
+use ps_outside::link::{Link, MemLink, SentText};
 use ps_serve::closed::End;
-use ps_serve::session::serve_session;
 use std::alloc::Global;
 use std::process::Abort;
 use std::sync::Wait;
 use std::sync::atomic::AtomicBool;
-use std::test::Fail;
 use std::thread;
 use std::thread::Threads;
 
 /// How a session ended, and its link.
 fn serve<R: Wait, L: Link>(rt: &R, alloc: Global, hub: &Hub, conn: u32, mut link: L) -> (End, L) {
-    let closed = serve_session(alloc, rt, hub, ConnNo(conn), &mut link, &mut clock(alloc));
-    (closed.end, link)
+    let end = end_of(rt, alloc, hub, conn, &mut link);
+    (end, link)
 }
 
 /// The sessions of connections 1 and 2 beside each other.
@@ -41,39 +38,58 @@ fn link(rt: &impl Abort, alloc: Global, texts: &[&str]) -> MemLink {
     MemLink::new(alloc, inbox, Vec::new(alloc), Vec::new(alloc))
 }
 
-/// What Ann was sent, in whatever order the threads went.
-fn ann_holds(rt: &impl Abort, ended: &(End, MemLink)) {
-    let (end, link) = ended;
-    assert_eq!(rt; word_of(end), "Closed");
-    assert!(rt; was_sent(link.sent(), "|challstr|0-1\n"));
-    assert!(rt; was_sent(link.sent(), "|updateuser|%Ann|1|0|{}"));
-    assert!(rt; was_sent(link.sent(), ">lobby\n|init|chat\n|title|Lobby\n|users|"));
-    assert!(rt; was_sent(link.sent(), ">lobby\nModnote by %Ann: watch"));
+/// Begins of texts of which Ann is sent each, in whatever order the threads went.
+const TO_ANN: &[&str] = &[
+    "|challstr|0-1\n",
+    "|updateuser|%Ann|1|0|{}",
+    ">lobby\n|init|chat\n|title|Lobby\n|users|",
+    ">lobby\nModnote by %Ann: watch",
+];
+
+/// The same for Bob, who is no staff.
+const TO_BOB: &[&str] = &[
+    "|challstr|0-2\n",
+    "|updateuser| Bob|1|0|{}",
+    ">lobby\n|init|chat\n|title|Lobby\n|users|",
+    ">lobby\n|c:|0| Bob|hi",
+];
+
+fn were_sent(rt: &impl Abort, sent: &[SentText], begins: &[&str]) {
+    for begin in begins {
+        assert!(rt; was_sent(sent, begin));
+    }
 }
 
-/// What Bob was sent, who is no staff.
-fn bob_holds(rt: &impl Abort, ended: &(End, MemLink)) {
+/// What Ann was sent.
+fn ann_holds(rt: &impl Abort, ended: (End, MemLink)) {
     let (end, link) = ended;
-    assert_eq!(rt; word_of(end), "Closed");
-    assert!(rt; was_sent(link.sent(), "|challstr|0-2\n"));
-    assert!(rt; was_sent(link.sent(), "|updateuser| Bob|1|0|{}"));
-    assert!(rt; was_sent(link.sent(), ">lobby\n|init|chat\n|title|Lobby\n|users|"));
-    assert!(rt; was_sent(link.sent(), ">lobby\n|c:|0| Bob|hi"));
+    assert_ended(rt, end, "Closed");
+    were_sent(rt, link.sent(), TO_ANN);
+}
+
+/// What Bob was sent, and that he wasn't sent the note.
+fn bob_holds(rt: &impl Abort, ended: (End, MemLink)) {
+    let (end, link) = ended;
+    assert_ended(rt, end, "Closed");
+    were_sent(rt, link.sent(), TO_BOB);
     assert!(rt; !was_sent(link.sent(), ">lobby\nModnote by"));
+}
+
+fn meet_in_the_lobby<R: Threads + Wait + Sync + Abort>(rt: &R, alloc: Global, hub: &Hub) {
+    let ann = link(rt, alloc, &[ANN, "|/join lobby", "lobby|/modnote watch"]);
+    let bob = link(rt, alloc, &[BOB, "|/join lobby", "lobby|hi"]);
+    let (ann, bob) = serve_both(rt, alloc, hub, ann, bob);
+    ann_holds(rt, ann);
+    bob_holds(rt, bob);
 }
 
 /// The lobby has two joins, the modnote, the text and two Quits.
 #[test]
-fn two_users_in_the_lobby(rt: HostRuntime) -> Result<(), Fail> {
-    let alloc = rt.alloc();
-    let hub = make_hub(&rt, alloc);
-    let ann = link(&rt, alloc, &[ANN, "|/join lobby", "lobby|/modnote watch"]);
-    let bob = link(&rt, alloc, &[BOB, "|/join lobby", "lobby|hi"]);
-    let (ann, bob) = serve_both(&rt, alloc, &hub, ann, bob);
-    ann_holds(&rt, &ann);
-    bob_holds(&rt, &bob);
+fn two_users_in_the_lobby(rt: HostRuntime) {
+    let hub = make_hub(&rt, rt.alloc());
+    meet_in_the_lobby(&rt, rt.alloc(), &hub);
     assert_eq!(rt; count_at(&rt, &hub, "lobby"), 6);
-    Ok(())
+    close(hub);
 }
 
 /// What both are sent when the challenge was accepted.
@@ -105,20 +121,38 @@ const BOB_STEPS: Steps = &[
     (JOINED, ""),
 ];
 
-/// The battle has its Begin, two joins and two Quits.
-#[test]
-fn a_challenge_in_two_threads(rt: HostRuntime) -> Result<(), Fail> {
-    let alloc = rt.alloc();
-    let hub = make_hub(&rt, alloc);
+fn was_told_all(rt: &impl Abort, ended: (End, Waiting)) {
+    let (end, link) = ended;
+    assert_ended(rt, end, "Closed");
+    assert!(rt; link.was_told_all());
+}
+
+/// Ann challenges Bob, and each has a flag that says whether the name is taken.
+fn meet_in_a_battle<'a, R: Threads + Wait + Sync + Abort>(
+    rt: &R,
+    alloc: Global,
+    hub: &Hub,
+    ann_is_named: &'a AtomicBool,
+    bob_is_named: &'a AtomicBool,
+) {
+    let ann = Waiting::new(alloc, ANN_STEPS, ann_is_named, bob_is_named);
+    let bob = Waiting::new(alloc, BOB_STEPS, bob_is_named, ann_is_named);
+    let (ann, bob) = serve_both(rt, alloc, hub, ann, bob);
+    was_told_all(rt, ann);
+    was_told_all(rt, bob);
+}
+
+fn challenge<R: Threads + Wait + Sync + Abort>(rt: &R, alloc: Global, hub: &Hub) {
     let ann_is_named = AtomicBool::new(false);
     let bob_is_named = AtomicBool::new(false);
-    let ann = Waiting::new(alloc, ANN_STEPS, &ann_is_named, &bob_is_named);
-    let bob = Waiting::new(alloc, BOB_STEPS, &bob_is_named, &ann_is_named);
-    let (ann, bob) = serve_both(&rt, alloc, &hub, ann, bob);
-    assert_eq!(rt; word_of(&ann.0), "Closed");
-    assert_eq!(rt; word_of(&bob.0), "Closed");
-    assert!(rt; ann.1.was_told_all());
-    assert!(rt; bob.1.was_told_all());
+    meet_in_a_battle(rt, alloc, hub, &ann_is_named, &bob_is_named);
+}
+
+/// The battle has its Begin, two joins and two Quits.
+#[test]
+fn a_challenge_in_two_threads(rt: HostRuntime) {
+    let hub = make_hub(&rt, rt.alloc());
+    challenge(&rt, rt.alloc(), &hub);
     assert_eq!(rt; count_at(&rt, &hub, "battle-gen1ou-1"), 5);
-    Ok(())
+    close(hub);
 }

@@ -19,11 +19,10 @@ const MOST_QUIETS: u64 = 1_000_000;
 /// How often a client asks again for a room that isn't there yet.
 const MOST_AGAIN: u32 = 4_000;
 
-/// The link of a client that says each of its texts when it was sent what the text needs, and says its last one again where
-/// the room wasn't there yet. Until then it is quiet.
+/// A client that says each of its texts when it was sent what the text needs, and says its last one again where the room wasn't
+/// there yet.
 #[derive(Drop)]
-pub(crate) struct Waiting<'a> {
-    alloc: Global,
+struct Client<'a> {
     steps: Steps,
     reached: usize,
     said: usize,
@@ -31,6 +30,13 @@ pub(crate) struct Waiting<'a> {
     left_again: u32,
     is_named: &'a AtomicBool,
     other_is_named: &'a AtomicBool,
+}
+
+/// The link of a client, which is quiet while the client waits. It only counts, and no function of the client promises anything.
+#[derive(Drop)]
+pub(crate) struct Waiting<'a> {
+    alloc: Global,
+    client: Client<'a>,
     quiets: u64,
     ends: u64,
 }
@@ -42,32 +48,7 @@ enum Move {
     Close,
 }
 
-impl<'a> Waiting<'a> {
-    pub(crate) fn new(
-        alloc: Global,
-        steps: Steps,
-        is_named: &'a AtomicBool,
-        other_is_named: &'a AtomicBool,
-    ) -> Waiting<'a> {
-        Waiting {
-            alloc,
-            steps,
-            reached: 0,
-            said: 0,
-            asks_again: false,
-            left_again: MOST_AGAIN,
-            is_named,
-            other_is_named,
-            quiets: 0,
-            ends: 0,
-        }
-    }
-
-    /// Whether it was sent all that its table waits for.
-    pub(crate) fn was_told_all(&self) -> bool {
-        self.reached >= self.steps.len()
-    }
-
+impl<'a> Client<'a> {
     // The text of a row, if there is one.
     fn text_at(&self, place: usize) -> &'static str {
         match self.steps.get(place) {
@@ -92,50 +73,107 @@ impl<'a> Waiting<'a> {
         }
     }
 
-    // Takes note of a text that was sent.
-    fn hear(&mut self, text: &str)
-        ensures quiets { self.new.quiets ≡ self.old.quiets }
-        ensures ends { self.new.ends ≡ self.old.ends }
-    {
+    // Takes note of a room that isn't there yet.
+    fn hear_refusal(&mut self, text: &str) {
         if text.starts_with("|popup|[NoSuchRoom]") {
             self.asks_again = self.left_again > 0;
             self.left_again = self.left_again.saturating_sub(1);
         }
+    }
+
+    // Reaches the next row, if its text was sent.
+    fn reach_met(&mut self, text: &str) {
         if self.is_met(self.reached, text) {
             self.reached = self.reached.saturating_add(1);
         }
+    }
+
+    // Reaches the next row, if it needs nothing more.
+    fn reach_free(&mut self) {
         if self.is_free(self.reached) {
             self.reached = self.reached.saturating_add(1);
         }
+    }
+
+    // Tells the other client once this one has its name.
+    fn tell_name(&self) {
         if self.reached >= NAMED {
             self.is_named.store(true, Ordering::SeqCst);
         }
     }
 
-    // What the client does now.
-    fn next_move(&mut self) -> Move
-        ensures quiets { self.new.quiets ≡ self.old.quiets }
-        ensures ends { self.new.ends ≡ self.old.ends }
-    {
-        if self.quiets >= MOST_QUIETS {
-            return Move::Close;
-        }
-        if self.asks_again {
-            self.asks_again = false;
-            return Move::Say(self.text_at(self.said.saturating_sub(1)));
-        }
+    // Takes note of a text that was sent.
+    fn hear(&mut self, text: &str) {
+        self.hear_refusal(text);
+        self.reach_met(text);
+        self.reach_free();
+        self.tell_name();
+    }
+
+    // Whether the next text of the table has to wait.
+    fn has_to_wait(&self) -> bool {
         if self.said >= self.reached {
-            return Move::Wait;
+            return true;
         }
-        if self.said == NAMED && !self.other_is_named.load(Ordering::SeqCst) {
-            return Move::Wait;
+        if self.said != NAMED {
+            return false;
         }
+        !self.other_is_named.load(Ordering::SeqCst)
+    }
+
+    // Says the next text of the table, or closes at its end.
+    fn say_next(&mut self) -> Move {
         let text = self.text_at(self.said);
         if text.is_empty() {
             return Move::Close;
         }
         self.said = self.said.saturating_add(1);
         Move::Say(text)
+    }
+
+    // What the client does now, after so many times at which the link was quiet.
+    fn next_move(&mut self, quiets: u64) -> Move {
+        if quiets >= MOST_QUIETS {
+            return Move::Close;
+        }
+        if self.asks_again {
+            self.asks_again = false;
+            return Move::Say(self.text_at(self.said.saturating_sub(1)));
+        }
+        if self.has_to_wait() {
+            return Move::Wait;
+        }
+        self.say_next()
+    }
+}
+
+impl<'a> Waiting<'a> {
+    pub(crate) fn new(
+        alloc: Global,
+        steps: Steps,
+        is_named: &'a AtomicBool,
+        other_is_named: &'a AtomicBool,
+    ) -> Waiting<'a> {
+        let client = Client {
+            steps,
+            reached: 0,
+            said: 0,
+            asks_again: false,
+            left_again: MOST_AGAIN,
+            is_named,
+            other_is_named,
+        };
+        Waiting {
+            alloc,
+            client,
+            quiets: 0,
+            ends: 0,
+        }
+    }
+
+    /// Whether it was sent all that its table waits for.
+    pub(crate) fn was_told_all(&self) -> bool {
+        self.client.reached >= self.client.steps.len()
     }
 }
 
@@ -145,7 +183,7 @@ impl<'a> Link for Waiting<'a> {
     ghost counts = { λ l. record { faults = 0; quiets = l.quiets; ends = l.ends } };
 
     fn next(&mut self) -> Next {
-        match self.next_move() {
+        match self.client.next_move(self.quiets) {
             Move::Say(text) => match text.as_bytes().to_vec(self.alloc) {
                 Ok(bytes) => Next::Text(bytes),
                 Err(_) => Next::NoMemory,
@@ -163,7 +201,7 @@ impl<'a> Link for Waiting<'a> {
     }
 
     fn send(&mut self, text: &str) -> Result<(), SendEnd> {
-        self.hear(text);
+        self.client.hear(text);
         Ok(())
     }
 }
