@@ -22,7 +22,7 @@ pub const FIRST_BATTLE: u32 = 16;
 /// How many battles start at the most: they have the numbers from 1 to this one.
 pub const MOST_BATTLES: u32 = 65_536;
 
-/// The number of the room of the battle with this number: battle n has 15 + n.
+/// The number of the room of the battle with this number, which is `MOST_BATTLES` at the most: battle n has 15 + n.
 pub fn room_of_battle(number: u32) -> u32
     requires { number ≤ most_battles }
     ensures { result ≡ room_of_battle number }

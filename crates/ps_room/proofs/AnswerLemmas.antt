@@ -1,5 +1,5 @@
 -- Every entry gets the answer of its verdict.
-use Rattle.std.proofs.Common.{◌≡◌, ◌≢◌, ℕ, ◌==◌, true, false, [], ◌∷◌, Option, Some, None, refl, inl, inr}
+use Rattle.std.proofs.Common.{◌≡◌, ◌≢◌, ℕ, ◌==◌, true, false, [], ◌∷◌, Option, Some, None, refl, sym, ap, ◌∙◌, inl, inr}
 use Rattle.std.proofs.lemmas.Bool.Decides.{eqb_tells}
 use Rattle.ps_base.specs.declared.why.Why.{Why}
 use Rattle.ps_base.specs.Whys.{error_line}
@@ -8,6 +8,10 @@ use Rattle.ps_room.specs.Records.{Record, cast_in}
 use Rattle.ps_chat.specs.Verdicts.{verdict as chat_verdict}
 use Rattle.ps_room.specs.Rooms.{verdict, sender_of, refusal_by_battle, or_else, told, after, applied, role, message}
 use Rattle.ps_room.specs.Answers.{IsAnswered}
+use Rattle.ps_bout.specs.declared.bout.Bout.{Bout}
+use Rattle.ps_room.specs.Logs.{Seen, record_in, Goes, ending_by, out_by, out_of}
+use Rattle.ps_room.specs.declared.outcome.RoomOut.{RoomOut}
+use Rattle.ps_room.specs.declared.outcome.Verdict.TheVariants.{Applied, Refused}
 use Rattle.ps_room.proofs.QuietLemmas.{shown_nothing}
 
 pub same_is : (a : ℕ) → (a == a) ≡ true
@@ -53,3 +57,37 @@ chat_allows r e v = (none_both (chat_verdict r.opening r.chat e.conn e.badge e.m
 pub battle_allows : (r : Record) (e : Entry) → verdict r e ≡ None → refusal_by_battle r.battle (sender_of r e) e.cmd ≡ None
 unfolding verdict
 battle_allows r e v = (none_both (chat_verdict r.opening r.chat e.conn e.badge e.moment e.cmd) (refusal_by_battle r.battle (sender_of r e) e.cmd) v).1
+
+-- ---- an answer tells the verdict
+
+verdict_applied : (v : Option Why) (r : Record) (e : Entry) (out : RoomOut) → out ≡ out_by v r e → out.verdict ≡ Applied → v ≡ None
+verdict_applied None r e out is said = refl
+verdict_applied (Some why) r e out is said = absurd (let wrong : Refused why ≡ Applied = sym (ap (λ (o : RoomOut). o.verdict) is) ∙ said in cc)
+
+verdict_refused : (v : Option Why) (r : Record) (e : Entry) (out : RoomOut) (why : Why) → out ≡ out_by v r e → out.verdict ≡ Refused why → v ≡ Some why
+verdict_refused None r e out why is said = absurd (let wrong : Applied ≡ Refused why = sym (ap (λ (o : RoomOut). o.verdict) is) ∙ said in cc)
+verdict_refused (Some other) r e out why is said = let same : Refused other ≡ Refused why = sym (ap (λ (o : RoomOut). o.verdict) is) ∙ said in cc
+
+pub was_allowed : (r : Record) (e : Entry) (out : RoomOut) → out ≡ out_of r e → out.verdict ≡ Applied → verdict r e ≡ None
+unfolding out_of
+was_allowed r e out is said = verdict_applied (verdict r e) r e out is said
+
+pub was_refused : (r : Record) (e : Entry) (out : RoomOut) (why : Why) → out ≡ out_of r e → out.verdict ≡ Refused why → verdict r e ≡ Some why
+unfolding out_of
+was_refused r e out why is said = verdict_refused (verdict r e) r e out why is said
+
+-- and a verdict the answer
+pub out_refused : (r : Record) (e : Entry) (why : Why) → verdict r e ≡ Some why → record { verdict = Refused why; ended = None } ≡ out_of r e
+unfolding out_of
+out_refused r e why v = rw v refl
+
+pub out_allowed : (r : Record) (e : Entry) → verdict r e ≡ None → record { verdict = Applied; ended = ending_by r.battle (sender_of r e) e.cmd } ≡ out_of r e
+unfolding out_of
+out_allowed r e v = rw v refl
+
+-- a refused entry has no rounds to go on with
+pub nowhere : (s : Seen) (e : Entry) (why : Why) (b : Option Bout) → verdict (record_in s) e ≡ Some why → Goes s e b
+nowhere s e why b v = record { after = λ a. absurd (never a); bout = λ a. absurd (never a) }
+  where
+    never : verdict (record_in s) e ≡ None → ⊥
+    never a = let wrong : Some why ≡ None = sym v ∙ a in cc

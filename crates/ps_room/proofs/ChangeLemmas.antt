@@ -17,8 +17,9 @@ use Rattle.ps_splitlog.specs.declared.entry.Held.{Held}
 use Rattle.ps_room.specs.declared.entry.Entry.{Entry}
 use Rattle.ps_room.specs.Records.{Record, presents_of, cast_in}
 use Rattle.ps_room.specs.Rooms.{verdict, sender_of, chat_lines, told, refused_line, events_by, lines_by, allowed_events, allowed_lines, is_join, applied, battle_after}
-use Rattle.ps_room.specs.Logs.{Seen, record_in, seen_after, change_in, change_to, changed_conn, touched_by, stored_in, join_if, given, kept_of}
-use Rattle.ps_room.proofs.AnswerLemmas.{after_allowed, after_refused}
+use Rattle.ps_room.specs.Logs.{Seen, record_in, seen_after, change_in, change_to, changed_conn, touched_by, stored_in, join_if, given, kept_of, ending_by, out_of}
+use Rattle.ps_room.specs.declared.outcome.Verdict.TheVariants.{Applied}
+use Rattle.ps_room.proofs.AnswerLemmas.{after_allowed, after_refused, out_allowed}
 
 -- ---- lists
 
@@ -57,6 +58,12 @@ pub given_by_parts : (s : Seen) (e : Entry) (battle : Option Fight) (me : Option
     → battle ≡ s.battle → me ≡ sender_of (record_in s) e → ls ≡ chat_lines (record_in s) e → join ≡ join_if (is_join e.cmd) (record_in s) e
     → record { conn = e.conn; lines = stored_in (cast_in battle) (events_by battle me e.cmd) (lines_by battle me e.cmd ls); join = join; roles = [] } ≡ given (record_in s) e
 given_by_parts s e battle me ls join v b m l j = rw (b, m, l, j) (given_allowed (record_in s) e v)
+
+-- and its answer
+pub out_by_parts : (s : Seen) (e : Entry) (battle : Option Fight) (me : Option Present) → verdict (record_in s) e ≡ None
+    → battle ≡ s.battle → me ≡ sender_of (record_in s) e
+    → record { verdict = Applied; ended = ending_by battle me e.cmd } ≡ out_of (record_in s) e
+out_by_parts s e battle me v b m = rw (b, m) (out_allowed (record_in s) e v)
 
 -- a refused entry changes nothing but the log, and no role
 pub seen_refused : (s : Seen) (e : Entry) (why : Why) (h : Held) → verdict (record_in s) e ≡ Some why → h ≡ given (record_in s) e → record s { log = s.log ++ h ∷ [] } ≡ seen_after s e

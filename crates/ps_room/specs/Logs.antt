@@ -15,6 +15,7 @@ use Rattle.ps_chat.specs.Records.{Opening as ChatOpening, Record as ChatRecord, 
 use Rattle.ps_chat.specs.Looks.{has_id}
 use Rattle.ps_chat.specs.declared.present.Present.{Present}
 use Rattle.ps_view.specs.declared.role.Role.{Role}
+use Rattle.ps_bout.specs.declared.bout.Bout.{Bout}
 use Rattle.ps_bout.specs.Casts.{Cast}
 use Rattle.ps_bout.specs.Fights.{Fight}
 use Rattle.ps_bout.specs.Rounds.{ended}
@@ -32,7 +33,7 @@ use Rattle.ps_room.specs.declared.outcome.Verdict.TheVariants.{Applied, Refused}
 use Rattle.ps_room.specs.Openings.{Opening, cast_with, bout_with, fight_with}
 use Rattle.ps_room.specs.Tolds.{Joined, Told}
 use Rattle.ps_room.specs.Records.{Record, opened, chat_opening, presents_of, cast_in}
-use Rattle.ps_room.specs.Rooms.{verdict, sender_of, outcome_by, joined_if, told, after, role, role_in, run_record, message, view}
+use Rattle.ps_room.specs.Rooms.{verdict, sender_of, outcome_by, battle_after, with_bout, CanGoOn, joined_if, told, after, role, role_in, run_record, message, view}
 
 -- ---- whose role may change
 
@@ -133,6 +134,12 @@ seen_after s e = record { no = s.no; id = s.id; opening = (after (record_in s) e
 abbrev pub run_seen : Seen → List Entry → Seen
 run_seen s [] = s
 run_seen s (e ∷ es) = run_seen (seen_after s e) es
+
+-- ---- for the code: the rounds of the battle, which are worked out before the entry is applied
+
+pub record Goes (s : Seen) (e : Entry) (b : Option Bout) : Type 0 where
+  pub after : verdict (record_in s) e ≡ None → with_bout s.battle b ≡ battle_after s.battle (sender_of (record_in s) e) e.cmd
+  pub bout : verdict (record_in s) e ≡ None → CanGoOn s.battle b
 
 -- ---- the answer of the call
 

@@ -5,13 +5,16 @@ ghost use Rattle.ps_chat.specs.Verdicts.{verdict as chat_verdict};
 ghost use Rattle.ps_chat.specs.Changes.{record_after};
 ghost use Rattle.ps_dex.specs.Figures.{figures_of};
 ghost use Rattle.ps_bout.specs.Bouts.{IsBout};
-ghost use Rattle.ps_bout.specs.Rounds.{outcome};
+ghost use Rattle.ps_mon.specs.Valid.{IsSound};
+ghost use Rattle.ps_bout.specs.Rounds.{outcome, ended as bout_ended};
 ghost use Rattle.ps_splitlog.specs.Entries.{logged_lines, message_of};
 ghost use Rattle.ps_splitlog.specs.Lines.{stored_of_line};
 ghost use Rattle.ps_room.specs.Records.{presents_of, cast_in};
 ghost use Rattle.ps_room.specs.Roles.{role_of_member, side_of_member};
 ghost use Rattle.ps_room.specs.Rooms.{is_join, role_in, refused_line, refusal_by_battle, outcome_by, events_by, lines_by, with_bout, CanGoOn, battle_after, request_for};
+ghost use Rattle.ps_bout.specs.Fights.{requests as requested};
 ghost use Rattle.ps_room.specs.Logs.{conns_with, touched_by, change_in, changed_conn, backlog_size, stored_in, join_if, entry_of, ending_of, ending_by};
+ghost use Rattle.ps_room.specs.declared.outcome.Verdict.TheVariants.{Applied};
 
 use crate::entry::Entry;
 use crate::line;
@@ -33,7 +36,7 @@ use ps_chat::line::ChatLine;
 use ps_chat::look::has_id;
 use ps_chat::present::Present;
 use ps_event::audience::Audience;
-use ps_event::event::Events;
+use ps_event::event::{Event, Events};
 use ps_lines::command::Command;
 use ps_splitlog::cursor::Cursor;
 use ps_splitlog::entry::{ALL, Entry as Heard, Held, Joined, held_of, held_of_lines};
@@ -44,6 +47,18 @@ use std::marker::Model;
 
 /// Of what a chat logged who joins is sent the last so many lines.
 const BACKLOG: u32 = 100;
+
+/// What comes of an entry that comes next at a room, worked out once, before anything changes.
+#[derive(Drop)]
+pub struct Prepared {
+    /// Whether the entry is applied, and the end of the battle where it ends it.
+    pub out: RoomOut,
+    /// All that the entry gives, as the log will have it, but for the roles that hold after it; of a refused one its one line to
+    /// its sender.
+    pub held: Held,
+    /// The rounds of the battle after it; `None` where there is no battle, or the entry is refused.
+    pub bout: Option<Bout>,
+}
 
 /// A room. Contracts see its number and id, what its chat was opened with, its chat, its battle, and its log. It keeps no
 /// event: each line of one stands in the log.
@@ -227,7 +242,7 @@ fn request_for(
 // ---- what an entry gives
 
 // What a refused entry gives: its line, which goes to its sender alone.
-fn refused(alloc: Global, conn: ConnNo, why: Why) -> Result<Held, AllocError>
+fn refused_held(alloc: Global, conn: ConnNo, why: Why) -> Result<Held, AllocError>
     ensures { IfOk result (λ h. h ≡ record { conn = conn; lines = map stored_of_line (refused_line conn why ∷ []); join = None; roles = [] }) }
 {
     let line = ChatLine {
@@ -247,68 +262,21 @@ fn backlog_size(cast: Option<&Cast>) -> u32
     }
 }
 
-// The events of an allowed command, and its lines: those of the chat, and the requests that follow the events.
-fn happened(
+// The lines of an allowed command: those of the chat, and the requests that follow the battle's events.
+fn with_requests(
     alloc: Global,
-    battle: &RoomBattle,
-    member: Option<&Present>,
-    cmd: &Command,
+    cast: &Cast,
+    after: &Bout,
+    events: &[Event],
     lines: Vec<ChatLine>,
-    out: &mut Events,
 ) -> Result<Vec<ChatLine>, AllocError>
-    requires allowed { refusal_by_battle (Some battle.now) (option_copied member) cmd.now ≡ None }
-    requires empty { out.old.items ≡ [] }
-    ensures events { OnOk result (out.new.items ≡ events_by (Some battle.now) (option_copied member.entry) cmd.now) }
-    ensures lines { IfOk result (λ v. v.items ≡ lines_by (Some battle.now) (option_copied member.entry) cmd.now lines.items) }
+    requires { IsSound after.now.battle }
+    ensures { IfOk result (λ v. v.items ≡ lines.items ++ requested cast.now after.now events.now) }
 {
-    let after = outcome_by(battle, member, cmd, out);
     let mut lines = lines;
-    let mut asked = requests(alloc, battle.cast(), &after, out.as_slice())?;
+    let mut asked = requests(alloc, cast, after, events)?;
     lines.append(&mut asked)?;
     Ok(lines)
-}
-
-// What an allowed entry gives: the lines of the battle's events, those of the chat, and the requests that follow the events.
-fn held(
-    alloc: Global,
-    conn: ConnNo,
-    battle: Option<&RoomBattle>,
-    member: Option<&Present>,
-    cmd: &Command,
-    lines: Vec<ChatLine>,
-    join: Option<Joined>,
-) -> Result<Held, AllocError>
-    requires { refusal_by_battle (option_copied battle) (option_copied member) cmd.now ≡ None }
-    ensures { IfOk result (λ h. h ≡ record { conn = conn; lines = stored_in (cast_in (option_copied battle.entry)) (events_by (option_copied battle.entry) (option_copied member.entry) cmd.now) (lines_by (option_copied battle.entry) (option_copied member.entry) cmd.now lines.items); join = join; roles = [] }) }
-{
-    match battle {
-        None => held_of_lines(alloc, conn, lines.as_slice(), join),
-        Some(battle) => held_with_battle(alloc, conn, battle, member, cmd, lines, join),
-    }
-}
-
-fn held_with_battle(
-    alloc: Global,
-    conn: ConnNo,
-    battle: &RoomBattle,
-    member: Option<&Present>,
-    cmd: &Command,
-    lines: Vec<ChatLine>,
-    join: Option<Joined>,
-) -> Result<Held, AllocError>
-    requires { refusal_by_battle (Some battle.now) (option_copied member) cmd.now ≡ None }
-    ensures { IfOk result (λ h. h ≡ record { conn = conn; lines = stored_in (Some battle.now.cast) (events_by (Some battle.now) (option_copied member.entry) cmd.now) (lines_by (Some battle.now) (option_copied member.entry) cmd.now lines.items); join = join; roles = [] }) }
-{
-    let mut out = Events::new();
-    let lines = happened(alloc, battle, member, cmd, lines, &mut out)?;
-    let heard = Heard {
-        conn,
-        events: out.as_slice(),
-        lines: lines.as_slice(),
-        join,
-        roles: &[],
-    };
-    held_of(alloc, battle.cast().names(), battle.cast().dex(), heard)
 }
 
 fn ending_of(number: u32, end: Option<Option<u8>>) -> Option<Ending>
@@ -320,36 +288,83 @@ fn ending_of(number: u32, end: Option<Option<u8>>) -> Option<Ending>
     }
 }
 
-// How the battle ended at an entry that is applied.
-fn ending_by(battle: Option<&RoomBattle>, member: Option<&Present>, cmd: &Command) -> Option<Ending>
-    requires { refusal_by_battle (option_copied battle) (option_copied member) cmd.now ≡ None }
-    ensures { result ≡ ending_by (option_copied battle.entry) (option_copied member.entry) cmd.now }
+// How a battle ended that goes on to these rounds.
+fn ending_with(battle: &RoomBattle, after: &Bout) -> Option<Ending>
+    ensures { result ≡ ending_of battle.now.number (bout_ended battle.now.bout.battle.phase after.now.battle.phase) }
 {
-    match battle {
-        None => None,
-        Some(battle) => {
-            let mut out = Events::new();
-            let after = outcome_by(battle, member, cmd, &mut out);
-            ending_of(
-                battle.number(),
-                ended(battle.bout().battle.phase, after.battle.phase),
-            )
-        }
+    ending_of(
+        battle.number(),
+        ended(battle.bout().battle.phase, after.battle.phase),
+    )
+}
+
+// What comes of an entry that is applied.
+fn applied(held: Held, ended: Option<Ending>, bout: Option<Bout>) -> Prepared
+    ensures { result ≡ record { out = record { verdict = Applied; ended = ended }; held = held; bout = bout } }
+{
+    Prepared {
+        out: RoomOut {
+            verdict: Verdict::Applied,
+            ended,
+        },
+        held,
+        bout,
     }
 }
 
-// The rounds of the battle after an allowed command.
-fn bout_after(battle: Option<&RoomBattle>, member: Option<&Present>, cmd: &Command) -> Option<Bout>
+// What comes of an allowed entry in a room with a battle: its events, the lines of the chat, and the requests that follow the
+// events.
+fn prepared_with(
+    alloc: Global,
+    conn: ConnNo,
+    battle: &RoomBattle,
+    member: Option<&Present>,
+    cmd: &Command,
+    lines: Vec<ChatLine>,
+    join: Option<Joined>,
+) -> Result<Prepared, AllocError>
+    requires { refusal_by_battle (Some battle.now) (option_copied member) cmd.now ≡ None }
+    ensures out { IfOk result (λ p. p.out ≡ record { verdict = Applied; ended = ending_by (Some battle.now) (option_copied member.entry) cmd.now }) }
+    ensures held { IfOk result (λ p. p.held ≡ record { conn = conn; lines = stored_in (Some battle.now.cast) (events_by (Some battle.now) (option_copied member.entry) cmd.now) (lines_by (Some battle.now) (option_copied member.entry) cmd.now lines.items); join = join; roles = [] }) }
+    ensures after { IfOk result (λ p. with_bout (Some battle.now) p.bout ≡ battle_after (Some battle.now) (option_copied member.entry) cmd.now) }
+    ensures bout { IfOk result (λ p. CanGoOn (Some battle.now) p.bout) }
+{
+    let mut out = Events::new();
+    let after = outcome_by(battle, member, cmd, &mut out);
+    let lines = with_requests(alloc, battle.cast(), &after, out.as_slice(), lines)?;
+    let heard = Heard {
+        conn,
+        events: out.as_slice(),
+        lines: lines.as_slice(),
+        join,
+        roles: &[],
+    };
+    let held = held_of(alloc, battle.cast().names(), battle.cast().dex(), heard)?;
+    Ok(applied(held, ending_with(battle, &after), Some(after)))
+}
+
+// What comes of an allowed entry.
+fn prepared_by(
+    alloc: Global,
+    conn: ConnNo,
+    battle: Option<&RoomBattle>,
+    member: Option<&Present>,
+    cmd: &Command,
+    lines: Vec<ChatLine>,
+    join: Option<Joined>,
+) -> Result<Prepared, AllocError>
     requires { refusal_by_battle (option_copied battle) (option_copied member) cmd.now ≡ None }
-    ensures after { with_bout (option_copied battle.entry) result ≡ battle_after (option_copied battle.entry) (option_copied member.entry) cmd.now }
-    ensures bout { CanGoOn (option_copied battle.entry) result }
+    ensures out { IfOk result (λ p. p.out ≡ record { verdict = Applied; ended = ending_by (option_copied battle.entry) (option_copied member.entry) cmd.now }) }
+    ensures held { IfOk result (λ p. p.held ≡ record { conn = conn; lines = stored_in (cast_in (option_copied battle.entry)) (events_by (option_copied battle.entry) (option_copied member.entry) cmd.now) (lines_by (option_copied battle.entry) (option_copied member.entry) cmd.now lines.items); join = join; roles = [] }) }
+    ensures after { IfOk result (λ p. with_bout (option_copied battle.entry) p.bout ≡ battle_after (option_copied battle.entry) (option_copied member.entry) cmd.now) }
+    ensures bout { IfOk result (λ p. CanGoOn (option_copied battle.entry) p.bout) }
 {
     match battle {
-        None => None,
-        Some(battle) => {
-            let mut out = Events::new();
-            Some(outcome_by(battle, member, cmd, &mut out))
+        None => {
+            let held = held_of_lines(alloc, conn, lines.as_slice(), join)?;
+            Ok(applied(held, None, None))
         }
+        Some(battle) => prepared_with(alloc, conn, battle, member, cmd, lines, join),
     }
 }
 
@@ -392,7 +407,7 @@ fn push_and_change(
 impl Room {
     ghost use Rattle.ps_room.specs.Openings.{IsFitOpening};
     ghost use Rattle.ps_room.specs.Rooms.{verdict, role, head};
-    ghost use Rattle.ps_room.specs.Logs.{record_in, given, seen_opened, seen_after, out_of};
+    ghost use Rattle.ps_room.specs.Logs.{record_in, given, seen_opened, seen_after, out_of, Goes};
     ghost use Rattle.ps_splitlog.specs.Reads.{cursor_past, read_past, msg_lines};
 
     /// Whether a room can have this opening: where it has a battle, that can start under the configuration and the dex. Takes
@@ -499,48 +514,54 @@ impl Room {
         }
     }
 
-    /// All that the entry gives, as the log will have it; of a refused one its one line to its sender.
-    pub fn given(&self, alloc: Global, entry: &Entry) -> Result<Held, AllocError>
-        ensures { IfOk result (λ h. h ≡ given (record_in self.now) entry.now) }
+    // What comes of a refused entry, which is its one line to its sender.
+    fn prepare_refused(&self, alloc: Global, entry: &Entry, why: Why) -> Result<Prepared, AllocError>
+        requires { verdict (record_in self.now) entry.now ≡ Some why }
+        ensures out { IfOk result (λ p. p.out ≡ out_of (record_in self.now) entry.now) }
+        ensures held { IfOk result (λ p. p.held ≡ given (record_in self.now) entry.now) }
+        ensures goes { IfOk result (λ p. Goes self.now entry.now p.bout) }
     {
-        match self.verdict(entry) {
-            Some(why) => refused(alloc, entry.conn, why),
-            None => {
-                let lines = self
-                    .chat
-                    .told(alloc, entry.conn, &entry.badge, entry.moment, &entry.cmd)?;
-                let join = self.joined(alloc, entry)?;
-                held(
-                    alloc,
-                    entry.conn,
-                    self.battle.as_ref(),
-                    self.chat.member(entry.conn),
-                    &entry.cmd,
-                    lines,
-                    join,
-                )
-            }
-        }
-    }
-
-    /// Whether an entry is applied where it comes next, and the end of the battle where it ends it. Takes no memory.
-    #[tactic(auto, unfolding(crate::specs::Logs::out_of))]
-    pub fn out_of(&self, entry: &Entry) -> RoomOut
-        ensures { result ≡ out_of (record_in self.now) entry.now }
-    {
-        match self.verdict(entry) {
-            None => RoomOut {
-                verdict: Verdict::Applied,
-                ended: ending_by(
-                    self.battle.as_ref(),
-                    self.chat.member(entry.conn),
-                    &entry.cmd,
-                ),
-            },
-            Some(why) => RoomOut {
+        Ok(Prepared {
+            out: RoomOut {
                 verdict: Verdict::Refused(why),
                 ended: None,
             },
+            held: refused_held(alloc, entry.conn, why)?,
+            bout: None,
+        })
+    }
+
+    // What comes of an allowed one.
+    fn prepare_allowed(&self, alloc: Global, entry: &Entry) -> Result<Prepared, AllocError>
+        requires { verdict (record_in self.now) entry.now ≡ None }
+        ensures out { IfOk result (λ p. p.out ≡ out_of (record_in self.now) entry.now) }
+        ensures held { IfOk result (λ p. p.held ≡ given (record_in self.now) entry.now) }
+        ensures goes { IfOk result (λ p. Goes self.now entry.now p.bout) }
+    {
+        let lines = self
+            .chat
+            .told(alloc, entry.conn, &entry.badge, entry.moment, &entry.cmd)?;
+        let join = self.joined(alloc, entry)?;
+        prepared_by(
+            alloc,
+            entry.conn,
+            self.battle.as_ref(),
+            self.chat.member(entry.conn),
+            &entry.cmd,
+            lines,
+            join,
+        )
+    }
+
+    /// Works out what comes of an entry that comes next, for `keep`. Fails for want of memory alone.
+    pub fn prepare(&self, alloc: Global, entry: &Entry) -> Result<Prepared, AllocError>
+        ensures out { IfOk result (λ p. p.out ≡ out_of (record_in self.now) entry.now) }
+        ensures held { IfOk result (λ p. p.held ≡ given (record_in self.now) entry.now) }
+        ensures goes { IfOk result (λ p. Goes self.now entry.now p.bout) }
+    {
+        match self.verdict(entry) {
+            Some(why) => self.prepare_refused(alloc, entry, why),
+            None => self.prepare_allowed(alloc, entry),
         }
     }
 
@@ -553,18 +574,20 @@ impl Room {
     }
 
     // Applies an entry that is allowed. Where memory fails nothing changes.
-    fn keep_applied(&mut self, alloc: Global, entry: &Entry, held: Held) -> Result<(), AllocError>
+    fn keep_applied(
+        &mut self,
+        alloc: Global,
+        entry: &Entry,
+        held: Held,
+        bout: Option<Bout>,
+    ) -> Result<(), AllocError>
         requires allowed { verdict (record_in self.old) entry.now ≡ None }
         requires given { held ≡ given (record_in self.old) entry.now }
+        requires goes { Goes self.old entry.now bout }
         ensures ok { OnOk result (self.new ≡ seen_after self.old entry.now) }
         ensures err { OnErr result (self.new ≡ self.old) }
     {
         let mut changes = touched_by(alloc, self.chat.members(), entry.conn, &entry.cmd)?;
-        let bout = bout_after(
-            self.battle.as_ref(),
-            self.chat.member(entry.conn),
-            &entry.cmd,
-        );
         push_and_change(alloc, &mut self.chat, &mut self.log, entry, held)?;
         set_bout(&mut self.battle, bout);
         set_all_roles(&self.chat, cast_in(self.battle.as_ref()), &mut changes);
@@ -572,18 +595,23 @@ impl Room {
         Ok(())
     }
 
-    /// Applies an entry, of which all that it gives is handed in. Where memory fails nothing changes.
-    pub fn keep(&mut self, alloc: Global, entry: &Entry, held: Held) -> Result<(), AllocError>
-        requires { held ≡ given (record_in self.old) entry.now }
+    /// Applies an entry, of which `prepare` worked out what comes of it. Where memory fails nothing changes.
+    pub fn keep(
+        &mut self,
+        alloc: Global,
+        entry: &Entry,
+        prepared: Prepared,
+    ) -> Result<(), AllocError>
+        requires out { prepared.out ≡ out_of (record_in self.old) entry.now }
+        requires given { prepared.held ≡ given (record_in self.old) entry.now }
+        requires goes { Goes self.old entry.now prepared.bout }
         ensures ok { OnOk result (self.new ≡ seen_after self.old entry.now) }
         ensures err { OnErr result (self.new ≡ self.old) }
     {
-        match self.verdict(entry) {
-            Some(_) => {
-                self.keep_refused(held)?;
-                Ok(())
-            }
-            None => self.keep_applied(alloc, entry, held),
+        let Prepared { out, held, bout } = prepared;
+        match out.verdict {
+            Verdict::Refused(_) => self.keep_refused(held),
+            Verdict::Applied => self.keep_applied(alloc, entry, held, bout),
         }
     }
 
@@ -607,9 +635,9 @@ impl Room {
             moment,
             cmd,
         };
-        let out = self.out_of(&entry);
-        let held = self.given(alloc, &entry)?;
-        self.keep(alloc, &entry, held)?;
+        let prepared = self.prepare(alloc, &entry)?;
+        let out = prepared.out;
+        self.keep(alloc, &entry, prepared)?;
         Ok(out)
     }
 

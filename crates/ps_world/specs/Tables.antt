@@ -53,13 +53,12 @@ further_behind digits line = digits ++ codes ". " ++ line ++ 10 ∷ []
 abbrev pub both_behind : List ℕ → List ℕ → ℕ → List ℕ
 both_behind first second conn = decimal conn ++ first ++ decimal conn ++ second
 
--- the end of the line of a room's id
+-- what of them is the same for all connections: behind no digits, the line of a room's id, and a further line
 abbrev pub place_end : List ℕ → List ℕ
-place_end id = codes "< " ++ (codes ">" ++ id) ++ 10 ∷ []
+place_end id = first_behind [] (codes ">" ++ id)
 
--- the end of a further line
 abbrev pub further_end : List ℕ → List ℕ
-further_end line = codes ". " ++ line ++ 10 ∷ []
+further_end line = further_behind [] line
 
 -- what is printed for a connection at an entry
 abbrev pub printed_for : House → Placed → ℕ → List ℕ

@@ -103,7 +103,7 @@ pub fn common_text(held: &Held) -> Option<&Text>
     }
 }
 
-/// The members of a room. Each stands there once.
+/// The members of a room.
 pub fn of_members(alloc: Global, room: &Room) -> Result<Vec<u32>, AllocError>
     ensures all { IfOk result (λ v. IsPermutation (map conn_of (presents_of (record_in room.now))) v.items) }
     ensures sorted { IfOk result (λ v. IsSorted nat_cmp v.items) }

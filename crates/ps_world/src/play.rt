@@ -1,7 +1,7 @@
 //! What an entry prints, to each connection in ascending number.
 ghost use Rattle.std.specs.Prelude.{◌≡◌, ◌++◌, ◌==◌, [], OnOk, IfOk, map, string_bytes, slice_get, None, Some};
 ghost use Rattle.std.specs.Option.{option_map};
-ghost use Rattle.ps_room.specs.Logs.{record_in, given, seen_after};
+ghost use Rattle.ps_room.specs.Logs.{record_in, given, seen_after, out_of};
 ghost use Rattle.ps_hall.specs.Halls as halls;
 ghost use Rattle.ps_world.specs.Houses.{standing, id_of, next_message, seen_message, seen_rooms_after, common_text};
 ghost use Rattle.ps_world.specs.Entries.{out_at};
@@ -214,21 +214,24 @@ fn push_room(
     }
 }
 
-// Prints an entry of a room to the connections from 1 to `count`, and applies it.
+// Prints an entry of a room to the connections from 1 to `count`, and applies it. Gives what comes of it.
 fn play_room(
     alloc: Global,
     out: &mut String,
     count: u32,
     room: &mut Room,
     entry: &Entry,
-) -> Result<(), AllocError>
+) -> Result<RoomOut, AllocError>
     ensures state { OnOk result (room.new ≡ seen_after room.old entry.now) }
     ensures text { OnOk result (string_bytes out.new ≡ string_bytes out.old
         ++ each_to (λ conn. printed conn (with_id (Some room.old.id) (next_message conn room.old (given (record_in room.old) entry.now)))) count) }
+    ensures out { IfOk result (λ o. o ≡ out_of (record_in room.old) entry.now) }
 {
-    let held = room.given(alloc, entry)?;
-    push_room(alloc, out, count, room, &held)?;
-    room.keep(alloc, entry, held)
+    let prepared = room.prepare(alloc, entry)?;
+    push_room(alloc, out, count, room, &prepared.held)?;
+    let made = prepared.out;
+    room.keep(alloc, entry, prepared)?;
+    Ok(made)
 }
 
 /// Prints an entry of the room at a place to the connections from 1 to `count`, and applies it. Where no room is
@@ -249,7 +252,6 @@ pub fn play_rooms(
     if place >= rooms.len() {
         return Ok(None);
     }
-    let made = rooms[place].out_of(entry);
-    play_room(alloc, out, count, &mut rooms[place], entry)?;
+    let made = play_room(alloc, out, count, &mut rooms[place], entry)?;
     Ok(Some(made))
 }

@@ -15,12 +15,12 @@ pub returns-then-place-rooms-clause-out : goal.returns-then-place-rooms-clause-o
 returns-then-place-rooms-clause-out c = no_room_out c.args.rooms.now c.args.place c.args.entry.now c.if-place-rooms.true
 
 pub returns-clause-state : goal.returns-clause-state
-returns-clause-state c = room_set c.args.rooms.now c.args.place c.index-rooms-place-2.result c.play_room.new.room c.args.entry.now (omega arith) c.in_ok-play_room.ensures.state
+returns-clause-state c = room_set c.args.rooms.now c.args.place c.index-rooms-place.result c.play_room.new.room c.args.entry.now (omega arith) c.in_ok-made.ensures.state
 
 pub returns-clause-text : goal.returns-clause-text
 returns-clause-text c =
-    c.in_ok-play_room.ensures.text ∙ ap (λ (x : List ℕ). string_bytes c.args.out.now ++ x) (room_text c.args.rooms.now c.args.place c.index-rooms-place-2.result c.args.entry.now c.args.count (omega arith))
+    c.in_ok-made.ensures.text ∙ ap (λ (x : List ℕ). string_bytes c.args.out.now ++ x) (room_text c.args.rooms.now c.args.place c.index-rooms-place.result c.args.entry.now c.args.count (omega arith))
 
 pub returns-clause-out : goal.returns-clause-out
 returns-clause-out c =
-    ap (λ (o : RoomOut). Some o) c.out_of-made.ensures ∙ room_out c.args.rooms.now c.args.place c.index-rooms-place.result c.args.entry.now (omega arith)
+    ap (λ (o : RoomOut). Some o) c.in_ok-made.ensures.out ∙ room_out c.args.rooms.now c.args.place c.index-rooms-place.result c.args.entry.now (omega arith)

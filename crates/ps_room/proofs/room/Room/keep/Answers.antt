@@ -1,7 +1,16 @@
-use Rattle.std.proofs.Common.{◌∙◌, sym}
+use Rattle.std.proofs.Common.{◌≡◌, subst, OnOk}
+use Rattle.ps_room.specs.Logs.{Seen, record_in}
+use Rattle.ps_room.proofs.AnswerLemmas.{was_allowed, was_refused}
 use Rattle.ps_room.proofs.ChangeLemmas.{seen_refused}
 use Rattle.ps_room.proofs.room.Room.keep.Goals as goal
 
-pub returns-in_ok-keep_refused-in-Some-clause-ok : goal.returns-in_ok-keep_refused-in-Some-clause-ok
-returns-in_ok-keep_refused-in-Some-clause-ok c =
-    c.in_ok-keep_refused-in-Some.ensures.ok ∙ seen_refused c.args.self.now c.args.entry.now c.in-Some.field-0 c.args.held (sym c.in-Some.ensures) c.requires
+pub keep_applied-requires-clause-allowed : goal.keep_applied-requires-clause-allowed
+keep_applied-requires-clause-allowed c = was_allowed (record_in c.args.self.now) c.args.entry.now c.args.prepared.out c.requires.out c.in-Applied.is
+
+pub returns-in-Refused-clause-ok : goal.returns-in-Refused-clause-ok
+returns-in-Refused-clause-ok c =
+    subst (λ (s : Seen). OnOk c.keep_refused.result (c.keep_refused.new.self ≡ s))
+    (seen_refused c.args.self.now c.args.entry.now c.in-Refused.field-0 c.args.prepared.held
+    (was_refused (record_in c.args.self.now) c.args.entry.now c.args.prepared.out c.in-Refused.field-0 c.requires.out c.in-Refused.is)
+    c.requires.given)
+    c.keep_refused.ensures.ok
