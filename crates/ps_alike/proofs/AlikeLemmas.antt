@@ -5,7 +5,6 @@ use Rattle.ps_mon.specs.declared.record.SideState.{SideState}
 use Rattle.ps_mon.specs.declared.duel.Duel.{Duel}
 use Rattle.ps_mon.specs.declared.duel.Fighter.{Fighter}
 use Rattle.ps_mon.specs.Reading.{side_of, no_side}
-use Rattle.ps_mon.specs.Valid.{IsSound}
 use Rattle.ps_mon.specs.Duels.{sleeps, freezes, with_fighter, duel_of, with_duel}
 use Rattle.ps_mon.proofs.Lists.{at_user, at_foe, at_both, which_of}
 use Rattle.ps_hits.specs.Scenes.{Play, Scene}
@@ -14,7 +13,7 @@ use Rattle.ps_copy.specs.Answers.{answer_of}
 use Rattle.ps_alike.specs.Places.{Hidden}
 use Rattle.ps_alike.specs.Alike.{AreAlike, AreSidesAlike}
 use Rattle.ps_alike.specs.Courses.{AreCoursesAlike, KeepsAlike}
-use Rattle.ps_alike.proofs.SideLemmas.{fighter_alike, bench_alike, sleeps_spares, freezes_spares, ready_alike, count_alike, fighter_put_alike, self_side_alike}
+use Rattle.ps_alike.proofs.SideLemmas.{fighter_alike, bench_alike, sleeps_spares, freezes_spares, ready_alike, count_alike, fighter_put_alike}
 
 -- the duel of both is the same
 pub duel_alike : (hidden : Hidden) (a b : Battle) (user : ℕ) → user < 2 → AreAlike hidden a b → duel_of a user ≡ duel_of b user
@@ -96,15 +95,3 @@ answer_alike row user lt hidden front a b w =
     let from : Course → Scene = λ c. record { duel = duel_of c.battle user; told = c.told } in
     let same : from a ≡ from b = cc (e, told) in
     ap (λ s. (row s).0) same
-
--- a sound battle is alike to itself, where nothing is hidden
-pub self_alike : (hidden : Hidden) (b : Battle) → IsSound b → ((s k : ℕ) → hidden.member s k ≡ false) → ((s k j : ℕ) → hidden.slot s k j ≡ false) → AreAlike hidden b b
-self_alike hidden b sound shown unhidden = record {
-  first_two = sound.two;
-  second_two = sound.two;
-  turn = refl;
-  phase = refl;
-  clauses = refl;
-  rng = refl;
-  sides = λ s h. self_side_alike (hidden.member s) (hidden.slot s) (hidden.move s) (side_of b s) (sound.sides s h) (shown s) (unhidden s);
-}

@@ -12,7 +12,7 @@ use Rattle.ps_mon.specs.declared.duel.Fighter.{Fighter}
 use Rattle.ps_mon.specs.Reading.{place_of, member_of, active_of, slot_of, no_member}
 use Rattle.ps_mon.specs.Slots.{slot_count_now, count_in_force, slot_now, slot_in_force, is_ready}
 use Rattle.ps_mon.specs.Duels.{sleeps, freezes, bench_has, ready_of, fighter_of, with_fighter, worn}
-use Rattle.ps_mon.specs.Valid.{IsSide, has_standing}
+use Rattle.ps_mon.specs.Valid.{has_standing}
 use Rattle.ps_alike.specs.Alike.{IsUnhurt, IsPlaced, AreSidesAlike, AreMembersAlike, AreShownAlike, AreSlotsAlike, front_of}
 
 -- ---- members
@@ -235,26 +235,3 @@ fighter_put_alike member slot move a b f alike =
     vol_put_alike member slot move _ _ _ _ written (ap (λ (v : Volatiles). record f.vol { slots = v.slots }) alike.vol)
 
 -- ---- nothing is hidden
-
-self-slot : (hides : Bool) (mv : ℕ) (x : MoveSlot) → hides ≡ false → AreSlotsAlike hides mv x x
-self-slot true mv x e = cc
-self-slot false mv x e = refl
-
--- a side is alike to itself, where it is fit and nothing is hidden
-pub self_side_alike : (member : ℕ → Bool) (slot : ℕ → ℕ → Bool) (move : ℕ → ℕ → ℕ) (a : SideState) → IsSide a → ((k : ℕ) → member k ≡ false) → ((k j : ℕ) → slot k j ≡ false) → AreSidesAlike member slot move a a
-self_side_alike member slot move a v shown unhidden =
-    let shape = v.shape in
-    let placed : IsPlaced a = record { count = shape.count; count_high = shape.count_high; long = omega (arith, shape.six, shape.count_high); six_order = shape.six_order; order = shape.order } in
-    record {
-      first = placed;
-      second = placed;
-      count = refl;
-      order = refl;
-      vol = refl;
-      active = shown (place_of a);
-      members = λ k h. (let four = (v.members k h).four in
-          let same : AreShownAlike (slot k) (move k) (member_of a k) (member_of a k) = record { four = four; four_too = four; front = refl; slots = λ j. self-slot (slot k j) (move k j) _ (unhidden k j) } in
-          alike_at (member k) (slot k) (move k) _ _ (shown k) same);
-      long = refl;
-      rest = λ k past. refl;
-    }

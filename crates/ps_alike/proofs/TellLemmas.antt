@@ -82,14 +82,6 @@ grows-trans a b c one two = record { more = one.more ++ two.more; is = two.is �
 pub grows-more : (old new : List Event) → Grows old (old ++ new)
 grows-more old new = record { more = new; is = refl }
 
-All-front : {X : Type 0} (P : X → Type 0) (xs ys : List X) → All P (xs ++ ys) → All P xs
-All-front P [] ys h = All-nil P
-All-front P (x ∷ xs) ys h = All-cons P x xs (All-head P x (xs ++ ys) h) (All-front P xs ys (All-tail P x (xs ++ ys) h))
-
--- what holds of all later events holds of all earlier ones
-pub grows-all : (P : Event → Type 0) (old new : List Event) → Grows old new → All P new → All P old
-grows-all P old new grows all = All-front P old grows.more (subst (All P) grows.is all)
-
 pub tells-trans : (P : Who → Type 0) (a b c : Scene) → TellsOf P a b → TellsOf P b c → TellsOf P a c
 tells-trans P a b c one two = record { user = two.user; foe = two.foe; grows = grows-trans a.told b.told c.told one.grows two.grows; names = λ all. two.names (one.names all); forms = λ s k. two.forms s k ∙ one.forms s k }
 

@@ -28,10 +28,10 @@ use Rattle.ps_battle.specs.Turns.{acted, both_switched, turn_in, turn}
 use Rattle.ps_battle.specs.Openings.{rule, rules, heads, fresh_battle, opening, open_course, give_up}
 use Rattle.ps_alike.specs.Places.{Hidden}
 use Rattle.ps_alike.specs.Showing.{whos, side_number, NamesNoHidden}
-use Rattle.ps_alike.specs.Courses.{Grows, TellsOfActive, active_who}
+use Rattle.ps_alike.specs.Courses.{TellsOfActive, active_who}
 use Rattle.ps_alike.specs.Laws.{untold, IsChoiceUnhidden}
 use Rattle.ps_alike.proofs.SlotLemmas.{at_each_one}
-use Rattle.ps_alike.proofs.TellLemmas.{AreSo, IsPlain, All-more, grows-none, grows-trans, grows-more}
+use Rattle.ps_alike.proofs.TellLemmas.{AreSo, IsPlain, All-more}
 use Rattle.ps_alike.proofs.TellStepLemmas.{KeepsForms, duel_forms, at_side, order_stays, step_trans, quiet_step, events_step, either_step}
 use Rattle.ps_alike.proofs.TellActLemmas.{acted_step}
 
@@ -182,18 +182,6 @@ both_switched_such P one two c first second such =
     let came : Course = switched 0 one c in
     switched_such P 1 (omega arith) two came (sends-kept P 1 (side_of c.battle 1) (side_of came.battle 1) two (switched-other 0 1 (omega arith) one c) second) (switched_such P 0 (omega arith) one c first such)
 
-pub switched_grows : (s : ℕ) (choice : Choice) (c : Course) → Grows c.told (switched s choice c).told
-unfolding switched sent_in
-switched_grows s (choices.Move n) c = grows-none c.told
-switched_grows s choices.Struggle c = grows-none c.told
-switched_grows s choices.Continue c = grows-none c.told
-switched_grows s (choices.Switch position) c = grows-more c.told _
-switched_grows s choices.Pass c = grows-none c.told
-
-pub both_switched_grows : (one two : Choice) (c : Course) → Grows c.told (both_switched one two c).told
-unfolding both_switched
-both_switched_grows one two c = grows-trans c.told (switched 0 one c).told _ (switched_grows 0 one c) (switched_grows 1 two (switched 0 one c))
-
 -- ---- the turn
 
 pub turn_such : (P : Who → Type 0) (phase : Phase) (facts : Figures) (one two : Choice) (c : Course) → SendsSuch P 0 (side_of c.battle 0) one → SendsSuch P 1 (side_of c.battle 1) two → NamesSuch P c → NamesSuch P (turn_in phase facts one two c)
@@ -208,22 +196,6 @@ turn_such P (phases.Replace p1 p2) facts one two c first second such =
     step_such P (both_switched one two c) _ (next_step (both_switched one two c)) (both_switched_such P one two c first second such)
 turn_such P (phases.Won side) facts one two c first second such = such
 turn_such P phases.Tied facts one two c first second such = such
-
-turn_in-grows : (phase : Phase) (facts : Figures) (one two : Choice) (c : Course) → Grows c.told (turn_in phase facts one two c).told
-unfolding turn_in
-turn_in-grows phases.Turn facts one two c =
-    let from : Course = record c { battle = begun c.battle } in
-    let came : Course = both_switched one two from in
-    let done : Course = acted facts one two came in
-    grows-trans c.told came.told (closed done).told (both_switched_grows one two from) (grows-trans came.told done.told (closed done).told (acted_step facts one two came).grows (closed_step done).grows)
-turn_in-grows (phases.Replace p1 p2) facts one two c =
-    let came : Course = both_switched one two c in
-    grows-trans c.told came.told (next_turn came).told (both_switched_grows one two c) (next_step came).grows
-turn_in-grows (phases.Won side) facts one two c = grows-none c.told
-turn_in-grows phases.Tied facts one two c = grows-none c.told
-
-pub turn_grows : (facts : Figures) (one two : Choice) (c : Course) → Grows c.told (turn facts one two c).told
-turn_grows facts one two c = turn_in-grows c.battle.phase facts one two c
 
 -- ---- hidden members
 

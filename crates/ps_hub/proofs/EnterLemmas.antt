@@ -6,7 +6,7 @@ use Rattle.ps_places.specs.Rooms.{Answers, Pulls}
 use Rattle.ps_hub.specs.Hubs.{Hub}
 use Rattle.ps_hub.specs.Names.{Names}
 use Rattle.ps_hub.specs.Passes.{IsRoomPass, AreOf, Keeps}
-use Rattle.ps_hub.specs.Turns.{Turns, Takes}
+use Rattle.ps_hub.specs.Turns.{Takes}
 use Rattle.ps_hub.specs.Calls.{Held, NotHeld, HeldUp, Unheld, Holds, EntersAt, EnterFails}
 use Rattle.ps_hub.specs.declared.out.EnterFault.{EnterFault}
 use Rattle.ps_hub.specs.declared.out.EnterFault.TheVariants.{NoSuchRoom, Busy, NoMemory}
@@ -25,17 +25,6 @@ pub found_of : (hub : Hub) (conn : ℕ) (h m k : RoomPass) (id : List ℕ) (out 
 found_of hub conn h m k id out high number told found is p q =
     let room = room_told_at_done hub conn h m None out high number told p in
     room_held hub conn m k id is (room.0, room.1, room.2 ∙ found) q
-
--- it has another, or there is none
-pub found_other : (hub : Hub) (conn : ℕ) (h m : RoomPass) (id : List ℕ) (out : Option (Option RoomOut)) → 16 ≤ h.number → h.id ≡ None → (m.at ≡ h.at) × (m.number ≡ h.number) × (m.id ≡ h.id)
-    → Takes Answers Pulls h.pass.1 h.cursor (h.kept.items ++ h.fresh.items) None (Done out) m.pass.1 m.cursor (m.kept.items ++ m.fresh.items) → m.cursor.id ≢ Some id → IsRoomPass hub conn h → NotHeld hub id h m
-found_other hub conn h m id out high free same told other p =
-    let room = room_told_at_done hub conn h m None out high same.1 told p in
-    (high, inr (free, same.2 ∙ free, same.0, (told.0, told.1, told.2), (room.0, room.1, λ e. other (sym room.2 ∙ e))))
-
--- memory was wanting
-pub unheld_of : (h k : RoomPass) → 16 ≤ h.number → h.id ≡ None → (k.at ≡ h.at) × (k.number ≡ h.number) × (k.id ≡ h.id) → k.cursor ≡ h.cursor → (k.pass.1 ≡ h.pass.1) ⊎ Turns h.pass.1 None k.pass.1 → Unheld h k
-unheld_of h k high free same cursor done = (same.2, same.0, cursor, ⊎_elim (λ (e : k.pass.1 ≡ h.pass.1). inl e) (λ (t : Turns h.pass.1 None k.pass.1). inr (high, free, t)) done)
 
 -- a chat room is held at once
 pub chat_of : (hub : Hub) (conn : ℕ) (h k : RoomPass) (id : List ℕ) → Names hub.config id h.number → h.number < 16 → k ≡ record h { id = Some id } → IsRoomPass hub conn h → IsRoomPass hub conn k

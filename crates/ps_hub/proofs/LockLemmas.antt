@@ -7,9 +7,6 @@ use Rattle.std.proofs.lemmas.Option.{none-some, same_Some, slice_get_within, sli
 use Rattle.ps_dex.specs.declared.row.Tables.{Tables}
 use Rattle.ps_valid.specs.declared.row.Settings.{Settings}
 use Rattle.ps_places.specs.declared.site.Site.{Site}
-use Rattle.ps_valid.specs.declared.row.ChatRoom.{ChatRoom}
-use Rattle.ps_openings.specs.Openings.{chat_opening}
-use Rattle.ps_places.specs.Sites.{chat_at}
 use Rattle.ps_histlock.specs.Seated.{TableId}
 use Rattle.ps_hub.specs.Hubs.{Hub, site_of, lock_of, name_of, AreAt}
 use Rattle.ps_hub.specs.Names.{IsNoChat, IsBattleId, Names}
@@ -95,12 +92,6 @@ battle_missing hub locks read number are same high none =
 pub if_none_then : {A : Type 0} (P Q : Type 0) (r : Option A) → IfNone r P → (P → Q) → IfNone r Q
 if_none_then P Q None p f = f p
 if_none_then P Q (Some x) p f = tt
-
--- the opening of the chat room with a number
-pub chat_opens : (config : Settings) (dex : Tables) (number : ℕ) (room : ChatRoom) → number < 16 → slice_get config.rooms number ≡ Some room → chat_at (record { number = number; config = config; dex = dex }) ≡ Some (chat_opening config dex number room)
-chat_opens config dex number room low there =
-    let test : nat_lt number 16 ≡ true = grind (arith, nat_tests) in
-    rw (test, there) refl
 
 -- the place that an id names, and its lock
 pub named_place : (hub : Hub) (config read : Settings) (chats battles : List (TableId × Site)) (id : List ℕ) (number : ℕ) → hub.config ≡ config → read ≡ config → hub.chats ≡ map name_of chats → hub.battles ≡ map name_of battles → length chats ≡ length config.rooms → length battles ≡ 65536

@@ -51,10 +51,6 @@ battle_parts id rest n front is =
     let after : rest ≡ is.0 ++ 45 ∷ decimal n = ap (λ (l : List ℕ). drop 7 l) (sym front ∙ is.1 ∙ id_parts is.0 n) in
     (is.0, ap (λ (l : List ℕ). at_last 45 l) after ∙ last_append 45 is.0 (decimal n) (no_dash_at_last n (omega arith)), is.2, is.3)
 
--- a text without the front, or without a dash behind it, is none
-pub no_front : (id : List ℕ) → ((rest : List ℕ) → id ≢ codes "battle-" ++ rest) → (n : ℕ) → IsBattleId id n → ⊥
-no_front id none n is = none (is.0 ++ 45 ∷ decimal n) (is.1 ∙ id_parts is.0 n)
-
 pub no_parts : (id rest : List ℕ) → id ≡ codes "battle-" ++ rest → at_last 45 rest ≡ None → (n : ℕ) → IsBattleId id n → ⊥
 no_parts id rest front none n is = let parts = battle_parts id rest n front is in none-some _ (sym none ∙ parts.1)
 
@@ -115,9 +111,6 @@ pub no_chat_room : (config : Settings) (id : List ℕ) (count : ℕ) → length 
 no_chat_room config id count all before number is = let within : number < length config.rooms = slice_get_within config.rooms number is.0 is.1 in before number (omega arith) is
 
 -- ---- places
-
-pub names_chat : (config : Settings) (id : List ℕ) (number : ℕ) → IsFirstChat config id number → number < 16 → Names config id number
-names_chat config id number first low = inl (first, low)
 
 pub names_battle : (config : Settings) (id : List ℕ) (n number : ℕ) → IsBattleId id n → number ≡ 15 + n → IsNoChat config id → Names config id number
 names_battle config id n number battle is none = inr (n, battle, is, none)

@@ -12,8 +12,7 @@ use Rattle.ps_openings.specs.Openings.{chat_opening}
 use Rattle.ps_histlock.specs.declared.view.View.{View}
 use Rattle.ps_histlock.specs.Histories.{commands}
 use Rattle.ps_histlock.specs.Seated.{TableId}
-use Rattle.ps_histlock.specs.Views.{newcomer, offspring, with_number, after_look, IsAtRest}
-use Rattle.ps_histlock.proofs.Lists.{prefix_self}
+use Rattle.ps_histlock.specs.Views.{newcomer, IsAtRest}
 use Rattle.ps_places.specs.declared.command.RoomCmd.{RoomCmd}
 use Rattle.ps_places.specs.declared.cursor.HallCursor.{HallCursor}
 use Rattle.ps_places.specs.declared.cursor.RoomCursor.{RoomCursor}
@@ -21,7 +20,7 @@ use Rattle.ps_places.specs.declared.site.Root.{Root}
 use Rattle.ps_places.specs.declared.site.Site.{Site}
 use Rattle.ps_places.specs.Sites.{chat_at, Story, story, plays, TellsBy, Tells, view_told, id_told}
 use Rattle.ps_places.specs.Rooms.{cursor_of, Answers, Pulls, Shows, StandsAt}
-use Rattle.ps_places.specs.Halls.{hall_cursor, HallAnswers, HallPulls, HallShows, HallStandsAt}
+use Rattle.ps_places.specs.Halls.{HallAnswers, HallPulls, HallShows, HallStandsAt}
 use Rattle.ps_places.proofs.GoOnLemmas.{pulls_go_on}
 use Rattle.ps_places.proofs.HallLemmas.{hall_goes_on}
 use Rattle.ps_places.proofs.StandLemmas.{no_chat}
@@ -34,7 +33,7 @@ use Rattle.ps_hub.specs.declared.pass.RoomPass.{RoomPass}
 use Rattle.ps_hub.specs.declared.taken.Taken.{Taken}
 use Rattle.ps_hub.specs.declared.taken.Taken.TheVariants.{Done}
 use Rattle.ps_hub.specs.Turns.{Takes, TakesAtLast}
-use Rattle.ps_hub.proofs.ToldLemmas.{GoesOn, told_new, told_after, told_handed, pulled_stands, Grows, grows_self, grows_looked, commands_grow, PullsOrNot, takes_grow, takes_pull, takes_grow_at_last, takes_pull_at_last}
+use Rattle.ps_hub.proofs.ToldLemmas.{GoesOn, told_new, told_after, told_handed, pulled_stands, Grows, grows_self, commands_grow, PullsOrNot, takes_grow, takes_pull, takes_grow_at_last, takes_pull_at_last}
 
 -- ---- the hall
 
@@ -55,15 +54,6 @@ hall_stays hub conn h k lock at rest g pulls p = record {
       (told_after HallPulls (HallShows conn (root_of hub)) (HallStandsAt conn (root_of hub)) (λ (x : HallCursor). x.passed) (root_of hub) (hall_law conn (root_of hub)) (hall_passed conn (root_of hub)) h.pass.1 h.cursor (h.kept.items ++ h.fresh.items) k.pass.1 k.cursor (k.kept.items ++ k.fresh.items) h.at p.origin p.told g pulls);
 }
 
--- all that was kept was handed out
-pub hall_handed : (hub : Hub) (conn : ℕ) (h k : HallPass) → k.pass ≡ h.pass → k.cursor ≡ h.cursor → k.kept.items ++ k.fresh.items ≡ [] → k.at ≡ k.cursor.passed → IsHallPass hub conn h → IsHallPass hub conn k
-hall_handed hub conn h k pass cursor none at p = record {
-  lock = ap (λ (q : TableId × View Root HallEntry). q.0) pass ∙ p.lock;
-  origin = ap (λ (q : TableId × View Root HallEntry). q.1.origin) pass ∙ p.origin;
-  rest = subst (λ (q : TableId × View Root HallEntry). IsAtRest q.1) (sym pass) p.rest;
-  told = told_handed (HallShows conn (root_of hub)) (HallStandsAt conn (root_of hub)) (λ (x : HallCursor). x.passed) h.pass.1 k.pass.1 h.cursor k.cursor (h.kept.items ++ h.fresh.items) (k.kept.items ++ k.fresh.items) h.at k.at (ap (λ (q : TableId × View Root HallEntry). q.1) pass) cursor none at p.told;
-}
-
 -- after a turn
 pub hall_taken : (hub : Hub) (conn : ℕ) (h k : HallPass) (cmd : Option HallEntry) (t : Taken HallEntry HallOut) → k.pass.0 ≡ h.pass.0 → k.at ≡ h.at → (IsAtRest h.pass.1 → IsAtRest k.pass.1)
     → Takes HallAnswers HallPulls h.pass.1 h.cursor (h.kept.items ++ h.fresh.items) cmd t k.pass.1 k.cursor (k.kept.items ++ k.fresh.items) → IsHallPass hub conn h → IsHallPass hub conn k
@@ -77,39 +67,6 @@ pub hall_taken_at_last : (hub : Hub) (conn : ℕ) (h k : HallPass) (cmd : Option
 hall_taken_at_last hub conn h k cmd t lock at rest told p = hall_stays hub conn h k lock at (rest p.rest)
     (takes_grow_at_last HallAnswers HallPulls h.pass.1 h.cursor (h.kept.items ++ h.fresh.items) cmd t k.pass.1 k.cursor (k.kept.items ++ k.fresh.items) told)
     (takes_pull_at_last HallAnswers HallPulls h.pass.1 h.cursor (h.kept.items ++ h.fresh.items) cmd t k.pass.1 k.cursor (k.kept.items ++ k.fresh.items) told)
-    p
-
--- a look
-pub hall_looked : (hub : Hub) (conn : ℕ) (h k : HallPass) (n : ℕ) → k ≡ record h { pass = (h.pass.0, after_look h.pass.1 n) } → IsAtRest k.pass.1 → IsHallPass hub conn h → IsHallPass hub conn k
-hall_looked hub conn h k n is rest p = hall_stays hub conn h k
-    (ap (λ (q : HallPass). q.pass.0) is)
-    (ap (λ (q : HallPass). q.at) is)
-    rest
-    (subst (λ (q : HallPass). Grows h.pass.1 q.pass.1) (sym is) (grows_looked h.pass.1 n))
-    (inr (ap (λ (q : HallPass). q.cursor) is, ap (λ (q : HallPass). q.kept.items ++ q.fresh.items) is))
-    p
-
--- a new pass
-pub hall_new : (hub : Hub) (conn n : ℕ) (k : HallPass) → k.pass ≡ (hub.hall, newcomer (root_of hub) n) → k.cursor ≡ hall_cursor conn 0 → k.kept.items ++ k.fresh.items ≡ [] → k.at ≡ 0 → IsHallPass hub conn k
-hall_new hub conn n k pass cursor none at =
-    let empty : IsTold (HallShows conn (root_of hub)) (HallStandsAt conn (root_of hub)) [] (hall_cursor conn 0) 0 [] 0 = told_new (HallShows conn (root_of hub)) (HallStandsAt conn (root_of hub)) (hall_cursor conn 0) refl refl in
-    let moved : IsTold (HallShows conn (root_of hub)) (HallStandsAt conn (root_of hub)) [] k.cursor k.cursor.passed [] 0 = subst (λ (x : HallCursor). IsTold (HallShows conn (root_of hub)) (HallStandsAt conn (root_of hub)) [] x x.passed [] 0) (sym cursor) empty in
-    let kept : IsTold (HallShows conn (root_of hub)) (HallStandsAt conn (root_of hub)) [] k.cursor k.cursor.passed (lines_of (k.kept.items ++ k.fresh.items)) k.at = subst (λ (m : ℕ). IsTold (HallShows conn (root_of hub)) (HallStandsAt conn (root_of hub)) [] k.cursor k.cursor.passed (lines_of (k.kept.items ++ k.fresh.items)) m) (sym at) (subst (λ (ms : List Msg). IsTold (HallShows conn (root_of hub)) (HallStandsAt conn (root_of hub)) [] k.cursor k.cursor.passed (lines_of ms) 0) (sym none) moved) in
-    record {
-      lock = ap (λ (q : TableId × View Root HallEntry). q.0) pass;
-      origin = ap (λ (q : TableId × View Root HallEntry). q.1.origin) pass;
-      rest = subst (λ (q : TableId × View Root HallEntry). IsAtRest q.1) (sym pass) (refl, refl, refl);
-      told = subst (λ (q : TableId × View Root HallEntry). IsTold (HallShows conn (root_of hub)) (HallStandsAt conn (root_of hub)) (commands q.1.seen) k.cursor k.cursor.passed (lines_of (k.kept.items ++ k.fresh.items)) k.at) (sym pass) kept;
-    }
-
--- the pass of a connection, split off
-pub hall_split : (hub : Hub) (conn n : ℕ) (h k : HallPass) → k.pass ≡ (h.pass.0, with_number (offspring h.pass.1) n) → IsAtRest k.pass.1 → k.cursor ≡ h.cursor → k.kept.items ++ k.fresh.items ≡ h.kept.items ++ h.fresh.items → k.at ≡ h.at → IsHallPass hub conn h → IsHallPass hub conn k
-hall_split hub conn n h k pass rest cursor kept at p = hall_stays hub conn h k
-    (ap (λ (q : TableId × View Root HallEntry). q.0) pass)
-    at
-    rest
-    (subst (λ (q : TableId × View Root HallEntry). Grows h.pass.1 q.1) (sym pass) (record { origin = refl; seen = prefix_self h.pass.1.seen }))
-    (inr (cursor, kept))
     p
 
 -- ---- a room
@@ -163,18 +120,6 @@ pub room_taken_at_last : (hub : Hub) (conn : ℕ) (h k : RoomPass) (cmd : Option
 room_taken_at_last hub conn h k cmd t lock same rest told p = room_stays hub conn h k lock same.0 same.1 same.2 (rest p.rest)
     (takes_grow_at_last Answers Pulls h.pass.1 h.cursor (h.kept.items ++ h.fresh.items) cmd t k.pass.1 k.cursor (k.kept.items ++ k.fresh.items) told)
     (takes_pull_at_last Answers Pulls h.pass.1 h.cursor (h.kept.items ++ h.fresh.items) cmd t k.pass.1 k.cursor (k.kept.items ++ k.fresh.items) told)
-    p
-
--- a look
-pub room_looked : (hub : Hub) (conn : ℕ) (h k : RoomPass) (n : ℕ) → k ≡ record h { pass = (h.pass.0, after_look h.pass.1 n) } → IsAtRest k.pass.1 → IsRoomPass hub conn h → IsRoomPass hub conn k
-room_looked hub conn h k n is rest p = room_stays hub conn h k
-    (ap (λ (q : RoomPass). q.pass.0) is)
-    (ap (λ (q : RoomPass). q.at) is)
-    (ap (λ (q : RoomPass). q.number) is)
-    (ap (λ (q : RoomPass). q.id) is)
-    rest
-    (subst (λ (q : RoomPass). Grows h.pass.1 q.pass.1) (sym is) (grows_looked h.pass.1 n))
-    (inr (ap (λ (q : RoomPass). q.cursor) is, ap (λ (q : RoomPass). q.kept.items ++ q.fresh.items) is))
     p
 
 pub room_handed : (hub : Hub) (conn : ℕ) (h k : RoomPass) → k.pass ≡ h.pass → k.cursor ≡ h.cursor → k.number ≡ h.number → k.id ≡ h.id → k.kept.items ++ k.fresh.items ≡ [] → k.at ≡ k.cursor.passed → IsRoomPass hub conn h → IsRoomPass hub conn k

@@ -22,12 +22,6 @@ module _ {A : Type 0} (R : A → A → Type 0) where
     pub done : AllZip R (take i old) (take i now)
     pub rest : drop i now ≡ drop i old
 
-  pub done_none : (old : List A) → IsDoneTo 0 old old
-  done_none old = record { done = tt; rest = refl }
-
-  pub all_done : (n : ℕ) (old now : List A) → length old ≤ n → length now ≤ n → IsDoneTo n old now → AllZip R old now
-  all_done n old now long_old long_now d = subst (λ (xs : List A). AllZip R xs now) (take_all n old long_old) (subst (λ (ys : List A). AllZip R (take n old) ys) (take_all n now long_now) d.done)
-
   -- the parts round a place that is next
   pub record Parts (i : ℕ) (old now : List A) (h : A) : Type 0 where
     pub front : List A

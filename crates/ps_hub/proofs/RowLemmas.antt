@@ -243,7 +243,3 @@ on_err_then P Q (Err e) p f = f p
 pub on_err_is : {A E : Type 0} (P : Type 0) (r : Result A E) → P → OnErr r P
 on_err_is P (Ok x) p = tt
 on_err_is P (Err e) p = p
-
-pub on_ok_then : {A E : Type 0} (P Q : Type 0) (r : Result A E) → OnOk r P → (P → Q) → OnOk r Q
-on_ok_then P Q (Ok x) p f = f p
-on_ok_then P Q (Err e) p f = tt

@@ -3,18 +3,10 @@ use Rattle.std.proofs.Common.{◌≡◌, ◌⊎◌, List, ◌++◌, Option, Some
 use Rattle.ps_base.specs.declared.msg.Msg.{Msg}
 use Rattle.ps_histlock.specs.declared.view.View.{View}
 use Rattle.ps_histlock.specs.Histories.{commands}
-use Rattle.ps_hub.specs.Turns.{Turns, TurnsAtLast, Gives, GivesAtLast, FallsShort, FallsShortAtLast, Takes, TakesAtLast}
+use Rattle.ps_hub.specs.Turns.{Turns, TurnsAtLast, Gives, GivesAtLast, FallsShort, FallsShortAtLast, TakesAtLast}
 use Rattle.ps_hub.specs.declared.taken.Taken.TheVariants.{Late, OwnLimit, NoMemory}
 
 module _ {O C U X : Type 0} (answers : O → List C → C → U → Type 0) (pulls : O → List C → X → List Msg → X → Type 0) where
-  pub short_at_late : (o : O) (v : View O C) (x : X) (kept : List Msg) (c : C) (out : Option U) (w : View O C) (y : X) (more : List Msg) → v.origin ≡ o → Takes answers pulls v x kept (Some c) (Late out) w y more → FallsShort (answers o) v x c w y
-  short_at_late o v x kept c out w y more origin told =
-      let gave = told.3 in
-      (told.4, inr (inr (told.0, gave.0, told.1, told.2, subst (λ (a : O). answers a (commands told.0) c gave.0) origin gave.2)))
-
-  pub short_at_no_memory : (o : O) (v : View O C) (x : X) (kept : List Msg) (c : C) (w : View O C) (y : X) (more : List Msg) → Takes answers pulls v x kept (Some c) NoMemory w y more → FallsShort (answers o) v x c w y
-  short_at_no_memory o v x kept c w y more told = (told.1, ⊎_elim (λ (e : w ≡ v). inl e) (λ (t : Turns v None w). inr (inl t)) told.0)
-
   pub last_short_at_late : (o : O) (v : View O C) (x : X) (kept : List Msg) (c : C) (out : Option U) (w : View O C) (y : X) (more : List Msg) → v.origin ≡ o → TakesAtLast answers pulls v x kept (Some c) (Late out) w y more → FallsShortAtLast (answers o) v x c w y
   last_short_at_late o v x kept c out w y more origin told =
       let late = told.1 in

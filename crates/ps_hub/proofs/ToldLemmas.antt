@@ -158,14 +158,6 @@ pub length-commands : {C : Type 0} (l : List (Entry C)) → length (commands l) 
 length-commands {C} l = length-map l (λ (e : Entry C). e.cmd)
 
 module _ {O C : Type 0} where
-  -- a look that shows no more than was passed
-  pub looks_alone : (v w : View O C) (n passed : ℕ) → w ≡ after_look v n → length v.seen ≤ n → n ≤ passed → passed ≤ length (commands v.seen) → LooksAnd v passed w × (passed ≡ length (commands w.seen))
-  looks_alone v w n passed is seen few within =
-      let same : length (commands w.seen) ≡ length v.seen = ap (λ (u : View O C). length (commands u.seen)) is ∙ length-commands v.seen in
-      let long : length w.seen ≡ length v.seen = ap (λ (u : View O C). length u.seen) is in
-      let count : length (commands v.seen) ≡ length v.seen = length-commands v.seen in
-      ((n, seen, omega arith, inl (few, is)), omega arith)
-
   -- a look that shows more, and a turn after it
   pub looks_and_turns : (v m w : View O C) (n passed : ℕ) → m ≡ after_look v n → length v.seen ≤ n → passed < n → TurnsAtLast m None w → LooksAnd v passed w
   looks_and_turns v m w n passed is seen more turns =
@@ -173,10 +165,6 @@ module _ {O C : Type 0} where
       let shown : n ≤ length t.1.0 = all_last (λ (k : ℕ). k ≤ length t.1.0) v.looks n t.1.1.1 in
       let long : length w.seen ≡ length t.1.0 = ap (λ (u : View O C). length u.seen) t.1.2 in
       (n, seen, omega arith, inr (more, t))
-
-  pub looks_at_most : (v m w : View O C) (n : ℕ) → m ≡ after_look v n → length v.seen ≤ n → (w ≡ m) ⊎ TurnsAtLast m None w → LooksAtMost v w
-  looks_at_most v m w n is seen done =
-      (n, seen, subst (λ (u : View O C). (w ≡ u) ⊎ TurnsAtLast u None w) is done)
 
   pub looks_and_less : (v w : View O C) (passed : ℕ) → LooksAnd v passed w → LooksAtMost v w
   looks_and_less v w passed l = (l.0, l.1, ⊎_elim (λ (a : (l.0 ≤ passed) × (w ≡ after_look v l.0)). inl a.1) (λ (b : (passed < l.0) × TurnsAtLast (after_look v l.0) None w). inr b.1) l.3)

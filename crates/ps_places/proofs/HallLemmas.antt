@@ -4,7 +4,6 @@ use Rattle.std.proofs.lemmas.List.{length-append}
 use Rattle.ps_base.specs.Ids.{id_of}
 use Rattle.ps_base.specs.declared.badge.Badge.{Badge}
 use Rattle.ps_base.specs.declared.hall_why.HallWhy.{HallWhy}
-use Rattle.ps_base.specs.declared.msg.Msg.{Msg}
 use Rattle.ps_lines.specs.declared.command.HallCmd.{HallCmd}
 use Rattle.ps_lines.specs.declared.command.HallCmd.TheVariants.{Open, Quit, Bad, Name, Team, Search, Accept, Report}
 use Rattle.ps_valid.specs.declared.start.Start.{Start}
@@ -21,7 +20,7 @@ use Rattle.ps_hall.specs.Halls.{Seen, seen_opened, seen_after, run_seen, run_rec
 use Rattle.ps_hall.proofs.PullLemmas.{pulls_view}
 use Rattle.ps_places.specs.declared.cursor.HallCursor.{HallCursor}
 use Rattle.ps_places.specs.declared.site.Root.{Root}
-use Rattle.ps_places.specs.Halls.{hall_opened, hall_after, hall_seen, HallHome, HallStands, HallAnswers, HallPulls, HallPullsGoOn}
+use Rattle.ps_places.specs.Halls.{hall_opened, hall_after, hall_seen, HallHome, HallStands, HallAnswers, HallPullsGoOn}
 use Rattle.ps_places.proofs.NumberLemmas.{IsNumber, numbered}
 
 -- ---- histories
@@ -109,12 +108,6 @@ hall_answers es e p out s is fit =
       above = numbers.0;
       below = numbers.1;
     }
-
-pub hall_pulls : (es : List HallEntry) (p : HallHome) (x y : HallCursor) (msgs : List Msg) → HallStands es p → map msg_lines msgs ≡ pulled_past x.hall p.hall → y ≡ record { hall = cursor_past x.hall p.hall; passed = p.count } → HallPulls p.root es x msgs y
-hall_pulls es p x y msgs s messages cursor = record {
-  messages = messages ∙ ap (pulled_past x.hall) s.hall;
-  cursor = cursor ∙ (λ i. record { hall = cursor_past x.hall (s.hall i); passed = s.count i });
-}
 
 pub hall_goes_on : HallPullsGoOn
 hall_goes_on conn r before later x y ms msgs at shows p =

@@ -33,14 +33,6 @@ chat_stands o p chat room count = record {
 pub no_chat : (site : Site) → 16 ≤ site.number → chat_at site ≡ None
 no_chat site high = let not : nat_lt site.number 16 ≡ false = grind (arith, nat_tests) in rw not refl
 
-pub battle_stands : (p : Place) → 16 ≤ p.site.number → p.room ≡ None → p.count ≡ 0 → Stands [] p
-battle_stands p high room count = record {
-  told = None;
-  tells = subst (λ (c : Option Opening). TellsBy c p.site [] None) (sym (no_chat p.site high)) refl;
-  room = room;
-  count = count;
-}
-
 -- ---- a Begin
 
 -- one command more was counted

@@ -21,7 +21,7 @@ use Rattle.ps_world.proofs.TextLemmas.{output_is}
 use Rattle.ps_world.proofs.EntryCounts.{counts_is}
 use Rattle.ps_drill.specs.declared.tally.Tally.{Tally}
 use Rattle.ps_drill.specs.declared.counter.Counter.{Counter}
-use Rattle.ps_drill.specs.Messages.{messages_in, counted}
+use Rattle.ps_drill.specs.Messages.{messages_in}
 use Rattle.ps_drill.specs.Plain.{HasPlainNames, HasPlainFormats}
 use Rattle.ps_drill.specs.Drills.{drill_text}
 use Rattle.ps_drill.proofs.GrammarLemmas.{drill_is_script}
@@ -38,9 +38,6 @@ pub record Ran (old new : Tally) (counter : Counter) (whole : List ℕ) (s : Des
   pub tallies : (text : List ℕ) → Tallies old text → Tallies new (text ++ front)
   pub counts : Counts counter front
   pub parts : whole ≡ front ++ text_from s rest
-
-pub Ran-start : (tally : Tally) (counter : Counter) (s : Desk) (items : List Item) → Counts counter [] → Ran tally tally counter (text_from s items) s items
-Ran-start tally counter s items none = record { front = []; tallies = λ text t. subst (Tallies tally) (sym (append-nil text)) t; counts = none; parts = refl }
 
 pub Ran-more : (old mid new : Tally) (counter after : Counter) (whole : List ℕ) (s : Desk) (i : Item) (rest : List Item) → Ran old mid counter whole s (i ∷ rest) → ((text : List ℕ) → Tallies mid text → Tallies new (text ++ item_text s i)) → ((text : List ℕ) → Counts counter text → Counts after (text ++ item_text s i)) → Ran old new after whole (item_after s i) rest
 Ran-more old mid new counter after whole s i rest r tally count = record {
@@ -63,10 +60,6 @@ pub counts_more : (s next : Desk) (i : Item) (rest : List Item) (c more all : En
 counts_more s next i rest c more all after made is = rw (after, made) is
 
 -- ---- numbers
-
--- a count that doesn't stand still is exact
-pub exact_is : (n m : ℕ) → n ≢ 18446744073709551615 → n ≡ counted m → n ≡ m
-exact_is n m below is = omega (arith, below, is)
 
 items_of_lines : (s : Seen) (ls : List (List ℕ)) (is : List Item) → AreItems s ls is → length ls ≡ length is
 items_of_lines s [] [] a = refl

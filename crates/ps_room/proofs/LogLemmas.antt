@@ -27,7 +27,7 @@ use Rattle.ps_splitlog.specs.declared.stored.Stored.TheVariants.{Same}
 use Rattle.ps_splitlog.specs.declared.entry.Held.{Held}
 use Rattle.ps_splitlog.specs.Lines.{stored_of_event, stored_of_line, is_logged_line, shown_if, shown_lines}
 use Rattle.ps_splitlog.specs.Entries as log
-use Rattle.ps_splitlog.specs.Entries.{logged_in, last_of, all_of_them, tail_texts}
+use Rattle.ps_splitlog.specs.Entries.{logged_in, last_of, tail_texts}
 use Rattle.ps_room.specs.declared.entry.Entry.{Entry}
 use Rattle.ps_room.specs.Openings.{Opening, cast_with, bout_with}
 use Rattle.ps_room.specs.Tolds as logs

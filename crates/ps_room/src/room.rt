@@ -515,7 +515,12 @@ impl Room {
     }
 
     // What comes of a refused entry, which is its one line to its sender.
-    fn prepare_refused(&self, alloc: Global, entry: &Entry, why: Why) -> Result<Prepared, AllocError>
+    fn prepare_refused(
+        &self,
+        alloc: Global,
+        entry: &Entry,
+        why: Why,
+    ) -> Result<Prepared, AllocError>
         requires { verdict (record_in self.now) entry.now ≡ Some why }
         ensures out { IfOk result (λ p. p.out ≡ out_of (record_in self.now) entry.now) }
         ensures held { IfOk result (λ p. p.held ≡ given (record_in self.now) entry.now) }
