@@ -165,8 +165,11 @@ pub struct StdSink<W: Write> {
 }
 
 impl<W: Write> StdSink<W> {
-    /// A sink over this writer.
-    pub fn new(inner: W) -> StdSink<W> {
+    /// A sink over this writer, which hasn't failed yet. Takes no memory.
+    pub fn new(inner: W) -> StdSink<W>
+        ensures inner { result.inner ≡ inner }
+        ensures faults { result.faults ≡ 0 }
+    {
         StdSink { inner, faults: 0 }
     }
 }

@@ -124,8 +124,11 @@ pub struct StdSource<R: Read> {
 }
 
 impl<R: Read> StdSource<R> {
-    /// A source over this reader.
-    pub fn new(inner: R) -> StdSource<R> {
+    /// A source over this reader, which hasn't failed yet. Takes no memory.
+    pub fn new(inner: R) -> StdSource<R>
+        ensures inner { result.inner ≡ inner }
+        ensures faults { result.faults ≡ 0 }
+    {
         StdSource { inner, faults: 0 }
     }
 }
