@@ -1,18 +1,16 @@
 -- What a front and an end leave.
-use Rattle.std.proofs.Common.{◌≡◌, ◌≢◌, ℕ, ◌-◌, ◌==◌, Bool, true, false, cond, List, [], ◌∷◌, ◌++◌, length, take, drop, Some, None, refl, sym, ap, ◌∙◌, arith, inl, inr}
+use Rattle.std.proofs.Common.{◌≡◌, ◌≢◌, ℕ, ◌-◌, Bool, true, false, cond, List, [], ◌∷◌, ◌++◌, length, take, drop, Some, None, refl, sym, ap, ◌∙◌, arith, inl, inr}
 use Rattle.std.specs.Str.{bytes_eq}
 use Rattle.std.proofs.lemmas.Bool.Decides.{eqb_tells}
 use Rattle.std.proofs.lemmas.List.{take-append-drop, length-append}
 use Rattle.std.proofs.lemmas.Slice.Eq.{bytes_eq-Decides}
 use Rattle.std.proofs.Math.Seq.{take-append_seam, drop-append_seam}
+use Rattle.std.proofs.lemmas.Bool.{eq-eqb}
 use Rattle.ps_base.specs.Cuts.{after_front, before_end}
-
-same_head : (p : ℕ) → (p == p) ≡ true
-same_head p = elim (eqb_tells p p) [ inl h ↦ h.0 | inr h ↦ absurd (h.1 refl) ]
 
 pub after_front-append : (front rest : List ℕ) → after_front front (front ++ rest) ≡ Some rest
 after_front-append [] rest = refl
-after_front-append (p ∷ front) rest = rw (same_head p) (after_front-append front rest)
+after_front-append (p ∷ front) rest = rw (eq-eqb p p refl) (after_front-append front rest)
 
 pub after_front_is : (text front rest : List ℕ) → text ≡ front ++ rest → after_front front text ≡ Some rest
 after_front_is text front rest e = rw e (after_front-append front rest)

@@ -1,3 +1,4 @@
+pub mod ByIdLemmas
 pub mod CutLemmas
 pub mod IdLemmas
 pub mod NameLemmas

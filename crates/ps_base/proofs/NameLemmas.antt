@@ -7,7 +7,7 @@ use Rattle.std.proofs.lemmas.List.{take-append-drop, reverse-append, reverse-rev
 use Rattle.std.proofs.Math.Seq.{drop-length}
 use Rattle.std.proofs.lemmas.Str.{encode_ascii}
 use Rattle.std.proofs.lemmas.Str.Pattern.{drop_at_char}
-use Rattle.ps_base.specs.Names.{after_spaces, before_spaces}
+use Rattle.ps_base.specs.Names.{after_spaces, trim_end_spaces}
 
 other_first : (text : List ℕ) → ((rest : List ℕ) → text ≢ 32 ∷ rest) → after_spaces text ≡ text
 other_first [] h = refl
@@ -42,23 +42,23 @@ last_space text left n found e =
     let none : drop (length text) text ≡ [] = drop-length text in
     sym (take-append-drop (length text - n) text) ∙ rw (here, none, ← e) refl
 
-cut_end : (text left : List ℕ) (n : ℕ) → FindsCharSuffix 32 text (Some n) → left ≡ take (length text - n) text → before_spaces text ≡ before_spaces left
-cut_end text left n found e = ap before_spaces (last_space text left n found e) ∙ ap (λ (x : List ℕ). reverse (after_spaces x)) (reverse-append left (32 ∷ []))
+cut_end : (text left : List ℕ) (n : ℕ) → FindsCharSuffix 32 text (Some n) → left ≡ take (length text - n) text → trim_end_spaces text ≡ trim_end_spaces left
+cut_end text left n found e = ap trim_end_spaces (last_space text left n found e) ∙ ap (λ (x : List ℕ). reverse (after_spaces x)) (reverse-append left (32 ∷ []))
 
-cuts_end : (text : List ℕ) (ns : List ℕ) (left : List ℕ) → CutsSuffixes (FindsCharSuffix 32) text ns left → before_spaces text ≡ before_spaces left
-cuts_end text [] left h = ap before_spaces (sym h)
+cuts_end : (text : List ℕ) (ns : List ℕ) (left : List ℕ) → CutsSuffixes (FindsCharSuffix 32) text ns left → trim_end_spaces text ≡ trim_end_spaces left
+cuts_end text [] left h = ap trim_end_spaces (sym h)
 cuts_end text (n ∷ ns) left h = cuts_end text ns h.0 h.1 ∙ cut_end h.0 left n h.2 h.3
 
 no_last : (left : List ℕ) → ((front : List ℕ) → left ≢ front ++ 32 ∷ []) → (rest : List ℕ) → reverse left ≢ 32 ∷ rest
 no_last left none rest e = none (reverse rest) (sym (reverse-reverse left) ∙ ap reverse e ∙ reverse-append (32 ∷ []) rest)
 
-end_done : (left : List ℕ) → IsFullyTrimmed (FindsCharSuffix 32) left → before_spaces left ≡ left
+end_done : (left : List ℕ) → IsFullyTrimmed (FindsCharSuffix 32) left → trim_end_spaces left ≡ left
 end_done left h = by_answer h.0 h.1 h.2
   where
-    by_answer : (o : Option ℕ) → FindsCharSuffix 32 left o → IfSome o (λ n. n ≡ 0) → before_spaces left ≡ left
+    by_answer : (o : Option ℕ) → FindsCharSuffix 32 left o → IfSome o (λ n. n ≡ 0) → trim_end_spaces left ≡ left
     by_answer None none zero =
         ap reverse (other_first (reverse left) (no_last left (λ front e. none front (rw (encode_ascii 32 (lit< tt)) e)))) ∙ reverse-reverse left
     by_answer (Some n) found zero = absurd (omega (arith, found.0))
 
-pub trimmed_end : (text left : List ℕ) → IsTrimEndMatches (FindsCharSuffix 32) text left → left ≡ before_spaces text
+pub trimmed_end : (text left : List ℕ) → IsTrimEndMatches (FindsCharSuffix 32) text left → left ≡ trim_end_spaces text
 trimmed_end text left h = sym (cuts_end text h.0.0 left h.0.1 ∙ end_done left h.1)

@@ -3,7 +3,7 @@ use Rattle.std.proofs.Common.{◌≡◌, ◌≢◌, ℕ, ◌^◌, ◌<◌, ◌==
 use Rattle.std.specs.Fmt.{decimal}
 use Rattle.std.specs.Str.{IsUtf8}
 use Rattle.std.specs.Str.Parse.{ParsesUnsigned, AllDigits, digits_value}
-use Rattle.std.proofs.lemmas.Bool.{cases_lt}
+use Rattle.std.proofs.lemmas.Bool.{cases_lt, and_parts}
 use Rattle.std.proofs.lemmas.Bool.Decides.{nat_tests}
 use Rattle.std.proofs.lemmas.Fmt.{decimal_is_IsNumeral, decimal_nonempty, first_decimal, IsAscii-decimal, parse-decimal, decimal-digits_value, decimal_digit}
 use Rattle.std.proofs.lemmas.Str.{IsUtf8-from_ascii}
@@ -73,17 +73,13 @@ number_is text n h =
     let small : ltb n (2 ^ 32) ≡ true = grind (arith, nat_tests, h.small) in
     rw (e, same, small) refl
 
-both : (a b : Bool) → (a && b) ≡ true → (a ≡ true) × (b ≡ true)
-both true b h = (refl, h)
-both false b h = absurd cc
-
 pub number_none : (text : List ℕ) → ((n : ℕ) → IsNumeral text n → ⊥) → number_in text ≡ None
 unfolding number_in
 number_none text none = by_test _ refl
   where
     by_test : (b : Bool) → (bytes_eq text (decimal (digits_value 10 text)) && ltb (digits_value 10 text) (2 ^ 32)) ≡ b → cond b (Some (digits_value 10 text)) None ≡ None
     by_test true e =
-        let t = both _ _ e in
+        let t = and_parts _ _ e in
         let small : digits_value 10 text < 2 ^ 32 = grind (arith, nat_tests, t.1) in
         absurd (none (digits_value 10 text) (record { spelled = (bytes_eq-Decides text (decimal (digits_value 10 text))).0 t.0; small = small }))
     by_test false e = refl

@@ -39,7 +39,7 @@ hall_why_name why.NotNamed = codes "NotNamed"
 hall_why_name why.RoomLimit = codes "RoomLimit"
 hall_why_name why.NoSuchRoom = codes "NoSuchRoom"
 
--- the place and kind of a fault in a packed team
+-- the offset and kind of a fault in a packed team
 abbrev pub pack_end : ℕ → PackKind → List ℕ
 pack_end at kind = codes " " ++ decimal at ++ codes " " ++ pack_kind_name kind
 

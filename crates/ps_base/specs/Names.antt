@@ -13,12 +13,12 @@ after_spaces [] = []
 after_spaces (b ∷ bytes) = if b == 32 then after_spaces bytes else b ∷ bytes
 
 -- without the spaces at its end
-abbrev pub before_spaces : List ℕ → List ℕ
-before_spaces bytes = reverse (after_spaces (reverse bytes))
+abbrev pub trim_end_spaces : List ℕ → List ℕ
+trim_end_spaces bytes = reverse (after_spaces (reverse bytes))
 
 -- without the spaces at both ends
 abbrev pub between_spaces : List ℕ → List ℕ
-between_spaces bytes = before_spaces (after_spaces bytes)
+between_spaces bytes = trim_end_spaces (after_spaces bytes)
 
 -- a character that can't stand in a name: outside U+0020 to U+007E, the bar and the comma
 abbrev pub is_bad : ℕ → Bool
@@ -33,7 +33,7 @@ with_id text (b ∷ bytes) = Ok text
 abbrev pub fitting : ℕ → List ℕ → Result (List ℕ) NameFault
 fitting count text = if nat_lt 18 count then Err (Long (counted count)) else with_id text (id_of text)
 
--- a text and the place of its first bad character
+-- a text and the index of its first bad character
 abbrev pub clean : Option ℕ → List ℕ → Result (List ℕ) NameFault
 clean (Some at) text = Err (BadChar (counted at))
 clean None text = fitting (length (chars text)) text

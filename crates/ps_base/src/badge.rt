@@ -4,7 +4,7 @@ ghost use Rattle.std.specs.Prelude.{◌≡◌, IfOk};
 use crate::name::Name;
 use std::alloc::{AllocError, Global};
 
-/// Who sends: a name, and its group's place in the list of groups, 0 the highest.
+/// Who sends: a name, and its group's index in the list of groups, 0 the highest.
 #[derive(Debug, Drop)]
 pub struct Badge {
     pub name: Name,

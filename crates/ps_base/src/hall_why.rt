@@ -18,7 +18,7 @@ pub enum HallWhy {
     BadAssertion,
     /// An open connection has the id.
     NameTaken,
-    /// A text that is no packed team: the place of its fault in bytes, and the kind.
+    /// A text that is no packed team: the offset of its fault in bytes, and the kind.
     BadPack {
         at: u32,
         kind: PackKind,
@@ -139,7 +139,7 @@ fn popup_end(alloc: Global, why: &HallWhy) -> Result<Text, AllocError>
     }
 }
 
-/// What the sender of a refused entry is told, after PROTOCOL.md: `|popup|[WHY]`, with the place and kind
+/// What the sender of a refused entry is told, after PROTOCOL.md: `|popup|[WHY]`, with the offset and kind
 /// behind BadPack, and set, rule and subject behind BadTeam.
 pub fn popup_line(alloc: Global, why: &HallWhy) -> Result<Text, AllocError>
     ensures { IfOk result (λ line. line ≡ popup_line why.now) }

@@ -1,11 +1,14 @@
-//! Texts, lists, ids, names and numbers: what every other crate speaks of.
+//! Texts, lists, ids, names, numbers and maps by id: what every other crate speaks of.
 #![tactic(auto)]
 
 pub mod badge;
+pub mod characters;
 pub mod cut;
 pub mod decimal;
 pub mod hall_why;
 pub mod id;
+pub mod id_map;
+pub mod limit;
 pub mod list;
 pub mod msg;
 pub mod name;

@@ -1,6 +1,10 @@
 //! Messages.
+ghost use Rattle.std.specs.Prelude.{◌≡◌, ◌++◌, map, OnOk};
+ghost use Rattle.ps_base.specs.Messages.{msg_lines, sent};
+
 use crate::list::List;
 use crate::text::Text;
+use std::alloc::AllocError;
 
 /// What a connection is sent from one place at one entry: one or more lines, without newlines and without
 /// the line that names the room.
@@ -8,4 +12,14 @@ use crate::text::Text;
 pub struct Msg {
     /// The lines, in order.
     pub lines: List<Text>,
+}
+
+/// Puts a message of these lines after the others, if there are lines.
+pub fn push_message(messages: &mut Vec<Msg>, lines: List<Text>) -> Result<(), AllocError>
+    ensures { OnOk result (map msg_lines messages.new.items ≡ map msg_lines messages.old.items ++ sent lines) }
+{
+    if !lines.as_slice().is_empty() {
+        messages.push(Msg { lines })?;
+    }
+    Ok(())
 }

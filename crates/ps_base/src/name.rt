@@ -3,7 +3,7 @@ ghost use Rattle.std.specs.Prelude.{◌≡◌, Ok, length, IfOk, IfErr};
 ghost use Rattle.std.specs.List.{position};
 ghost use Rattle.std.specs.Str.{chars};
 ghost use Rattle.ps_base.specs.Ids.{id_of};
-ghost use Rattle.ps_base.specs.Names.{after_spaces, before_spaces, between_spaces, is_bad, name_in, IsNameFault};
+ghost use Rattle.ps_base.specs.Names.{after_spaces, trim_end_spaces, between_spaces, is_bad, name_in, IsNameFault};
 ghost use Rattle.ps_base.specs.declared.name.NameFault.TheVariants.{NoMemory};
 
 use crate::id::{Id, to_id};
@@ -78,8 +78,8 @@ impl fmt::Display for Name {
 /// Why a text isn't a name.
 #[derive(Clone, Copy, Debug, PartialEq, Eq, Error)]
 pub enum NameFault {
-    /// A character that can't stand in a name, at this place in what is left between the spaces,
-    /// counted in characters from 0. (Past `u32::MAX` the place is that number.)
+    /// A character that can't stand in a name, at this index in what is left between the spaces,
+    /// counted in characters from 0. (Past `u32::MAX` the index is that number.)
     #[error("character {at} can't stand in a name")]
     BadChar { at: u32 },
     /// More than 18 characters are left: so many. (`u32::MAX` where it is more.)
@@ -107,8 +107,8 @@ fn after_spaces(text: &str) -> &str
     text.trim_start_matches(' ')
 }
 
-fn before_spaces(text: &str) -> &str
-    ensures { result.now ≡ before_spaces text.now }
+fn trim_end_spaces(text: &str) -> &str
+    ensures { result.now ≡ trim_end_spaces text.now }
 {
     text.trim_end_matches(' ')
 }
@@ -129,12 +129,12 @@ fn count_of(text: &str) -> usize
 fn between_spaces(text: &str) -> &str
     ensures { result.now ≡ between_spaces text.now }
 {
-    before_spaces(after_spaces(text))
+    trim_end_spaces(after_spaces(text))
 }
 
 /// Reads a name as a client sends it (`/trn` of PROTOCOL.md): the spaces at both ends are dropped.
 ///
-/// The faults, in the order in which they are told: `BadChar` where a character is outside U+0020
+/// The faults, in the order in which they are reported: `BadChar` where a character is outside U+0020
 /// to U+007E or is `|` or `,`, `Long` past 18 characters, `Empty` where the id is empty.
 /// `NoMemory` may come at any text.
 #[tactic(auto, unfolding(crate::specs::Names::name_in))]

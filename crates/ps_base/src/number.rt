@@ -30,7 +30,7 @@ impl fmt::Display for ConnNo {
     }
 }
 
-/// The number of a room: a chat room's place in the configuration, or 15 and a battle's number.
+/// The number of a room: a chat room's index in the configuration, or 15 and a battle's number.
 #[derive(Clone, Copy, Debug, PartialEq, Eq, PartialOrd, Ord, Hash)]
 pub struct RoomNo(pub u32);
 

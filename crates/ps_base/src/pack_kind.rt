@@ -2,7 +2,7 @@
 ghost use Rattle.std.specs.Prelude.{◌≡◌};
 ghost use Rattle.ps_base.specs.PackKinds.{pack_kind_name};
 
-/// What is wrong with a text that is no packed team (TEAMS.md of the simulator), at its fault's place.
+/// What is wrong with a text that is no packed team (TEAMS.md of the simulator), at its fault's offset.
 #[derive(Clone, Copy, Debug, PartialEq, Eq)]
 pub enum PackKind {
     /// A `]`, the end or a twelfth bar stands out of place.

@@ -2,7 +2,7 @@
 ghost use Rattle.std.specs.Prelude.{◌≡◌};
 ghost use Rattle.ps_base.specs.TeamRules.{team_rule_name};
 
-/// The rules for a team, in the order in which they are told: the first two speak of the whole team, the
+/// The rules for a team, in the order in which they are reported: the first two speak of the whole team, the
 /// last two of a set and an earlier one.
 #[derive(Clone, Copy, Debug, PartialEq, Eq)]
 pub enum TeamRule {

@@ -1,7 +1,8 @@
 //! A text that contracts see as the list of its bytes.
-ghost use Rattle.std.specs.Prelude.{◌≡◌, ◌++◌, [], length, Some, IfOk, OnOk, OnErr, string_bytes};
+ghost use Rattle.std.specs.Prelude.{◌≡◌, ◌++◌, ◌∷◌, [], length, Some, IfOk, OnOk, OnErr, string_bytes};
 ghost use Rattle.std.specs.Str.{IsUtf8};
 
+use crate::list::List;
 use std::alloc::{AllocError, Global};
 use std::fmt;
 use std::marker::Model;
@@ -84,4 +85,32 @@ impl fmt::Display for Text {
     fn fmt<W: fmt::Write>(&self, f: &mut fmt::Formatter<W>) -> fmt::Result {
         f.write_str(self.as_str())
     }
+}
+
+/// Puts a copy of a text after the others.
+pub fn push_copy(alloc: Global, texts: &mut Vec<Text>, text: &Text) -> Result<(), AllocError>
+    ensures { OnOk result (texts.new.items ≡ texts.old.items ++ text.now ∷ []) }
+{
+    let copy = text.copy(alloc)?;
+    texts.push(copy)?;
+    Ok(())
+}
+
+/// Puts copies of texts after the others, in their order.
+pub fn push_copies(alloc: Global, texts: &mut Vec<Text>, more: &[Text]) -> Result<(), AllocError>
+    ensures { OnOk result (texts.new.items ≡ texts.old.items ++ more.now) }
+{
+    for text in more {
+        push_copy(alloc, texts, text)?;
+    }
+    Ok(())
+}
+
+/// Copies of texts.
+pub fn copies(alloc: Global, texts: &[Text]) -> Result<List<Text>, AllocError>
+    ensures { IfOk result (λ l. l ≡ texts.now) }
+{
+    let mut copies = Vec::with_capacity(alloc, texts.len())?;
+    push_copies(alloc, &mut copies, texts)?;
+    Ok(List::from_vec(copies))
 }

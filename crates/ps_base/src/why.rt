@@ -64,7 +64,7 @@ pub enum Why {
     NoPp,
     /// A move that is disabled.
     Disabled,
-    /// A switch to a place without a member.
+    /// A switch to a position without a member.
     NoSuchMember,
     /// A switch to who is out already.
     AlreadyOut,

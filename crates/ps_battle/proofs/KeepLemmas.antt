@@ -1,16 +1,11 @@
 -- What stays from step to step of a turn.
-use Rattle.std.proofs.Common.{◌≡◌, ℕ, refl}
-use Rattle.ps_mon.specs.declared.record.Battle.{Battle}
+use Rattle.std.proofs.Common.{◌≡◌, refl}
 use Rattle.ps_mon.specs.declared.record.SideState.{SideState}
 use Rattle.ps_mon.specs.declared.choice.Choice.{Choice}
 use Rattle.ps_mon.specs.declared.choice.Choice.TheVariants as choices
-use Rattle.ps_mon.specs.Keeping.{KeepsTeam, Keeps}
+use Rattle.ps_mon.specs.Keeping.{KeepsTeam}
 use Rattle.ps_mon.specs.Choices.{IsThere, incoming}
 use Rattle.ps_mon.specs.Switching.{released}
-use Rattle.ps_mon.proofs.KeepLemmas.{keeps-trans}
-
-pub keeps_trans : (user : ℕ) (a b c : Battle) → Keeps user a b → Keeps user b c → Keeps user a c
-keeps_trans = keeps-trans
 
 pub there-kept : (a b : SideState) (choice : Choice) → KeepsTeam a b → IsThere a choice → IsThere b choice
 there-kept a b (choices.Move n) kept there = (there.0, rw kept.slot_count there.1)

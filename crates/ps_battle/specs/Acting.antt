@@ -10,7 +10,7 @@ use Rattle.ps_mon.specs.declared.record.Lock.{Lock}
 use Rattle.ps_mon.specs.declared.status.Status.TheVariants.{Slp}
 use Rattle.ps_mon.specs.Duels.{is_slp, is_frz}
 use Rattle.ps_mon.specs.Slots.{is_disabled}
-use Rattle.ps_hits.specs.Scenes.{Play, ◌>>=◌, ◌>>◌, give, look, tell, change, choose, draw}
+use Rattle.ps_hits.specs.Scenes.{Play, ◌>>=◌, ◌>>◌, give, duel_now, tell, change, choose, draw}
 use Rattle.ps_hits.specs.Told.{who_of, health_of, status_number}
 use Rattle.ps_hits.specs.Fighters.{stats_now, is_paralysed}
 use Rattle.ps_status.specs.Clearing.{cured}
@@ -20,14 +20,14 @@ use Rattle.ps_multi.specs.Locking.{is_trap}
 -- the act ends, and why
 unfoldable pub cannot : ℕ → Play Bool
 cannot reason = do
-  d ← look
+  d ← duel_now
   tell (events.Cant (who_of d.user) reason)
   give false
 
 -- sleep: the counter falls by 1; at 0 it is cured; the act ends either way
 unfoldable pub sleep_on : Play Bool
 sleep_on = do
-  d ← look
+  d ← duel_now
   let left = d.user.counter - 1
   change (λ d. record d { user = record d.user { counter = left } })
   choose (left == 0)
@@ -39,13 +39,13 @@ sleep_on = do
 
 unfoldable pub stays_awake : Play Bool
 stays_awake = do
-  d ← look
+  d ← duel_now
   choose (is_slp d.user.status) sleep_on (give true)
 
 -- frozen
 unfoldable pub stays_thawed : Play Bool
 stays_thawed = do
-  d ← look
+  d ← duel_now
   choose (is_frz d.user.status) (cannot numbers.reason_frz) (give true)
 
 -- a member is trapped while its foe has the lock of a trap
@@ -56,19 +56,19 @@ traps (Some lock) = is_trap lock.kind
 -- trapped by the foe's lock
 unfoldable pub stays_free : Play Bool
 stays_free = do
-  d ← look
+  d ← duel_now
   choose (traps d.foe.vol.lock) (cannot numbers.reason_partially_trapped) (give true)
 
 -- flinching
 unfoldable pub stays_steady : Play Bool
 stays_steady = do
-  d ← look
+  d ← duel_now
   choose d.user.vol.flinch (cannot numbers.reason_flinch) (give true)
 
 -- recharging, which is over then
 unfoldable pub stays_fresh : Play Bool
 stays_fresh = do
-  d ← look
+  d ← duel_now
   choose d.user.vol.recharge
       (do
         change (λ d. record d { user = record d.user { vol = record d.user.vol { recharge = false } } })
@@ -83,13 +83,13 @@ one_act_later disabled = if disabled.turns - 1 == 0 then None else Some (record 
 abbrev pub wear_off : Option Disabled → Play (Unit {0})
 wear_off None = give tt
 wear_off (Some disabled) = do
-  d ← look
+  d ← duel_now
   change (λ d. record d { user = record d.user { vol = record d.user.vol { disabled = one_act_later disabled } } })
   choose (disabled.turns - 1 == 0) (tell (events.VolEnd (who_of d.user) numbers.effect_disable)) (give tt)
 
 unfoldable pub disabled_wears_off : Play (Unit {0})
 disabled_wears_off = do
-  d ← look
+  d ← duel_now
   wear_off d.user.vol.disabled
 
 -- whether the chosen slot is disabled; Struggle and long moves have no slot
@@ -101,7 +101,7 @@ is_slot_disabled disabled (Some slot) = is_disabled disabled slot
 unfoldable pub stays_enabled : Option ℕ → Play Bool
 stays_enabled slot = do
   disabled_wears_off
-  d ← look
+  d ← duel_now
   choose (is_slot_disabled d.user.vol.disabled slot) (cannot numbers.reason_disable) (give true)
 
 abbrev pub without_lock : Fighter → Fighter
@@ -124,7 +124,7 @@ own_hit f = record {
 -- the member loses up to so much by its own hit, and its lock ends
 unfoldable pub hurt_itself : ℕ → Play Bool
 hurt_itself n = do
-  d ← look
+  d ← duel_now
   let user = record (without_lock d.user) { hp = d.user.hp - n }
   change (λ d. record d { user = user })
   tell (events.Damage (who_of user) (health_of user) numbers.from_confusion)
@@ -134,7 +134,7 @@ hurt_itself n = do
 -- a member that stays confused: in 128 of 256 cases it hits itself
 unfoldable pub act_confused : Play Bool
 act_confused = do
-  d ← look
+  d ← duel_now
   tell (events.Activate (who_of d.user) numbers.effect_confusion None)
   n ← draw 256
   choose (nat_lt n 128) (hurt_itself (damage_of (own_hit d.user))) (give true)
@@ -142,7 +142,7 @@ act_confused = do
 -- confused: the turns fall by 1; at 0 it ends
 unfoldable pub stays_clear : Play Bool
 stays_clear = do
-  d ← look
+  d ← duel_now
   choose (d.user.vol.confusion == 0) (give true)
       (do
         let left = d.user.vol.confusion - 1
@@ -156,7 +156,7 @@ stays_clear = do
 -- paralysed: in 63 of 256 cases it can't move, and its lock ends
 unfoldable pub stays_mobile : Play Bool
 stays_mobile = do
-  d ← look
+  d ← duel_now
   choose (is_paralysed d.user.status)
       (do
         n ← draw 256

@@ -1,4 +1,4 @@
--- An act: whether the member acts, its move, and what it suffers after it.
+-- An act: whether the member acts, its move, and its residual.
 use Rattle.std.specs.Prelude.{ℕ, Bool, true, false, Option, Some, None, ◌-◌, ◌||◌, ◌==◌, not, unwrap_or, if◌then◌else◌}
 use Rattle.ps_event.specs.declared.event.Event.TheVariants as events
 use Rattle.ps_event.specs.declared.event.Who.{Who}
@@ -18,12 +18,12 @@ use Rattle.ps_mon.specs.Reading.{side_of, active_of}
 use Rattle.ps_mon.specs.Moves.{move_of, struggle_number}
 use Rattle.ps_mon.specs.Duels.{duel_of}
 use Rattle.ps_mon.specs.Spending.{after_use}
-use Rattle.ps_hits.specs.Scenes.{Play, ◌>>=◌, ◌>>◌, look, tell, change}
+use Rattle.ps_hits.specs.Scenes.{Play, ◌>>=◌, ◌>>◌, duel_now, tell, change}
 use Rattle.ps_hits.specs.Courses.{Course, played}
 use Rattle.ps_hits.specs.Told.{who_of}
 use Rattle.ps_battle.specs.Effects.{effect, call}
 use Rattle.ps_battle.specs.Acting.{may_act}
-use Rattle.ps_battle.specs.Suffering.{residual}
+use Rattle.ps_battle.specs.Residual.{residual}
 use Rattle.ps_battle.specs.Chosen.{chosen_slot}
 use Rattle.ps_battle.specs.declared.acts.Usage.{Usage}
 
@@ -61,7 +61,7 @@ prepares other goes_on = false
 unfoldable pub named_row : Figures → Usage → Play (Unit {0})
 named_row facts u = do
   change (λ d. record d { user = record d.user { vol = record d.user.vol { last = Some u.mv } } })
-  d ← look
+  d ← duel_now
   tell (events.Move (who_of d.user) u.mv (target_of (move_of facts u.mv).effect d) (prepares (move_of facts u.mv).effect u.goes_on) u.from)
 
 unfoldable pub named : Figures → ℕ → Usage → Course → Course
@@ -108,14 +108,14 @@ fresh_use slot mv = record { mv = mv; slot = unwrap_or slot 0; from = None; goes
 abbrev pub continued_use : Lock → Usage
 continued_use lock = record { mv = lock.mv; slot = 0; from = Some lock.mv; goes_on = true }
 
--- a move takes PP from its slot and is used; then its user suffers, where both active members stand
+-- a move takes PP from its slot and is used; then its user takes its residual, where both active members stand
 unfoldable pub moved : Figures → ℕ → Option ℕ → ℕ → Course → Course
 moved facts user slot mv c =
     played residual user (used facts user (fresh_use slot mv) (record c { battle = with_use_of user slot c.battle }))
 
 unfoldable pub fail_row : Play (Unit {0})
 fail_row = do
-  d ← look
+  d ← duel_now
   tell (events.Fail (who_of d.user))
 
 -- a long move goes on; where its lock has ended there is Fail in the place of Move and effect
@@ -126,7 +126,7 @@ went_on (Some lock) facts user c = used facts user (continued_use lock) c
 unfoldable pub continued : Figures → ℕ → Course → Course
 continued facts user c = played residual user (went_on (side_of c.battle user).vol.lock facts user c)
 
--- whether the member acts: else the line that ends its act stands in the place of the move and of what is suffered after it
+-- whether the member acts: else the line that ends its act stands in the place of the move and of the residual after it
 unfoldable pub goes_on : Option ℕ → ℕ → Course → Bool
 goes_on slot user c = (may_act slot (record { duel = duel_of c.battle user; told = c.told })).0
 

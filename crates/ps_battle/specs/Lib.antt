@@ -1,5 +1,5 @@
 pub mod Acting
-pub mod Suffering
+pub mod Residual
 pub mod Effects
 pub mod Chosen
 pub mod Acts

@@ -11,14 +11,14 @@ ghost use Rattle.ps_mon.specs.Duels.{IsFit, IsDuelKnown};
 ghost use Rattle.ps_hits.specs.Scenes.{scene};
 ghost use Rattle.ps_hits.specs.Courses.{course, played};
 ghost use Rattle.ps_battle.specs.Acting.{may_act};
-ghost use Rattle.ps_battle.specs.Suffering.{residual};
+ghost use Rattle.ps_battle.specs.Residual.{residual};
 ghost use Rattle.ps_mon.specs.Choices.{IsThere};
-ghost use Rattle.ps_battle.specs.Acts.{is_user, is_conversion, is_for_user, target_of, prepares, named_row, named, used_alone, call_of, calling, used_called, used, with_use_of, fresh_use, continued_use, moved, fail_row, went_on, continued, goes_on, tried, tried_again, act, is_down, has_faint, two_acts};
+ghost use Rattle.ps_battle.specs.Acts.{is_user, is_conversion, is_for_user, target_of, prepares, named_row, named, used_alone, call_of, calling, used, with_use_of, fresh_use, continued_use, fail_row, went_on, goes_on, tried, tried_again, act, is_down, has_faint, two_acts};
 
 use crate::acting::can_act;
 use crate::chosen::slot_move;
 use crate::effects::take_effect;
-use crate::suffering::suffer;
+use crate::residual::residual_of;
 use ps_event::event::{Event, Events, Who};
 use ps_hits::scene::who;
 use ps_mon::choice::Choice;
@@ -77,7 +77,7 @@ fn target(kind: Effect, duel: &Duel) -> Who
 /// How a move is used.
 #[derive(Clone, Copy, Debug, PartialEq, Eq)]
 pub(crate) struct Usage {
-    /// The move: a place in the dex, or Struggle's number.
+    /// The move: an index in the dex, or Struggle's number.
     pub(crate) mv: u16,
     /// The slot that was chosen, from 0, which Mimic changes; 0 for a move that has none.
     pub(crate) slot: u8,
@@ -135,7 +135,7 @@ fn name_move(battle: &mut Battle, facts: Facts<'_>, user: u8, usage: Usage, out:
     battle.put(user, &duel);
 }
 
-#[tactic(auto, using(crate::proofs::KeepLemmas::keeps_trans), unfolding(crate::specs::Acts::used_alone, crate::specs::Acts::call_of))]
+#[tactic(auto, using(ps_mon::proofs::KeepLemmas::keeps_trans), unfolding(crate::specs::Acts::used_alone, crate::specs::Acts::call_of))]
 fn use_alone(
     battle: &mut Battle,
     facts: Facts<'_>,
@@ -176,28 +176,7 @@ fn called(usage: Usage, mv: u16) -> Usage
     }
 }
 
-#[tactic(auto, using(crate::proofs::KeepLemmas::keeps_trans), unfolding(crate::specs::Acts::used_called))]
-fn use_called(battle: &mut Battle, facts: Facts<'_>, user: u8, usage: Usage, out: &mut Events)
-    requires sound { IsSound battle.old }
-    requires fair { AreFair (figures facts) }
-    requires known { AreKnown (move_count (figures facts)) battle.old }
-    requires named { IsNamed (move_count (figures facts)) usage.mv }
-    requires user { user < 2 }
-    requires slot { usage.slot < 4 }
-    requires room { array_vec_len out.old + 22 ≤ 160 }
-    ensures after { course battle.new out.new ≡ used_called (figures facts.entry) user usage (course battle.old out.old) }
-    ensures sound { IsSound battle.new }
-    ensures known { AreKnown (move_count (figures facts.entry)) battle.new }
-    ensures kept { Keeps user battle.old battle.new }
-    ensures room { array_vec_len out.new ≤ array_vec_len out.old + 22 }
-{
-    let Some(mv) = use_alone(battle, facts, user, usage, out) else {
-        return;
-    };
-    let _ = use_alone(battle, facts, user, called(usage, mv), out);
-}
-
-#[tactic(auto, using(crate::proofs::KeepLemmas::keeps_trans), unfolding(crate::specs::Acts::used))]
+#[tactic(auto, using(ps_mon::proofs::KeepLemmas::keeps_trans), unfolding(crate::specs::Acts::used, crate::specs::Acts::used_called))]
 fn use_move(battle: &mut Battle, facts: Facts<'_>, user: u8, usage: Usage, out: &mut Events)
     requires sound { IsSound battle.old }
     requires fair { AreFair (figures facts) }
@@ -215,7 +194,11 @@ fn use_move(battle: &mut Battle, facts: Facts<'_>, user: u8, usage: Usage, out: 
     let Some(mv) = use_alone(battle, facts, user, usage, out) else {
         return;
     };
-    use_called(battle, facts, user, called(usage, mv), out);
+    let usage = called(usage, mv);
+    let Some(mv) = use_alone(battle, facts, user, usage, out) else {
+        return;
+    };
+    let _ = use_alone(battle, facts, user, called(usage, mv), out);
 }
 
 #[tactic(auto, unfolding(crate::specs::Acts::with_use_of))]
@@ -251,7 +234,7 @@ fn is_able(battle: &mut Battle, user: u8, slot: Option<u8>, out: &mut Events) ->
     able
 }
 
-fn bear(battle: &mut Battle, user: u8, out: &mut Events)
+fn take_residual(battle: &mut Battle, user: u8, out: &mut Events)
     requires sound { IsSound battle.old }
     requires user { user < 2 }
     requires room { array_vec_len out.old + 5 ≤ 160 }
@@ -262,7 +245,7 @@ fn bear(battle: &mut Battle, user: u8, out: &mut Events)
     ensures room { array_vec_len out.new ≤ array_vec_len out.old + 5 }
 {
     let mut duel = battle.duel(user);
-    suffer(&mut duel, out);
+    residual_of(&mut duel, out);
     battle.put(user, &duel);
 }
 
@@ -280,34 +263,7 @@ fn fresh(slot: Option<u8>, mv: u16) -> Usage
     }
 }
 
-#[tactic(auto, using(crate::proofs::KeepLemmas::keeps_trans), unfolding(crate::specs::Acts::moved))]
-fn do_move(
-    battle: &mut Battle,
-    facts: Facts<'_>,
-    user: u8,
-    slot: Option<u8>,
-    mv: u16,
-    out: &mut Events,
-)
-    requires sound { IsSound battle.old }
-    requires fair { AreFair (figures facts) }
-    requires known { AreKnown (move_count (figures facts)) battle.old }
-    requires named { IsNamed (move_count (figures facts)) mv }
-    requires user { user < 2 }
-    requires slot { IfSome slot (λ j. j < 4) }
-    requires room { array_vec_len out.old + 28 ≤ 160 }
-    ensures after { course battle.new out.new ≡ moved (figures facts.entry) user slot mv (course battle.old out.old) }
-    ensures sound { IsSound battle.new }
-    ensures known { AreKnown (move_count (figures facts.entry)) battle.new }
-    ensures kept { Keeps user battle.old battle.new }
-    ensures room { array_vec_len out.new ≤ array_vec_len out.old + 28 }
-{
-    spend(battle, user, slot);
-    use_move(battle, facts, user, fresh(slot, mv), out);
-    bear(battle, user, out);
-}
-
-#[tactic(auto, using(crate::proofs::KeepLemmas::keeps_trans), unfolding(crate::specs::Acts::tried))]
+#[tactic(auto, using(ps_mon::proofs::KeepLemmas::keeps_trans), unfolding(crate::specs::Acts::tried, crate::specs::Acts::moved))]
 fn try_move(
     battle: &mut Battle,
     facts: Facts<'_>,
@@ -332,7 +288,9 @@ fn try_move(
     if !is_able(battle, user, slot, out) {
         return;
     }
-    do_move(battle, facts, user, slot, mv, out);
+    spend(battle, user, slot);
+    use_move(battle, facts, user, fresh(slot, mv), out);
+    take_residual(battle, user, out);
 }
 
 #[tactic(auto, unfolding(crate::specs::Acts::fail_row))]
@@ -374,7 +332,7 @@ fn continued(lock: Lock) -> Usage
     }
 }
 
-fn go_on_with(battle: &mut Battle, facts: Facts<'_>, user: u8, lock: Option<Lock>, out: &mut Events)
+fn go_on(battle: &mut Battle, facts: Facts<'_>, user: u8, lock: Option<Lock>, out: &mut Events)
     requires sound { IsSound battle.old }
     requires fair { AreFair (figures facts) }
     requires known { AreKnown (move_count (figures facts)) battle.old }
@@ -393,25 +351,7 @@ fn go_on_with(battle: &mut Battle, facts: Facts<'_>, user: u8, lock: Option<Lock
     }
 }
 
-#[tactic(auto, using(crate::proofs::KeepLemmas::keeps_trans), unfolding(crate::specs::Acts::continued))]
-fn go_on(battle: &mut Battle, facts: Facts<'_>, user: u8, out: &mut Events)
-    requires sound { IsSound battle.old }
-    requires fair { AreFair (figures facts) }
-    requires known { AreKnown (move_count (figures facts)) battle.old }
-    requires user { user < 2 }
-    requires room { array_vec_len out.old + 28 ≤ 160 }
-    ensures after { course battle.new out.new ≡ continued (figures facts.entry) user (course battle.old out.old) }
-    ensures sound { IsSound battle.new }
-    ensures known { AreKnown (move_count (figures facts.entry)) battle.new }
-    ensures kept { Keeps user battle.old battle.new }
-    ensures room { array_vec_len out.new ≤ array_vec_len out.old + 28 }
-{
-    let lock = battle.sides[user as usize].vol.lock;
-    go_on_with(battle, facts, user, lock, out);
-    bear(battle, user, out);
-}
-
-#[tactic(auto, using(crate::proofs::KeepLemmas::keeps_trans), unfolding(crate::specs::Acts::tried_again))]
+#[tactic(auto, using(ps_mon::proofs::KeepLemmas::keeps_trans), unfolding(crate::specs::Acts::tried_again, crate::specs::Acts::continued))]
 fn try_again(battle: &mut Battle, facts: Facts<'_>, user: u8, out: &mut Events)
     requires sound { IsSound battle.old }
     requires fair { AreFair (figures facts) }
@@ -427,7 +367,9 @@ fn try_again(battle: &mut Battle, facts: Facts<'_>, user: u8, out: &mut Events)
     if !is_able(battle, user, None, out) {
         return;
     }
-    go_on(battle, facts, user, out);
+    let lock = battle.sides[user as usize].vol.lock;
+    go_on(battle, facts, user, lock, out);
+    take_residual(battle, user, out);
 }
 
 #[tactic(auto, unfolding(crate::specs::Acts::act))]

@@ -7,7 +7,7 @@ mod chosen;
 mod closings;
 mod effects;
 mod openings;
-mod suffering;
+mod residual;
 mod switches;
 mod turns;
 

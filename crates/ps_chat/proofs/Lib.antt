@@ -1,3 +1,4 @@
-pub mod PlaceLemmas
+pub mod FindLemmas
 pub mod IndexLemmas
 pub mod StepLemmas
+pub mod ToldLemmas

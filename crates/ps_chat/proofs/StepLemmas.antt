@@ -12,9 +12,9 @@ use Rattle.ps_group.specs.Ranks.{higher, rank_of}
 use Rattle.ps_group.specs.declared.group.Group.{Group}
 use Rattle.ps_lines.specs.declared.command.Command.{Command}
 use Rattle.ps_lines.specs.declared.command.Command.TheVariants.{Join, Leave, Quit, Say, Announce, Modnote, Warn, Mute, Unmute, Ban, Unban, Promote, Modchat, Choose, Undo, Forfeit}
-use Rattle.ps_roster.specs.ById.{ById}
+use Rattle.ps_base.specs.ById.{ById}
 use Rattle.ps_chat.specs.Records.{Member}
-use Rattle.ps_chat.specs.Looks.{has_id, member}
+use Rattle.ps_chat.specs.Lookups.{has_id, member}
 use Rattle.ps_chat.specs.Rooms.{present, bare, ranked, room_of, opening_of, record_of}
 use Rattle.ps_chat.specs.Refusals.{refusal_of_join}
 use Rattle.ps_chat.specs.Verdicts.{verdict, room_verdict}

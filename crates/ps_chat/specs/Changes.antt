@@ -10,7 +10,7 @@ use Rattle.ps_group.specs.declared.group.Group.{Group}
 use Rattle.ps_lines.specs.declared.command.Command.{Command}
 use Rattle.ps_lines.specs.declared.command.Command.TheVariants.{Join, Leave, Quit, Say, Announce, Modnote, Warn, Mute, Unmute, Ban, Unban, Promote, Modchat, Choose, Undo, Forfeit}
 use Rattle.ps_chat.specs.Records.{Record}
-use Rattle.ps_chat.specs.Looks.{kept}
+use Rattle.ps_chat.specs.Lookups.{kept}
 
 abbrev pub record_after_join : List Group → Record → ℕ → Badge → Record
 record_after_join groups r conn badge = record r { members = r.members ++ record { conn = conn; badge = kept groups badge } ∷ [] }

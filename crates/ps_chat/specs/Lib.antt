@@ -1,6 +1,6 @@
-pub mod Places
+pub mod Finding
 pub mod Records
-pub mod Looks
+pub mod Lookups
 pub mod Rooms
 pub mod Refusals
 pub mod Verdicts

@@ -3,7 +3,7 @@
 use Rattle.std.specs.Prelude.{ℕ, true, false, List, [], ◌∷◌, codes, Option, Some, None}
 use Rattle.ps_event.specs.declared.audience.Audience.TheVariants.{All, Rank}
 use Rattle.ps_event.specs.declared.line.ChatLine.{ChatLine}
-use Rattle.ps_roster.specs.ShownNames.{sname}
+use Rattle.ps_group.specs.ShownNames.{shown_name}
 use Rattle.ps_chat.specs.Texts.{moved, said, noted, done_to, done_because, promoted, level}
 use Rattle.ps_chat.specs.declared.present.Present.{Present}
 use Rattle.ps_chat.specs.declared.room.Room.{Room}
@@ -24,43 +24,43 @@ abbrev pub to_staff : ℕ → List ℕ → List Line
 to_staff staff text = record { audience = Rank staff; logged = false; text = text } ∷ []
 
 -- the symbol and the name of a member
-abbrev pub sname_of : Room → Present → List ℕ
-sname_of r p = sname r.groups p.rank p.badge.name
+abbrev pub shown_name_of : Room → Present → List ℕ
+shown_name_of r p = shown_name r.groups p.rank p.badge.name
 
 -- ---- the rows
 
 abbrev pub line_of_join : Room → Present → List Line
-line_of_join r joiner = passing (moved (codes "|j|") (sname_of r joiner))
+line_of_join r joiner = passing (moved (codes "|j|") (shown_name_of r joiner))
 
 abbrev pub line_of_leave : Room → Option Present → List Line
 line_of_leave r None = []
-line_of_leave r (Some me) = passing (moved (codes "|l|") (sname_of r me))
+line_of_leave r (Some me) = passing (moved (codes "|l|") (shown_name_of r me))
 
 abbrev pub line_of_quit : Room → Option Present → List Line
 line_of_quit r me = line_of_leave r me
 
 abbrev pub line_of_say : Room → ℕ → Option Present → List ℕ → List Line
 line_of_say r moment None text = []
-line_of_say r moment (Some me) text = logged (said moment (sname_of r me) text)
+line_of_say r moment (Some me) text = logged (said moment (shown_name_of r me) text)
 
 abbrev pub line_of_announce : Room → Option Present → List ℕ → List Line
 line_of_announce r None text = []
-line_of_announce r (Some me) text = logged (noted (codes "Announcement") (sname_of r me) text)
+line_of_announce r (Some me) text = logged (noted (codes "Announcement") (shown_name_of r me) text)
 
 abbrev pub line_of_modnote : Room → Option Present → List ℕ → List Line
 line_of_modnote r None text = []
-line_of_modnote r (Some me) text = to_staff r.staff (noted (codes "Modnote") (sname_of r me) text)
+line_of_modnote r (Some me) text = to_staff r.staff (noted (codes "Modnote") (shown_name_of r me) text)
 
 -- a deed to a member, by its name
 abbrev pub line_to_member : Room → List ℕ → Option Present → Option Present → Option (List ℕ) → List Line
 line_to_member r word None target reason = []
 line_to_member r word (Some me) None reason = []
-line_to_member r word (Some me) (Some target) reason = logged (done_because word target.badge.name (sname_of r me) reason)
+line_to_member r word (Some me) (Some target) reason = logged (done_because word target.badge.name (shown_name_of r me) reason)
 
 -- a deed to an id
 abbrev pub line_to_id : Room → List ℕ → Option Present → List ℕ → Option (List ℕ) → List Line
 line_to_id r word None id reason = []
-line_to_id r word (Some me) id reason = logged (done_because word id (sname_of r me) reason)
+line_to_id r word (Some me) id reason = logged (done_because word id (shown_name_of r me) reason)
 
 abbrev pub line_of_warn : Room → Option Present → Option Present → Option (List ℕ) → List Line
 line_of_warn r me target reason = line_to_member r (codes "Warned") me target reason
@@ -80,8 +80,8 @@ line_of_unban r me id = line_to_id r (codes "Unbanned") me id None
 abbrev pub line_of_promote : Room → Option Present → Option Present → ℕ → List Line
 line_of_promote r None target symbol = []
 line_of_promote r (Some me) None symbol = []
-line_of_promote r (Some me) (Some target) symbol = logged (done_to (codes "Promoted") (promoted target.badge.name symbol) (sname_of r me))
+line_of_promote r (Some me) (Some target) symbol = logged (done_to (codes "Promoted") (promoted target.badge.name symbol) (shown_name_of r me))
 
 abbrev pub line_of_modchat : Room → Option Present → Option ℕ → List Line
 line_of_modchat r None symbol = []
-line_of_modchat r (Some me) symbol = logged (done_to (codes "Modchat") (level symbol) (sname_of r me))
+line_of_modchat r (Some me) symbol = logged (done_to (codes "Modchat") (level symbol) (shown_name_of r me))

@@ -3,7 +3,7 @@ use Rattle.std.specs.Prelude.{ℕ, Bool, List, [], Option, None}
 use Rattle.std.specs.FinMap.{empty}
 use Rattle.ps_base.specs.declared.badge.Badge.{Badge}
 use Rattle.ps_group.specs.declared.group.Group.{Group}
-use Rattle.ps_roster.specs.ById.{ById}
+use Rattle.ps_base.specs.ById.{ById}
 
 -- the title, whether it is a battle's room, the groups, and the lowest rank of staff
 pub record Opening : Type 0 where

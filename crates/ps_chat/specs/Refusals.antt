@@ -9,8 +9,8 @@ use Rattle.ps_group.specs.Ranks.{is_below, rank_of}
 use Rattle.ps_group.specs.Can.{can, reaches_all}
 use Rattle.ps_group.specs.declared.group.Perm.{Perm}
 use Rattle.ps_group.specs.declared.group.Perm.TheVariants as perms
-use Rattle.ps_chat.specs.Looks.{room_rank, is_muted, is_banned, is_below_level, is_long_reason}
-use Rattle.ps_roster.specs.SentTexts.{is_blank, is_long}
+use Rattle.ps_chat.specs.Lookups.{room_rank, is_muted, is_banned, is_below_level, is_long_reason}
+use Rattle.ps_lines.specs.SentTexts.{is_blank, is_long}
 use Rattle.ps_chat.specs.declared.present.Present.{Present}
 use Rattle.ps_chat.specs.declared.room.Room.{Room}
 

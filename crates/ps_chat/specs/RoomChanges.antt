@@ -5,7 +5,7 @@ use Rattle.std.specs.FinMap.{insert, remove}
 use Rattle.ps_group.specs.Ranks.{rank_of}
 use Rattle.ps_lines.specs.declared.command.Command.{Command}
 use Rattle.ps_lines.specs.declared.command.Command.TheVariants.{Join, Leave, Quit, Say, Announce, Modnote, Warn, Mute, Unmute, Ban, Unban, Promote, Modchat, Choose, Undo, Forfeit}
-use Rattle.ps_chat.specs.Looks.{has_id, member}
+use Rattle.ps_chat.specs.Lookups.{has_id, member}
 use Rattle.ps_chat.specs.Rooms.{ranked, presents, opening_of, record_of}
 use Rattle.ps_chat.specs.Changes.{level_of}
 use Rattle.ps_chat.specs.declared.present.Present.{Present}

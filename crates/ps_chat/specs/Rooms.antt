@@ -2,9 +2,9 @@
 use Rattle.std.specs.Prelude.{ℕ, List, map, if◌then◌else◌}
 use Rattle.ps_group.specs.Ranks.{higher}
 use Rattle.ps_group.specs.declared.group.Group.{Group}
-use Rattle.ps_roster.specs.ById.{ById}
+use Rattle.ps_base.specs.ById.{ById}
 use Rattle.ps_chat.specs.Records.{Opening, Member, Record}
-use Rattle.ps_chat.specs.Looks.{rank_with, has_id}
+use Rattle.ps_chat.specs.Lookups.{rank_with, has_id}
 use Rattle.ps_chat.specs.declared.present.Present.{Present}
 use Rattle.ps_chat.specs.declared.room.Room.{Room}
 

@@ -4,7 +4,7 @@ use Rattle.ps_base.specs.declared.badge.Badge.{Badge}
 use Rattle.ps_lines.specs.declared.command.Command.{Command}
 use Rattle.ps_lines.specs.declared.command.Command.TheVariants.{Join, Leave, Quit, Say, Announce, Modnote, Warn, Mute, Unmute, Ban, Unban, Promote, Modchat, Choose, Undo, Forfeit}
 use Rattle.ps_chat.specs.Records.{Opening, Record}
-use Rattle.ps_chat.specs.Looks.{member, user, kept}
+use Rattle.ps_chat.specs.Lookups.{member, user, kept}
 use Rattle.ps_chat.specs.Rooms.{present, room_of}
 use Rattle.ps_chat.specs.Lines.{Line, line_of_join, line_of_leave, line_of_quit, line_of_say, line_of_announce, line_of_modnote, line_of_warn, line_of_mute, line_of_unmute, line_of_ban, line_of_unban, line_of_promote, line_of_modchat}
 use Rattle.ps_chat.specs.declared.present.Present.{Present}

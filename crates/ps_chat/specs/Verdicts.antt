@@ -6,7 +6,7 @@ use Rattle.ps_base.specs.declared.why.Why.{Why}
 use Rattle.ps_lines.specs.declared.command.Command.{Command}
 use Rattle.ps_lines.specs.declared.command.Command.TheVariants.{Join, Leave, Quit, Say, Announce, Modnote, Warn, Mute, Unmute, Ban, Unban, Promote, Modchat, Choose, Undo, Forfeit}
 use Rattle.ps_chat.specs.Records.{Opening, Record}
-use Rattle.ps_chat.specs.Looks.{member, user}
+use Rattle.ps_chat.specs.Lookups.{member, user}
 use Rattle.ps_chat.specs.Rooms.{room_of}
 use Rattle.ps_chat.specs.Refusals.{refusal_of_join, refusal_of_leave, refusal_of_quit, refusal_of_say, refusal_of_announce, refusal_of_modnote, refusal_of_warn, refusal_of_mute, refusal_of_unmute, refusal_of_ban, refusal_of_unban, refusal_of_promote, refusal_of_modchat, refusal_of_battle}
 use Rattle.ps_chat.specs.declared.present.Present.{Present}

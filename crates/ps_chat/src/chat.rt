@@ -1,7 +1,7 @@
 //! The machine of a chat room.
 ghost use Rattle.std.specs.Prelude.{◌≡◌, ◌<◌, List, length, IfOk, OnOk, OnErr, None};
 ghost use Rattle.std.specs.Option.{option_copied};
-ghost use Rattle.ps_chat.specs.Looks.{member};
+ghost use Rattle.ps_chat.specs.Lookups.{member};
 ghost use Rattle.ps_chat.specs.Rooms.{presents, room_of};
 ghost use Rattle.ps_chat.specs.Verdicts.{verdict};
 ghost use Rattle.ps_chat.specs.Steps.{opened, after};
@@ -16,12 +16,12 @@ use crate::room::Room;
 use crate::told::{joiner, room_lines};
 use crate::verdict::room_verdict;
 use ps_base::badge::Badge;
+use ps_base::id_map::IdMap;
 use ps_base::number::{ConnNo, Moment};
 use ps_base::text::Text;
 use ps_base::why::Why;
 use ps_group::groups::Groups;
 use ps_lines::command::Command;
-use ps_roster::id_map::IdMap;
 use std::alloc::{AllocError, Global};
 use std::marker::Model;
 
@@ -39,7 +39,7 @@ impl Model for Chat {
     ghost use Rattle.ps_chat.specs.RoomChanges.{Settled};
     ghost use Rattle.std.specs.Coded.{codes, coded_ℕ};
     ghost use base.Stored.{coded_unit};
-    ghost use Rattle.ps_roster.specs.ById.{by_id_code};
+    ghost use Rattle.ps_base.specs.ById.{by_id_code};
 
     ghost Value = { Seen };
 
@@ -52,7 +52,7 @@ impl Model for Chat {
 
 impl Chat {
     /// A room with nobody in it. `battle` says whether it is a battle's room, and `staff` is the lowest
-    /// rank that sees staff notes, a place in the list of groups.
+    /// rank that sees staff notes, an index in the list of groups.
     pub fn new(
         alloc: Global,
         title: &str,

@@ -4,7 +4,7 @@
 mod change;
 pub mod chat;
 pub mod line;
-pub mod look;
+pub mod lookup;
 pub mod members;
 pub mod present;
 mod refusal;

@@ -1,9 +1,9 @@
 //! The rows of the room table: the lines of each command that is applied.
 ghost use Rattle.std.specs.Prelude.{◌≡◌, ◌∷◌, [], IfOk, codes, Some, None};
 ghost use Rattle.std.specs.Option.{option_copied};
-ghost use Rattle.ps_roster.specs.ShownNames.{sname};
+ghost use Rattle.ps_group.specs.ShownNames.{shown_name};
 ghost use Rattle.ps_chat.specs.Texts.{moved, said, noted, done_to, done_because, promoted, level};
-ghost use Rattle.ps_chat.specs.Lines.{logged, passing, to_staff, sname_of, line_to_member, line_to_id};
+ghost use Rattle.ps_chat.specs.Lines.{logged, passing, to_staff, shown_name_of, line_to_member, line_to_id};
 ghost use Rattle.ps_chat.specs.Lines.{line_of_join, line_of_leave, line_of_quit, line_of_say, line_of_announce, line_of_modnote, line_of_warn, line_of_mute, line_of_unmute};
 ghost use Rattle.ps_chat.specs.Lines.{line_of_ban, line_of_unban, line_of_promote, line_of_modchat};
 
@@ -13,7 +13,7 @@ use crate::text;
 use ps_base::number::Moment;
 use ps_base::text::Text;
 use ps_event::audience::Audience;
-use ps_roster::shown_name::sname;
+use ps_group::shown_name::shown_name;
 use std::alloc::{AllocError, Global};
 
 /// One line of an entry.
@@ -52,10 +52,10 @@ fn passing(alloc: Global, text: Text) -> Result<Vec<ChatLine>, AllocError>
     one(alloc, Audience::All, false, text)
 }
 
-fn sname_of(alloc: Global, room: &Room, member: &Present) -> Result<Text, AllocError>
-    ensures { IfOk result (λ t. t ≡ sname_of room.now member.now) }
+fn shown_name_of(alloc: Global, room: &Room, member: &Present) -> Result<Text, AllocError>
+    ensures { IfOk result (λ t. t ≡ shown_name_of room.now member.now) }
 {
-    sname(alloc, &room.groups, member.rank, &member.badge.name)
+    shown_name(alloc, &room.groups, member.rank, &member.badge.name)
 }
 
 fn line_to_member(
@@ -73,7 +73,7 @@ fn line_to_member(
         Some(me) => match target {
             None => Ok(Vec::new(alloc)),
             Some(target) => {
-                let by = sname_of(alloc, room, me)?;
+                let by = shown_name_of(alloc, room, me)?;
                 let whom = target.badge.name.text().as_str();
                 let text = text::done_because(alloc, word, whom, &by, reason)?;
                 logged(alloc, text)
@@ -95,7 +95,7 @@ fn line_to_id(
     match me {
         None => Ok(Vec::new(alloc)),
         Some(me) => {
-            let by = sname_of(alloc, room, me)?;
+            let by = shown_name_of(alloc, room, me)?;
             let text = text::done_because(alloc, word, id, &by, reason)?;
             logged(alloc, text)
         }
@@ -111,7 +111,7 @@ pub(crate) fn line_of_join(
 ) -> Result<Vec<ChatLine>, AllocError>
     ensures { IfOk result (λ v. v.items ≡ line_of_join room.now joiner.now) }
 {
-    let by = sname_of(alloc, room, joiner)?;
+    let by = shown_name_of(alloc, room, joiner)?;
     let text = text::moved(alloc, "|j|", &by)?;
     passing(alloc, text)
 }
@@ -126,7 +126,7 @@ pub(crate) fn line_of_leave(
     match me {
         None => Ok(Vec::new(alloc)),
         Some(me) => {
-            let by = sname_of(alloc, room, me)?;
+            let by = shown_name_of(alloc, room, me)?;
             let text = text::moved(alloc, "|l|", &by)?;
             passing(alloc, text)
         }
@@ -155,7 +155,7 @@ pub(crate) fn line_of_say(
     match me {
         None => Ok(Vec::new(alloc)),
         Some(me) => {
-            let by = sname_of(alloc, room, me)?;
+            let by = shown_name_of(alloc, room, me)?;
             let text = text::said(alloc, moment, &by, text)?;
             logged(alloc, text)
         }
@@ -173,7 +173,7 @@ pub(crate) fn line_of_announce(
     match me {
         None => Ok(Vec::new(alloc)),
         Some(me) => {
-            let by = sname_of(alloc, room, me)?;
+            let by = shown_name_of(alloc, room, me)?;
             let text = text::noted(alloc, "Announcement", &by, text)?;
             logged(alloc, text)
         }
@@ -191,7 +191,7 @@ pub(crate) fn line_of_modnote(
     match me {
         None => Ok(Vec::new(alloc)),
         Some(me) => {
-            let by = sname_of(alloc, room, me)?;
+            let by = shown_name_of(alloc, room, me)?;
             let text = text::noted(alloc, "Modnote", &by, text)?;
             one(alloc, Audience::Rank(room.staff), false, text)
         }
@@ -272,7 +272,7 @@ pub(crate) fn line_of_promote(
         Some(me) => match target {
             None => Ok(Vec::new(alloc)),
             Some(target) => {
-                let by = sname_of(alloc, room, me)?;
+                let by = shown_name_of(alloc, room, me)?;
                 let whom = text::promoted(alloc, &target.badge.name, symbol)?;
                 let text = text::done_to(alloc, "Promoted", whom.as_str(), &by)?;
                 logged(alloc, text)
@@ -292,7 +292,7 @@ pub(crate) fn line_of_modchat(
     match me {
         None => Ok(Vec::new(alloc)),
         Some(me) => {
-            let by = sname_of(alloc, room, me)?;
+            let by = shown_name_of(alloc, room, me)?;
             let level = text::level(alloc, symbol)?;
             let text = text::done_to(alloc, "Modchat", level.as_str(), &by)?;
             logged(alloc, text)

@@ -2,14 +2,14 @@
 ghost use Rattle.std.specs.Prelude.{◌≡◌, ◌==◌, ◌<◌, ℕ, List, Some, ◌++◌, ◌∷◌, [], true, None, find, is_some, not, map, length, OnOk, OnErr, if◌then◌else◌};
 ghost use Rattle.std.specs.List.{filter, remove};
 ghost use Rattle.std.specs.Option.{option_copied, option_map, option_or};
-ghost use Rattle.ps_chat.specs.Looks.{member, user, has_id};
+ghost use Rattle.ps_chat.specs.Lookups.{member, user, has_id};
 ghost use Rattle.ps_chat.specs.Rooms.{ranked};
-ghost use Rattle.ps_chat.specs.Places.{place_of, shifted};
+ghost use Rattle.ps_chat.specs.Finding.{index_of, shifted};
 ghost use Rattle.std.specs.BTreeMap.{get, get_by_text};
 ghost use Rattle.std.specs.Str.{bytes_eq};
 ghost use Rattle.std.specs.Ordering.{nat_cmp};
 
-use crate::look::has_id;
+use crate::lookup::has_id;
 use crate::present::Present;
 use ps_base::number::ConnNo;
 use ps_group::rank::higher;
@@ -17,28 +17,28 @@ use std::alloc::{AllocError, Global};
 use std::collections::BTreeMap;
 use std::marker::Model;
 
-/// The members in join order. Contracts see the list; a look-up takes no walk of it.
+/// The members in join order. Contracts see the list; a lookup takes no walk of it.
 #[derive(Drop)]
 pub struct Members {
     list: Vec<Present>,
-    places: BTreeMap<u32, usize>,
+    indices: BTreeMap<u32, usize>,
     ids: BTreeMap<String, usize>,
 }
 
 impl Model for Members {
     ghost use Rattle.std.specs.Prelude as prelude;
     ghost use Rattle.ps_chat.specs.declared.present.Present.{Present};
-    ghost use Rattle.ps_chat.specs.Places.{IsIndex, IsIdIndex};
+    ghost use Rattle.ps_chat.specs.Finding.{IsIndex, IsIdIndex};
 
     ghost Value = { prelude.List Present };
 
     ghost view = { λ m. m.list.items };
 
-    ghost invariant = { λ m. IsIndex m.list.items m.places × IsIdIndex m.list.items m.ids };
+    ghost invariant = { λ m. IsIndex m.list.items m.indices × IsIdIndex m.list.items m.ids };
 }
 
-fn place_of_conn(members: &[Present], conn: ConnNo) -> Option<usize>
-    ensures { result ≡ place_of (λ p. p.conn == conn) members.now }
+fn index_of_conn(members: &[Present], conn: ConnNo) -> Option<usize>
+    ensures { result ≡ index_of (λ p. p.conn == conn) members.now }
 {
     for i in 0..members.len() {
         if members[i].conn == conn {
@@ -48,8 +48,8 @@ fn place_of_conn(members: &[Present], conn: ConnNo) -> Option<usize>
     None
 }
 
-fn place_of_id(members: &[Present], id: &str) -> Option<usize>
-    ensures { result ≡ place_of (has_id id.now) members.now }
+fn index_of_id(members: &[Present], id: &str) -> Option<usize>
+    ensures { result ≡ index_of (has_id id.now) members.now }
 {
     for i in 0..members.len() {
         if has_id(&members[i], id) {
@@ -59,32 +59,32 @@ fn place_of_id(members: &[Present], id: &str) -> Option<usize>
     None
 }
 
-fn shifted(place: usize, gone: usize) -> usize
-    ensures { result ≡ shifted gone place }
+fn shifted(index: usize, gone: usize) -> usize
+    ensures { result ≡ shifted gone index }
 {
-    if gone < place { place - 1 } else { place }
+    if gone < index { index - 1 } else { index }
 }
 
-fn shift(places: &mut BTreeMap<u32, usize>, gone: usize)
-    ensures { (conn : ℕ) → get nat_cmp places.new conn ≡ option_map (shifted gone) (get nat_cmp places.old conn) }
+fn shift(indices: &mut BTreeMap<u32, usize>, gone: usize)
+    ensures { (conn : ℕ) → get nat_cmp indices.new conn ≡ option_map (shifted gone) (get nat_cmp indices.old conn) }
 {
-    places.retain(|_, place| {
-        *place = shifted(*place, gone);
+    indices.retain(|_, index| {
+        *index = shifted(*index, gone);
         true
     });
 }
 
-fn replace(places: &mut BTreeMap<u32, usize>, conn: u32, place: Option<usize>)
-    requires { is_some (get nat_cmp places.old conn) ≡ true }
-    ensures { (other : ℕ) → get nat_cmp places.new other ≡ (if other == conn then place else get nat_cmp places.old other) }
+fn replace(indices: &mut BTreeMap<u32, usize>, conn: u32, index: Option<usize>)
+    requires { is_some (get nat_cmp indices.old conn) ≡ true }
+    ensures { (other : ℕ) → get nat_cmp indices.new other ≡ (if other == conn then index else get nat_cmp indices.old other) }
 {
-    match place {
+    match index {
         None => {
-            let _ = places.remove(&conn);
+            let _ = indices.remove(&conn);
         }
         Some(next) => {
-            let place = places.get_mut(&conn).unwrap();
-            *place = next;
+            let index = indices.get_mut(&conn).unwrap();
+            *index = next;
         }
     }
 }
@@ -92,42 +92,42 @@ fn replace(places: &mut BTreeMap<u32, usize>, conn: u32, place: Option<usize>)
 fn shift_ids(ids: &mut BTreeMap<String, usize>, gone: usize)
     ensures { (id : List ℕ) → get_by_text ids.new id ≡ option_map (shifted gone) (get_by_text ids.old id) }
 {
-    ids.retain(|_, place| {
-        *place = shifted(*place, gone);
+    ids.retain(|_, index| {
+        *index = shifted(*index, gone);
         true
     });
 }
 
-fn replace_id(ids: &mut BTreeMap<String, usize>, id: &str, place: Option<usize>)
+fn replace_id(ids: &mut BTreeMap<String, usize>, id: &str, index: Option<usize>)
     requires { is_some (get_by_text ids.old id.now) ≡ true }
-    ensures { (other : List ℕ) → get_by_text ids.new other ≡ (if bytes_eq id.now other then place else get_by_text ids.old other) }
+    ensures { (other : List ℕ) → get_by_text ids.new other ≡ (if bytes_eq id.now other then index else get_by_text ids.old other) }
 {
-    match place {
+    match index {
         None => {
             let _ = ids.remove(id);
         }
         Some(next) => {
-            let place = ids.get_mut(id).unwrap();
-            *place = next;
+            let index = ids.get_mut(id).unwrap();
+            *index = next;
         }
     }
 }
 
-/// Notes the place of an id that has none yet. Where memory fails nothing changes.
+/// Notes the index of an id that has none yet. Where memory fails nothing changes.
 fn note_id(
     alloc: Global,
     ids: &mut BTreeMap<String, usize>,
     id: &str,
-    place: usize,
+    index: usize,
 ) -> Result<(), AllocError>
-    ensures ok { OnOk result ((other : List ℕ) → get_by_text ids.new other ≡ (if bytes_eq id.now other then option_or (get_by_text ids.old other) (Some place) else get_by_text ids.old other)) }
+    ensures ok { OnOk result ((other : List ℕ) → get_by_text ids.new other ≡ (if bytes_eq id.now other then option_or (get_by_text ids.old other) (Some index) else get_by_text ids.old other)) }
     ensures err { OnErr result ((other : List ℕ) → get_by_text ids.new other ≡ get_by_text ids.old other) }
 {
     if ids.get(id).is_some() {
         return Ok(());
     }
     let key = String::from_str(alloc, id)?;
-    ids.insert(key, place)?;
+    ids.insert(key, index)?;
     Ok(())
 }
 
@@ -154,7 +154,7 @@ impl Members {
     {
         Members {
             list: Vec::new(alloc),
-            places: BTreeMap::new(alloc),
+            indices: BTreeMap::new(alloc),
             ids: BTreeMap::new(alloc),
         }
     }
@@ -170,9 +170,9 @@ impl Members {
     pub fn get(&self, conn: ConnNo) -> Option<&Present>
         ensures { option_copied result ≡ member conn self.now }
     {
-        match self.places.get(&conn.0) {
+        match self.indices.get(&conn.0) {
             None => None,
-            Some(place) => Some(&self.list[*place]),
+            Some(index) => Some(&self.list[*index]),
         }
     }
 
@@ -182,26 +182,26 @@ impl Members {
     {
         match self.ids.get(id) {
             None => None,
-            Some(place) => Some(&self.list[*place]),
+            Some(index) => Some(&self.list[*index]),
         }
     }
 
-    fn place(&self, conn: ConnNo) -> Option<usize>
-        ensures { result ≡ place_of (λ p. p.conn == conn) self.now }
+    fn index(&self, conn: ConnNo) -> Option<usize>
+        ensures { result ≡ index_of (λ p. p.conn == conn) self.now }
     {
-        match self.places.get(&conn.0) {
+        match self.indices.get(&conn.0) {
             None => None,
-            Some(place) => Some(*place),
+            Some(index) => Some(*index),
         }
     }
 
-    /// The place of the first member with an id.
-    fn user_place(&self, id: &str) -> Option<usize>
-        ensures { result ≡ place_of (has_id id.now) self.now }
+    /// The index of the first member with an id.
+    fn user_index(&self, id: &str) -> Option<usize>
+        ensures { result ≡ index_of (has_id id.now) self.now }
     {
         match self.ids.get(id) {
             None => None,
-            Some(place) => Some(*place),
+            Some(index) => Some(*index),
         }
     }
 
@@ -212,12 +212,12 @@ impl Members {
         ensures err { OnErr result (self.new ≡ self.old) }
     {
         let conn = member.conn;
-        let place = self.list.len();
+        let index = self.list.len();
         self.list.reserve(1)?;
-        self.places.insert(conn.0, place)?;
-        match note_id(alloc, &mut self.ids, member.badge.name.id().as_str(), place) {
+        self.indices.insert(conn.0, index)?;
+        match note_id(alloc, &mut self.ids, member.badge.name.id().as_str(), index) {
             Err(end) => {
-                let _ = self.places.remove(&conn.0);
+                let _ = self.indices.remove(&conn.0);
                 Err(end)
             }
             Ok(()) => {
@@ -227,18 +227,18 @@ impl Members {
         }
     }
 
-    fn remove_at(&mut self, place: usize)
-        requires { place < length self.old }
-        ensures { self.new ≡ remove self.old place }
+    fn remove_at(&mut self, index: usize)
+        requires { index < length self.old }
+        ensures { self.new ≡ remove self.old index }
     {
-        let gone = self.list.remove(place);
+        let gone = self.list.remove(index);
         let conn = gone.conn;
-        shift(&mut self.places, place);
-        let next = place_of_conn(self.list.as_slice(), conn);
-        replace(&mut self.places, conn.0, next);
+        shift(&mut self.indices, index);
+        let next = index_of_conn(self.list.as_slice(), conn);
+        replace(&mut self.indices, conn.0, next);
         let id = gone.badge.name.id().as_str();
-        shift_ids(&mut self.ids, place);
-        let next_id = place_of_id(self.list.as_slice(), id);
+        shift_ids(&mut self.ids, index);
+        let next_id = index_of_id(self.list.as_slice(), id);
         replace_id(&mut self.ids, id, next_id);
     }
 
@@ -246,8 +246,8 @@ impl Members {
     pub fn leave(&mut self, conn: ConnNo)
         ensures { self.new ≡ filter (λ p. not (p.conn == conn)) self.old }
     {
-        while let Some(place) = self.place(conn) {
-            self.remove_at(place);
+        while let Some(index) = self.index(conn) {
+            self.remove_at(index);
         }
     }
 
@@ -255,8 +255,8 @@ impl Members {
     pub fn take_out(&mut self, id: &str)
         ensures { self.new ≡ filter (λ p. not (has_id id.now p)) self.old }
     {
-        while let Some(place) = self.user_place(id) {
-            self.remove_at(place);
+        while let Some(index) = self.user_index(id) {
+            self.remove_at(index);
         }
     }
 

@@ -4,13 +4,13 @@ ghost use Rattle.std.specs.Option.{option_copied};
 ghost use Rattle.ps_base.specs.Ids.{id_of};
 ghost use Rattle.ps_base.specs.declared.why.Why.TheVariants as why;
 ghost use Rattle.ps_group.specs.declared.group.Perm.TheVariants as perms;
-ghost use Rattle.ps_chat.specs.Looks.{is_muted, is_banned, is_long_reason};
+ghost use Rattle.ps_chat.specs.Lookups.{is_muted, is_banned, is_long_reason};
 ghost use Rattle.ps_chat.specs.Refusals.{when, of_text, may, may_to, rank_of_id, is_too_high, is_same_level};
 ghost use Rattle.ps_chat.specs.Refusals.{refusal_of_staff_text, refusal_over, refusal_of_bar, refusal_to_rank, refusal_of_promoted, refusal_to_level, refusal_of_level};
 ghost use Rattle.ps_chat.specs.Refusals.{refusal_of_join, refusal_of_leave, refusal_of_quit, refusal_of_say, refusal_of_announce, refusal_of_modnote, refusal_of_warn, refusal_of_mute, refusal_of_unmute};
 ghost use Rattle.ps_chat.specs.Refusals.{refusal_of_ban, refusal_of_unban, refusal_of_promote, refusal_of_modchat, refusal_of_battle};
 
-use crate::look;
+use crate::lookup;
 use crate::present::Present;
 use crate::room::Room;
 use ps_base::number::Moment;
@@ -18,7 +18,7 @@ use ps_base::text::Text;
 use ps_base::why::Why;
 use ps_group::group::Perm;
 use ps_group::rank::is_below;
-use ps_roster::sent_text::{is_blank, is_long};
+use ps_lines::sent_text::{is_blank, is_long};
 
 /// How many members a room may have.
 const MOST: usize = 256;
@@ -46,7 +46,7 @@ fn may(room: &Room, me: &Present, perm: Perm) -> bool
 fn may_to(room: &Room, me: &Present, rank: u8, id: &str, perm: Perm) -> bool
     ensures { result ≡ may_to room.now me.now rank id.now perm }
 {
-    let is_self = look::has_id(me, id);
+    let is_self = lookup::has_id(me, id);
     room.groups.can(me.rank, Some(rank), is_self, perm)
 }
 
@@ -54,7 +54,7 @@ fn rank_of_id(room: &Room, id: &str, target: Option<&Present>) -> u8
     ensures { result ≡ rank_of_id room.now id.now (option_copied target.entry) }
 {
     match target {
-        None => look::room_rank(&room.groups, &room.ranks, id),
+        None => lookup::room_rank(&room.groups, &room.ranks, id),
         Some(target) => target.rank,
     }
 }
@@ -127,7 +127,7 @@ pub(crate) fn refusal_of_join(room: &Room, me: Option<&Present>, id: &str) -> Op
     match me {
         Some(_) => Some(Why::AlreadyMember),
         None => {
-            if look::is_banned(&room.bans, id) {
+            if lookup::is_banned(&room.bans, id) {
                 Some(Why::Banned)
             } else if room.members.as_slice().len() >= MOST {
                 Some(Why::RoomFull)
@@ -168,9 +168,9 @@ pub(crate) fn refusal_of_say(
                 Some(Why::EmptyText)
             } else if is_long(text) {
                 Some(Why::TooLong)
-            } else if look::is_muted(&room.mutes, moment, me.badge.name.id().as_str()) {
+            } else if lookup::is_muted(&room.mutes, moment, me.badge.name.id().as_str()) {
                 Some(Why::Muted)
-            } else if look::is_below_level(me.rank, room.modchat) {
+            } else if lookup::is_below_level(me.rank, room.modchat) {
                 Some(Why::Modchat)
             } else {
                 None
@@ -203,7 +203,7 @@ pub(crate) fn refusal_of_warn(
     match refusal_over(room, me, target, id, Perm::Warn) {
         Some(why) => Some(why),
         None => {
-            if look::is_long_reason(reason) {
+            if lookup::is_long_reason(reason) {
                 Some(Why::TooLong)
             } else {
                 None
@@ -225,9 +225,9 @@ pub(crate) fn refusal_of_mute(
     match refusal_over(room, me, target, id, Perm::Mute) {
         Some(why) => Some(why),
         None => {
-            if look::is_long_reason(reason) {
+            if lookup::is_long_reason(reason) {
                 Some(Why::TooLong)
-            } else if look::is_muted(&room.mutes, moment, id) {
+            } else if lookup::is_muted(&room.mutes, moment, id) {
                 Some(Why::AlreadyMuted)
             } else {
                 None
@@ -248,7 +248,7 @@ pub(crate) fn refusal_of_unmute(
     match refusal_over(room, me, target, id, Perm::Mute) {
         Some(why) => Some(why),
         None => {
-            if look::is_muted(&room.mutes, moment, id) {
+            if lookup::is_muted(&room.mutes, moment, id) {
                 None
             } else {
                 Some(Why::NotMuted)
@@ -269,9 +269,9 @@ pub(crate) fn refusal_of_ban(
     match refusal_of_bar(room, me, target, id) {
         Some(why) => Some(why),
         None => {
-            if look::is_long_reason(reason) {
+            if lookup::is_long_reason(reason) {
                 Some(Why::TooLong)
-            } else if look::is_banned(&room.bans, id) {
+            } else if lookup::is_banned(&room.bans, id) {
                 Some(Why::AlreadyBanned)
             } else {
                 None
@@ -291,7 +291,7 @@ pub(crate) fn refusal_of_unban(
     match refusal_of_bar(room, me, target, id) {
         Some(why) => Some(why),
         None => {
-            if look::is_banned(&room.bans, id) {
+            if lookup::is_banned(&room.bans, id) {
                 None
             } else {
                 Some(Why::NotBanned)

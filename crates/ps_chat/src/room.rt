@@ -1,9 +1,9 @@
 //! A room as its rows read it.
 use crate::members::Members;
+use ps_base::id_map::IdMap;
 use ps_base::number::Moment;
 use ps_base::text::Text;
 use ps_group::groups::Groups;
-use ps_roster::id_map::IdMap;
 
 /// What a room was opened with, and its record.
 #[derive(Drop)]

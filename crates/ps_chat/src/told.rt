@@ -1,11 +1,11 @@
 //! The lines of an entry that is applied.
 ghost use Rattle.std.specs.Prelude.{◌≡◌, [], IfOk};
 ghost use Rattle.ps_chat.specs.Told.{room_lines, joiner};
-ghost use Rattle.ps_chat.specs.Looks.{kept};
+ghost use Rattle.ps_chat.specs.Lookups.{kept};
 
 use crate::line;
 use crate::line::ChatLine;
-use crate::look::rank_with;
+use crate::lookup::rank_with;
 use crate::present::Present;
 use crate::room::Room;
 use ps_base::badge::Badge;

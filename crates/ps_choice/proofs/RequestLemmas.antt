@@ -12,8 +12,8 @@ use Rattle.ps_mon.specs.declared.record.SideState.{SideState}
 use Rattle.ps_mon.specs.declared.team.Member.{Member}
 use Rattle.ps_mon.specs.Slots.{slot_count_now, has_usable}
 use Rattle.ps_mon.specs.Valid.{replaces}
-use Rattle.ps_dex.specs.declared.row.MoveRow.{MoveRow}
-use Rattle.ps_dex.specs.declared.row.Tables.{Tables}
+use Rattle.ps_dex.specs.declared.item.MoveItem.{MoveItem}
+use Rattle.ps_dex.specs.declared.item.Tables.{Tables}
 use Rattle.ps_choice.specs.Requests.{slot_data, slots_from, only_move, unheld_moves, moves_by, moves_data, stats_data, move_id_data, member_data, member_at_data, side_data, turn_data, switch_or_wait, asked_data, request_data}
 
 abbrev pub ArePlain : List Data → Type 0
@@ -25,27 +25,27 @@ each_plain f plain (x ∷ xs) = rw (plain x, each_plain f plain xs) refl
 
 -- ---- the moves
 
-slot-plain : (moves : List MoveRow) (side : SideState) (j : ℕ) → has_float (slot_data moves side j) ≡ false
+slot-plain : (moves : List MoveItem) (side : SideState) (j : ℕ) → has_float (slot_data moves side j) ≡ false
 unfolding slot_data
 slot-plain moves side j = refl
 
-slots-plain : (moves : List MoveRow) (side : SideState) (j left : ℕ) → ArePlain (slots_from moves side j left)
+slots-plain : (moves : List MoveItem) (side : SideState) (j left : ℕ) → ArePlain (slots_from moves side j left)
 slots-plain moves side j zero = refl
 slots-plain moves side j (suc left) = rw (slot-plain moves side j, slots-plain moves side (suc j) left) refl
 
-unheld-plain : (moves : List MoveRow) (side : SideState) (usable : Bool) → has_usable side ≡ usable → ArePlain (unheld_moves moves side)
+unheld-plain : (moves : List MoveItem) (side : SideState) (usable : Bool) → has_usable side ≡ usable → ArePlain (unheld_moves moves side)
 unheld-plain moves side true e = rw e (slots-plain moves side 0 (slot_count_now side))
 unheld-plain moves side false e = rw e refl
 
-by-plain : (lock : Option Lock) (moves : List MoveRow) (side : SideState) → ArePlain (moves_by lock moves side)
+by-plain : (lock : Option Lock) (moves : List MoveItem) (side : SideState) → ArePlain (moves_by lock moves side)
 by-plain (Some lock) moves side = refl
 by-plain None moves side = unheld-plain moves side (has_usable side) refl
 
-by_recharge : (recharge : Bool) (moves : List MoveRow) (side : SideState) → ArePlain (cond recharge (only_move (codes "recharge") (codes "Recharge")) (moves_by side.vol.lock moves side))
+by_recharge : (recharge : Bool) (moves : List MoveItem) (side : SideState) → ArePlain (cond recharge (only_move (codes "recharge") (codes "Recharge")) (moves_by side.vol.lock moves side))
 by_recharge true moves side = refl
 by_recharge false moves side = by-plain side.vol.lock moves side
 
-moves-plain : (moves : List MoveRow) (side : SideState) → ArePlain (moves_data moves side)
+moves-plain : (moves : List MoveItem) (side : SideState) → ArePlain (moves_data moves side)
 unfolding moves_data
 moves-plain moves side = by_recharge side.vol.recharge moves side
 
@@ -88,14 +88,14 @@ request-plain phase dex name nicks s side round = asked-plain phase s (moves_dat
 
 -- ---- the loop over the slots
 
-slots_more : (moves : List MoveRow) (side : SideState) (j n : ℕ) → j < n → slots_from moves side j (n - j) ≡ slot_data moves side j ∷ slots_from moves side (j + 1) (n - (j + 1))
+slots_more : (moves : List MoveItem) (side : SideState) (j n : ℕ) → j < n → slots_from moves side j (n - j) ≡ slot_data moves side j ∷ slots_from moves side (j + 1) (n - (j + 1))
 slots_more moves side j n lt =
     let left : n - j ≡ suc (n - (j + 1)) = omega arith in
     let next : suc j ≡ j + 1 = omega arith in
     rw left (rw (← next) refl)
 
 -- what was written, and the slots from here on, make up all of them
-pub next_slot : (moves : List MoveRow) (side : SideState) (old new : List Value) (v : Value) (j n : ℕ) (all : List Data) → j < n → new ≡ old ++ v ∷ [] → view v ≡ slot_data moves side j → map view old ++ slots_from moves side j (n - j) ≡ all → map view new ++ slots_from moves side (j + 1) (n - (j + 1)) ≡ all
+pub next_slot : (moves : List MoveItem) (side : SideState) (old new : List Value) (v : Value) (j n : ℕ) (all : List Data) → j < n → new ≡ old ++ v ∷ [] → view v ≡ slot_data moves side j → map view old ++ slots_from moves side j (n - j) ≡ all → map view new ++ slots_from moves side (j + 1) (n - (j + 1)) ≡ all
 next_slot moves side old new v j n all lt pushed shown so_far =
     let rest : List Data = slots_from moves side (j + 1) (n - (j + 1)) in
     let more : slots_from moves side j (n - j) ≡ view v ∷ rest = rw shown (slots_more moves side j n lt) in

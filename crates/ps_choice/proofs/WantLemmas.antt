@@ -4,6 +4,7 @@ use Rattle.std.specs.Option.{option_map}
 use Rattle.std.specs.Str.{bytes_eq}
 use Rattle.std.proofs.lemmas.Bool.Decides.{eqb_tells, nat_tests}
 use Rattle.std.proofs.lemmas.Slice.Eq.{bytes_eq-Decides}
+use Rattle.std.proofs.lemmas.Option.{same_Some, none-some}
 use Rattle.ps_base.specs.Cuts.{after_front}
 use Rattle.ps_choice.specs.declared.wanted.Wanted.{Wanted}
 use Rattle.ps_choice.specs.Wants.{Want, Slot, Named, Position, Default, IsForm, digit_in, slot_or_name, move_want, position_want, switch_want, behind_switch, behind_move, want_in, want_of}
@@ -17,26 +18,20 @@ digit-reads n small =
     let back : 48 + n - 48 ≡ n = omega arith in
     rw (low, high) (ap (λ (x : ℕ). Some x) back)
 
-some_is : (a b : ℕ) → Some a ≡ Some b → a ≡ b
-some_is a b e = cc
-
-none_is_some : {A : Type 0} (a : A) → None ≡ Some a → ⊥
-none_is_some a e = cc
-
 one_digit : (b n : ℕ) (low high : Bool) → nat_le 48 b ≡ low → nat_le b 57 ≡ high → cond (low && high) (Some (b - 48)) None ≡ Some n → (n ≤ 9) × (b ∷ [] ≡ (48 + n) ∷ [])
 one_digit b n true true low high e =
-    let is : b - 48 ≡ n = some_is (b - 48) n e in
+    let is : b - 48 ≡ n = same_Some (b - 48) n e in
     let lo : 48 ≤ b = grind (arith, nat_tests) in
     let hi : b ≤ 57 = grind (arith, nat_tests) in
     let same : b ≡ 48 + n = omega (arith, is, lo) in
     (omega (arith, is, hi), ap (λ (x : ℕ). x ∷ []) same)
-one_digit b n true false low high e = absurd (none_is_some n e)
-one_digit b n false high low h e = absurd (none_is_some n e)
+one_digit b n true false low high e = absurd (none-some n e)
+one_digit b n false high low h e = absurd (none-some n e)
 
 digit-is : (bytes : List ℕ) (n : ℕ) → digit_in bytes ≡ Some n → (n ≤ 9) × (bytes ≡ (48 + n) ∷ [])
-digit-is [] n e = absurd (none_is_some n e)
+digit-is [] n e = absurd (none-some n e)
 digit-is (b ∷ []) n e = one_digit b n (nat_le 48 b) (nat_le b 57) refl refl e
-digit-is (b ∷ c ∷ bytes) n e = absurd (none_is_some n e)
+digit-is (b ∷ c ∷ bytes) n e = absurd (none-some n e)
 
 -- ---- a form is read
 
@@ -72,11 +67,11 @@ form-reads Default text f = rw f at-default
 
 front-is : (front text rest : List ℕ) → after_front front text ≡ Some rest → text ≡ front ++ rest
 front-is [] text rest e = cc
-front-is (p ∷ front) [] rest e = absurd (none_is_some rest e)
+front-is (p ∷ front) [] rest e = absurd (none-some rest e)
 front-is (p ∷ front) (b ∷ text) rest e =
     elim (eqb_tells p b) [
       | inl h ↦ (let more : after_front front text ≡ Some rest = subst (λ t. cond t (after_front front text) None ≡ Some rest) h.0 e in let tail : text ≡ front ++ rest = front-is front text rest more in cc (h.1, tail))
-      | inr h ↦ absurd (none_is_some rest (subst (λ t. cond t (after_front front text) None ≡ Some rest) h.0 e))
+      | inr h ↦ absurd (none-some rest (subst (λ t. cond t (after_front front text) None ≡ Some rest) h.0 e))
     ]
 
 slot_or_name-is : (d : Option ℕ) (rest : List ℕ) (w : Want) → digit_in rest ≡ d → rest ≢ [] → Some (slot_or_name d rest) ≡ Some w → IsForm w (codes "move " ++ rest)
@@ -89,7 +84,7 @@ slot_or_name-is None rest w d some e =
     subst (λ v. IsForm v (codes "move " ++ rest)) is (refl, some, d)
 
 move-is : (rest : List ℕ) (w : Want) → move_want rest ≡ Some w → IsForm w (codes "move " ++ rest)
-move-is [] w e = absurd (none_is_some w e)
+move-is [] w e = absurd (none-some w e)
 move-is (b ∷ bytes) w e = slot_or_name-is (digit_in (b ∷ bytes)) (b ∷ bytes) w refl (λ h. cc h) e
 
 position-is : (d : Option ℕ) (rest : List ℕ) (w : Want) → digit_in rest ≡ d → position_want d ≡ Some w → IsForm w (codes "switch " ++ rest)
@@ -97,11 +92,11 @@ position-is (Some n) rest w d e =
     let is : Position n ≡ w = cc e in
     let digit = digit-is rest n d in
     subst (λ v. IsForm v (codes "switch " ++ rest)) is (digit.0, ap (λ (x : List ℕ). codes "switch " ++ x) digit.1)
-position-is None rest w d e = absurd (none_is_some w e)
+position-is None rest w d e = absurd (none-some w e)
 
 after_switch : (o : Option (List ℕ)) (text : List ℕ) (w : Want) → after_front (codes "switch ") text ≡ o → behind_switch o ≡ Some w → IsForm w text
 after_switch (Some rest) text w o e = rw (front-is (codes "switch ") text rest o) (position-is (digit_in rest) rest w refl e)
-after_switch None text w o e = absurd (none_is_some w e)
+after_switch None text w o e = absurd (none-some w e)
 
 after_move : (o : Option (List ℕ)) (text : List ℕ) (w : Want) → after_front (codes "move ") text ≡ o → behind_move o text ≡ Some w → IsForm w text
 after_move (Some rest) text w o e = rw (front-is (codes "move ") text rest o) (move-is rest w e)
@@ -124,5 +119,5 @@ found-of text None e = tt
 found-of text (Some w) e = read-is text (want_of w) (sym e)
 
 pub none-of : (text : List ℕ) (o : Option Wanted) → option_map want_of o ≡ want_in text → IfNone o ((w : Want) → IsForm w text → ⊥)
-none-of text None e = λ w f. none_is_some w (e ∙ form-reads w text f)
+none-of text None e = λ w f. none-some w (e ∙ form-reads w text f)
 none-of text (Some w) e = tt

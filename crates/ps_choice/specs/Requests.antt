@@ -10,11 +10,11 @@ use Rattle.ps_mon.specs.declared.record.Phase.TheVariants as phases
 use Rattle.ps_mon.specs.declared.record.SideState.{SideState}
 use Rattle.ps_mon.specs.declared.team.Member.{Member}
 use Rattle.ps_mon.specs.declared.team.MoveSlot.{MoveSlot}
-use Rattle.ps_mon.specs.Reading.{place_of, member_of}
+use Rattle.ps_mon.specs.Reading.{active_index, member_of}
 use Rattle.ps_mon.specs.Slots.{slot_count_now, slot_now, is_disabled, has_usable}
 use Rattle.ps_mon.specs.Valid.{replaces}
-use Rattle.ps_dex.specs.declared.row.MoveRow.{MoveRow}
-use Rattle.ps_dex.specs.declared.row.Tables.{Tables}
+use Rattle.ps_dex.specs.declared.item.MoveItem.{MoveItem}
+use Rattle.ps_dex.specs.declared.item.Tables.{Tables}
 use Rattle.ps_dex.specs.Lookups.{name_of_move}
 use Rattle.ps_choice.specs.Shown.{id_of_move, details, condition, side_id, nick_of, ident}
 
@@ -27,7 +27,7 @@ count n = number (unsigned n)
 -- ---- the moves that can be chosen
 
 -- a slot in force, from 0
-unfoldable pub slot_data : List MoveRow → SideState → ℕ → Data
+unfoldable pub slot_data : List MoveItem → SideState → ℕ → Data
 slot_data moves side j = object
     (member (codes "disabled") (boolean (is_disabled side.vol.disabled j))
     (member (codes "id") (text (id_of_move (slot_now side j).mv moves))
@@ -37,26 +37,26 @@ slot_data moves side j = object
     no_members)))))
 
 -- so many slots, from this one on
-abbrev pub slots_from : List MoveRow → SideState → ℕ → ℕ → List Data
+abbrev pub slots_from : List MoveItem → SideState → ℕ → ℕ → List Data
 slots_from moves side j zero = []
 slots_from moves side j (suc left) = slot_data moves side j ∷ slots_from moves side (suc j) left
 
-abbrev pub slots_data : List MoveRow → SideState → List Data
+abbrev pub slots_data : List MoveItem → SideState → List Data
 slots_data moves side = slots_from moves side 0 (slot_count_now side)
 
 -- the one that there is
 abbrev pub only_move : List ℕ → List ℕ → List Data
 only_move id name = object (member (codes "id") (text id) (member (codes "move") (text name) no_members)) ∷ []
 
-abbrev pub unheld_moves : List MoveRow → SideState → List Data
+abbrev pub unheld_moves : List MoveItem → SideState → List Data
 unheld_moves moves side = if has_usable side then slots_data moves side else only_move (codes "struggle") (codes "Struggle")
 
 -- under a lock its move
-abbrev pub moves_by : Option Lock → List MoveRow → SideState → List Data
+abbrev pub moves_by : Option Lock → List MoveItem → SideState → List Data
 moves_by (Some lock) moves side = only_move (id_of_move lock.mv moves) (name_of_move lock.mv moves)
 moves_by None moves side = unheld_moves moves side
 
-unfoldable pub moves_data : List MoveRow → SideState → List Data
+unfoldable pub moves_data : List MoveItem → SideState → List Data
 moves_data moves side = if side.vol.recharge then only_move (codes "recharge") (codes "Recharge") else moves_by side.vol.lock moves side
 
 -- ---- the members
@@ -71,11 +71,11 @@ stats_data stats = object
     (member (codes "spe") (count (slice_index stats 3))
     no_members)))))
 
-abbrev pub move_id_data : List MoveRow → MoveSlot → Data
+abbrev pub move_id_data : List MoveItem → MoveSlot → Data
 move_id_data moves slot = text (id_of_move slot.mv moves)
 
 -- the ids of its own moves
-abbrev pub own_moves : List MoveRow → Member → List Data
+abbrev pub own_moves : List MoveItem → Member → List Data
 own_moves moves m = map (move_id_data moves) (take m.slot_count m.slots)
 
 -- a member under its nickname
@@ -89,9 +89,9 @@ member_data dex s active nick m = object
     (member (codes "stats") (stats_data m.stats)
     no_members))))))
 
--- the member at a place of the team
+-- the member at an index of the team
 unfoldable pub member_at_data : Tables → List (List ℕ) → ℕ → SideState → ℕ → Data
-member_at_data dex nicks s side k = member_data dex s (k == place_of side) (nick_of nicks k) (member_of side k)
+member_at_data dex nicks s side k = member_data dex s (k == active_index side) (nick_of nicks k) (member_of side k)
 
 -- all members, in their order now
 abbrev pub members_data : Tables → List (List ℕ) → ℕ → SideState → List Data

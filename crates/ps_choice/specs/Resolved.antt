@@ -11,8 +11,8 @@ use Rattle.ps_mon.specs.declared.choice.Choice.TheVariants as choices
 use Rattle.ps_mon.specs.declared.choice.ChoiceFault.{ChoiceFault}
 use Rattle.ps_mon.specs.Reading.{member_of}
 use Rattle.ps_mon.specs.Slots.{slot_count_now, slot_now, is_usable, has_usable}
-use Rattle.ps_mon.specs.Choices.{is_held, fault_of}
-use Rattle.ps_dex.specs.declared.row.Tables.{Tables}
+use Rattle.ps_mon.specs.Choices.{is_locked, fault_of}
+use Rattle.ps_dex.specs.declared.item.Tables.{Tables}
 use Rattle.ps_dex.specs.Lookups.{move_of}
 use Rattle.ps_choice.specs.Wants.{Want, Slot, Named, Position, Default}
 
@@ -38,9 +38,9 @@ slot_with side mv = first_of (has_move_at side mv 0) (has_move_at side mv 1) (ha
 
 -- in a turn: to go on, then Struggle, then the lowest usable slot
 unfoldable pub first_act : SideState → Choice
-first_act side = if is_held side then choices.Continue else (if has_usable side then choices.Move (lowest_usable side) else choices.Struggle)
+first_act side = if is_locked side then choices.Continue else (if has_usable side then choices.Move (lowest_usable side) else choices.Struggle)
 
--- the positions from 2, as places in the team
+-- the positions from 2, as indices in the team
 abbrev pub bench : SideState → List ℕ
 bench side = drop 1 (take side.count side.order)
 
@@ -61,7 +61,7 @@ by_default other side = first_act side
 
 -- `move 1` also goes on, and is Struggle where no slot is usable
 unfoldable pub numbered : SideState → ℕ → Choice
-numbered side n = if n == 1 && is_held side then choices.Continue else (if n == 1 && not (has_usable side) then choices.Struggle else choices.Move n)
+numbered side n = if n == 1 && is_locked side then choices.Continue else (if n == 1 && not (has_usable side) then choices.Struggle else choices.Move n)
 
 -- ---- a slot by its move
 
@@ -74,8 +74,8 @@ is_lock_name dex None name = false
 is_lock_name dex (Some lock) name = is_number (move_of (id_of name) dex) lock.mv
 
 -- whether a text names what holds the member: `recharge`, or the long move by its id or an alias
-unfoldable pub is_hold_name : Tables → SideState → List ℕ → Bool
-is_hold_name dex side name = if side.vol.recharge then bytes_eq (id_of name) (codes "recharge") else is_lock_name dex side.vol.lock name
+unfoldable pub is_locked_name : Tables → SideState → List ℕ → Bool
+is_locked_name dex side name = if side.vol.recharge then bytes_eq (id_of name) (codes "recharge") else is_lock_name dex side.vol.lock name
 
 -- a slot that isn't there, where the text isn't the hold's name
 abbrev pub going_on : Bool → Choice
@@ -92,7 +92,7 @@ is_struggle side name = bytes_eq (id_of name) (codes "struggle") && not (has_usa
 
 unfoldable pub named : Tables → SideState → List ℕ → Choice
 named dex side name =
-    if is_held side then going_on (is_hold_name dex side name)
+    if is_locked side then going_on (is_locked_name dex side name)
     else (if is_struggle side name then choices.Struggle else slot_of_move side (move_of (id_of name) dex))
 
 -- ---- all wishes

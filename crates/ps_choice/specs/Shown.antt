@@ -3,30 +3,30 @@ use Rattle.std.specs.Prelude.{ℕ, ◌==◌, List, [], ◌++◌, codes, decimal,
 use Rattle.ps_mon.specs.declared.status.Status.{Status}
 use Rattle.ps_mon.specs.declared.status.Status.TheVariants as statuses
 use Rattle.ps_mon.specs.declared.team.Member.{Member}
-use Rattle.ps_dex.specs.declared.row.MoveRow.{MoveRow}
-use Rattle.ps_dex.specs.declared.row.SpeciesRow.{SpeciesRow}
+use Rattle.ps_dex.specs.declared.item.MoveItem.{MoveItem}
+use Rattle.ps_dex.specs.declared.item.SpeciesItem.{SpeciesItem}
 
-abbrev pub id_or_struggle : Option MoveRow → List ℕ
+abbrev pub id_or_struggle : Option MoveItem → List ℕ
 id_or_struggle None = codes "struggle"
 id_or_struggle (Some m) = m.id
 
 -- the id of a move; each number past the moves is Struggle's
-abbrev pub id_of_move : ℕ → List MoveRow → List ℕ
+abbrev pub id_of_move : ℕ → List MoveItem → List ℕ
 id_of_move mv moves = id_or_struggle (slice_get moves mv)
 
-abbrev pub name_or_none : Option SpeciesRow → List ℕ
+abbrev pub name_or_none : Option SpeciesItem → List ℕ
 name_or_none None = []
 name_or_none (Some s) = s.name
 
 -- the name of a species; empty for a number past the species
-abbrev pub name_of_species : ℕ → List SpeciesRow → List ℕ
+abbrev pub name_of_species : ℕ → List SpeciesItem → List ℕ
 name_of_species number species = name_or_none (slice_get species number)
 
 abbrev pub level_part : ℕ → List ℕ
 level_part level = if level == 100 then [] else codes ", L" ++ decimal level
 
 -- the species, and the level where it isn't 100
-unfoldable pub details : List SpeciesRow → Member → List ℕ
+unfoldable pub details : List SpeciesItem → Member → List ℕ
 details species m = name_of_species m.species species ++ level_part m.level
 
 abbrev pub status_part : Status → List ℕ
@@ -56,7 +56,7 @@ abbrev pub text_or_none : Option (List ℕ) → List ℕ
 text_or_none None = []
 text_or_none (Some text) = text
 
--- the nickname of the member at a place of the team
+-- the nickname of the member at an index of the team
 abbrev pub nick_of : List (List ℕ) → ℕ → List ℕ
 nick_of nicks k = text_or_none (slice_get nicks k)
 

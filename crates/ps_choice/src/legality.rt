@@ -2,7 +2,7 @@
 ghost use Rattle.std.specs.Prelude.{◌≡◌, ◌<◌, Some, None, false, OnOk, IfErr};
 ghost use Rattle.ps_mon.specs.Valid.{IsSound, IsSide, replaces};
 ghost use Rattle.ps_mon.specs.Slots.{is_ready, is_usable, has_usable, is_disabled};
-ghost use Rattle.ps_mon.specs.Choices.{is_asked, is_held, wrong_phase, locked, no_such_move, no_pp, disabled, no_such_member, already_out, fainted, fault_of, legal as fault_in};
+ghost use Rattle.ps_mon.specs.Choices.{is_asked, is_locked, wrong_phase, locked, no_such_move, no_pp, disabled, no_such_member, already_out, fainted, fault_of, legal as fault_in};
 
 use ps_mon::choice::{Choice, ChoiceFault};
 use ps_mon::record::{Battle, Disabled, Phase, SideState};
@@ -40,8 +40,8 @@ fn wrong_phase(phase: Phase, choice: Choice) -> bool
 }
 
 /// Whether a member must go on with a long move, or recharge.
-pub(crate) fn is_held(side: &SideState) -> bool
-    ensures { result ≡ is_held side.now }
+pub(crate) fn is_locked(side: &SideState) -> bool
+    ensures { result ≡ is_locked side.now }
 {
     side.vol.lock.is_some() || side.vol.recharge
 }
@@ -52,8 +52,8 @@ fn locked(phase: Phase, side: &SideState, choice: Choice) -> bool
     match phase {
         Phase::Replace { .. } => false,
         _ => match choice {
-            Choice::Continue => !is_held(side),
-            _ => is_held(side),
+            Choice::Continue => !is_locked(side),
+            _ => is_locked(side),
         },
     }
 }
@@ -151,8 +151,8 @@ fn fainted(side: &SideState, choice: Choice) -> bool
 {
     match choice {
         Choice::Switch(position) => {
-            let place = side.order[position as usize - 1];
-            side.members[place as usize].hp == 0
+            let index = side.order[position as usize - 1];
+            side.members[index as usize].hp == 0
         }
         _ => false,
     }

@@ -1,7 +1,6 @@
 //! Requests: what a player is asked.
-ghost use Rattle.std.specs.Prelude.{◌≡◌, ◌<◌, map, false, IfOk, string_bytes};
+ghost use Rattle.std.specs.Prelude.{◌≡◌, ◌<◌, map, IfOk, string_bytes};
 ghost use Rattle.serde_json.specs.View.{view};
-ghost use Rattle.serde_json.specs.Written.{has_float, compact_text};
 ghost use Rattle.ps_mon.specs.Reading.{side_of};
 ghost use Rattle.ps_mon.specs.Valid.{IsSound, IsSide};
 ghost use Rattle.ps_choice.specs.Requests.{slot_data, slots_data, only_move, unheld_moves, moves_data, stats_data, move_id_data, member_data, member_at_data, members_data, side_data, turn_data, switch_data, wait_data, request_data, request};
@@ -9,8 +8,9 @@ ghost use Rattle.ps_choice.specs.Requests.{slot_data, slots_data, only_move, unh
 use crate::legality::{has_usable, is_disabled, replaces};
 use crate::shown::{condition, details, id_of_move, ident, side_id};
 use ps_base::text::Text;
+use ps_data::writing::written;
 use ps_dex::dex::Dex;
-use ps_dex::row::MoveRow;
+use ps_dex::item::MoveItem;
 use ps_mon::record::{Battle, Phase, SideState};
 use ps_mon::team::MoveSlot;
 use serde_json::{Value, json};
@@ -98,7 +98,11 @@ fn stats_value(alloc: Global, stats: [u16; 4]) -> Result<Value, AllocError>
 }
 
 /// The ids of a member's own moves.
-fn own_moves(alloc: Global, moves: &[MoveRow], slots: &[MoveSlot]) -> Result<Vec<Value>, AllocError>
+fn own_moves(
+    alloc: Global,
+    moves: &[MoveItem],
+    slots: &[MoveSlot],
+) -> Result<Vec<Value>, AllocError>
     ensures { IfOk result (λ v. map view v.items ≡ map (move_id_data moves.now) slots.now) }
 {
     let mut values = Vec::new(alloc);
@@ -108,7 +112,7 @@ fn own_moves(alloc: Global, moves: &[MoveRow], slots: &[MoveSlot]) -> Result<Vec
     Ok(values)
 }
 
-/// A member at a place of the team.
+/// A member at an index of the team.
 #[tactic(auto, unfolding(crate::specs::Requests::member_data, crate::specs::Requests::member_at_data))]
 fn member_value(
     alloc: Global,
@@ -116,17 +120,17 @@ fn member_value(
     nicks: &[Text],
     number: u8,
     side: &SideState,
-    place: u8,
+    index: u8,
 ) -> Result<Value, AllocError>
     requires side { IsSide side.now }
-    requires place { place < side.now.count }
-    ensures { IfOk result (λ v. view v ≡ member_at_data dex.now nicks.now number side.now place) }
+    requires index { index < side.now.count }
+    ensures { IfOk result (λ v. view v ≡ member_at_data dex.now nicks.now number side.now index) }
 {
-    let m = &side.members[place as usize];
-    let active = place == side.order[0];
+    let m = &side.members[index as usize];
+    let active = index == side.order[0];
     let condition = condition(alloc, m)?;
     let details = details(alloc, dex.all_species(), m)?;
-    let ident = ident(alloc, number, nicks, place)?;
+    let ident = ident(alloc, number, nicks, index)?;
     let moves = own_moves(alloc, dex.moves(), &m.slots[..m.slot_count as usize])?;
     let stats = stats_value(alloc, m.stats)?;
     json!(in alloc; {"active": active, "condition": condition, "details": details, "ident": ident, "moves": moves, "stats": stats})
@@ -143,8 +147,8 @@ fn member_values(
     ensures { IfOk result (λ v. map view v.items ≡ members_data dex.now nicks.now number side.now) }
 {
     let mut values = Vec::new(alloc);
-    for place in &side.order[..side.count as usize] {
-        values.push(member_value(alloc, dex, nicks, number, side, *place)?)?;
+    for index in &side.order[..side.count as usize] {
+        values.push(member_value(alloc, dex, nicks, number, side, *index)?)?;
     }
     Ok(values)
 }
@@ -212,14 +216,6 @@ fn request_value(
         return switch_value(alloc, round, shown);
     }
     wait_value(alloc, round, shown)
-}
-
-/// A value without floats as text, without spaces.
-fn written(alloc: Global, value: &Value) -> Result<String, AllocError>
-    requires { has_float (view value.now) ≡ false }
-    ensures { IfOk result (λ text. string_bytes text ≡ compact_text (view value.now)) }
-{
-    value.to_string(alloc)
 }
 
 /// The JSON of the request of a side, 0 or 1, as SIM-PROTOCOL.md's `|request|` carries it, with the number of the round

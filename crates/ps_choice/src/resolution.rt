@@ -4,9 +4,9 @@ ghost use Rattle.ps_mon.specs.Reading.{side_of, member_of};
 ghost use Rattle.ps_mon.specs.Valid.{IsSound, IsSide, IsShaped};
 ghost use Rattle.ps_mon.specs.Choices.{IsChoiceOf};
 ghost use Rattle.ps_choice.specs.Wants.{want_of};
-ghost use Rattle.ps_choice.specs.Resolved.{first_of, lowest_usable, has_move_at, slot_with, first_act, bench, first_standing, replacement, by_default, numbered, is_number, is_lock_name, is_hold_name, slot_of_move, is_struggle, named, meant, resolved};
+ghost use Rattle.ps_choice.specs.Resolved.{first_of, lowest_usable, has_move_at, slot_with, first_act, bench, first_standing, replacement, by_default, numbered, is_number, is_lock_name, is_locked_name, slot_of_move, is_struggle, named, meant, resolved};
 
-use crate::legality::{has_usable, is_held, is_usable, legal};
+use crate::legality::{has_usable, is_locked, is_usable, legal};
 use crate::wanted::Wanted;
 use ps_dex::dex::Dex;
 use ps_dex::spelled::is_id_of;
@@ -72,7 +72,7 @@ fn first_act(side: &SideState) -> Choice
     requires { IsSide side.now }
     ensures { result ≡ first_act side.now }
 {
-    if is_held(side) {
+    if is_locked(side) {
         return Choice::Continue;
     }
     if has_usable(side) {
@@ -81,10 +81,10 @@ fn first_act(side: &SideState) -> Choice
     Choice::Struggle
 }
 
-fn stands_at(side: &SideState, place: u8) -> bool
-    ensures { result ≡ nat_lt 0 (member_of side.now place).hp }
+fn stands_at(side: &SideState, index: u8) -> bool
+    ensures { result ≡ nat_lt 0 (member_of side.now index).hp }
 {
-    match side.members.get(place as usize) {
+    match side.members.get(index as usize) {
         None => false,
         Some(m) => m.hp > 0,
     }
@@ -93,11 +93,11 @@ fn stands_at(side: &SideState, place: u8) -> bool
 #[tactic(auto, unfolding(crate::specs::Resolved::first_standing))]
 fn first_standing(side: &SideState) -> Option<usize>
     requires { IsShaped side.now }
-    ensures place { result ≡ first_standing side.now }
+    ensures index { result ≡ first_standing side.now }
     ensures within { IfSome result (λ k. k < 6) }
 {
     let bench = &side.order[1..side.count as usize];
-    bench.iter().position(|place| stands_at(side, *place))
+    bench.iter().position(|index| stands_at(side, *index))
 }
 
 fn replacement(side: &SideState) -> Choice
@@ -125,7 +125,7 @@ fn numbered(side: &SideState, n: u8) -> Choice
     requires { IsSide side.now }
     ensures { result ≡ numbered side.now n }
 {
-    if n == 1 && is_held(side) {
+    if n == 1 && is_locked(side) {
         return Choice::Continue;
     }
     if n == 1 && !has_usable(side) {
@@ -152,9 +152,9 @@ fn is_lock_name(dex: &Dex, lock: Option<Lock>, name: &str) -> bool
     }
 }
 
-#[tactic(auto, unfolding(crate::specs::Resolved::is_hold_name))]
-fn is_hold_name(dex: &Dex, side: &SideState, name: &str) -> bool
-    ensures { result ≡ is_hold_name dex.now side.now name.now }
+#[tactic(auto, unfolding(crate::specs::Resolved::is_locked_name))]
+fn is_locked_name(dex: &Dex, side: &SideState, name: &str) -> bool
+    ensures { result ≡ is_locked_name dex.now side.now name.now }
 {
     if side.vol.recharge {
         return is_id_of("recharge", name);
@@ -185,8 +185,8 @@ fn named(dex: &Dex, side: &SideState, name: &str) -> Choice
     requires { IsSide side.now }
     ensures { result ≡ named dex.now side.now name.now }
 {
-    if is_held(side) {
-        if is_hold_name(dex, side, name) {
+    if is_locked(side) {
+        if is_locked_name(dex, side, name) {
             return Choice::Continue;
         }
         return Choice::Move(0);
@@ -214,7 +214,7 @@ fn meant(phase: Phase, side: &SideState, dex: &Dex, wanted: Wanted<'_>) -> Choic
 /// A slot is named by its number, from 1, or by its move's id or an alias, which stands for the lowest slot with that move.
 /// Under a lock `move 1` and the lock's name go on; with no usable slot `move 1` and `move struggle` are Struggle. The default
 /// is in a turn the first that is legal of going on, Struggle and the lowest usable slot, and else the lowest position from 2
-/// whose member stands. A name is looked up only where the side is asked, the phase fits and nothing holds the member; then
+/// whose member stands. A name is looked up only where the side is asked, the phase fits and the member isn't locked; then
 /// `NoSuchMove` where no slot has it. Takes no memory.
 #[tactic(auto, using(crate::proofs::ChoiceLemmas::legal_choices))]
 pub fn resolve(

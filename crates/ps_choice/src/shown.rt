@@ -3,27 +3,27 @@ ghost use Rattle.std.specs.Prelude.{◌≡◌, ◌<◌, IfOk, string_bytes};
 ghost use Rattle.ps_choice.specs.Shown.{id_of_move, name_of_species, level_part, details, status_part, most_part, health_part, condition, side_id, nick_of, ident};
 
 use ps_base::text::Text;
-use ps_dex::row::{MoveRow, SpeciesRow};
+use ps_dex::item::{MoveItem, SpeciesItem};
 use ps_mon::status::Status;
 use ps_mon::team::Member;
 use std::alloc::{AllocError, Global};
 
 /// The id of a move, and `struggle` for each number past the moves.
-pub(crate) fn id_of_move(moves: &[MoveRow], mv: u16) -> &str
+pub(crate) fn id_of_move(moves: &[MoveItem], mv: u16) -> &str
     ensures { result.now ≡ id_of_move mv moves.now }
 {
     match moves.get(usize::from(mv)) {
         None => "struggle",
-        Some(row) => row.id.as_str(),
+        Some(item) => item.id.as_str(),
     }
 }
 
-fn name_of_species(species: &[SpeciesRow], number: u16) -> &str
+fn name_of_species(species: &[SpeciesItem], number: u16) -> &str
     ensures { result.now ≡ name_of_species number species.now }
 {
     match species.get(usize::from(number)) {
         None => "",
-        Some(row) => row.name.as_str(),
+        Some(item) => item.name.as_str(),
     }
 }
 
@@ -40,7 +40,7 @@ fn level_part(alloc: Global, level: u8) -> Result<String, AllocError>
 #[tactic(auto, unfolding(crate::specs::Shown::details))]
 pub(crate) fn details(
     alloc: Global,
-    species: &[SpeciesRow],
+    species: &[SpeciesItem],
     m: &Member,
 ) -> Result<String, AllocError>
     ensures { IfOk result (λ s. string_bytes s ≡ details species.now m.now) }
@@ -97,25 +97,25 @@ pub(crate) fn side_id(side: u8) -> &'static str
     if side == 0 { "p1" } else { "p2" }
 }
 
-fn nick_of(nicks: &[Text], place: u8) -> &str
-    ensures { result.now ≡ nick_of nicks.now place }
+fn nick_of(nicks: &[Text], index: u8) -> &str
+    ensures { result.now ≡ nick_of nicks.now index }
 {
-    match nicks.get(usize::from(place)) {
+    match nicks.get(usize::from(index)) {
         None => "",
         Some(nick) => nick.as_str(),
     }
 }
 
-/// The side and the nickname of the member at a place of the team.
+/// The side and the nickname of the member at an index of the team.
 pub(crate) fn ident(
     alloc: Global,
     side: u8,
     nicks: &[Text],
-    place: u8,
+    index: u8,
 ) -> Result<String, AllocError>
-    ensures { IfOk result (λ s. string_bytes s ≡ ident side (nick_of nicks.now place)) }
+    ensures { IfOk result (λ s. string_bytes s ≡ ident side (nick_of nicks.now index)) }
 {
     let side = side_id(side);
-    let nick = nick_of(nicks, place);
+    let nick = nick_of(nicks, index);
     format!(in alloc; "{side}: {nick}")
 }

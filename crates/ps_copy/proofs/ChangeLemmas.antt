@@ -7,7 +7,7 @@ use Rattle.ps_mon.specs.declared.record.ChangedSlots.{ChangedSlots}
 use Rattle.ps_mon.specs.declared.record.CopiedSlots.{CopiedSlots}
 use Rattle.ps_mon.specs.declared.team.Member.{Member}
 use Rattle.ps_mon.specs.declared.team.MoveSlot.{MoveSlot}
-use Rattle.ps_mon.specs.Reading.{side_of, place_of, active_of, no_side, no_slot}
+use Rattle.ps_mon.specs.Reading.{side_of, active_index, active_of, no_side, no_slot}
 use Rattle.ps_mon.specs.Slots.{slot_count_now, slot_now, count_in_force}
 use Rattle.ps_mon.specs.Valid.{IsSound, IsValid, IsSide, IsMember, IsCopied, AreChanged, has_standing}
 use Rattle.ps_mon.specs.Known.{AreKnown, IsSideKnown, AreChangedKnown}
@@ -69,7 +69,7 @@ in-range (Some copied) m c v = (c.count, c.count_high)
 -- how many slots are in force
 pub count-range : (a : SideState) → IsSide a → (1 ≤ slot_count_now a) × (slot_count_now a ≤ 4)
 unfolding slot_count_now
-count-range a v = in-range a.vol.slots.copied (active_of a) v.vol.slots.copied (v.members (place_of a) (v.shape.order 0 v.shape.count))
+count-range a v = in-range a.vol.slots.copied (active_of a) v.vol.slots.copied (v.members (active_index a) (v.shape.order 0 v.shape.count))
 
 pub duel-count : (b : Battle) (u : ℕ) → (duel_of b u).slot_count ≡ slot_count_now (side_of b (1 - u))
 unfolding duel_of
@@ -79,7 +79,7 @@ copied-pp : (there : Bool) (slot : MoveSlot) → (copied_if there slot).pp ≤ (
 copied-pp true slot = omega arith
 copied-pp false slot = omega arith
 
--- what holds of four elements at their places
+-- what holds of four elements at their indices
 four : {A : Type 0} (P : ℕ → A → Type 0) (x y z w d : A) → P 0 x → P 1 y → P 2 z → P 3 w → (j : ℕ) → j < 4 → P j (get_or (x ∷ y ∷ z ∷ w ∷ []) j d)
 four P x y z w d px py pz pw zero h = px
 four P x y z w d px py pz pw (suc zero) h = py

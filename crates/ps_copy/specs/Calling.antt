@@ -8,9 +8,9 @@ use Rattle.ps_mon.specs.declared.effect.CopyKind.TheVariants as kinds
 use Rattle.ps_mon.specs.Facts.{Figures}
 use Rattle.ps_mon.specs.declared.facts.MoveData.{MoveData}
 use Rattle.ps_mon.specs.Moves.{move_of}
-use Rattle.ps_hits.specs.Scenes.{Play, ◌>>=◌, ◌>>◌, give, look, tell, choose, draw}
+use Rattle.ps_hits.specs.Scenes.{Play, ◌>>=◌, ◌>>◌, give, duel_now, tell, choose, draw}
 use Rattle.ps_hits.specs.Told.{who_of}
-use Rattle.ps_copy.specs.Places.{places}
+use Rattle.ps_copy.specs.Indices.{indices}
 
 -- how many moves can be used in turn in the place of one of that kind, each in the place of the one before: Metronome may take
 -- Mirror Move, and what that takes takes none
@@ -46,13 +46,13 @@ is_calling other = false
 abbrev pub is_callable : MoveData → Bool
 is_callable m = not (is_metronome m.effect)
 
--- the places of those moves in the dex
+-- the indices of those moves in the dex
 unfoldable pub callable : Figures → List ℕ
-callable facts = places is_callable 0 facts.moves
+callable facts = indices is_callable 0 facts.moves
 
 abbrev pub fail : Play (Option ℕ)
 fail = do
-  d ← look
+  d ← duel_now
   tell (events.Fail (who_of d.user))
   give None
 
@@ -78,5 +78,5 @@ give_or_fail (Some mv) = give (Some mv)
 -- mirrormove: the foe's last move; Fail where there is none that it can take
 unfoldable pub mirrormove_row : Figures → Play (Option ℕ)
 mirrormove_row facts = do
-  d ← look
+  d ← duel_now
   give_or_fail (mirrored facts d.foe.vol.last)

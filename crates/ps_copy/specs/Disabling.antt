@@ -8,17 +8,17 @@ use Rattle.ps_mon.specs.Duels.{fighter_of}
 use Rattle.ps_mon.specs.Moves.{move_of}
 use Rattle.ps_mon.specs.Reading.{side_of}
 use Rattle.ps_mon.specs.Slots.{slot_now}
-use Rattle.ps_hits.specs.Scenes.{Play, ◌>>=◌, ◌>>◌, give, look, change, choose, draw}
+use Rattle.ps_hits.specs.Scenes.{Play, ◌>>=◌, ◌>>◌, give, duel_now, change, choose, draw}
 use Rattle.ps_hits.specs.Told.{who_of}
 use Rattle.ps_hits.specs.Strikes.{accuracy_test}
 use Rattle.ps_hits.specs.Courses.{Course, played}
 use Rattle.ps_copy.specs.Answers.{answer_of}
-use Rattle.ps_copy.specs.Places.{places}
+use Rattle.ps_copy.specs.Indices.{indices}
 use Rattle.ps_copy.specs.Calling.{fail}
 
 -- the slots with PP left, of four of which that is told
 unfoldable pub ready_slots : List Bool → List ℕ
-ready_slots ready = places (λ r. r) 0 ready
+ready_slots ready = indices (λ r. r) 0 ready
 
 abbrev pub disabled_for : ℕ → ℕ → Fighter → Fighter
 disabled_for slot turns f = record f { vol = record f.vol { disabled = Some (record { slot = slot; turns = turns }) } }
@@ -36,7 +36,7 @@ disable_one slots = do
 unfoldable pub disable_row : Figures → ℕ → Play (Option ℕ)
 disable_row facts mv = do
   lands ← accuracy_test (move_of facts mv).accuracy
-  d ← look
+  d ← duel_now
   choose lands
       (choose (is_some d.foe.vol.disabled || length (ready_slots d.ready) == 0) fail (disable_one (ready_slots d.ready)))
       (give None)

@@ -8,7 +8,7 @@ use Rattle.ps_mon.specs.Duels.{fighter_of}
 use Rattle.ps_mon.specs.Moves.{move_of}
 use Rattle.ps_mon.specs.Reading.{side_of}
 use Rattle.ps_mon.specs.Slots.{slot_now}
-use Rattle.ps_hits.specs.Scenes.{Play, ◌>>=◌, ◌>>◌, give, look, tell, change, choose, draw}
+use Rattle.ps_hits.specs.Scenes.{Play, ◌>>=◌, ◌>>◌, give, duel_now, tell, change, choose, draw}
 use Rattle.ps_hits.specs.Told.{who_of}
 use Rattle.ps_hits.specs.Fighters.{types_now, stats_now}
 use Rattle.ps_hits.specs.Strikes.{accuracy_test}
@@ -19,7 +19,7 @@ use Rattle.ps_copy.specs.Changing.{with_slots, with_mimic, copied_from}
 -- the accuracy test of Mimic, and where it hits the slot of the foe that is drawn
 unfoldable pub mimic_row : Figures → ℕ → Play (Option ℕ)
 mimic_row facts mv = do
-  d ← look
+  d ← duel_now
   lands ← accuracy_test (move_of facts mv).accuracy
   choose lands
       (do
@@ -50,7 +50,7 @@ in_form_of foe f =
 
 unfoldable pub form_row : Play (Unit {0})
 form_row = do
-  d ← look
+  d ← duel_now
   change (λ d. record d { user = in_form_of d.foe d.user })
   tell (events.Transform (who_of d.user) (who_of d.foe))
 
@@ -63,6 +63,6 @@ transform_effect user c =
 -- conversion: the foe's types, with no accuracy test
 unfoldable pub conversion_row : Play (Unit {0})
 conversion_row = do
-  d ← look
+  d ← duel_now
   change (λ d. record d { user = record d.user { vol = record d.user.vol { types = Some (types_now d.foe) } } })
   tell (events.VolStart (who_of d.user) numbers.effect_typechange None)

@@ -1,5 +1,5 @@
 pub mod Answers
-pub mod Places
+pub mod Indices
 pub mod Calling
 pub mod Changing
 pub mod Learning

@@ -47,22 +47,22 @@ fn is_calling(effect: Effect) -> bool
     }
 }
 
-// The moves that Metronome can take, by their places in the dex.
+// The moves that Metronome can take, by their indices in the dex.
 #[tactic(auto, unfolding(crate::specs::Calling::callable, ps_mon::specs::Facts::figures))]
-fn callable_places(facts: Facts<'_>) -> ArrayVec<u16, 1024>
+fn callable_indices(facts: Facts<'_>) -> ArrayVec<u16, 1024>
     requires { AreFair (figures facts) }
     ensures value { result.items ≡ callable (figures facts.entry) }
-    ensures inside { All (λ place. place < move_count (figures facts.entry)) result.items }
-    ensures ends { All (λ place. calls_left (move_of (figures facts.entry) place).effect < 2) result.items }
+    ensures inside { All (λ index. index < move_count (figures facts.entry)) result.items }
+    ensures ends { All (λ index. calls_left (move_of (figures facts.entry) index).effect < 2) result.items }
 {
-    let mut places = ArrayVec::new();
+    let mut indices = ArrayVec::new();
     for at in 0..facts.moves.len() as u16 {
         if is_metronome(move_data(facts, at).effect) {
             continue;
         }
-        places.push(at);
+        indices.push(at);
     }
-    places
+    indices
 }
 
 #[tactic(auto, unfolding(crate::specs::Calling::metronome_row))]
@@ -79,15 +79,15 @@ fn metronome_duel(duel: &mut Duel, facts: Facts<'_>, out: &mut Events) -> Option
     ensures few { IfSome result (λ m. array_vec_len out.new ≤ array_vec_len out.old) }
     ensures room { array_vec_len out.new ≤ array_vec_len out.old + 1 }
 {
-    let places = callable_places(facts);
-    if places.is_empty() {
+    let indices = callable_indices(facts);
+    if indices.is_empty() {
         out.push(Event::Fail {
             who: who(&duel.user),
         });
         return None;
     }
-    let k = draw(duel, places.len() as u32);
-    Some(places[k as usize])
+    let k = draw(duel, indices.len() as u32);
+    Some(indices[k as usize])
 }
 
 /// Metronome: the move of the dex that is used in its place. It fails where the dex has none but moves of its own kind.

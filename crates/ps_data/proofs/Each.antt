@@ -17,7 +17,7 @@ use Rattle.ps_data.specs.Lists.{each, each_entry, entries_of}
 pub next : {X Y : Type 0} (seen : X → Y) (xs : List X) (i : ℕ) (x : X) → i < length xs → x ≡ get_or xs i x → map seen (drop i xs) ≡ seen x ∷ map seen (drop (i + 1) xs)
 next seen xs i x lt is = ap (map seen) (drop-cons xs i x lt) ∙ rw (← is, add-one) refl
 
--- a slice from a place on
+-- a slice from an index on
 pub from_on : {X : Type 0} (xs : List X) (k : ℕ) → take (length xs - k) (drop k xs) ≡ drop k xs
 from_on xs k = take_all (length xs - k) (drop k xs) (omega (arith, length-drop k xs))
 

@@ -3,3 +3,6 @@ pub mod Parts
 pub mod Reading
 pub mod Forms
 pub mod Lists
+pub mod Words
+pub mod OwnIds
+pub mod FileFaults

@@ -7,7 +7,7 @@ pub data Step : Type 0 where
   Key : List ℕ → Step
   Index : ℕ → Step
 
--- a key after a dot, but for the first step, and a place in brackets
+-- a key after a dot, but for the first step, and an index in brackets
 abbrev pub step_text : Bool → Step → List ℕ
 step_text first (Key key) = if first then key else 46 ∷ key
 step_text first (Index i) = 91 ∷ decimal i ++ 93 ∷ []
@@ -20,7 +20,7 @@ steps_text first (s ∷ steps) = step_text first s ++ steps_text false steps
 abbrev pub path_text : List Step → List ℕ
 path_text steps = steps_text true steps
 
--- the place in an array that a path begins with, and 0 where it begins with none
+-- the index in an array that a path begins with, and 0 where it begins with none
 abbrev pub first_index : List Step → ℕ
 first_index [] = 0
 first_index (Key key ∷ steps) = 0

@@ -11,7 +11,7 @@ use Rattle.ps_data.specs.declared.fault.Refusal.TheVariants as refusals
 
 -- one reading after another: the first fault is the fault of both
 infixl 10 ◌>>=◌
-abbrev pub ◌>>=◌ : {A B : Type 0} → Result A Fault → (A → Result B Fault) → Result B Fault
+abbrev pub ◌>>=◌ : {A B F : Type 0} → Result A F → (A → Result B F) → Result B F
 (Ok x) >>= next = next x
 (Err fault) >>= next = Err fault
 
@@ -49,20 +49,33 @@ if_there x form (Some d) = form d
 abbrev pub optional : {A : Type 0} → List ℕ → A → (Data → Result A Fault) → Data → Result A Fault
 optional key x form d = if_there x (λ v. under (Key key) (form v)) (get key d)
 
--- ---- What a function that reads returned, beside what reading gives. Want of memory may come in its place.
+-- ---- What a function returned, beside what a definition finds. Out of memory may come in the place of either.
+
+-- the error tells this fault, or, out of memory, none
+abbrev pub FailsWith : {A F : Type 0} → Option F → Result A F → Type 0
+FailsWith None found = Unit {0}
+FailsWith (Some fault) found = found ≡ Err fault
+
+-- What was returned is seen by view, and an error by the fault that it tells.
+abbrev pub Returns : {A B E F : Type 0} → (A → B) → (E → Option F) → Result A E → Result B F → Type 0
+Returns view fault_of (Ok x) found = found ≡ Ok (view x)
+Returns view fault_of (Err error) found = FailsWith (fault_of error) found
+
+-- ---- the same of a function that reads
+
+abbrev pub fault_of : Refusal → Option Fault
+fault_of refusals.NoMemory = None
+fault_of (refusals.Fault fault) = Some fault
 
 abbrev pub Fails : {A : Type 0} → Refusal → Result A Fault → Type 0
-Fails refusals.NoMemory read = Unit {0}
-Fails (refusals.Fault fault) read = read ≡ Err fault
+Fails refusal read = FailsWith (fault_of refusal) read
 
 abbrev pub Gives : {A : Type 0} → Result A Refusal → Result A Fault → Type 0
-Gives (Ok x) read = read ≡ Ok x
-Gives (Err refusal) read = Fails refusal read
+Gives result read = Returns (λ x. x) fault_of result read
 
 -- the same, where what was returned is seen by view
 abbrev pub GivesBy : {A B : Type 0} → (A → B) → Result A Refusal → Result B Fault → Type 0
-GivesBy view (Ok x) read = read ≡ Ok (view x)
-GivesBy view (Err refusal) read = Fails refusal read
+GivesBy view result read = Returns view fault_of result read
 
 -- a refusal that tells the same fault one step further down
 abbrev pub IsDeeper : Step → Refusal → Refusal → Type 0

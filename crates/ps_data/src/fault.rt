@@ -73,7 +73,7 @@ impl Path {
         Ok(())
     }
 
-    /// The place in an array that the path begins with, and 0 where it begins with none.
+    /// The index in an array that the path begins with, and 0 where it begins with none.
     pub fn first_index(&self) -> usize
         ensures { result ≡ first_index self.now }
     {
@@ -84,7 +84,7 @@ impl Path {
     }
 
     /// The path as text, like `moves[3].effect.kind`: each key after a dot, but for the first step,
-    /// and each place of an array in brackets, from 0. The path of the value itself is empty.
+    /// and each index of an array in brackets, from 0. The path of the value itself is empty.
     pub fn text(&self, alloc: Global) -> Result<String, AllocError>
         ensures { IfOk result (λ t. string_bytes t ≡ path_text self.now) }
     {
@@ -103,8 +103,8 @@ fn push_step(alloc: Global, text: &mut String, first: bool, part: &Part) -> Resu
             text.push_str(key.as_str())
         }
         Part::Index(i) => {
-            let place = format!(in alloc; "[{i}]")?;
-            text.push_str(place.as_str())
+            let brackets = format!(in alloc; "[{i}]")?;
+            text.push_str(brackets.as_str())
         }
     }
 }
@@ -124,7 +124,7 @@ fn text_of(alloc: Global, inwards: &[Part]) -> Result<String, AllocError>
     Ok(text)
 }
 
-/// The first place at which a value isn't in its form.
+/// The first index or key at which a value isn't in its form.
 #[derive(Debug, Drop)]
 pub struct Fault {
     /// The way to the value.
@@ -181,7 +181,7 @@ pub fn deeper_by_key(alloc: Global, key: &str, refusal: Refusal) -> Refusal
     }
 }
 
-/// The refusal of a value, seen from the array that has it at a place.
+/// The refusal of a value, seen from the array that has it at an index.
 pub fn deeper_by_index(index: usize, refusal: Refusal) -> Refusal
     ensures { IsDeeper (Index index) refusal result }
 {

@@ -4,10 +4,11 @@ ghost use Rattle.serde_json.specs.View.{view};
 ghost use Rattle.ps_data.specs.Paths.{Key, Index};
 ghost use Rattle.ps_data.specs.declared.fault.Fault.{Fault};
 ghost use Rattle.ps_data.specs.Reading.{Gives, GivesBy, under, there, required, optional};
-ghost use Rattle.ps_data.specs.Forms.{boolean_in, number_in, integer_in};
+ghost use Rattle.ps_data.specs.Forms.{text_in, boolean_in, number_in, integer_in};
 
 use crate::fault::{DataKind, Refusal, deeper_by_index, deeper_by_key, refused};
-use crate::forms::{boolean, integer, number};
+use crate::forms::{boolean, integer, number, text};
+use ps_base::text::Text;
 use serde_json::Value;
 use std::alloc::Global;
 
@@ -39,7 +40,7 @@ pub fn items_at_key<T>(
     }
 }
 
-/// What was read at a place of an array.
+/// What was read at an index of an array.
 #[tactic(auto, using(crate::proofs::Deeper::fails_deeper))]
 pub fn at_index<T>(index: usize, read: Result<T, Refusal>) -> Result<T, Refusal>
     ensures same { IfOk result (λ x. read ≡ Ok x) }
@@ -60,6 +61,19 @@ pub fn required<'a>(alloc: Global, value: &'a Value, key: &str) -> Result<&'a Va
         Some(inside) => Ok(inside),
         None => Err(deeper_by_key(alloc, key, refused(alloc, DataKind::Shape))),
     }
+}
+
+fn owned_text(alloc: Global, value: &Value) -> Result<Text, Refusal>
+    ensures { Gives result (text_in (view value.now)) }
+{
+    Ok(Text::copy_of(alloc, text(alloc, value)?)?)
+}
+
+/// A text, whatever it says, at a key that must be there.
+pub fn text_at(alloc: Global, value: &Value, key: &str) -> Result<Text, Refusal>
+    ensures { Gives result (required key.now text_in (view value.now)) }
+{
+    at_key(alloc, key, owned_text(alloc, required(alloc, value, key)?))
 }
 
 /// True or false at a key that must be there.

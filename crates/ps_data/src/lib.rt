@@ -2,12 +2,15 @@
 //!
 //! A reader mirrors a definition, one function for each: `Gives result (form (view value.now))` says
 //! that it returns what the form says, unless memory ran out. Keys are read in the order in which
-//! the form names them, so the first fault in that order is the one that is told.
+//! the form names them, so the first fault in that order is the one that is reported.
 #![tactic(auto)]
 
 pub mod entries;
 pub mod fault;
+pub mod file_fault;
 pub mod forms;
 pub mod ids;
 pub mod keys;
 pub mod lists;
+pub mod words;
+pub mod writing;

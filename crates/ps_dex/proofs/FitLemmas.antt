@@ -11,6 +11,8 @@ use Rattle.ps_data.specs.Paths.{Index}
 use Rattle.ps_data.specs.Reading.{◌>>=◌, refuse, some_or, ensure, under, required, optional}
 use Rattle.ps_data.specs.Forms.{json_in, object_in, text_in, boolean_in, number_in, integer_in, array_in}
 use Rattle.ps_data.specs.Lists.{each, list_at, entries_at}
+use Rattle.ps_data.specs.OwnIds.{key_id_in}
+use Rattle.ps_data.specs.Words.{meaning, word_in}
 use Rattle.ps_mon.specs.declared.status.Status.{Status}
 use Rattle.ps_mon.specs.declared.status.Status.TheVariants as statuses
 use Rattle.ps_mon.specs.declared.effect.Effect.{Effect}
@@ -19,23 +21,23 @@ use Rattle.ps_mon.specs.declared.facts.MoveData.{MoveData}
 use Rattle.ps_mon.specs.Facts.{IsFairEffect, IsFairMove, IsFactor}
 use Rattle.ps_dex.specs.declared.kind.Kind.{Kind}
 use Rattle.ps_dex.specs.declared.kind.Kind.TheVariants as kinds
-use Rattle.ps_dex.specs.declared.row.TypeRow.{TypeRow}
-use Rattle.ps_dex.specs.declared.row.FactorRow.{FactorRow}
-use Rattle.ps_dex.specs.declared.row.MoveRow.{MoveRow}
-use Rattle.ps_dex.specs.declared.row.SpeciesRow.{SpeciesRow}
-use Rattle.ps_dex.specs.declared.row.AliasRow.{AliasRow}
-use Rattle.ps_dex.specs.declared.row.Tables.{Tables}
-use Rattle.ps_dex.specs.Names.{name_in}
-use Rattle.ps_dex.specs.Kinds.{kind_of}
-use Rattle.ps_dex.specs.Effects.{status_of, named_in, chance_in, fixed_in, status_effect_in, confuse_in, flinch_in, stages_in, boost_in, recoil_in, double_in, charge_in, screen_in, copy_in, effect_of, effect_in, aim_of, stat_of, screen_of, copy_of}
-use Rattle.ps_dex.specs.Types.{type_place, type_in, type_row_in}
-use Rattle.ps_dex.specs.Factors.{tenths_in, has_pair, parts_in, three_parts_in, factor_row_in, factors_in}
-use Rattle.ps_dex.specs.Moves.{move_place, numbers_in, move_row_in, move_name_in}
-use Rattle.ps_dex.specs.Species.{species_place, species_name_in, other_type_in, one_type_in, two_types_in, types_of, types_in, base_stat_in, five_stats_in, stats_of, stats_in, has_number, learned_in, learns_in, species_row_in}
-use Rattle.ps_dex.specs.Aliases.{new_id_in, alias_row_in}
+use Rattle.ps_dex.specs.declared.item.TypeItem.{TypeItem}
+use Rattle.ps_dex.specs.declared.item.FactorItem.{FactorItem}
+use Rattle.ps_dex.specs.declared.item.MoveItem.{MoveItem}
+use Rattle.ps_dex.specs.declared.item.SpeciesItem.{SpeciesItem}
+use Rattle.ps_dex.specs.declared.item.AliasItem.{AliasItem}
+use Rattle.ps_dex.specs.declared.item.Tables.{Tables}
+use Rattle.ps_dex.specs.Names.{own_name_in}
+use Rattle.ps_dex.specs.Kinds.{kind_words}
+use Rattle.ps_dex.specs.Effects.{status_words, aim_words, stat_words, screen_words, copy_words, chance_in, fixed_in, status_effect_in, confuse_in, flinch_in, stages_in, boost_in, recoil_in, double_in, charge_in, screen_in, copy_in, effect_of, effect_in}
+use Rattle.ps_dex.specs.Types.{type_index, type_in, type_item_in}
+use Rattle.ps_dex.specs.Factors.{tenths_in, has_pair, parts_in, three_parts_in, factor_item_in, factors_in}
+use Rattle.ps_dex.specs.Moves.{move_index, numbers_in, move_item_in, move_name_in}
+use Rattle.ps_dex.specs.Species.{species_index, other_type_in, one_type_in, two_types_in, types_of, types_in, base_stat_in, five_stats_in, stats_of, stats_in, has_number, learned_in, learns_in, species_item_in}
+use Rattle.ps_dex.specs.Aliases.{alias_item_in}
 use Rattle.ps_dex.specs.Tables.{tables_in, tables_of}
 use Rattle.ps_dex.specs.Fit.{IsFitSpecies, IsFitAlias, AreFit}
-use Rattle.ps_dex.proofs.Holds.{Holds, after, then, inside, anything, found, tested, needed, may_lack, number_within, integer_within, all_cons, one_all, place_within, each_all, list_holds, entries_hold}
+use Rattle.ps_dex.proofs.Holds.{Holds, after, then, inside, anything, found, tested, needed, may_lack, number_within, integer_within, all_cons, one_all, index_within, each_all, list_holds, entries_hold}
 
 -- ---- effects
 
@@ -46,8 +48,8 @@ pick : (b : Bool) (s : Status) (o : Option Status) → Given s → IfSome o Give
 pick true s o p h = p
 pick false s o p h = h
 
-status_given : (name : List ℕ) → IfSome (status_of name) Given
-unfolding status_of
+status_given : (name : List ℕ) → IfSome (meaning status_words name) Given
+unfolding status_words
 status_given name =
     pick (bytes_eq name (codes "slp")) statuses.Slp _ (search rules) (
     pick (bytes_eq name (codes "par")) statuses.Par _ (search rules) (
@@ -56,8 +58,8 @@ status_given name =
     pick (bytes_eq name (codes "tox")) statuses.Tox _ (search rules) (
     pick (bytes_eq name (codes "frz")) statuses.Frz None (search rules) tt)))))
 
-status_holds : (d : Data) → Holds Given (required (codes "status") (named_in status_of) d)
-status_holds d = needed Given (codes "status") (named_in status_of) d (λ v. then Given (text_in v) (λ name. some_or Unknown (status_of name)) (λ name. found Given Unknown (status_of name) (status_given name)))
+status_holds : (d : Data) → Holds Given (required (codes "status") (word_in status_words) d)
+status_holds d = needed Given (codes "status") (word_in status_words) d (λ v. then Given (text_in v) (λ name. some_or Unknown (meaning status_words name)) (λ name. found Given Unknown (meaning status_words name) (status_given name)))
 
 abbrev IsChance : ℕ → Type 0
 IsChance n = (0 ≤ n) × (n ≤ 256)
@@ -72,13 +74,13 @@ fixed_fair d = after (λ n. (1 ≤ n) × (n ≤ 713)) IsFairEffect (required (co
 status_fair : (d : Data) → Holds IsFairEffect (status_effect_in d)
 unfolding status_effect_in
 status_fair d =
-    after Given IsFairEffect (required (codes "status") (named_in status_of) d) (λ status. chance_in d >>= λ chance. Ok (effects.Status status chance)) (status_holds d)
+    after Given IsFairEffect (required (codes "status") (word_in status_words) d) (λ status. chance_in d >>= λ chance. Ok (effects.Status status chance)) (status_holds d)
     (λ status given. after IsChance IsFairEffect (chance_in d) (λ chance. Ok (effects.Status status chance)) (chance_holds d) (λ chance h. (given, h.1)))
 
 double_fair : (d : Data) → Holds IsFairEffect (double_in d)
 unfolding double_in
 double_fair d =
-    after Given IsFairEffect (required (codes "status") (named_in status_of) d) (λ status. chance_in d >>= λ chance. Ok (effects.Double status chance)) (status_holds d)
+    after Given IsFairEffect (required (codes "status") (word_in status_words) d) (λ status. chance_in d >>= λ chance. Ok (effects.Double status chance)) (status_holds d)
     (λ status given. after IsChance IsFairEffect (chance_in d) (λ chance. Ok (effects.Double status chance)) (chance_holds d) (λ chance h. (given, h.1)))
 
 confuse_fair : (d : Data) → Holds IsFairEffect (confuse_in d)
@@ -104,8 +106,8 @@ stages_hold d =
 boost_fair : (d : Data) → Holds IsFairEffect (boost_in d)
 unfolding boost_in
 boost_fair d =
-    then IsFairEffect (required (codes "who") (named_in aim_of) d) _ (λ who.
-    then IsFairEffect (required (codes "stat") (named_in stat_of) d) _ (λ stat.
+    then IsFairEffect (required (codes "who") (word_in aim_words) d) _ (λ who.
+    then IsFairEffect (required (codes "stat") (word_in stat_words) d) _ (λ stat.
     after AreStages IsFairEffect (required (codes "by") stages_in d) _ (needed AreStages (codes "by") stages_in d stages_hold) (λ by h.
     after IsChance IsFairEffect (chance_in d) (λ chance. Ok (effects.Boost who stat by chance)) (chance_holds d) (λ chance c. (h.0, h.1, h.2, c.1)))))
 
@@ -119,11 +121,11 @@ charge_fair d = then IsFairEffect (optional (codes "away") false boolean_in d) (
 
 screen_fair : (d : Data) → Holds IsFairEffect (screen_in d)
 unfolding screen_in
-screen_fair d = then IsFairEffect (required (codes "which") (named_in screen_of) d) (λ which. Ok (effects.Screen which)) (λ which. tt)
+screen_fair d = then IsFairEffect (required (codes "which") (word_in screen_words) d) (λ which. Ok (effects.Screen which)) (λ which. tt)
 
 copy_fair : (d : Data) → Holds IsFairEffect (copy_in d)
 unfolding copy_in
-copy_fair d = then IsFairEffect (required (codes "sub") (named_in copy_of) d) (λ sub. Ok (effects.Copy sub)) (λ sub. tt)
+copy_fair d = then IsFairEffect (required (codes "sub") (word_in copy_words) d) (λ sub. Ok (effects.Copy sub)) (λ sub. tt)
 
 kind_fair : (kind : Kind) (d : Data) → Holds IsFairEffect (effect_of kind d)
 kind_fair kinds.Plain d = tt
@@ -164,16 +166,16 @@ kind_fair kinds.Nothing d = tt
 effect_fair : (d : Data) → Holds IsFairEffect (effect_in d)
 unfolding effect_in
 effect_fair d =
-    then IsFairEffect (object_in d) (λ u. required (codes "kind") (named_in kind_of) d >>= λ kind. effect_of kind d)
-    (λ u. then IsFairEffect (required (codes "kind") (named_in kind_of) d) (λ kind. effect_of kind d) (λ kind. kind_fair kind d))
+    then IsFairEffect (object_in d) (λ u. required (codes "kind") (word_in kind_words) d >>= λ kind. effect_of kind d)
+    (λ u. then IsFairEffect (required (codes "kind") (word_in kind_words) d) (λ kind. effect_of kind d) (λ kind. kind_fair kind d))
 
 -- ---- types and factors
 
-pub type_within : (types : List TypeRow) (d : Data) → Holds (λ t. t < length types) (type_in types d)
-unfolding type_in type_place
+pub type_within : (types : List TypeItem) (d : Data) → Holds (λ t. t < length types) (type_in types d)
+unfolding type_in type_index
 type_within types d =
     then (λ t. t < length types) (text_in d) (λ text. some_or Unknown (position (λ t. bytes_eq t.id (id_of text)) types))
-    (λ text. found (λ t. t < length types) Unknown (position (λ t. bytes_eq t.id (id_of text)) types) (place_within (λ t. bytes_eq t.id (id_of text)) types))
+    (λ text. found (λ t. t < length types) Unknown (position (λ t. bytes_eq t.id (id_of text)) types) (index_within (λ t. bytes_eq t.id (id_of text)) types))
 
 factor_of_test : (n : ℕ) → (n == 0 || n == 5 || n == 10 || n == 20) ≡ true → IsFactor n
 factor_of_test n e = by_test (eqb n 0) (eqb n 5) (eqb n 10) (eqb n 20) refl refl refl refl e where
@@ -188,37 +190,37 @@ tenths_hold : (d : Data) → Holds IsFactor (tenths_in d)
 unfolding tenths_in
 tenths_hold d = then IsFactor (number_in 0 20 d) (λ n. ensure Range (n == 0 || n == 5 || n == 10 || n == 20) >>= λ u. Ok n) (λ n. tested IsFactor Range (n == 0 || n == 5 || n == 10 || n == 20) (λ u. Ok n) (factor_of_test n))
 
-abbrev IsRow : FactorRow → Type 0
-IsRow r = IsFactor r.tenths
+abbrev IsItem : FactorItem → Type 0
+IsItem r = IsFactor r.tenths
 
-parts_hold : (types : List TypeRow) (a d f : Data) → Holds IsRow (parts_in types a d f)
+parts_hold : (types : List TypeItem) (a d f : Data) → Holds IsItem (parts_in types a d f)
 unfolding parts_in
 parts_hold types a d f =
-    then IsRow (under (Index 0) (type_in types a)) _ (λ attack.
-    then IsRow (under (Index 1) (type_in types d)) _ (λ defend.
-    after IsFactor IsRow (under (Index 2) (tenths_in f)) (λ tenths. Ok (record { attack = attack; defend = defend; tenths = tenths })) (inside IsFactor (Index 2) (tenths_in f) (tenths_hold f)) (λ tenths h. h)))
+    then IsItem (under (Index 0) (type_in types a)) _ (λ attack.
+    then IsItem (under (Index 1) (type_in types d)) _ (λ defend.
+    after IsFactor IsItem (under (Index 2) (tenths_in f)) (λ tenths. Ok (record { attack = attack; defend = defend; tenths = tenths })) (inside IsFactor (Index 2) (tenths_in f) (tenths_hold f)) (λ tenths h. h)))
 
-three_hold : (types : List TypeRow) (ds : List Data) → Holds IsRow (three_parts_in types ds)
+three_hold : (types : List TypeItem) (ds : List Data) → Holds IsItem (three_parts_in types ds)
 three_hold types [] = tt
 three_hold types (a ∷ []) = tt
 three_hold types (a ∷ d ∷ []) = tt
 three_hold types (a ∷ d ∷ f ∷ []) = parts_hold types a d f
 three_hold types (a ∷ d ∷ f ∷ e ∷ more) = tt
 
-row_holds : (types : List TypeRow) (before : List FactorRow) (d : Data) → Holds IsRow (factor_row_in types before d)
-unfolding factor_row_in
-row_holds types before d =
-    then IsRow (array_in d) _ (λ parts.
-    after IsRow IsRow (three_parts_in types parts) (λ row. ensure Repeat (not (has_pair row.attack row.defend before)) >>= λ u. Ok row) (three_hold types parts) (λ row h.
-    tested IsRow Repeat (not (has_pair row.attack row.defend before)) (λ u. Ok row) (λ e. h)))
+item_holds : (types : List TypeItem) (before : List FactorItem) (d : Data) → Holds IsItem (factor_item_in types before d)
+unfolding factor_item_in
+item_holds types before d =
+    then IsItem (array_in d) _ (λ parts.
+    after IsItem IsItem (three_parts_in types parts) (λ item. ensure Repeat (not (has_pair item.attack item.defend before)) >>= λ u. Ok item) (three_hold types parts) (λ item h.
+    tested IsItem Repeat (not (has_pair item.attack item.defend before)) (λ u. Ok item) (λ e. h)))
 
-factors_hold : (types : List TypeRow) (d : Data) → Holds (All IsRow) (factors_in types d)
+factors_hold : (types : List TypeItem) (d : Data) → Holds (All IsItem) (factors_in types d)
 unfolding factors_in
-factors_hold types d = then (All IsRow) (array_in d) (each (λ before more. factor_row_in types before) []) (λ ds. each_all IsRow (λ before more. factor_row_in types before) (λ before more v. row_holds types before v) ds)
+factors_hold types d = then (All IsItem) (array_in d) (each (λ before more. factor_item_in types before) []) (λ ds. each_all IsItem (λ before more. factor_item_in types before) (λ before more v. item_holds types before v) ds)
 
 -- ---- moves
 
-numbers_fair : (types : List TypeRow) (d : Data) → length types ≤ 32 → Holds IsFairMove (numbers_in types d)
+numbers_fair : (types : List TypeItem) (d : Data) → length types ≤ 32 → Holds IsFairMove (numbers_in types d)
 unfolding numbers_in
 numbers_fair types d few =
     after (λ t. t < length types) IsFairMove (required (codes "type") (type_in types) d) _ (needed (λ t. t < length types) (codes "type") (type_in types) d (type_within types)) (λ kind k.
@@ -230,52 +232,52 @@ numbers_fair types d few =
     after IsFairEffect IsFairMove (optional (codes "effect") effects.Plain effect_in d) _ (may_lack IsFairEffect (codes "effect") effects.Plain effect_in d tt effect_fair) (λ effect e.
     record { kind = omega (arith, k, few); power = p.1; accuracy = a.1; pp_low = q.0; pp_high = q.1; priority_low = z.0; priority_high = z.1; effect = e })))))))
 
-abbrev IsFairRow : MoveRow → Type 0
-IsFairRow m = IsFairMove m.numbers
+abbrev IsFairItem : MoveItem → Type 0
+IsFairItem m = IsFairMove m.numbers
 
-move_fair : (types : List TypeRow) (before : List MoveRow) (d : Data) → length types ≤ 32 → Holds IsFairRow (move_row_in types before d)
-unfolding move_row_in
+move_fair : (types : List TypeItem) (before : List MoveItem) (d : Data) → length types ≤ 32 → Holds IsFairItem (move_item_in types before d)
+unfolding move_item_in
 move_fair types before d few =
-    then IsFairRow (object_in d) _ (λ u.
-    then IsFairRow (required (codes "name") (move_name_in before) d) _ (λ named.
-    after IsFairMove IsFairRow (numbers_in types d) _ (numbers_fair types d few) (λ numbers h. h)))
+    then IsFairItem (object_in d) _ (λ u.
+    then IsFairItem (required (codes "name") (move_name_in before) d) _ (λ named.
+    after IsFairMove IsFairItem (numbers_in types d) _ (numbers_fair types d few) (λ numbers h. h)))
 
 -- ---- species
 
-other_within : (types : List TypeRow) (first : ℕ) (d : Data) → Holds (λ t. t < length types) (other_type_in types first d)
+other_within : (types : List TypeItem) (first : ℕ) (d : Data) → Holds (λ t. t < length types) (other_type_in types first d)
 unfolding other_type_in
 other_within types first d =
     after (λ t. t < length types) (λ t. t < length types) (type_in types d) (λ second. ensure Repeat (not (second == first)) >>= λ u. Ok second) (type_within types d)
     (λ second h. tested (λ t. t < length types) Repeat (not (second == first)) (λ u. Ok second) (λ e. h))
 
-one_within : (types : List TypeRow) (a : Data) → Holds (All (λ t. t < length types)) (one_type_in types a)
+one_within : (types : List TypeItem) (a : Data) → Holds (All (λ t. t < length types)) (one_type_in types a)
 unfolding one_type_in
 one_within types a =
     after (λ t. t < length types) (All (λ t. t < length types)) (under (Index 0) (type_in types a)) (λ only. Ok (only ∷ only ∷ [])) (inside (λ t. t < length types) (Index 0) (type_in types a) (type_within types a))
     (λ only h. all_cons (λ t. t < length types) only (only ∷ []) h (one_all (λ t. t < length types) only h))
 
-two_within : (types : List TypeRow) (a b : Data) → Holds (All (λ t. t < length types)) (two_types_in types a b)
+two_within : (types : List TypeItem) (a b : Data) → Holds (All (λ t. t < length types)) (two_types_in types a b)
 unfolding two_types_in
 two_within types a b =
     after (λ t. t < length types) (All (λ t. t < length types)) (under (Index 0) (type_in types a)) (λ first. under (Index 1) (other_type_in types first b) >>= λ second. Ok (first ∷ second ∷ [])) (inside (λ t. t < length types) (Index 0) (type_in types a) (type_within types a))
     (λ first h. after (λ t. t < length types) (All (λ t. t < length types)) (under (Index 1) (other_type_in types first b)) (λ second. Ok (first ∷ second ∷ [])) (inside (λ t. t < length types) (Index 1) (other_type_in types first b) (other_within types first b))
     (λ second k. all_cons (λ t. t < length types) first (second ∷ []) h (one_all (λ t. t < length types) second k)))
 
-own_types_hold : (types : List TypeRow) (ds : List Data) → Holds (All (λ t. t < length types)) (types_of types ds)
+own_types_hold : (types : List TypeItem) (ds : List Data) → Holds (All (λ t. t < length types)) (types_of types ds)
 own_types_hold types [] = tt
 own_types_hold types (a ∷ []) = one_within types a
 own_types_hold types (a ∷ b ∷ []) = two_within types a b
 own_types_hold types (a ∷ b ∷ c ∷ more) = tt
 
-types_hold : (types : List TypeRow) (d : Data) → Holds (All (λ t. t < length types)) (types_in types d)
+types_hold : (types : List TypeItem) (d : Data) → Holds (All (λ t. t < length types)) (types_in types d)
 unfolding types_in
 types_hold types d = then (All (λ t. t < length types)) (array_in d) (types_of types) (own_types_hold types)
 
 abbrev IsBase : ℕ → Type 0
 IsBase n = (1 ≤ n) × (n ≤ 255)
 
-base_holds : (place : ℕ) (d : Data) → Holds IsBase (base_stat_in place d)
-base_holds place d = inside IsBase (Index place) (number_in 1 255 d) (number_within 1 255 d)
+base_holds : (index : ℕ) (d : Data) → Holds IsBase (base_stat_in index d)
+base_holds index d = inside IsBase (Index index) (number_in 1 255 d) (number_within 1 255 d)
 
 five_hold : (a b c d e : Data) → Holds (All IsBase) (five_stats_in a b c d e)
 unfolding five_stats_in
@@ -300,23 +302,23 @@ stats_hold : (d : Data) → Holds (All IsBase) (stats_in d)
 unfolding stats_in
 stats_hold d = then (All IsBase) (array_in d) stats_of own_stats_hold
 
-learned_within : (moves : List MoveRow) (before : List ℕ) (d : Data) → Holds (λ mv. mv < length moves) (learned_in moves before d)
-unfolding learned_in move_place
+learned_within : (moves : List MoveItem) (before : List ℕ) (d : Data) → Holds (λ mv. mv < length moves) (learned_in moves before d)
+unfolding learned_in move_index
 learned_within moves before d =
     then (λ mv. mv < length moves) (text_in d) _ (λ text.
-    after (λ mv. mv < length moves) (λ mv. mv < length moves) (some_or Unknown (position (λ m. bytes_eq m.id (id_of text)) moves)) (λ mv. ensure Repeat (not (has_number mv before)) >>= λ u. Ok mv) (found (λ mv. mv < length moves) Unknown (position (λ m. bytes_eq m.id (id_of text)) moves) (place_within (λ m. bytes_eq m.id (id_of text)) moves)) (λ mv h.
+    after (λ mv. mv < length moves) (λ mv. mv < length moves) (some_or Unknown (position (λ m. bytes_eq m.id (id_of text)) moves)) (λ mv. ensure Repeat (not (has_number mv before)) >>= λ u. Ok mv) (found (λ mv. mv < length moves) Unknown (position (λ m. bytes_eq m.id (id_of text)) moves) (index_within (λ m. bytes_eq m.id (id_of text)) moves)) (λ mv h.
     tested (λ mv. mv < length moves) Repeat (not (has_number mv before)) (λ u. Ok mv) (λ e. h)))
 
-learns_hold : (moves : List MoveRow) (d : Data) → Holds (All (λ mv. mv < length moves)) (learns_in moves d)
+learns_hold : (moves : List MoveItem) (d : Data) → Holds (All (λ mv. mv < length moves)) (learns_in moves d)
 unfolding learns_in
 learns_hold moves d = then (All (λ mv. mv < length moves)) (array_in d) (each (λ before more. learned_in moves before) []) (λ ds. each_all (λ mv. mv < length moves) (λ before more. learned_in moves before) (λ before more v. learned_within moves before v) ds)
 
-species_fit : (types : List TypeRow) (moves : List MoveRow) (before : List SpeciesRow) (d : Data) → Holds (IsFitSpecies (length types) (length moves)) (species_row_in types moves before d)
-unfolding species_row_in
+species_fit : (types : List TypeItem) (moves : List MoveItem) (before : List SpeciesItem) (d : Data) → Holds (IsFitSpecies (length types) (length moves)) (species_item_in types moves before d)
+unfolding species_item_in
 species_fit types moves before d =
-    let P : SpeciesRow → Type 0 = IsFitSpecies (length types) (length moves) in
+    let P : SpeciesItem → Type 0 = IsFitSpecies (length types) (length moves) in
     then P (object_in d) _ (λ u.
-    then P (required (codes "name") (species_name_in before) d) _ (λ named.
+    then P (required (codes "name") (own_name_in (λ (s : SpeciesItem). s.id) before) d) _ (λ named.
     after (All (λ t. t < length types)) P (required (codes "types") (types_in types) d) _ (needed (All (λ t. t < length types)) (codes "types") (types_in types) d (types_hold types)) (λ own_types h.
     after (All IsBase) P (required (codes "stats") stats_in d) _ (needed (All IsBase) (codes "stats") stats_in d stats_hold) (λ stats i.
     after (All (λ mv. mv < length moves)) P (required (codes "learns") (learns_in moves) d) _ (needed (All (λ mv. mv < length moves)) (codes "learns") (learns_in moves) d (learns_hold moves)) (λ learns j.
@@ -324,14 +326,14 @@ species_fit types moves before d =
 
 -- ---- aliases
 
-alias_fit : (species : List SpeciesRow) (moves : List MoveRow) (before : List AliasRow) (key : List ℕ) (d : Data) → Holds (IsFitAlias (length species) (length moves)) (alias_row_in species moves before key d)
-unfolding alias_row_in species_place move_place
+alias_fit : (species : List SpeciesItem) (moves : List MoveItem) (before : List AliasItem) (key : List ℕ) (d : Data) → Holds (IsFitAlias (length species) (length moves)) (alias_item_in species moves before key d)
+unfolding alias_item_in species_index move_index
 alias_fit species moves before key d =
-    let P : AliasRow → Type 0 = IsFitAlias (length species) (length moves) in
-    then P (new_id_in before key) _ (λ id.
+    let P : AliasItem → Type 0 = IsFitAlias (length species) (length moves) in
+    then P (key_id_in (λ (a : AliasItem). a.id) before key) _ (λ id.
     then P (text_in d) _ (λ text.
     tested P Unknown (is_some (position (λ s. bytes_eq s.id (id_of text)) species) || is_some (position (λ m. bytes_eq m.id (id_of text)) moves)) _ (λ e.
-    record { species = place_within (λ s. bytes_eq s.id (id_of text)) species; mv = place_within (λ m. bytes_eq m.id (id_of text)) moves })))
+    record { species = index_within (λ s. bytes_eq s.id (id_of text)) species; mv = index_within (λ m. bytes_eq m.id (id_of text)) moves })))
 
 -- ---- all of it
 
@@ -339,11 +341,11 @@ all_fit : (d : Data) → Holds AreFit (tables_in d)
 unfolding tables_in
 all_fit d =
     then AreFit (object_in d) _ (λ u.
-    after (λ types. All (λ t. Unit {0}) types × (length types ≤ 32)) AreFit (list_at (codes "types") 0 32 (λ before more. type_row_in before) d) _ (list_holds (λ t. Unit {0}) (codes "types") 32 (λ before more. type_row_in before) d (λ before more v. anything (type_row_in before v))) (λ types h.
-    after (All IsRow) AreFit (optional (codes "factors") [] (factors_in types) d) _ (may_lack (All IsRow) (codes "factors") [] (factors_in types) d (All-nil IsRow) (factors_hold types)) (λ factors f.
-    after (λ moves. All IsFairRow moves × (length moves ≤ 1024)) AreFit (list_at (codes "moves") 0 1024 (λ before more. move_row_in types before) d) _ (list_holds IsFairRow (codes "moves") 1024 (λ before more. move_row_in types before) d (λ before more v. move_fair types before v h.1)) (λ moves m.
-    after (λ species. All (IsFitSpecies (length types) (length moves)) species × (length species ≤ 1024)) AreFit (list_at (codes "species") 0 1024 (λ before more. species_row_in types moves before) d) _ (list_holds (IsFitSpecies (length types) (length moves)) (codes "species") 1024 (λ before more. species_row_in types moves before) d (λ before more v. species_fit types moves before v)) (λ species s.
-    after (All (IsFitAlias (length species) (length moves))) AreFit (entries_at (codes "aliases") (λ before key. alias_row_in species moves before key) d) _ (entries_hold (IsFitAlias (length species) (length moves)) (codes "aliases") (λ before key. alias_row_in species moves before key) d (λ before key v. alias_fit species moves before key v)) (λ aliases a.
+    after (λ types. All (λ t. Unit {0}) types × (length types ≤ 32)) AreFit (list_at (codes "types") 0 32 (λ before more. type_item_in before) d) _ (list_holds (λ t. Unit {0}) (codes "types") 32 (λ before more. type_item_in before) d (λ before more v. anything (type_item_in before v))) (λ types h.
+    after (All IsItem) AreFit (optional (codes "factors") [] (factors_in types) d) _ (may_lack (All IsItem) (codes "factors") [] (factors_in types) d (All-nil IsItem) (factors_hold types)) (λ factors f.
+    after (λ moves. All IsFairItem moves × (length moves ≤ 1024)) AreFit (list_at (codes "moves") 0 1024 (λ before more. move_item_in types before) d) _ (list_holds IsFairItem (codes "moves") 1024 (λ before more. move_item_in types before) d (λ before more v. move_fair types before v h.1)) (λ moves m.
+    after (λ species. All (IsFitSpecies (length types) (length moves)) species × (length species ≤ 1024)) AreFit (list_at (codes "species") 0 1024 (λ before more. species_item_in types moves before) d) _ (list_holds (IsFitSpecies (length types) (length moves)) (codes "species") 1024 (λ before more. species_item_in types moves before) d (λ before more v. species_fit types moves before v)) (λ species s.
+    after (All (IsFitAlias (length species) (length moves))) AreFit (entries_at (codes "aliases") (λ before key. alias_item_in species moves before key) d) _ (entries_hold (IsFitAlias (length species) (length moves)) (codes "aliases") (λ before key. alias_item_in species moves before key) d (λ before key v. alias_fit species moves before key v)) (λ aliases a.
     record { few_types = h.1; few_moves = m.1; few_species = s.1; factors = f; moves = m.0; species = s.0; aliases = a }))))))
 
 -- what the bytes of a dex file say

@@ -100,9 +100,9 @@ limited : (i n : ℕ) (b : Bool) → ltb i n ≡ b → IfSome (cond b (Some i) N
 limited i n true e = ltb-true i n e
 limited i n false e = tt
 
--- a place that was found is in the list
-pub place_within : {A : Type 0} (p : A → Bool) (xs : List A) → IfSome (position p xs) (λ i. i < length xs)
-place_within p xs = limited (position_or_len p xs) (length xs) (ltb (position_or_len p xs) (length xs)) refl
+-- an index that was found is in the list
+pub index_within : {A : Type 0} (p : A → Bool) (xs : List A) → IfSome (position p xs) (λ i. i < length xs)
+index_within p xs = limited (position_or_len p xs) (length xs) (ltb (position_or_len p xs) (length xs)) refl
 
 pub each_holds : {A : Type 0} (P : A → Type 0) (form : List A → List Data → Data → Result A Fault) (most : ℕ) → ((before : List A) (more : List Data) (d : Data) → Holds P (form before more d)) → (before : List A) (ds : List Data) → All P before → length before + length ds ≤ most → Holds (λ xs. All P xs × (length xs ≤ most)) (each form before ds)
 unfolding each

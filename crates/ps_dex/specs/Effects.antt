@@ -1,11 +1,11 @@
 -- What a move does, as its object says: `kind`, and then the fields of that kind in the order of the table.
-use Rattle.std.specs.Prelude.{◌≡◌, ℕ, ℤ, pos, negsuc, List, codes, Option, Some, None, Result, Ok, Bool, false, not, int_le, ◌&&◌, ◌||◌, if◌then◌else◌}
-use Rattle.std.specs.Str.{bytes_eq}
+use Rattle.std.specs.Prelude.{ℕ, ℤ, pos, negsuc, List, [], ◌∷◌, codes, Result, Ok, false, not, int_le, ◌&&◌}
 use Rattle.serde_json.specs.Data.{Data}
-use Rattle.ps_data.specs.declared.fault.DataKind.TheVariants.{Range, Unknown}
+use Rattle.ps_data.specs.declared.fault.DataKind.TheVariants.{Range}
 use Rattle.ps_data.specs.declared.fault.Fault.{Fault}
-use Rattle.ps_data.specs.Reading.{◌>>=◌, ensure, some_or, required, optional}
-use Rattle.ps_data.specs.Forms.{object_in, text_in, boolean_in, number_in, integer_in}
+use Rattle.ps_data.specs.Reading.{◌>>=◌, ensure, required, optional}
+use Rattle.ps_data.specs.Forms.{object_in, boolean_in, number_in, integer_in}
+use Rattle.ps_data.specs.Words.{word_in}
 use Rattle.ps_mon.specs.declared.status.Status.{Status}
 use Rattle.ps_mon.specs.declared.status.Status.TheVariants as statuses
 use Rattle.ps_mon.specs.declared.effect.Stat.{Stat}
@@ -20,54 +20,45 @@ use Rattle.ps_mon.specs.declared.effect.Effect.{Effect}
 use Rattle.ps_mon.specs.declared.effect.Effect.TheVariants as effects
 use Rattle.ps_dex.specs.declared.kind.Kind.{Kind}
 use Rattle.ps_dex.specs.declared.kind.Kind.TheVariants as kinds
-use Rattle.ps_dex.specs.Kinds.{kind_of}
+use Rattle.ps_dex.specs.Kinds.{kind_words}
 
--- ---- names of a fixed set; another text is Unknown
+-- ---- words of a fixed set
 
-unfoldable pub status_of : List ℕ → Option Status
-status_of name =
-    if bytes_eq name (codes "slp") then Some statuses.Slp else (
-    if bytes_eq name (codes "par") then Some statuses.Par else (
-    if bytes_eq name (codes "brn") then Some statuses.Brn else (
-    if bytes_eq name (codes "psn") then Some statuses.Psn else (
-    if bytes_eq name (codes "tox") then Some statuses.Tox else (
-    if bytes_eq name (codes "frz") then Some statuses.Frz else
-    None)))))
+unfoldable pub status_words : List (List ℕ × Status)
+status_words =
+    (codes "slp", statuses.Slp) ∷
+    (codes "par", statuses.Par) ∷
+    (codes "brn", statuses.Brn) ∷
+    (codes "psn", statuses.Psn) ∷
+    (codes "tox", statuses.Tox) ∷
+    (codes "frz", statuses.Frz) ∷
+    []
 
-unfoldable pub aim_of : List ℕ → Option Aim
-aim_of name =
-    if bytes_eq name (codes "self") then Some aims.User else (
-    if bytes_eq name (codes "foe") then Some aims.Foe else
-    None)
+unfoldable pub aim_words : List (List ℕ × Aim)
+aim_words = (codes "self", aims.User) ∷ (codes "foe", aims.Foe) ∷ []
 
-unfoldable pub stat_of : List ℕ → Option Stat
-stat_of name =
-    if bytes_eq name (codes "atk") then Some stats.Atk else (
-    if bytes_eq name (codes "def") then Some stats.Def else (
-    if bytes_eq name (codes "spc") then Some stats.Spc else (
-    if bytes_eq name (codes "spe") then Some stats.Spe else (
-    if bytes_eq name (codes "acc") then Some stats.Acc else (
-    if bytes_eq name (codes "eva") then Some stats.Eva else
-    None)))))
+unfoldable pub stat_words : List (List ℕ × Stat)
+stat_words =
+    (codes "atk", stats.Atk) ∷
+    (codes "def", stats.Def) ∷
+    (codes "spc", stats.Spc) ∷
+    (codes "spe", stats.Spe) ∷
+    (codes "acc", stats.Acc) ∷
+    (codes "eva", stats.Eva) ∷
+    []
 
-unfoldable pub screen_of : List ℕ → Option ScreenKind
-screen_of name =
-    if bytes_eq name (codes "reflect") then Some screens.Reflect else (
-    if bytes_eq name (codes "light") then Some screens.Light else
-    None)
+unfoldable pub screen_words : List (List ℕ × ScreenKind)
+screen_words = (codes "reflect", screens.Reflect) ∷ (codes "light", screens.Light) ∷ []
 
-unfoldable pub copy_of : List ℕ → Option CopyKind
-copy_of name =
-    if bytes_eq name (codes "mimic") then Some copies.Mimic else (
-    if bytes_eq name (codes "transform") then Some copies.Transform else (
-    if bytes_eq name (codes "metronome") then Some copies.Metronome else (
-    if bytes_eq name (codes "mirrormove") then Some copies.MirrorMove else (
-    if bytes_eq name (codes "conversion") then Some copies.Conversion else (
-    if bytes_eq name (codes "disable") then Some copies.Disable else
-    None)))))
-
-abbrev pub named_in : {A : Type 0} → (List ℕ → Option A) → Data → Result A Fault
-named_in of_name d = text_in d >>= λ name. some_or Unknown (of_name name)
+unfoldable pub copy_words : List (List ℕ × CopyKind)
+copy_words =
+    (codes "mimic", copies.Mimic) ∷
+    (codes "transform", copies.Transform) ∷
+    (codes "metronome", copies.Metronome) ∷
+    (codes "mirrormove", copies.MirrorMove) ∷
+    (codes "conversion", copies.Conversion) ∷
+    (codes "disable", copies.Disable) ∷
+    []
 
 -- ---- the fields
 
@@ -82,7 +73,7 @@ fixed_in d = do
 
 unfoldable pub status_effect_in : Data → Result Effect Fault
 status_effect_in d = do
-  status ← required (codes "status") (named_in status_of) d
+  status ← required (codes "status") (word_in status_words) d
   chance ← chance_in d
   Ok (effects.Status status chance)
 
@@ -105,8 +96,8 @@ stages_in d = do
 
 unfoldable pub boost_in : Data → Result Effect Fault
 boost_in d = do
-  who ← required (codes "who") (named_in aim_of) d
-  stat ← required (codes "stat") (named_in stat_of) d
+  who ← required (codes "who") (word_in aim_words) d
+  stat ← required (codes "stat") (word_in stat_words) d
   by ← required (codes "by") stages_in d
   chance ← chance_in d
   Ok (effects.Boost who stat by chance)
@@ -118,7 +109,7 @@ recoil_in d = do
 
 unfoldable pub double_in : Data → Result Effect Fault
 double_in d = do
-  status ← required (codes "status") (named_in status_of) d
+  status ← required (codes "status") (word_in status_words) d
   chance ← chance_in d
   Ok (effects.Double status chance)
 
@@ -129,12 +120,12 @@ charge_in d = do
 
 unfoldable pub screen_in : Data → Result Effect Fault
 screen_in d = do
-  which ← required (codes "which") (named_in screen_of) d
+  which ← required (codes "which") (word_in screen_words) d
   Ok (effects.Screen which)
 
 unfoldable pub copy_in : Data → Result Effect Fault
 copy_in d = do
-  sub ← required (codes "sub") (named_in copy_of) d
+  sub ← required (codes "sub") (word_in copy_words) d
   Ok (effects.Copy sub)
 
 -- ---- the effect
@@ -178,5 +169,5 @@ effect_of kinds.Nothing d = Ok effects.Nothing
 unfoldable pub effect_in : Data → Result Effect Fault
 effect_in d = do
   _ ← object_in d
-  kind ← required (codes "kind") (named_in kind_of) d
+  kind ← required (codes "kind") (word_in kind_words) d
   effect_of kind d

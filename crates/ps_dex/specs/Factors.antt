@@ -8,8 +8,8 @@ use Rattle.ps_data.specs.Paths.{Index}
 use Rattle.ps_data.specs.Reading.{◌>>=◌, refuse, under, ensure}
 use Rattle.ps_data.specs.Forms.{number_in, array_in}
 use Rattle.ps_data.specs.Lists.{each}
-use Rattle.ps_dex.specs.declared.row.TypeRow.{TypeRow}
-use Rattle.ps_dex.specs.declared.row.FactorRow.{FactorRow}
+use Rattle.ps_dex.specs.declared.item.TypeItem.{TypeItem}
+use Rattle.ps_dex.specs.declared.item.FactorItem.{FactorItem}
 use Rattle.ps_dex.specs.Types.{type_in}
 
 -- 0, 5, 10 or 20
@@ -19,35 +19,35 @@ tenths_in d = do
   _ ← ensure Range (n == 0 || n == 5 || n == 10 || n == 20)
   Ok n
 
--- a row of this pair
-unfoldable pub has_pair : ℕ → ℕ → List FactorRow → Bool
-has_pair attack defend rows = list_any (λ r. r.attack == attack && r.defend == defend) rows
+-- an item of this pair
+unfoldable pub has_pair : ℕ → ℕ → List FactorItem → Bool
+has_pair attack defend items = list_any (λ r. r.attack == attack && r.defend == defend) items
 
 -- the attacking type, the defending type and the factor
-unfoldable pub parts_in : List TypeRow → Data → Data → Data → Result FactorRow Fault
+unfoldable pub parts_in : List TypeItem → Data → Data → Data → Result FactorItem Fault
 parts_in types a d f = do
   attack ← under (Index 0) (type_in types a)
   defend ← under (Index 1) (type_in types d)
   tenths ← under (Index 2) (tenths_in f)
   Ok (record { attack = attack; defend = defend; tenths = tenths })
 
-abbrev pub three_parts_in : List TypeRow → List Data → Result FactorRow Fault
+abbrev pub three_parts_in : List TypeItem → List Data → Result FactorItem Fault
 three_parts_in types [] = refuse Range
 three_parts_in types (a ∷ []) = refuse Range
 three_parts_in types (a ∷ d ∷ []) = refuse Range
 three_parts_in types (a ∷ d ∷ f ∷ []) = parts_in types a d f
 three_parts_in types (a ∷ d ∷ f ∷ e ∷ more) = refuse Range
 
--- a pair that no row before has
-unfoldable pub factor_row_in : List TypeRow → List FactorRow → Data → Result FactorRow Fault
-factor_row_in types before d = do
+-- a pair that no item before has
+unfoldable pub factor_item_in : List TypeItem → List FactorItem → Data → Result FactorItem Fault
+factor_item_in types before d = do
   parts ← array_in d
-  row ← three_parts_in types parts
-  _ ← ensure Repeat (not (has_pair row.attack row.defend before))
-  Ok row
+  item ← three_parts_in types parts
+  _ ← ensure Repeat (not (has_pair item.attack item.defend before))
+  Ok item
 
 -- as many as there are
-unfoldable pub factors_in : List TypeRow → Data → Result (List FactorRow) Fault
+unfoldable pub factors_in : List TypeItem → Data → Result (List FactorItem) Fault
 factors_in types d = do
-  rows ← array_in d
-  each (λ before after. factor_row_in types before) [] rows
+  items ← array_in d
+  each (λ before after. factor_item_in types before) [] items

@@ -1,8 +1,8 @@
 -- The figures of a dex, as battles use them.
 use Rattle.std.specs.Prelude.{ℕ, zero, suc, List, [], ◌∷◌, ◌++◌, map}
 use Rattle.ps_mon.specs.Facts.{Figures}
-use Rattle.ps_dex.specs.declared.row.FactorRow.{FactorRow}
-use Rattle.ps_dex.specs.declared.row.Tables.{Tables}
+use Rattle.ps_dex.specs.declared.item.FactorItem.{FactorItem}
+use Rattle.ps_dex.specs.declared.item.Tables.{Tables}
 use Rattle.ps_dex.specs.Lookups.{factor_of, built_in}
 
 -- the first values of a function
@@ -11,12 +11,12 @@ listed f zero = []
 listed f (suc n) = listed f n ++ f n ∷ []
 
 -- the factors of a type on each of 32 types
-unfoldable pub factor_row : List FactorRow → ℕ → List ℕ
-factor_row rows attack = listed (factor_of rows attack) 32
+unfoldable pub factors_of_attack : List FactorItem → ℕ → List ℕ
+factors_of_attack items attack = listed (factor_of items attack) 32
 
 -- the factors of each of 32 types
-unfoldable pub factor_table : List FactorRow → List (List ℕ)
-factor_table rows = listed (factor_row rows) 32
+unfoldable pub factor_table : List FactorItem → List (List ℕ)
+factor_table items = listed (factors_of_attack items) 32
 
 -- the numbers of the moves, all factors, and Struggle
 unfoldable pub figures_of : Tables → Figures

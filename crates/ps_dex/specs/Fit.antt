@@ -1,21 +1,21 @@
--- Ranges of what a dex file says, as far as look-ups and battles rest on them.
+-- Ranges of what a dex file says, as far as lookups and battles rest on them.
 use Rattle.std.specs.Prelude.{◌≡◌, ℕ, ◌<◌, ◌≤◌, All, List, length, IfSome}
 use Rattle.ps_mon.specs.declared.facts.MoveData.{MoveData}
 use Rattle.ps_mon.specs.Facts.{IsFairMove, IsFactor}
-use Rattle.ps_dex.specs.declared.row.FactorRow.{FactorRow}
-use Rattle.ps_dex.specs.declared.row.MoveRow.{MoveRow}
-use Rattle.ps_dex.specs.declared.row.SpeciesRow.{SpeciesRow}
-use Rattle.ps_dex.specs.declared.row.AliasRow.{AliasRow}
-use Rattle.ps_dex.specs.declared.row.Tables.{Tables}
+use Rattle.ps_dex.specs.declared.item.FactorItem.{FactorItem}
+use Rattle.ps_dex.specs.declared.item.MoveItem.{MoveItem}
+use Rattle.ps_dex.specs.declared.item.SpeciesItem.{SpeciesItem}
+use Rattle.ps_dex.specs.declared.item.AliasItem.{AliasItem}
+use Rattle.ps_dex.specs.declared.item.Tables.{Tables}
 
 -- its types are types of the dex, its stats 1 to 255, and what it learns are moves of the dex
-pub record IsFitSpecies (type_count move_count : ℕ) (s : SpeciesRow) : Type 0 where
+pub record IsFitSpecies (type_count move_count : ℕ) (s : SpeciesItem) : Type 0 where
   pub types : All (λ t. t < type_count) s.types
   pub stats : All (λ n. (1 ≤ n) × (n ≤ 255)) s.stats
   pub learns : All (λ mv. mv < move_count) s.learns
 
 -- what it stands for is a species of the dex, a move of it, or both
-pub record IsFitAlias (species_count move_count : ℕ) (a : AliasRow) : Type 0 where
+pub record IsFitAlias (species_count move_count : ℕ) (a : AliasItem) : Type 0 where
   pub species : IfSome a.species (λ s. s < species_count)
   pub mv : IfSome a.mv (λ mv. mv < move_count)
 

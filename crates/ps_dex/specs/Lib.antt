@@ -10,4 +10,3 @@ pub mod Tables
 pub mod Lookups
 pub mod Figures
 pub mod Fit
-pub mod Faults

@@ -3,16 +3,16 @@ use Rattle.std.specs.Prelude.{◌≡◌, ℕ, ◌==◌, ◌&&◌, ◌||◌, Bool
 use Rattle.std.specs.Option.{option_or, option_and_then}
 use Rattle.ps_mon.specs.declared.facts.MoveData.{MoveData}
 use Rattle.ps_mon.specs.Facts.{struggle}
-use Rattle.ps_dex.specs.declared.row.TypeRow.{TypeRow}
-use Rattle.ps_dex.specs.declared.row.FactorRow.{FactorRow}
-use Rattle.ps_dex.specs.declared.row.MoveRow.{MoveRow}
-use Rattle.ps_dex.specs.declared.row.SpeciesRow.{SpeciesRow}
-use Rattle.ps_dex.specs.declared.row.AliasRow.{AliasRow}
-use Rattle.ps_dex.specs.declared.row.Tables.{Tables}
+use Rattle.ps_dex.specs.declared.item.TypeItem.{TypeItem}
+use Rattle.ps_dex.specs.declared.item.FactorItem.{FactorItem}
+use Rattle.ps_dex.specs.declared.item.MoveItem.{MoveItem}
+use Rattle.ps_dex.specs.declared.item.SpeciesItem.{SpeciesItem}
+use Rattle.ps_dex.specs.declared.item.AliasItem.{AliasItem}
+use Rattle.ps_dex.specs.declared.item.Tables.{Tables}
 use Rattle.ps_dex.specs.Types.{is_special, is_contact}
-use Rattle.ps_dex.specs.Moves.{move_place, has_move}
-use Rattle.ps_dex.specs.Species.{species_place, has_species, has_number}
-use Rattle.ps_dex.specs.Aliases.{alias_place}
+use Rattle.ps_dex.specs.Moves.{move_index, has_move}
+use Rattle.ps_dex.specs.Species.{species_index, has_species, has_number}
+use Rattle.ps_dex.specs.Aliases.{alias_index}
 
 -- a dex of which nothing is said
 abbrev pub no_tables : Tables
@@ -24,40 +24,40 @@ no_tables = record { types = []; factors = []; moves = []; species = []; aliases
 abbrev pub is_taken : List ℕ → Tables → Bool
 is_taken id t = has_species id t.species || has_move id t.moves
 
-abbrev pub at_place : Option ℕ → List AliasRow → Option AliasRow
-at_place None aliases = None
-at_place (Some i) aliases = slice_get aliases i
+abbrev pub at_index_of : Option ℕ → List AliasItem → Option AliasItem
+at_index_of None aliases = None
+at_index_of (Some i) aliases = slice_get aliases i
 
 -- the alias with the id
-abbrev pub alias_of : List ℕ → List AliasRow → Option AliasRow
-alias_of id aliases = at_place (alias_place id aliases) aliases
+abbrev pub alias_of : List ℕ → List AliasItem → Option AliasItem
+alias_of id aliases = at_index_of (alias_index id aliases) aliases
 
-abbrev pub species_target : Option AliasRow → Option ℕ
+abbrev pub species_target : Option AliasItem → Option ℕ
 species_target None = None
 species_target (Some a) = a.species
 
-abbrev pub move_target : Option AliasRow → Option ℕ
+abbrev pub move_target : Option AliasItem → Option ℕ
 move_target None = None
 move_target (Some a) = a.mv
 
 -- the species with the id, or the one that the alias with the id stands for
 abbrev pub species_of : List ℕ → Tables → Option ℕ
-species_of id t = if is_taken id t then species_place id t.species else species_target (alias_of id t.aliases)
+species_of id t = if is_taken id t then species_index id t.species else species_target (alias_of id t.aliases)
 
 -- the move with the id, or the one that the alias with the id stands for
 abbrev pub move_of : List ℕ → Tables → Option ℕ
-move_of id t = if is_taken id t then move_place id t.moves else move_target (alias_of id t.aliases)
+move_of id t = if is_taken id t then move_index id t.moves else move_target (alias_of id t.aliases)
 
 -- ---- factors
 
--- the factor of a pair in tenths: that of its row, and 10 where no row has the pair
-abbrev pub factor_of : List FactorRow → ℕ → ℕ → ℕ
+-- the factor of a pair in tenths: that of its item, and 10 where no item has the pair
+abbrev pub factor_of : List FactorItem → ℕ → ℕ → ℕ
 factor_of [] attack defend = 10
-factor_of (r ∷ rows) attack defend = if r.attack == attack && r.defend == defend then r.tenths else factor_of rows attack defend
+factor_of (r ∷ items) attack defend = if r.attack == attack && r.defend == defend then r.tenths else factor_of items attack defend
 
 -- ---- moves
 
-abbrev pub learned_by : Option SpeciesRow → List ℕ
+abbrev pub learned_by : Option SpeciesItem → List ℕ
 learned_by None = []
 learned_by (Some s) = s.learns
 
@@ -66,13 +66,13 @@ abbrev pub learns : ℕ → ℕ → Tables → Bool
 learns species mv t = has_number mv (learned_by (slice_get t.species species))
 
 -- Struggle of a dex, whose type is the first one
-abbrev pub built_in : List TypeRow → MoveData
+abbrev pub built_in : List TypeItem → MoveData
 built_in types = struggle (is_special types 0) (is_contact types 0)
 
-abbrev pub name_or_struggle : Option MoveRow → List ℕ
+abbrev pub name_or_struggle : Option MoveItem → List ℕ
 name_or_struggle None = codes "Struggle"
 name_or_struggle (Some m) = m.name
 
 -- the name of a move; each number past the moves is Struggle's
-abbrev pub name_of_move : ℕ → List MoveRow → List ℕ
+abbrev pub name_of_move : ℕ → List MoveItem → List ℕ
 name_of_move mv moves = name_or_struggle (slice_get moves mv)

@@ -3,10 +3,11 @@ use Rattle.std.specs.Prelude.{ℕ, ◌==◌, ◌&&◌, Bool, not, List, length, 
 use Rattle.std.specs.List.{list_all}
 use Rattle.serde_json.specs.Data.{Data}
 use Rattle.ps_base.specs.Ids.{id_of}
-use Rattle.ps_data.specs.declared.fault.DataKind.TheVariants.{Range}
+use Rattle.ps_data.specs.declared.fault.DataKind.TheVariants.{Range, Repeat}
 use Rattle.ps_data.specs.declared.fault.Fault.{Fault}
 use Rattle.ps_data.specs.Reading.{◌>>=◌, ensure}
 use Rattle.ps_data.specs.Forms.{text_in}
+use Rattle.ps_data.specs.OwnIds.{has_id}
 use Rattle.ps_dex.specs.declared.name.Named.{Named}
 
 -- a character from U+0020 to U+007E, but not `|`, `,` or `]`; each of these is one byte
@@ -26,3 +27,10 @@ name_in d = do
   text ← text_in d
   _ ← ensure Range (is_name text (id_of text))
   Ok (record { name = text; id = id_of text })
+
+-- a name whose id no item before has; which id an item has is said by `own`
+unfoldable pub own_name_in : {A : Type 0} → (A → List ℕ) → List A → Data → Result Named Fault
+own_name_in own before d = do
+  named ← name_in d
+  _ ← ensure Repeat (not (has_id own named.id before))
+  Ok named

@@ -1,5 +1,5 @@
 -- The species of a dex.
-use Rattle.std.specs.Prelude.{ℕ, ◌==◌, Bool, not, List, [], ◌∷◌, codes, position, Option, is_some, bytes_eq, Result, Ok}
+use Rattle.std.specs.Prelude.{ℕ, ◌==◌, Bool, not, List, [], ◌∷◌, codes, position, Option, bytes_eq, Result, Ok}
 use Rattle.std.specs.List.{list_any}
 use Rattle.serde_json.specs.Data.{Data}
 use Rattle.ps_base.specs.Ids.{id_of}
@@ -9,53 +9,47 @@ use Rattle.ps_data.specs.Paths.{Index}
 use Rattle.ps_data.specs.Reading.{◌>>=◌, refuse, under, ensure, some_or, required}
 use Rattle.ps_data.specs.Forms.{object_in, text_in, number_in, array_in}
 use Rattle.ps_data.specs.Lists.{each}
-use Rattle.ps_dex.specs.declared.name.Named.{Named}
-use Rattle.ps_dex.specs.declared.row.TypeRow.{TypeRow}
-use Rattle.ps_dex.specs.declared.row.MoveRow.{MoveRow}
-use Rattle.ps_dex.specs.declared.row.SpeciesRow.{SpeciesRow}
-use Rattle.ps_dex.specs.Names.{name_in}
+use Rattle.ps_data.specs.OwnIds.{has_id}
+use Rattle.ps_dex.specs.declared.item.TypeItem.{TypeItem}
+use Rattle.ps_dex.specs.declared.item.MoveItem.{MoveItem}
+use Rattle.ps_dex.specs.declared.item.SpeciesItem.{SpeciesItem}
+use Rattle.ps_dex.specs.Names.{own_name_in}
 use Rattle.ps_dex.specs.Types.{type_in}
-use Rattle.ps_dex.specs.Moves.{move_place}
+use Rattle.ps_dex.specs.Moves.{move_index}
 
--- the number of the species with an id: its place
-unfoldable pub species_place : List ℕ → List SpeciesRow → Option ℕ
-species_place id species = position (λ s. bytes_eq s.id id) species
+-- the number of the species with an id: its index
+unfoldable pub species_index : List ℕ → List SpeciesItem → Option ℕ
+species_index id species = position (λ s. bytes_eq s.id id) species
 
-unfoldable pub has_species : List ℕ → List SpeciesRow → Bool
-has_species id species = is_some (position (λ s. bytes_eq s.id id) species)
+unfoldable pub has_species : List ℕ → List SpeciesItem → Bool
+has_species id species = has_id (λ s. s.id) id species
 
-unfoldable pub species_name_in : List SpeciesRow → Data → Result Named Fault
-species_name_in before d = do
-  named ← name_in d
-  _ ← ensure Repeat (not (has_species named.id before))
-  Ok named
+-- ---- types: one, which is kept twice, or two that differ
 
--- ---- types: one, which is kept at both places, or two that differ
-
-unfoldable pub other_type_in : List TypeRow → ℕ → Data → Result ℕ Fault
+unfoldable pub other_type_in : List TypeItem → ℕ → Data → Result ℕ Fault
 other_type_in types first d = do
   second ← type_in types d
   _ ← ensure Repeat (not (second == first))
   Ok second
 
-unfoldable pub one_type_in : List TypeRow → Data → Result (List ℕ) Fault
+unfoldable pub one_type_in : List TypeItem → Data → Result (List ℕ) Fault
 one_type_in types a = do
   only ← under (Index 0) (type_in types a)
   Ok (only ∷ only ∷ [])
 
-unfoldable pub two_types_in : List TypeRow → Data → Data → Result (List ℕ) Fault
+unfoldable pub two_types_in : List TypeItem → Data → Data → Result (List ℕ) Fault
 two_types_in types a b = do
   first ← under (Index 0) (type_in types a)
   second ← under (Index 1) (other_type_in types first b)
   Ok (first ∷ second ∷ [])
 
-abbrev pub types_of : List TypeRow → List Data → Result (List ℕ) Fault
+abbrev pub types_of : List TypeItem → List Data → Result (List ℕ) Fault
 types_of types [] = refuse Range
 types_of types (a ∷ []) = one_type_in types a
 types_of types (a ∷ b ∷ []) = two_types_in types a b
 types_of types (a ∷ b ∷ c ∷ more) = refuse Range
 
-unfoldable pub types_in : List TypeRow → Data → Result (List ℕ) Fault
+unfoldable pub types_in : List TypeItem → Data → Result (List ℕ) Fault
 types_in types d = do
   items ← array_in d
   types_of types items
@@ -63,7 +57,7 @@ types_in types d = do
 -- ---- stats: HP, Attack, Defense, Special and Speed
 
 abbrev pub base_stat_in : ℕ → Data → Result ℕ Fault
-base_stat_in place d = under (Index place) (number_in 1 255 d)
+base_stat_in index d = under (Index index) (number_in 1 255 d)
 
 unfoldable pub five_stats_in : Data → Data → Data → Data → Data → Result (List ℕ) Fault
 five_stats_in a b c d e = do
@@ -94,24 +88,24 @@ unfoldable pub has_number : ℕ → List ℕ → Bool
 has_number number numbers = list_any (λ n. n == number) numbers
 
 -- the number of the move whose id is that of a text
-unfoldable pub learned_in : List MoveRow → List ℕ → Data → Result ℕ Fault
+unfoldable pub learned_in : List MoveItem → List ℕ → Data → Result ℕ Fault
 learned_in moves before d = do
   text ← text_in d
-  mv ← some_or Unknown (move_place (id_of text) moves)
+  mv ← some_or Unknown (move_index (id_of text) moves)
   _ ← ensure Repeat (not (has_number mv before))
   Ok mv
 
-unfoldable pub learns_in : List MoveRow → Data → Result (List ℕ) Fault
+unfoldable pub learns_in : List MoveItem → Data → Result (List ℕ) Fault
 learns_in moves d = do
   items ← array_in d
   each (λ before after. learned_in moves before) [] items
 
 -- ---- a species
 
-unfoldable pub species_row_in : List TypeRow → List MoveRow → List SpeciesRow → Data → Result SpeciesRow Fault
-species_row_in types moves before d = do
+unfoldable pub species_item_in : List TypeItem → List MoveItem → List SpeciesItem → Data → Result SpeciesItem Fault
+species_item_in types moves before d = do
   _ ← object_in d
-  named ← required (codes "name") (species_name_in before) d
+  named ← required (codes "name") (own_name_in (λ s. s.id) before) d
   own_types ← required (codes "types") (types_in types) d
   stats ← required (codes "stats") stats_in d
   learns ← required (codes "learns") (learns_in moves) d

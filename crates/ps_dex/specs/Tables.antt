@@ -5,22 +5,22 @@ use Rattle.ps_data.specs.declared.fault.Fault.{Fault}
 use Rattle.ps_data.specs.Reading.{◌>>=◌, optional}
 use Rattle.ps_data.specs.Forms.{json_in, object_in}
 use Rattle.ps_data.specs.Lists.{list_at, entries_at}
-use Rattle.ps_dex.specs.declared.row.Tables.{Tables}
-use Rattle.ps_dex.specs.Types.{type_row_in}
+use Rattle.ps_dex.specs.declared.item.Tables.{Tables}
+use Rattle.ps_dex.specs.Types.{type_item_in}
 use Rattle.ps_dex.specs.Factors.{factors_in}
-use Rattle.ps_dex.specs.Moves.{move_row_in}
-use Rattle.ps_dex.specs.Species.{species_row_in}
-use Rattle.ps_dex.specs.Aliases.{alias_row_in}
+use Rattle.ps_dex.specs.Moves.{move_item_in}
+use Rattle.ps_dex.specs.Species.{species_item_in}
+use Rattle.ps_dex.specs.Aliases.{alias_item_in}
 
 -- the keys of a dex in their order, each of which may be missing
 unfoldable pub tables_in : Data → Result Tables Fault
 tables_in d = do
   _ ← object_in d
-  types ← list_at (codes "types") 0 32 (λ before after. type_row_in before) d
+  types ← list_at (codes "types") 0 32 (λ before after. type_item_in before) d
   factors ← optional (codes "factors") [] (factors_in types) d
-  moves ← list_at (codes "moves") 0 1024 (λ before after. move_row_in types before) d
-  species ← list_at (codes "species") 0 1024 (λ before after. species_row_in types moves before) d
-  aliases ← entries_at (codes "aliases") (λ before key. alias_row_in species moves before key) d
+  moves ← list_at (codes "moves") 0 1024 (λ before after. move_item_in types before) d
+  species ← list_at (codes "species") 0 1024 (λ before after. species_item_in types moves before) d
+  aliases ← entries_at (codes "aliases") (λ before key. alias_item_in species moves before key) d
   Ok (record { types = types; factors = factors; moves = moves; species = species; aliases = aliases })
 
 -- the bytes of a dex file

@@ -1,22 +1,23 @@
-//! The dex and its look-ups.
+//! The dex and its lookups.
 ghost use Rattle.std.specs.Prelude.{◌≡◌, ◌<◌, length, map, slice_get, IfOk, IfSome};
 ghost use Rattle.ps_mon.specs.Facts.{AreFair, figures};
 ghost use Rattle.ps_base.specs.Ids.{id_of};
 ghost use Rattle.ps_dex.specs.Tables.{tables_of};
 ghost use Rattle.ps_dex.specs.Lookups.{no_tables, species_of, move_of, is_taken, factor_of, learned_by, learns, name_of_move, built_in};
-ghost use Rattle.ps_dex.specs.Figures.{factor_row, factor_table, figures_of};
+ghost use Rattle.ps_dex.specs.Figures.{factors_of_attack, factor_table, figures_of};
 ghost use Rattle.ps_dex.specs.Fit.{AreFit};
 
-use crate::aliases::{alias_place, move_number, species_number};
-use crate::fault::{DexFault, told};
+use crate::aliases::{alias_index, move_number, species_number};
+use crate::fault::DexFault;
+use crate::item::{AliasItem, FactorItem, MoveItem, SpeciesItem, Tables, TypeItem};
 use crate::moves::has_move;
-use crate::row::{AliasRow, FactorRow, MoveRow, SpeciesRow, Tables, TypeRow};
 use crate::species::{has_number, has_species};
 use crate::spelled;
 use crate::tables::read_tables;
 use crate::types::{is_contact, is_special};
 use ps_base::id::Id;
 use ps_base::list::List;
+use ps_data::file_fault::reported;
 use ps_mon::facts::{Factors, Facts, MoveData, struggle};
 use std::alloc::{AllocError, Global};
 use std::marker::Model;
@@ -32,7 +33,7 @@ pub struct Dex {
 
 impl Model for Dex {
     ghost use Rattle.std.specs.Prelude.{◌≡◌, map};
-    ghost use Rattle.ps_dex.specs.declared.row.Tables.{Tables as Said};
+    ghost use Rattle.ps_dex.specs.declared.item.Tables.{Tables as Said};
     ghost use Rattle.ps_dex.specs.Lookups.{built_in};
     ghost use Rattle.ps_dex.specs.Figures.{factor_table};
     ghost use Rattle.ps_dex.specs.Fit.{AreFit};
@@ -44,51 +45,51 @@ impl Model for Dex {
     ghost invariant = { λ d. AreFit d.tables × (d.numbers.items ≡ map (λ m. m.numbers) d.tables.moves) × (d.factors ≡ factor_table d.tables.factors) × (d.struggle ≡ built_in d.tables.types) };
 }
 
-fn numbers_of(alloc: Global, moves: &[MoveRow]) -> Result<Vec<MoveData>, AllocError>
+fn numbers_of(alloc: Global, moves: &[MoveItem]) -> Result<Vec<MoveData>, AllocError>
     ensures { IfOk result (λ v. v.items ≡ map (λ m. m.numbers) moves.now) }
 {
     let mut numbers = Vec::new(alloc);
-    for row in moves {
-        numbers.push(row.numbers)?;
+    for item in moves {
+        numbers.push(item.numbers)?;
     }
     Ok(numbers)
 }
 
-fn factor_of(rows: &[FactorRow], attack: u8, defend: u8) -> u8
-    ensures { result ≡ factor_of rows.now attack defend }
+fn factor_of(items: &[FactorItem], attack: u8, defend: u8) -> u8
+    ensures { result ≡ factor_of items.now attack defend }
 {
-    for row in rows {
-        if row.attack == attack && row.defend == defend {
-            return row.tenths;
+    for item in items {
+        if item.attack == attack && item.defend == defend {
+            return item.tenths;
         }
     }
     10
 }
 
 /// The factors of one attacking type.
-#[tactic(auto, unfolding(crate::specs::Figures::factor_row), using(crate::proofs::FigureLemmas::listed_all))]
-fn factor_row(rows: &[FactorRow], attack: u8) -> [u8; 32]
-    ensures { result ≡ factor_row rows.now attack }
+#[tactic(auto, unfolding(crate::specs::Figures::factors_of_attack), using(crate::proofs::FigureLemmas::listed_all))]
+fn factors_of_attack(items: &[FactorItem], attack: u8) -> [u8; 32]
+    ensures { result ≡ factors_of_attack items.now attack }
 {
     let mut factors = [10; 32];
     for defend in 0..32 {
-        factors[defend] = factor_of(rows, attack, defend as u8);
+        factors[defend] = factor_of(items, attack, defend as u8);
     }
     factors
 }
 
 #[tactic(auto, unfolding(crate::specs::Figures::factor_table), using(crate::proofs::FigureLemmas::listed_all))]
-fn factor_table(rows: &[FactorRow]) -> Factors
-    ensures { result ≡ factor_table rows.now }
+fn factor_table(items: &[FactorItem]) -> Factors
+    ensures { result ≡ factor_table items.now }
 {
     let mut factors = [[10; 32]; 32];
     for attack in 0..32 {
-        factors[attack] = factor_row(rows, attack as u8);
+        factors[attack] = factors_of_attack(items, attack as u8);
     }
     factors
 }
 
-fn built_in(types: &[TypeRow]) -> MoveData
+fn built_in(types: &[TypeItem]) -> MoveData
     ensures { result ≡ built_in types.now }
 {
     struggle(is_special(types, 0), is_contact(types, 0))
@@ -117,38 +118,38 @@ fn is_taken(tables: &Tables, id: &str) -> bool
 
 fn species_of(tables: &Tables, id: &str) -> Option<u16>
     requires { AreFit tables.now }
-    ensures place { result ≡ species_of id.now tables.now }
+    ensures index { result ≡ species_of id.now tables.now }
     ensures within { IfSome result (λ s. s < length tables.now.species) }
 {
     if is_taken(tables, id) {
         return species_number(tables.species.as_slice(), id);
     }
     let aliases = tables.aliases.as_slice();
-    match alias_place(aliases, id) {
+    match alias_index(aliases, id) {
         None => None,
-        Some(place) => aliases[place].species,
+        Some(index) => aliases[index].species,
     }
 }
 
 fn move_of(tables: &Tables, id: &str) -> Option<u16>
     requires { AreFit tables.now }
-    ensures place { result ≡ move_of id.now tables.now }
+    ensures index { result ≡ move_of id.now tables.now }
     ensures within { IfSome result (λ mv. mv < length tables.now.moves) }
 {
     if is_taken(tables, id) {
         return move_number(tables.moves.as_slice(), id);
     }
     let aliases = tables.aliases.as_slice();
-    match alias_place(aliases, id) {
+    match alias_index(aliases, id) {
         None => None,
-        Some(place) => aliases[place].mv,
+        Some(index) => aliases[index].mv,
     }
 }
 
 /// As `move_of`, for the id of a text.
 fn move_named(tables: &Tables, text: &str) -> Option<u16>
     requires { AreFit tables.now }
-    ensures place { result ≡ move_of (id_of text.now) tables.now }
+    ensures index { result ≡ move_of (id_of text.now) tables.now }
     ensures within { IfSome result (λ mv. mv < length tables.now.moves) }
 {
     let moves = tables.moves.as_slice();
@@ -156,33 +157,33 @@ fn move_named(tables: &Tables, text: &str) -> Option<u16>
         return spelled::move_number(moves, text);
     }
     let aliases = tables.aliases.as_slice();
-    match spelled::alias_place(aliases, text) {
+    match spelled::alias_index(aliases, text) {
         None => None,
-        Some(place) => aliases[place].mv,
+        Some(index) => aliases[index].mv,
     }
 }
 
 /// The numbers of the moves that a species learns.
-fn learned_by(species: &[SpeciesRow], number: u16) -> &[u16]
+fn learned_by(species: &[SpeciesItem], number: u16) -> &[u16]
     ensures { result.now ≡ learned_by (slice_get species.now number) }
 {
     match species.get(usize::from(number)) {
         None => &[],
-        Some(row) => row.learns.as_slice(),
+        Some(item) => item.learns.as_slice(),
     }
 }
 
-fn name_of_move(moves: &[MoveRow], mv: u16) -> &str
+fn name_of_move(moves: &[MoveItem], mv: u16) -> &str
     ensures { result.now ≡ name_of_move mv moves.now }
 {
     match moves.get(usize::from(mv)) {
         None => "Struggle",
-        Some(row) => row.name.as_str(),
+        Some(item) => item.name.as_str(),
     }
 }
 
 impl Dex {
-    ghost use Rattle.ps_dex.specs.Faults.{GivesDex};
+    ghost use Rattle.ps_data.specs.FileFaults.{GivesFile};
 
     /// The dex of which nothing is said: no type, move or species. Takes no memory.
     pub fn empty(alloc: Global) -> Dex
@@ -205,33 +206,30 @@ impl Dex {
     /// The dex that the bytes of a dex file stand for: a JSON object with the keys `types`,
     /// `factors`, `moves`, `species` and `aliases`, each of which may be missing.
     pub fn read(alloc: Global, bytes: &[u8]) -> Result<Dex, DexFault>
-        ensures { GivesDex result (tables_of bytes.now) }
+        ensures { GivesFile result (tables_of bytes.now) }
     {
         match read_tables(alloc, bytes) {
-            Err(refusal) => Err(told(alloc, refusal)),
-            Ok(tables) => match from_tables(alloc, tables) {
-                Err(_) => Err(DexFault::NoMemory),
-                Ok(dex) => Ok(dex),
-            },
+            Err(refusal) => Err(reported(alloc, refusal)),
+            Ok(tables) => Ok(from_tables(alloc, tables)?),
         }
     }
 
     /// The types, by their numbers.
-    pub fn types(&self) -> &[TypeRow]
+    pub fn types(&self) -> &[TypeItem]
         ensures { result.now ≡ self.now.types }
     {
         self.tables.types.as_slice()
     }
 
     /// The moves, by their numbers.
-    pub fn moves(&self) -> &[MoveRow]
+    pub fn moves(&self) -> &[MoveItem]
         ensures { result.now ≡ self.now.moves }
     {
         self.tables.moves.as_slice()
     }
 
     /// All species, by their numbers.
-    pub fn all_species(&self) -> &[SpeciesRow]
+    pub fn all_species(&self) -> &[SpeciesItem]
         ensures value { result.now ≡ self.now.species }
         // All that a dex says is in its ranges.
         ensures fit { AreFit self.now }
@@ -242,7 +240,7 @@ impl Dex {
     /// The number of the species with an id, or of the one that an alias with it stands for. An alias
     /// with the id of a species or a move is never used.
     pub fn species(&self, id: &Id) -> Option<u16>
-        ensures place { result ≡ species_of id.now self.now }
+        ensures index { result ≡ species_of id.now self.now }
         ensures within { IfSome result (λ s. s < length self.now.species) }
     {
         species_of(&self.tables, id.as_str())
@@ -251,7 +249,7 @@ impl Dex {
     /// The number of the move with an id, or of the one that an alias with it stands for. An alias with
     /// the id of a species or a move is never used.
     pub fn move_of(&self, id: &Id) -> Option<u16>
-        ensures place { result ≡ move_of id.now self.now }
+        ensures index { result ≡ move_of id.now self.now }
         ensures within { IfSome result (λ mv. mv < length self.now.moves) }
     {
         move_of(&self.tables, id.as_str())
@@ -259,7 +257,7 @@ impl Dex {
 
     /// The number of the move that a text names: the one that `move_of` gives for the text's id. Takes no memory.
     pub fn move_named(&self, text: &str) -> Option<u16>
-        ensures place { result ≡ move_of (id_of text.now) self.now }
+        ensures index { result ≡ move_of (id_of text.now) self.now }
         ensures within { IfSome result (λ mv. mv < length self.now.moves) }
     {
         move_named(&self.tables, text)

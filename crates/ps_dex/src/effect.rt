@@ -2,220 +2,95 @@
 ghost use Rattle.std.specs.Prelude.{◌≡◌, ◌≤◌, ◌≤ℤ◌, codes, IfOk};
 ghost use Rattle.serde_json.specs.View.{view};
 ghost use Rattle.ps_data.specs.Reading.{Gives, required, optional};
+ghost use Rattle.ps_data.specs.Words.{word_in};
 ghost use Rattle.ps_mon.specs.declared.effect.Effect.TheVariants as effects;
-ghost use Rattle.ps_dex.specs.Kinds.{kind_of};
-ghost use Rattle.ps_dex.specs.Effects.{status_of, aim_of, stat_of, screen_of, copy_of, named_in, chance_in, fixed_in, status_effect_in, confuse_in, flinch_in, stages_in, boost_in, recoil_in, double_in, charge_in, screen_in, copy_in, effect_of, effect_in};
+ghost use Rattle.ps_dex.specs.Kinds.{kind_words};
+ghost use Rattle.ps_dex.specs.Effects.{status_words, aim_words, stat_words, screen_words, copy_words, chance_in, fixed_in, status_effect_in, confuse_in, flinch_in, stages_in, boost_in, recoil_in, double_in, charge_in, screen_in, copy_in, effect_of, effect_in};
 
-use crate::kind::{Kind, kind_of};
+use crate::kind::{KINDS, Kind};
 use ps_data::fault::{DataKind, Refusal};
-use ps_data::forms::{ensure, found, integer, object, text};
+use ps_data::forms::{ensure, integer, object};
 use ps_data::keys::{at_key, boolean_or, number_at, number_or, required};
+use ps_data::words::word_at;
 use ps_mon::effect::{Aim, CopyKind, Effect, ScreenKind, Stat};
 use ps_mon::status::Status;
 use serde_json::Value;
 use std::alloc::Global;
 
-#[tactic(auto, unfolding(crate::specs::Effects::status_of))]
-fn status_of(name: &str) -> Option<Status>
-    ensures { result ≡ status_of name.now }
-{
-    if name == "slp" {
-        return Some(Status::Slp);
-    }
-    if name == "par" {
-        return Some(Status::Par);
-    }
-    if name == "brn" {
-        return Some(Status::Brn);
-    }
-    if name == "psn" {
-        return Some(Status::Psn);
-    }
-    if name == "tox" {
-        return Some(Status::Tox);
-    }
-    if name == "frz" {
-        return Some(Status::Frz);
-    }
-    None
-}
+const STATUSES: &[(&str, Status)] = &[
+    ("slp", Status::Slp),
+    ("par", Status::Par),
+    ("brn", Status::Brn),
+    ("psn", Status::Psn),
+    ("tox", Status::Tox),
+    ("frz", Status::Frz),
+];
 
-#[tactic(auto, unfolding(crate::specs::Effects::aim_of))]
-fn aim_of(name: &str) -> Option<Aim>
-    ensures { result ≡ aim_of name.now }
-{
-    if name == "self" {
-        return Some(Aim::User);
-    }
-    if name == "foe" {
-        return Some(Aim::Foe);
-    }
-    None
-}
+const AIMS: &[(&str, Aim)] = &[("self", Aim::User), ("foe", Aim::Foe)];
 
-#[tactic(auto, unfolding(crate::specs::Effects::stat_of))]
-fn stat_of(name: &str) -> Option<Stat>
-    ensures { result ≡ stat_of name.now }
-{
-    if name == "atk" {
-        return Some(Stat::Atk);
-    }
-    if name == "def" {
-        return Some(Stat::Def);
-    }
-    if name == "spc" {
-        return Some(Stat::Spc);
-    }
-    if name == "spe" {
-        return Some(Stat::Spe);
-    }
-    if name == "acc" {
-        return Some(Stat::Acc);
-    }
-    if name == "eva" {
-        return Some(Stat::Eva);
-    }
-    None
-}
+const STATS: &[(&str, Stat)] = &[
+    ("atk", Stat::Atk),
+    ("def", Stat::Def),
+    ("spc", Stat::Spc),
+    ("spe", Stat::Spe),
+    ("acc", Stat::Acc),
+    ("eva", Stat::Eva),
+];
 
-#[tactic(auto, unfolding(crate::specs::Effects::screen_of))]
-fn screen_of(name: &str) -> Option<ScreenKind>
-    ensures { result ≡ screen_of name.now }
-{
-    if name == "reflect" {
-        return Some(ScreenKind::Reflect);
-    }
-    if name == "light" {
-        return Some(ScreenKind::Light);
-    }
-    None
-}
+const SCREENS: &[(&str, ScreenKind)] = &[
+    ("reflect", ScreenKind::Reflect),
+    ("light", ScreenKind::Light),
+];
 
-#[tactic(auto, unfolding(crate::specs::Effects::copy_of))]
-fn copy_of(name: &str) -> Option<CopyKind>
-    ensures { result ≡ copy_of name.now }
-{
-    if name == "mimic" {
-        return Some(CopyKind::Mimic);
-    }
-    if name == "transform" {
-        return Some(CopyKind::Transform);
-    }
-    if name == "metronome" {
-        return Some(CopyKind::Metronome);
-    }
-    if name == "mirrormove" {
-        return Some(CopyKind::MirrorMove);
-    }
-    if name == "conversion" {
-        return Some(CopyKind::Conversion);
-    }
-    if name == "disable" {
-        return Some(CopyKind::Disable);
-    }
-    None
-}
+const COPIES: &[(&str, CopyKind)] = &[
+    ("mimic", CopyKind::Mimic),
+    ("transform", CopyKind::Transform),
+    ("metronome", CopyKind::Metronome),
+    ("mirrormove", CopyKind::MirrorMove),
+    ("conversion", CopyKind::Conversion),
+    ("disable", CopyKind::Disable),
+];
 
-fn named_status(alloc: Global, value: &Value) -> Result<Status, Refusal>
-    ensures { Gives result (named_in status_of (view value.now)) }
-{
-    let name = text(alloc, value)?;
-    found(alloc, status_of(name), DataKind::Unknown)
-}
-
+#[tactic(auto, unfolding(crate::specs::Effects::status_words))]
 fn status_at(alloc: Global, value: &Value) -> Result<Status, Refusal>
-    ensures { Gives result (required (codes "status") (named_in status_of) (view value.now)) }
+    ensures { Gives result (required (codes "status") (word_in status_words) (view value.now)) }
 {
-    at_key(
-        alloc,
-        "status",
-        named_status(alloc, required(alloc, value, "status")?),
-    )
+    word_at(alloc, value, "status", STATUSES)
 }
 
-fn named_who(alloc: Global, value: &Value) -> Result<Aim, Refusal>
-    ensures { Gives result (named_in aim_of (view value.now)) }
-{
-    let name = text(alloc, value)?;
-    found(alloc, aim_of(name), DataKind::Unknown)
-}
-
+#[tactic(auto, unfolding(crate::specs::Effects::aim_words))]
 fn who_at(alloc: Global, value: &Value) -> Result<Aim, Refusal>
-    ensures { Gives result (required (codes "who") (named_in aim_of) (view value.now)) }
+    ensures { Gives result (required (codes "who") (word_in aim_words) (view value.now)) }
 {
-    at_key(
-        alloc,
-        "who",
-        named_who(alloc, required(alloc, value, "who")?),
-    )
+    word_at(alloc, value, "who", AIMS)
 }
 
-fn named_stat(alloc: Global, value: &Value) -> Result<Stat, Refusal>
-    ensures { Gives result (named_in stat_of (view value.now)) }
-{
-    let name = text(alloc, value)?;
-    found(alloc, stat_of(name), DataKind::Unknown)
-}
-
+#[tactic(auto, unfolding(crate::specs::Effects::stat_words))]
 fn stat_at(alloc: Global, value: &Value) -> Result<Stat, Refusal>
-    ensures { Gives result (required (codes "stat") (named_in stat_of) (view value.now)) }
+    ensures { Gives result (required (codes "stat") (word_in stat_words) (view value.now)) }
 {
-    at_key(
-        alloc,
-        "stat",
-        named_stat(alloc, required(alloc, value, "stat")?),
-    )
+    word_at(alloc, value, "stat", STATS)
 }
 
-fn named_which(alloc: Global, value: &Value) -> Result<ScreenKind, Refusal>
-    ensures { Gives result (named_in screen_of (view value.now)) }
-{
-    let name = text(alloc, value)?;
-    found(alloc, screen_of(name), DataKind::Unknown)
-}
-
+#[tactic(auto, unfolding(crate::specs::Effects::screen_words))]
 fn which_at(alloc: Global, value: &Value) -> Result<ScreenKind, Refusal>
-    ensures { Gives result (required (codes "which") (named_in screen_of) (view value.now)) }
+    ensures { Gives result (required (codes "which") (word_in screen_words) (view value.now)) }
 {
-    at_key(
-        alloc,
-        "which",
-        named_which(alloc, required(alloc, value, "which")?),
-    )
+    word_at(alloc, value, "which", SCREENS)
 }
 
-fn named_sub(alloc: Global, value: &Value) -> Result<CopyKind, Refusal>
-    ensures { Gives result (named_in copy_of (view value.now)) }
-{
-    let name = text(alloc, value)?;
-    found(alloc, copy_of(name), DataKind::Unknown)
-}
-
+#[tactic(auto, unfolding(crate::specs::Effects::copy_words))]
 fn sub_at(alloc: Global, value: &Value) -> Result<CopyKind, Refusal>
-    ensures { Gives result (required (codes "sub") (named_in copy_of) (view value.now)) }
+    ensures { Gives result (required (codes "sub") (word_in copy_words) (view value.now)) }
 {
-    at_key(
-        alloc,
-        "sub",
-        named_sub(alloc, required(alloc, value, "sub")?),
-    )
+    word_at(alloc, value, "sub", COPIES)
 }
 
-fn named_kind(alloc: Global, value: &Value) -> Result<Kind, Refusal>
-    ensures { Gives result (named_in kind_of (view value.now)) }
-{
-    let name = text(alloc, value)?;
-    found(alloc, kind_of(name), DataKind::Unknown)
-}
-
+#[tactic(auto, unfolding(crate::specs::Kinds::kind_words))]
 fn kind_at(alloc: Global, value: &Value) -> Result<Kind, Refusal>
-    ensures { Gives result (required (codes "kind") (named_in kind_of) (view value.now)) }
+    ensures { Gives result (required (codes "kind") (word_in kind_words) (view value.now)) }
 {
-    at_key(
-        alloc,
-        "kind",
-        named_kind(alloc, required(alloc, value, "kind")?),
-    )
+    word_at(alloc, value, "kind", KINDS)
 }
 
 /// A chance out of 256, and 256 where the key is missing.

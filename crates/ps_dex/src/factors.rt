@@ -2,9 +2,9 @@
 ghost use Rattle.std.specs.Prelude.{◌≡◌, ◌≤◌, [], codes, length, map};
 ghost use Rattle.serde_json.specs.View.{view};
 ghost use Rattle.ps_data.specs.Reading.{Gives, GivesBy, optional};
-ghost use Rattle.ps_dex.specs.Factors.{tenths_in, has_pair, parts_in, three_parts_in, factor_row_in, factors_in};
+ghost use Rattle.ps_dex.specs.Factors.{tenths_in, has_pair, parts_in, three_parts_in, factor_item_in, factors_in};
 
-use crate::row::{FactorRow, TypeRow};
+use crate::item::{FactorItem, TypeItem};
 use crate::types::named_type;
 use ps_base::list::List;
 use ps_data::fault::{DataKind, Refusal, refused};
@@ -28,35 +28,36 @@ fn tenths(alloc: Global, value: &Value) -> Result<u8, Refusal>
 }
 
 #[tactic(auto, unfolding(crate::specs::Factors::has_pair))]
-fn has_pair(rows: &[FactorRow], attack: u8, defend: u8) -> bool
-    ensures { result ≡ has_pair attack defend rows.now }
+fn has_pair(items: &[FactorItem], attack: u8, defend: u8) -> bool
+    ensures { result ≡ has_pair attack defend items.now }
 {
-    rows.iter()
-        .any(|row| row.attack == attack && row.defend == defend)
+    items
+        .iter()
+        .any(|item| item.attack == attack && item.defend == defend)
 }
 
 #[tactic(auto, unfolding(crate::specs::Factors::parts_in))]
 fn parts(
     alloc: Global,
-    types: &[TypeRow],
+    types: &[TypeItem],
     attack: &Value,
     defend: &Value,
     factor: &Value,
-) -> Result<FactorRow, Refusal>
+) -> Result<FactorItem, Refusal>
     requires { length types.now ≤ 32 }
     ensures { Gives result (parts_in types.now (view attack.now) (view defend.now) (view factor.now)) }
 {
     let attack = at_index(0, named_type(alloc, types, attack))?;
     let defend = at_index(1, named_type(alloc, types, defend))?;
     let tenths = at_index(2, tenths(alloc, factor))?;
-    Ok(FactorRow {
+    Ok(FactorItem {
         attack,
         defend,
         tenths,
     })
 }
 
-fn three_parts(alloc: Global, types: &[TypeRow], values: &[Value]) -> Result<FactorRow, Refusal>
+fn three_parts(alloc: Global, types: &[TypeItem], values: &[Value]) -> Result<FactorItem, Refusal>
     requires { length types.now ≤ 32 }
     ensures { Gives result (three_parts_in types.now (map view values.now)) }
 {
@@ -66,49 +67,49 @@ fn three_parts(alloc: Global, types: &[TypeRow], values: &[Value]) -> Result<Fac
     }
 }
 
-#[tactic(auto, unfolding(crate::specs::Factors::factor_row_in))]
-fn factor_row(
+#[tactic(auto, unfolding(crate::specs::Factors::factor_item_in))]
+fn factors_of_attack(
     alloc: Global,
-    types: &[TypeRow],
-    before: &[FactorRow],
+    types: &[TypeItem],
+    before: &[FactorItem],
     value: &Value,
-) -> Result<FactorRow, Refusal>
+) -> Result<FactorItem, Refusal>
     requires { length types.now ≤ 32 }
-    ensures { Gives result (factor_row_in types.now before.now (view value.now)) }
+    ensures { Gives result (factor_item_in types.now before.now (view value.now)) }
 {
     let values = array(alloc, value)?;
-    let row = three_parts(alloc, types, values)?;
+    let item = three_parts(alloc, types, values)?;
     ensure(
         alloc,
-        !has_pair(before, row.attack, row.defend),
+        !has_pair(before, item.attack, item.defend),
         DataKind::Repeat,
     )?;
-    Ok(row)
+    Ok(item)
 }
 
 /// The form of a factor, over the types.
 #[derive(Drop)]
 struct FactorForm<'a> {
-    types: &'a List<TypeRow>,
+    types: &'a List<TypeItem>,
     ghost few: { length types.now ≤ 32 },
 }
 
-impl ItemForm<FactorRow> for FactorForm<'_> {
-    ghost reading = { λ form before after. factor_row_in form.types.now before };
+impl ItemForm<FactorItem> for FactorForm<'_> {
+    ghost reading = { λ form before after. factor_item_in form.types.now before };
 
     fn read(
         &self,
         alloc: Global,
-        before: &[FactorRow],
+        before: &[FactorItem],
         _after: &[Value],
         value: &Value,
-    ) -> Result<FactorRow, Refusal> {
-        factor_row(alloc, self.types.as_slice(), before, value)
+    ) -> Result<FactorItem, Refusal> {
+        factors_of_attack(alloc, self.types.as_slice(), before, value)
     }
 }
 
 #[tactic(auto, unfolding(crate::specs::Factors::factors_in))]
-fn factors(alloc: Global, types: &List<TypeRow>, value: &Value) -> Result<Vec<FactorRow>, Refusal>
+fn factors(alloc: Global, types: &List<TypeItem>, value: &Value) -> Result<Vec<FactorItem>, Refusal>
     requires { length types.now ≤ 32 }
     ensures { GivesBy (λ v. v.items) result (factors_in types.now (view value.now)) }
 {
@@ -116,11 +117,11 @@ fn factors(alloc: Global, types: &List<TypeRow>, value: &Value) -> Result<Vec<Fa
     items_of(alloc, &FactorForm { types }, values)
 }
 
-fn factor_rows_at(
+fn factor_items_at(
     alloc: Global,
-    types: &List<TypeRow>,
+    types: &List<TypeItem>,
     value: &Value,
-) -> Result<Vec<FactorRow>, Refusal>
+) -> Result<Vec<FactorItem>, Refusal>
     requires { length types.now ≤ 32 }
     ensures { GivesBy (λ v. v.items) result (optional (codes "factors") [] (factors_in types.now) (view value.now)) }
 {
@@ -133,12 +134,12 @@ fn factor_rows_at(
 /// The factors of a dex.
 pub(crate) fn factors_at(
     alloc: Global,
-    types: &List<TypeRow>,
+    types: &List<TypeItem>,
     value: &Value,
-) -> Result<List<FactorRow>, Refusal>
+) -> Result<List<FactorItem>, Refusal>
     requires { length types.now ≤ 32 }
     ensures { Gives result (optional (codes "factors") [] (factors_in types.now) (view value.now)) }
 {
-    let rows = factor_rows_at(alloc, types, value)?;
-    Ok(List::from_vec(rows))
+    let items = factor_items_at(alloc, types, value)?;
+    Ok(List::from_vec(items))
 }

@@ -1,33 +1,6 @@
 //! Why bytes are no dex file.
-ghost use Rattle.ps_dex.specs.Faults.{Tells};
+use ps_data::file_fault::FileFault;
 
-use ps_base::text::Text;
-use ps_data::fault::{DataKind, Refusal};
-use std::alloc::Global;
-
-/// Why bytes are no dex file.
-#[derive(Debug, Drop)]
-pub enum DexFault {
-    /// The first value that isn't in its form, in the written order of the keys and then by places
-    /// of arrays: its path, like `moves[3].effect.kind`, and why it isn't. For what is no JSON text
-    /// the path is empty and the kind `Json`, for another value than an object `Shape`.
-    Fault { path: Text, kind: DataKind },
-    /// Memory ran out.
-    NoMemory,
-}
-
-/// The fault with its path as a text.
-pub(crate) fn told(alloc: Global, refusal: Refusal) -> DexFault
-    ensures { Tells refusal result }
-{
-    match refusal {
-        Refusal::NoMemory => DexFault::NoMemory,
-        Refusal::Fault(fault) => match fault.path.text(alloc) {
-            Err(_) => DexFault::NoMemory,
-            Ok(path) => DexFault::Fault {
-                path: Text::from_string(path),
-                kind: fault.kind,
-            },
-        },
-    }
-}
+/// Why bytes are no dex file: the first value that isn't in its form, in the written order of the keys and then
+/// by places of arrays, or that memory ran out.
+pub type DexFault = FileFault;

@@ -3,11 +3,11 @@ ghost use Rattle.std.specs.Prelude.{◌≡◌, ◌≤◌, ◌<◌, codes, length
 ghost use Rattle.serde_json.specs.View.{view};
 ghost use Rattle.ps_data.specs.Reading.{Gives};
 ghost use Rattle.ps_data.specs.Lists.{list_at};
-ghost use Rattle.ps_dex.specs.Moves.{move_place, has_move, is_move_taken, move_name_in, numbers_in, move_row_in};
+ghost use Rattle.ps_dex.specs.Moves.{move_index, has_move, is_move_taken, move_name_in, numbers_in, move_item_in};
 
 use crate::effect::effect_or_plain;
+use crate::item::{MoveItem, TypeItem};
 use crate::name::{Named, read_name};
-use crate::row::{MoveRow, TypeRow};
 use crate::types::{is_contact, is_special, named_type};
 use ps_base::list::List;
 use ps_data::fault::{DataKind, Refusal};
@@ -19,16 +19,16 @@ use ps_mon::facts::MoveData;
 use serde_json::Value;
 use std::alloc::Global;
 
-#[tactic(auto, unfolding(crate::specs::Moves::move_place))]
-pub(crate) fn move_place(moves: &[MoveRow], id: &str) -> Option<usize>
-    ensures place { result ≡ move_place id.now moves.now }
+#[tactic(auto, unfolding(crate::specs::Moves::move_index))]
+pub(crate) fn move_index(moves: &[MoveItem], id: &str) -> Option<usize>
+    ensures index { result ≡ move_index id.now moves.now }
     ensures within { IfSome result (λ i. i < length moves.now) }
 {
-    ids::place_of(moves, id)
+    ids::index_of(moves, id)
 }
 
 #[tactic(auto, unfolding(crate::specs::Moves::has_move))]
-pub(crate) fn has_move(moves: &[MoveRow], id: &str) -> bool
+pub(crate) fn has_move(moves: &[MoveItem], id: &str) -> bool
     ensures { result ≡ has_move id.now moves.now }
 {
     ids::has_id(moves, id)
@@ -36,14 +36,14 @@ pub(crate) fn has_move(moves: &[MoveRow], id: &str) -> bool
 
 /// Whether no move may have the id any more.
 #[tactic(auto, unfolding(crate::specs::Moves::is_move_taken))]
-fn is_move_taken(moves: &[MoveRow], id: &str) -> bool
+fn is_move_taken(moves: &[MoveItem], id: &str) -> bool
     ensures { result ≡ is_move_taken id.now moves.now }
 {
     has_move(moves, id) || id == "struggle" || id == "recharge"
 }
 
 #[tactic(auto, unfolding(crate::specs::Moves::move_name_in))]
-fn move_name(alloc: Global, before: &[MoveRow], value: &Value) -> Result<Named, Refusal>
+fn move_name(alloc: Global, before: &[MoveItem], value: &Value) -> Result<Named, Refusal>
     ensures { Gives result (move_name_in before.now (view value.now)) }
 {
     let named = read_name(alloc, value)?;
@@ -56,7 +56,7 @@ fn move_name(alloc: Global, before: &[MoveRow], value: &Value) -> Result<Named, 
 }
 
 #[tactic(auto, unfolding(crate::specs::Moves::numbers_in))]
-fn numbers(alloc: Global, types: &[TypeRow], value: &Value) -> Result<MoveData, Refusal>
+fn numbers(alloc: Global, types: &[TypeItem], value: &Value) -> Result<MoveData, Refusal>
     requires { length types.now ≤ 32 }
     ensures { Gives result (numbers_in types.now (view value.now)) }
 {
@@ -84,15 +84,15 @@ fn numbers(alloc: Global, types: &[TypeRow], value: &Value) -> Result<MoveData, 
     })
 }
 
-#[tactic(auto, unfolding(crate::specs::Moves::move_row_in))]
-fn move_row(
+#[tactic(auto, unfolding(crate::specs::Moves::move_item_in))]
+fn move_item(
     alloc: Global,
-    types: &[TypeRow],
-    before: &[MoveRow],
+    types: &[TypeItem],
+    before: &[MoveItem],
     value: &Value,
-) -> Result<MoveRow, Refusal>
+) -> Result<MoveItem, Refusal>
     requires { length types.now ≤ 32 }
-    ensures { Gives result (move_row_in types.now before.now (view value.now)) }
+    ensures { Gives result (move_item_in types.now before.now (view value.now)) }
 {
     object(alloc, value)?;
     let named = at_key(
@@ -102,38 +102,38 @@ fn move_row(
     )?;
     let numbers = numbers(alloc, types, value)?;
     let Named { name, id } = named;
-    Ok(MoveRow { name, id, numbers })
+    Ok(MoveItem { name, id, numbers })
 }
 
 /// The form of a move, over the types.
 #[derive(Drop)]
 struct MoveForm<'a> {
-    types: &'a List<TypeRow>,
+    types: &'a List<TypeItem>,
     ghost few: { length types.now ≤ 32 },
 }
 
-impl ItemForm<MoveRow> for MoveForm<'_> {
-    ghost reading = { λ form before after. move_row_in form.types.now before };
+impl ItemForm<MoveItem> for MoveForm<'_> {
+    ghost reading = { λ form before after. move_item_in form.types.now before };
 
     fn read(
         &self,
         alloc: Global,
-        before: &[MoveRow],
+        before: &[MoveItem],
         _after: &[Value],
         value: &Value,
-    ) -> Result<MoveRow, Refusal> {
-        move_row(alloc, self.types.as_slice(), before, value)
+    ) -> Result<MoveItem, Refusal> {
+        move_item(alloc, self.types.as_slice(), before, value)
     }
 }
 
 /// The moves of a dex: at most 1,024.
 pub(crate) fn moves_at(
     alloc: Global,
-    types: &List<TypeRow>,
+    types: &List<TypeItem>,
     value: &Value,
-) -> Result<List<MoveRow>, Refusal>
+) -> Result<List<MoveItem>, Refusal>
     requires { length types.now ≤ 32 }
-    ensures gives { Gives result (list_at (codes "moves") 0 1024 (λ before after. move_row_in types.now before) (view value.now)) }
+    ensures gives { Gives result (list_at (codes "moves") 0 1024 (λ before after. move_item_in types.now before) (view value.now)) }
     ensures few { IfOk result (λ moves. length moves ≤ 1024) }
 {
     let moves = list_at(alloc, &MoveForm { types }, 0, 1024, value, "moves")?;

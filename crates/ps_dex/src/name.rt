@@ -1,13 +1,15 @@
 //! Reads names.
-ghost use Rattle.std.specs.Prelude.{◌≡◌};
+ghost use Rattle.std.specs.Prelude.{◌≡◌, codes};
 ghost use Rattle.serde_json.specs.View.{view};
-ghost use Rattle.ps_data.specs.Reading.{Gives};
-ghost use Rattle.ps_dex.specs.Names.{are_name_bytes, is_name, name_in};
+ghost use Rattle.ps_data.specs.Reading.{Gives, required};
+ghost use Rattle.ps_dex.specs.Names.{are_name_bytes, is_name, name_in, own_name_in};
 
 use ps_base::id::{Id, to_id};
 use ps_base::text::Text;
 use ps_data::fault::{DataKind, Refusal};
 use ps_data::forms::{ensure, text};
+use ps_data::ids::{HasId, has_id};
+use ps_data::keys::{at_key, required};
 use serde_json::Value;
 use std::alloc::Global;
 
@@ -43,4 +45,28 @@ pub(crate) fn read_name(alloc: Global, value: &Value) -> Result<Named, Refusal>
     ensure(alloc, is_name(text, id.as_str()), DataKind::Range)?;
     let name = Text::copy_of(alloc, text)?;
     Ok(Named { name, id })
+}
+
+#[tactic(auto, unfolding(crate::specs::Names::own_name_in))]
+fn own_name<T: HasId>(alloc: Global, before: &[T], value: &Value) -> Result<Named, Refusal>
+    ensures { Gives result (own_name_in T.id_of before.now (view value.now)) }
+{
+    let named = read_name(alloc, value)?;
+    ensure(alloc, !has_id(before, named.id.as_str()), DataKind::Repeat)?;
+    Ok(named)
+}
+
+/// The name of a new item, at `name` of its object. `Repeat` where an item before has its id.
+pub(crate) fn own_name_at<T: HasId>(
+    alloc: Global,
+    before: &[T],
+    value: &Value,
+) -> Result<Named, Refusal>
+    ensures { Gives result (required (codes "name") (own_name_in T.id_of before.now) (view value.now)) }
+{
+    at_key(
+        alloc,
+        "name",
+        own_name(alloc, before, required(alloc, value, "name")?),
+    )
 }

@@ -3,11 +3,11 @@ ghost use Rattle.std.specs.Prelude.{◌≡◌, ◌≤◌, ◌<◌, [], codes, le
 ghost use Rattle.serde_json.specs.View.{view};
 ghost use Rattle.ps_data.specs.Reading.{Gives, GivesBy, required};
 ghost use Rattle.ps_data.specs.Lists.{list_at};
-ghost use Rattle.ps_dex.specs.Species.{species_place, has_species, species_name_in, other_type_in, one_type_in, two_types_in, types_of, types_in, base_stat_in, five_stats_in, stats_of, stats_in, has_number, learned_in, learns_in, species_row_in};
+ghost use Rattle.ps_dex.specs.Species.{species_index, has_species, other_type_in, one_type_in, two_types_in, types_of, types_in, base_stat_in, five_stats_in, stats_of, stats_in, has_number, learned_in, learns_in, species_item_in};
 
-use crate::moves::move_place;
-use crate::name::{Named, read_name};
-use crate::row::{MoveRow, SpeciesRow, TypeRow};
+use crate::item::{MoveItem, SpeciesItem, TypeItem};
+use crate::moves::move_index;
+use crate::name::{Named, own_name_at};
 use crate::types::named_type;
 use ps_base::id::to_id;
 use ps_base::list::List;
@@ -19,36 +19,23 @@ use ps_data::lists::{ItemForm, items_of, list_at};
 use serde_json::Value;
 use std::alloc::Global;
 
-#[tactic(auto, unfolding(crate::specs::Species::species_place))]
-pub(crate) fn species_place(species: &[SpeciesRow], id: &str) -> Option<usize>
-    ensures place { result ≡ species_place id.now species.now }
+#[tactic(auto, unfolding(crate::specs::Species::species_index))]
+pub(crate) fn species_index(species: &[SpeciesItem], id: &str) -> Option<usize>
+    ensures index { result ≡ species_index id.now species.now }
     ensures within { IfSome result (λ i. i < length species.now) }
 {
-    ids::place_of(species, id)
+    ids::index_of(species, id)
 }
 
 #[tactic(auto, unfolding(crate::specs::Species::has_species))]
-pub(crate) fn has_species(species: &[SpeciesRow], id: &str) -> bool
+pub(crate) fn has_species(species: &[SpeciesItem], id: &str) -> bool
     ensures { result ≡ has_species id.now species.now }
 {
     ids::has_id(species, id)
 }
 
-#[tactic(auto, unfolding(crate::specs::Species::species_name_in))]
-fn species_name(alloc: Global, before: &[SpeciesRow], value: &Value) -> Result<Named, Refusal>
-    ensures { Gives result (species_name_in before.now (view value.now)) }
-{
-    let named = read_name(alloc, value)?;
-    ensure(
-        alloc,
-        !has_species(before, named.id.as_str()),
-        DataKind::Repeat,
-    )?;
-    Ok(named)
-}
-
 #[tactic(auto, unfolding(crate::specs::Species::other_type_in))]
-fn other_type(alloc: Global, types: &[TypeRow], first: u8, value: &Value) -> Result<u8, Refusal>
+fn other_type(alloc: Global, types: &[TypeItem], first: u8, value: &Value) -> Result<u8, Refusal>
     requires { length types.now ≤ 32 }
     ensures { Gives result (other_type_in types.now first (view value.now)) }
 {
@@ -58,7 +45,7 @@ fn other_type(alloc: Global, types: &[TypeRow], first: u8, value: &Value) -> Res
 }
 
 #[tactic(auto, unfolding(crate::specs::Species::one_type_in))]
-fn one_type(alloc: Global, types: &[TypeRow], only: &Value) -> Result<[u8; 2], Refusal>
+fn one_type(alloc: Global, types: &[TypeItem], only: &Value) -> Result<[u8; 2], Refusal>
     requires { length types.now ≤ 32 }
     ensures { Gives result (one_type_in types.now (view only.now)) }
 {
@@ -69,7 +56,7 @@ fn one_type(alloc: Global, types: &[TypeRow], only: &Value) -> Result<[u8; 2], R
 #[tactic(auto, unfolding(crate::specs::Species::two_types_in))]
 fn two_types(
     alloc: Global,
-    types: &[TypeRow],
+    types: &[TypeItem],
     first: &Value,
     second: &Value,
 ) -> Result<[u8; 2], Refusal>
@@ -81,7 +68,7 @@ fn two_types(
     Ok([first, second])
 }
 
-fn types_of(alloc: Global, types: &[TypeRow], values: &[Value]) -> Result<[u8; 2], Refusal>
+fn types_of(alloc: Global, types: &[TypeItem], values: &[Value]) -> Result<[u8; 2], Refusal>
     requires { length types.now ≤ 32 }
     ensures { Gives result (types_of types.now (map view values.now)) }
 {
@@ -93,7 +80,7 @@ fn types_of(alloc: Global, types: &[TypeRow], values: &[Value]) -> Result<[u8; 2
 }
 
 #[tactic(auto, unfolding(crate::specs::Species::types_in))]
-fn own_types(alloc: Global, types: &[TypeRow], value: &Value) -> Result<[u8; 2], Refusal>
+fn own_types(alloc: Global, types: &[TypeItem], value: &Value) -> Result<[u8; 2], Refusal>
     requires { length types.now ≤ 32 }
     ensures { Gives result (types_in types.now (view value.now)) }
 {
@@ -154,14 +141,14 @@ pub(crate) fn has_number(numbers: &[u16], number: u16) -> bool
 }
 
 #[tactic(auto, unfolding(crate::specs::Species::learned_in))]
-fn learned(alloc: Global, moves: &[MoveRow], before: &[u16], value: &Value) -> Result<u16, Refusal>
+fn learned(alloc: Global, moves: &[MoveItem], before: &[u16], value: &Value) -> Result<u16, Refusal>
     requires { length moves.now ≤ 1024 }
     ensures { Gives result (learned_in moves.now before.now (view value.now)) }
 {
     let text = text(alloc, value)?;
     let id = to_id(alloc, text)?;
-    let place = found(alloc, move_place(moves, id.as_str()), DataKind::Unknown)?;
-    let mv = place as u16;
+    let index = found(alloc, move_index(moves, id.as_str()), DataKind::Unknown)?;
+    let mv = index as u16;
     ensure(alloc, !has_number(before, mv), DataKind::Repeat)?;
     Ok(mv)
 }
@@ -169,7 +156,7 @@ fn learned(alloc: Global, moves: &[MoveRow], before: &[u16], value: &Value) -> R
 /// The form of a move that a species learns, over the moves.
 #[derive(Drop)]
 struct LearnedForm<'a> {
-    moves: &'a List<MoveRow>,
+    moves: &'a List<MoveItem>,
     ghost few: { length moves.now ≤ 1024 },
 }
 
@@ -188,7 +175,7 @@ impl ItemForm<u16> for LearnedForm<'_> {
 }
 
 #[tactic(auto, unfolding(crate::specs::Species::learns_in))]
-fn learns(alloc: Global, moves: &List<MoveRow>, value: &Value) -> Result<Vec<u16>, Refusal>
+fn learns(alloc: Global, moves: &List<MoveItem>, value: &Value) -> Result<Vec<u16>, Refusal>
     requires { length moves.now ≤ 1024 }
     ensures { GivesBy (λ v. v.items) result (learns_in moves.now (view value.now)) }
 {
@@ -196,7 +183,7 @@ fn learns(alloc: Global, moves: &List<MoveRow>, value: &Value) -> Result<Vec<u16
     items_of(alloc, &LearnedForm { moves }, values)
 }
 
-fn learns_at(alloc: Global, moves: &List<MoveRow>, value: &Value) -> Result<List<u16>, Refusal>
+fn learns_at(alloc: Global, moves: &List<MoveItem>, value: &Value) -> Result<List<u16>, Refusal>
     requires { length moves.now ≤ 1024 }
     ensures { Gives result (required (codes "learns") (learns_in moves.now) (view value.now)) }
 {
@@ -205,24 +192,20 @@ fn learns_at(alloc: Global, moves: &List<MoveRow>, value: &Value) -> Result<List
     Ok(List::from_vec(learns))
 }
 
-#[tactic(auto, unfolding(crate::specs::Species::species_row_in))]
-fn species_row(
+#[tactic(auto, unfolding(crate::specs::Species::species_item_in))]
+fn species_item(
     alloc: Global,
-    types: &[TypeRow],
-    moves: &List<MoveRow>,
-    before: &[SpeciesRow],
+    types: &[TypeItem],
+    moves: &List<MoveItem>,
+    before: &[SpeciesItem],
     value: &Value,
-) -> Result<SpeciesRow, Refusal>
+) -> Result<SpeciesItem, Refusal>
     requires few_types { length types.now ≤ 32 }
     requires few_moves { length moves.now ≤ 1024 }
-    ensures { Gives result (species_row_in types.now moves.now before.now (view value.now)) }
+    ensures { Gives result (species_item_in types.now moves.now before.now (view value.now)) }
 {
     object(alloc, value)?;
-    let named = at_key(
-        alloc,
-        "name",
-        species_name(alloc, before, required(alloc, value, "name")?),
-    )?;
+    let named = own_name_at(alloc, before, value)?;
     let types = at_key(
         alloc,
         "types",
@@ -235,7 +218,7 @@ fn species_row(
     )?;
     let learns = learns_at(alloc, moves, value)?;
     let Named { name, id } = named;
-    Ok(SpeciesRow {
+    Ok(SpeciesItem {
         name,
         id,
         types,
@@ -247,36 +230,36 @@ fn species_row(
 /// The form of a species, over the types and the moves.
 #[derive(Drop)]
 struct SpeciesForm<'a> {
-    types: &'a List<TypeRow>,
-    moves: &'a List<MoveRow>,
+    types: &'a List<TypeItem>,
+    moves: &'a List<MoveItem>,
     ghost few_types: { length types.now ≤ 32 },
     ghost few_moves: { length moves.now ≤ 1024 },
 }
 
-impl ItemForm<SpeciesRow> for SpeciesForm<'_> {
-    ghost reading = { λ form before after. species_row_in form.types.now form.moves.now before };
+impl ItemForm<SpeciesItem> for SpeciesForm<'_> {
+    ghost reading = { λ form before after. species_item_in form.types.now form.moves.now before };
 
     fn read(
         &self,
         alloc: Global,
-        before: &[SpeciesRow],
+        before: &[SpeciesItem],
         _after: &[Value],
         value: &Value,
-    ) -> Result<SpeciesRow, Refusal> {
-        species_row(alloc, self.types.as_slice(), self.moves, before, value)
+    ) -> Result<SpeciesItem, Refusal> {
+        species_item(alloc, self.types.as_slice(), self.moves, before, value)
     }
 }
 
 /// The species of a dex: at most 1,024.
 pub(crate) fn species_at(
     alloc: Global,
-    types: &List<TypeRow>,
-    moves: &List<MoveRow>,
+    types: &List<TypeItem>,
+    moves: &List<MoveItem>,
     value: &Value,
-) -> Result<List<SpeciesRow>, Refusal>
+) -> Result<List<SpeciesItem>, Refusal>
     requires few_types { length types.now ≤ 32 }
     requires few_moves { length moves.now ≤ 1024 }
-    ensures gives { Gives result (list_at (codes "species") 0 1024 (λ before after. species_row_in types.now moves.now before) (view value.now)) }
+    ensures gives { Gives result (list_at (codes "species") 0 1024 (λ before after. species_item_in types.now moves.now before) (view value.now)) }
     ensures few { IfOk result (λ species. length species ≤ 1024) }
 {
     let form = SpeciesForm { types, moves };

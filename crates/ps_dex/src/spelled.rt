@@ -1,11 +1,11 @@
-//! Look-ups by a text whose id is sought. The id isn't made, so they take no memory.
+//! Lookups by a text whose id is sought. The id isn't made, so they take no memory.
 ghost use Rattle.std.specs.Prelude.{◌≡◌, ◌≤◌, ◌<◌, ◌||◌, length, position, bytes_eq, IfSome};
 ghost use Rattle.ps_base.specs.Ids.{id_of};
-ghost use Rattle.ps_dex.specs.Moves.{move_place, has_move};
+ghost use Rattle.ps_dex.specs.Moves.{move_index, has_move};
 ghost use Rattle.ps_dex.specs.Species.{has_species};
-ghost use Rattle.ps_dex.specs.Aliases.{alias_place};
+ghost use Rattle.ps_dex.specs.Aliases.{alias_index};
 
-use crate::row::{AliasRow, MoveRow, SpeciesRow};
+use crate::item::{AliasItem, MoveItem, SpeciesItem};
 use ps_data::ids::HasId;
 
 /// Whether an id is that of a text.
@@ -30,53 +30,53 @@ pub fn is_id_of(id: &str, text: &str) -> bool
     left.is_empty()
 }
 
-/// The place of the first item whose id is that of a text.
-fn place_of<T: HasId>(items: &[T], text: &str) -> Option<usize>
-    ensures place { result ≡ position (λ t. bytes_eq (T.id_of t) (id_of text.now)) items.now }
+/// The index of the first item whose id is that of a text.
+fn index_of<T: HasId>(items: &[T], text: &str) -> Option<usize>
+    ensures index { result ≡ position (λ t. bytes_eq (T.id_of t) (id_of text.now)) items.now }
     ensures within { IfSome result (λ i. i < length items.now) }
 {
     items.iter().position(|item| is_id_of(item.id(), text))
 }
 
 #[tactic(auto, unfolding(crate::specs::Species::has_species))]
-fn has_species(species: &[SpeciesRow], text: &str) -> bool
+fn has_species(species: &[SpeciesItem], text: &str) -> bool
     ensures { result ≡ has_species (id_of text.now) species.now }
 {
-    place_of(species, text).is_some()
+    index_of(species, text).is_some()
 }
 
 #[tactic(auto, unfolding(crate::specs::Moves::has_move))]
-fn has_move(moves: &[MoveRow], text: &str) -> bool
+fn has_move(moves: &[MoveItem], text: &str) -> bool
     ensures { result ≡ has_move (id_of text.now) moves.now }
 {
-    place_of(moves, text).is_some()
+    index_of(moves, text).is_some()
 }
 
 /// Whether a species or a move has the id of a text, so that no alias with it counts.
-pub(crate) fn is_taken(species: &[SpeciesRow], moves: &[MoveRow], text: &str) -> bool
+pub(crate) fn is_taken(species: &[SpeciesItem], moves: &[MoveItem], text: &str) -> bool
     ensures { result ≡ has_species (id_of text.now) species.now || has_move (id_of text.now) moves.now }
 {
     has_species(species, text) || has_move(moves, text)
 }
 
 /// The number of the move with the id of a text.
-#[tactic(auto, unfolding(crate::specs::Moves::move_place))]
-pub(crate) fn move_number(moves: &[MoveRow], text: &str) -> Option<u16>
+#[tactic(auto, unfolding(crate::specs::Moves::move_index))]
+pub(crate) fn move_number(moves: &[MoveItem], text: &str) -> Option<u16>
     requires { length moves.now ≤ 1024 }
-    ensures place { result ≡ move_place (id_of text.now) moves.now }
+    ensures index { result ≡ move_index (id_of text.now) moves.now }
     ensures within { IfSome result (λ number. number < length moves.now) }
 {
-    match place_of(moves, text) {
+    match index_of(moves, text) {
         None => None,
-        Some(place) => Some(place as u16),
+        Some(index) => Some(index as u16),
     }
 }
 
-/// The place of the alias with the id of a text.
-#[tactic(auto, unfolding(crate::specs::Aliases::alias_place))]
-pub(crate) fn alias_place(aliases: &[AliasRow], text: &str) -> Option<usize>
-    ensures place { result ≡ alias_place (id_of text.now) aliases.now }
+/// The index of the alias with the id of a text.
+#[tactic(auto, unfolding(crate::specs::Aliases::alias_index))]
+pub(crate) fn alias_index(aliases: &[AliasItem], text: &str) -> Option<usize>
+    ensures index { result ≡ alias_index (id_of text.now) aliases.now }
     ensures within { IfSome result (λ i. i < length aliases.now) }
 {
-    place_of(aliases, text)
+    index_of(aliases, text)
 }

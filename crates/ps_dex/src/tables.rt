@@ -6,8 +6,8 @@ ghost use Rattle.ps_dex.specs.Tables.{tables_in, tables_of};
 
 use crate::aliases::aliases_at;
 use crate::factors::factors_at;
+use crate::item::Tables;
 use crate::moves::moves_at;
-use crate::row::Tables;
 use crate::species::species_at;
 use crate::types::types_at;
 use ps_data::fault::Refusal;

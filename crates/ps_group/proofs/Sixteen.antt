@@ -1,4 +1,4 @@
--- A list of groups that was read has 1 to 16 of them, and a fault stands at one of the first seventeen places.
+-- A list of groups that was read has 1 to 16 of them, and a fault stands at one of the first seventeen indices.
 use Rattle.std.proofs.Common.{◌≡◌, ℕ, ◌+◌, ◌<◌, ◌≤◌, Bool, true, false, cond, ltb, List, [], ◌∷◌, ◌++◌, length, Option, Some, None, option_map, ◌^◌, Result, Ok, Err, refl, arith}
 use Rattle.std.proofs.lemmas.Bool.{ltb-true}
 use Rattle.std.proofs.lemmas.List.{length-append}
@@ -47,5 +47,5 @@ groups_near d = items_near (option_map list_of (as_array d))
 pub count_near : (d : Data) (groups : List Group) → groups_in d ≡ Ok groups → (0 < length groups) × (length groups ≤ 16)
 count_near d groups is = let h = rw is at (groups_near d) in (omega (arith, h), omega (arith, h))
 
-pub place_near : (d : Data) (fault : Fault) → groups_in d ≡ Err fault → first_index fault.path < 2 ^ 32
-place_near d fault is = let h = rw is at (groups_near d) in omega (arith, h)
+pub index_near : (d : Data) (fault : Fault) → groups_in d ≡ Err fault → first_index fault.path < 2 ^ 32
+index_near d fault is = let h = rw is at (groups_near d) in omega (arith, h)

@@ -24,18 +24,18 @@ own_or None None inherited = None
 own_or None (Some symbol) inherited = inherited symbol
 
 -- the permission of the group with the symbol, which inherits a group further down
-abbrev pub held_by : Perm → ℕ → List Group → Option Jurisdiction
-held_by perm symbol [] = None
-held_by perm symbol (g ∷ lower) = if g.symbol == symbol then own_or (own perm g.permissions) g.inherit (λ s. held_by perm s lower) else held_by perm symbol lower
+abbrev pub granted_by : Perm → ℕ → List Group → Option Jurisdiction
+granted_by perm symbol [] = None
+granted_by perm symbol (g ∷ lower) = if g.symbol == symbol then own_or (own perm g.permissions) g.inherit (λ s. granted_by perm s lower) else granted_by perm symbol lower
 
 -- the permission of a group above the lower ones
-abbrev pub held_above : Perm → Option Group → List Group → Option Jurisdiction
-held_above perm None lower = None
-held_above perm (Some g) lower = own_or (own perm g.permissions) g.inherit (λ s. held_by perm s lower)
+abbrev pub granted_above : Perm → Option Group → List Group → Option Jurisdiction
+granted_above perm None lower = None
+granted_above perm (Some g) lower = own_or (own perm g.permissions) g.inherit (λ s. granted_by perm s lower)
 
 -- the permission of a rank
-unfoldable pub held : Perm → ℕ → List Group → Option Jurisdiction
-held perm rank groups = held_above perm (slice_get groups rank) (drop (rank + 1) groups)
+unfoldable pub granted : Perm → ℕ → List Group → Option Jurisdiction
+granted perm rank groups = granted_above perm (slice_get groups rank) (drop (rank + 1) groups)
 
 -- Without a target: where the permission's text isn't empty. With one: where it has `a`, or has `s` and the target is
 -- the actor, or has `u` and the target's rank is lower.
@@ -52,7 +52,7 @@ target_in_force None groups = None
 target_in_force (Some rank) groups = Some (in_force rank groups)
 
 abbrev pub can : List Group → ℕ → Option ℕ → Bool → Perm → Bool
-can groups actor target is_self perm = allows (held perm (in_force actor groups) groups) (in_force actor groups) (target_in_force target groups) is_self
+can groups actor target is_self perm = allows (granted perm (in_force actor groups) groups) (in_force actor groups) (target_in_force target groups) is_self
 
 -- whether the permission's text has `a`
 abbrev pub has_all : Option Jurisdiction → Bool
@@ -60,4 +60,4 @@ has_all None = false
 has_all (Some j) = j.all
 
 abbrev pub reaches_all : List Group → ℕ → Perm → Bool
-reaches_all groups actor perm = has_all (held perm (in_force actor groups) groups)
+reaches_all groups actor perm = has_all (granted perm (in_force actor groups) groups)

@@ -1,4 +1,4 @@
--- What reading groups answers where only the group's place is told.
+-- What reading groups answers where only the group's index is reported.
 use Rattle.std.specs.Prelude.{◌≡◌, List, Result, Ok, Err}
 use Rattle.ps_data.specs.declared.fault.Fault.{Fault}
 use Rattle.ps_data.specs.Paths.{first_index}
@@ -6,7 +6,7 @@ use Rattle.ps_group.specs.declared.group.Group.{Group}
 use Rattle.ps_group.specs.declared.read.GroupFault.{GroupFault}
 use Rattle.ps_group.specs.declared.read.GroupFault.TheVariants as faults
 
--- The groups, or else the place of the first that isn't in its form, 0 for the list itself, and why. Want of memory may
+-- The groups, or else the index of the first that isn't in its form, 0 for the list itself, and why. Want of memory may
 -- come in the place of either.
 abbrev pub GivesGroups : Result (List Group) GroupFault → Result (List Group) Fault → Type 0
 GivesGroups (Ok groups) read = read ≡ Ok groups

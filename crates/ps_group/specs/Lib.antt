@@ -1,5 +1,6 @@
 pub mod Ranks
 pub mod Can
 pub mod Reading
+pub mod ShownNames
 pub mod Faults
 pub mod Defaults

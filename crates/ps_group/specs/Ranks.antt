@@ -1,4 +1,4 @@
--- Ranks: places in the list of groups, 0 the highest.
+-- Ranks: indices in the list of groups, 0 the highest.
 use Rattle.std.specs.Prelude.{ℕ, ◌-◌, ◌==◌, Bool, nat_lt, List, length, Option, option_map, slice_get, unwrap_or, position, if◌then◌else◌}
 use Rattle.ps_group.specs.declared.group.Group.{Group}
 
@@ -14,7 +14,7 @@ higher a b = if is_below b a then a else b
 abbrev pub in_force : ℕ → List Group → ℕ
 in_force rank groups = if nat_lt rank (length groups) then rank else length groups - 1
 
--- the place of the group with a symbol
+-- the index of the group with a symbol
 abbrev pub rank_of : ℕ → List Group → Option ℕ
 rank_of symbol groups = position (λ g. g.symbol == symbol) groups
 

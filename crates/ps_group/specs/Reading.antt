@@ -1,15 +1,15 @@
 -- What list of groups a value stands for.
-use Rattle.std.specs.Prelude.{ℕ, ◌==◌, ◌||◌, Bool, true, false, not, List, [], ◌∷◌, length, codes, Option, Some, None, is_some, option_and_then, position, bytes_eq, Result, Ok, nat_le, nat_lt, if◌then◌else◌}
+use Rattle.std.specs.Prelude.{ℕ, ◌==◌, ◌||◌, Bool, true, false, not, List, [], ◌∷◌, length, codes, Option, Some, None, option_and_then, bytes_eq, Result, Ok, nat_le, nat_lt, if◌then◌else◌}
 use Rattle.std.specs.List.{list_any, list_all}
 use Rattle.std.specs.Str.{chars}
 use Rattle.serde_json.specs.Data.{Data}
 use Rattle.serde_json.specs.Find.{get, as_str}
-use Rattle.ps_base.specs.Ids.{id_in}
 use Rattle.ps_data.specs.declared.fault.DataKind.TheVariants.{Range, Unknown, Repeat}
 use Rattle.ps_data.specs.declared.fault.Fault.{Fault}
 use Rattle.ps_data.specs.Reading.{◌>>=◌, refuse, ensure, some_or, required, optional}
 use Rattle.ps_data.specs.Forms.{object_in, text_in, array_in}
 use Rattle.ps_data.specs.Lists.{each}
+use Rattle.ps_data.specs.OwnIds.{own_id_in}
 use Rattle.ps_group.specs.declared.group.Jurisdiction.{Jurisdiction}
 use Rattle.ps_group.specs.declared.group.Permissions.{Permissions}
 use Rattle.ps_group.specs.declared.group.Group.{Group}
@@ -40,19 +40,6 @@ own_symbol_in before after d = do
   _ ← ensure Range (may_stand symbol after)
   _ ← ensure Repeat (not (has_symbol symbol before))
   Ok symbol
-
--- ---- id and name
-
--- a group has the id
-unfoldable pub has_id : List ℕ → List Group → Bool
-has_id id groups = is_some (position (λ g. bytes_eq g.id id) groups)
-
-unfoldable pub own_id_in : List Group → Data → Result (List ℕ) Fault
-own_id_in before d = do
-  text ← text_in d
-  id ← some_or Range (id_in text)
-  _ ← ensure Repeat (not (has_id id before))
-  Ok id
 
 -- ---- inherit
 
@@ -113,7 +100,7 @@ unfoldable pub group_in : List Group → List Data → Data → Result Group Fau
 group_in before after d = do
   _ ← object_in d
   symbol ← required (codes "symbol") (own_symbol_in before after) d
-  id ← required (codes "id") (own_id_in before) d
+  id ← required (codes "id") (own_id_in (λ g. g.id) before) d
   name ← required (codes "name") text_in d
   inherit ← inherit_in after d
   permissions ← optional (codes "permissions") no_permissions permissions_in d

@@ -1,6 +1,6 @@
 //! What a rank may do, and over whom.
 ghost use Rattle.std.specs.Prelude.{◌≡◌, ◌<◌, length};
-ghost use Rattle.ps_group.specs.Can.{own, held_by, held, allows, reaches, has_all};
+ghost use Rattle.ps_group.specs.Can.{own, granted_by, granted, allows, reaches, has_all};
 
 use crate::group::{Group, Jurisdiction, Perm, Permissions};
 use crate::rank::is_below;
@@ -21,8 +21,8 @@ fn own(perm: Perm, permissions: &Permissions) -> Option<Jurisdiction>
 }
 
 /// The permission of the group with a symbol: its own, or that of the group further down that it inherits.
-fn held_by(perm: Perm, symbol: char, groups: &[Group]) -> Option<Jurisdiction>
-    ensures { result ≡ held_by perm symbol groups.now }
+fn granted_by(perm: Perm, symbol: char, groups: &[Group]) -> Option<Jurisdiction>
+    ensures { result ≡ granted_by perm symbol groups.now }
 {
     let mut symbol = symbol;
     for group in groups {
@@ -40,18 +40,18 @@ fn held_by(perm: Perm, symbol: char, groups: &[Group]) -> Option<Jurisdiction>
 }
 
 /// The permission of a rank.
-#[tactic(auto, unfolding(crate::specs::Can::held))]
-pub(crate) fn held(perm: Perm, rank: u8, groups: &[Group]) -> Option<Jurisdiction>
+#[tactic(auto, unfolding(crate::specs::Can::granted))]
+pub(crate) fn granted(perm: Perm, rank: u8, groups: &[Group]) -> Option<Jurisdiction>
     requires { rank < length groups.now }
-    ensures { result ≡ held perm rank groups.now }
+    ensures { result ≡ granted perm rank groups.now }
 {
-    let place = usize::from(rank);
-    let group = &groups[place];
+    let index = usize::from(rank);
+    let group = &groups[index];
     match own(perm, &group.permissions) {
         Some(jurisdiction) => Some(jurisdiction),
         None => match group.inherit {
             None => None,
-            Some(symbol) => held_by(perm, symbol, &groups[place + 1..]),
+            Some(symbol) => granted_by(perm, symbol, &groups[index + 1..]),
         },
     }
 }

@@ -3,13 +3,13 @@ ghost use Rattle.std.specs.Prelude.{◌≡◌, ◌<◌, ◌≤◌, length, IfSom
 ghost use Rattle.ps_group.specs.Ranks.{in_force, rank_of, symbol_of};
 ghost use Rattle.ps_group.specs.Can.{can, reaches_all};
 
-use crate::can::{held, is_allowed, is_over_all};
+use crate::can::{granted, is_allowed, is_over_all};
 use crate::group::{Group, Perm};
 use ps_base::list::List;
 use std::alloc::{AllocError, Global};
 use std::marker::Model;
 
-/// The groups, highest first: 1 to 16. A rank is a place in this list, 0 the highest; one past the
+/// The groups, highest first: 1 to 16. A rank is an index in this list, 0 the highest; one past the
 /// list counts as the last group's. Contracts see the list.
 #[derive(Debug, Drop)]
 pub struct Groups {
@@ -28,8 +28,8 @@ impl Model for Groups {
     ghost invariant = { λ g. (0 < length g.list) × (length g.list ≤ 16) };
 }
 
-fn place_of(groups: &[Group], symbol: char) -> Option<usize>
-    ensures place { result ≡ rank_of symbol groups.now }
+fn index_of(groups: &[Group], symbol: char) -> Option<usize>
+    ensures index { result ≡ rank_of symbol groups.now }
     ensures within { IfSome result (λ i. i < length groups.now) }
 {
     groups.iter().position(|group| group.symbol == symbol)
@@ -85,14 +85,14 @@ impl Groups {
         self.list.as_slice().len() as u8
     }
 
-    /// The place of the group with a symbol. `None` exactly where no group has it.
+    /// The index of the group with a symbol. `None` exactly where no group has it.
     pub fn rank_of(&self, symbol: char) -> Option<u8>
-        ensures place { result ≡ rank_of symbol self.now }
+        ensures index { result ≡ rank_of symbol self.now }
         ensures within { IfSome result (λ rank. rank < length self.now) }
     {
-        match place_of(self.list.as_slice(), symbol) {
+        match index_of(self.list.as_slice(), symbol) {
             None => None,
-            Some(place) => Some(place as u8),
+            Some(index) => Some(index as u8),
         }
     }
 
@@ -125,7 +125,7 @@ impl Groups {
             Some(rank) => Some(self.in_force(rank)),
         };
         is_allowed(
-            held(perm, actor, self.list.as_slice()),
+            granted(perm, actor, self.list.as_slice()),
             actor,
             target,
             is_self,
@@ -137,6 +137,6 @@ impl Groups {
         ensures { result ≡ reaches_all self.now actor perm }
     {
         let actor = self.in_force(actor);
-        is_over_all(held(perm, actor, self.list.as_slice()))
+        is_over_all(granted(perm, actor, self.list.as_slice()))
     }
 }

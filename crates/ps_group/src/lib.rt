@@ -7,5 +7,6 @@ pub mod group;
 pub mod groups;
 pub mod rank;
 pub mod read;
+pub mod shown_name;
 
 pub use ps_data::fault::DataKind;

@@ -1,4 +1,4 @@
-//! Ranks: places in the list of groups, 0 the highest.
+//! Ranks: indices in the list of groups, 0 the highest.
 ghost use Rattle.std.specs.Prelude.{◌≡◌};
 ghost use Rattle.ps_group.specs.Ranks.{higher, is_below};
 

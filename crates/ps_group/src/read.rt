@@ -4,17 +4,15 @@ ghost use Rattle.std.specs.List.{list_any, list_all};
 ghost use Rattle.std.specs.Str.{chars};
 ghost use Rattle.serde_json.specs.View.{view};
 ghost use Rattle.ps_data.specs.Reading.{Gives, GivesBy, optional};
-ghost use Rattle.ps_data.specs.Forms.{text_in};
-ghost use Rattle.ps_group.specs.Reading.{one_character, symbol_in, may_stand, has_symbol, own_symbol_in, has_id, own_id_in, shows, lower_in, inherit_in, is_letter, jurisdiction_in, permissions_in, no_permissions, group_in, group_in_sixteen, groups_in};
+ghost use Rattle.ps_group.specs.Reading.{one_character, symbol_in, may_stand, has_symbol, own_symbol_in, shows, lower_in, inherit_in, is_letter, jurisdiction_in, permissions_in, no_permissions, group_in, group_in_sixteen, groups_in};
 
 use crate::group::{Group, Jurisdiction, Permissions};
 use crate::groups::Groups;
-use ps_base::id::{Id, read_id};
-use ps_base::text::Text;
+use ps_base::characters::characters;
 use ps_data::fault::{DataKind, Refusal, refused};
 use ps_data::forms::{array, ensure, found, object, text};
-use ps_data::ids;
-use ps_data::keys::{at_key, required};
+use ps_data::ids::own_id_at;
+use ps_data::keys::{at_key, required, text_at};
 use ps_data::lists::{ItemForm, items_of};
 use serde_json::Value;
 use std::alloc::{AllocError, Global};
@@ -22,25 +20,19 @@ use std::alloc::{AllocError, Global};
 /// Why a value is no list of groups.
 #[derive(Clone, Copy, Debug, PartialEq, Eq)]
 pub enum GroupFault {
-    /// The place of the first group that isn't in its form, from 0, and why it isn't. For what is no
-    /// list the place is 0 and the kind `Shape`, for the empty list 0 and `Range`, and for a
+    /// The index of the first group that isn't in its form, from 0, and why it isn't. For what is no
+    /// list the index is 0 and the kind `Shape`, for the empty list 0 and `Range`, and for a
     /// seventeenth group 16 and `Range`.
     Fault { index: u32, kind: DataKind },
     /// Memory ran out.
     NoMemory,
 }
 
-fn chars_of(alloc: Global, text: &str) -> Result<Vec<char>, AllocError>
-    ensures { IfOk result (λ v. v.items ≡ chars text.now) }
-{
-    text.chars().collect(alloc)
-}
-
 /// The character that a text is: one, and none below the space.
 fn one_character(alloc: Global, text: &str) -> Result<Option<char>, AllocError>
     ensures { IfOk result (λ o. o ≡ one_character (chars text.now)) }
 {
-    let chars = chars_of(alloc, text)?;
+    let chars = characters(alloc, text)?;
     match chars.as_slice() {
         [c] if *c >= ' ' => Ok(Some(*c)),
         _ => Ok(None),
@@ -81,29 +73,6 @@ fn own_symbol(
     ensure(alloc, may_stand(symbol, after), DataKind::Range)?;
     ensure(alloc, !has_symbol(before, symbol), DataKind::Repeat)?;
     Ok(symbol)
-}
-
-#[tactic(auto, unfolding(crate::specs::Reading::has_id))]
-fn has_id(groups: &[Group], id: &str) -> bool
-    ensures { result ≡ has_id id.now groups.now }
-{
-    ids::has_id(groups, id)
-}
-
-#[tactic(auto, unfolding(crate::specs::Reading::own_id_in))]
-fn own_id(alloc: Global, before: &[Group], value: &Value) -> Result<Id, Refusal>
-    ensures { Gives result (own_id_in before.now (view value.now)) }
-{
-    let text = text(alloc, value)?;
-    let id = found(alloc, read_id(alloc, text)?, DataKind::Range)?;
-    ensure(alloc, !has_id(before, id.as_str()), DataKind::Repeat)?;
-    Ok(id)
-}
-
-fn name(alloc: Global, value: &Value) -> Result<Text, Refusal>
-    ensures { Gives result (text_in (view value.now)) }
-{
-    Ok(Text::copy_of(alloc, text(alloc, value)?)?)
 }
 
 /// Whether a value is an object with this text at its `symbol`.
@@ -239,12 +208,8 @@ fn group(alloc: Global, before: &[Group], after: &[Value], value: &Value) -> Res
         "symbol",
         own_symbol(alloc, before, after, required(alloc, value, "symbol")?),
     )?;
-    let id = at_key(
-        alloc,
-        "id",
-        own_id(alloc, before, required(alloc, value, "id")?),
-    )?;
-    let name = at_key(alloc, "name", name(alloc, required(alloc, value, "name")?))?;
+    let id = own_id_at(alloc, before, value, "id")?;
+    let name = text_at(alloc, value, "name")?;
     let inherit = inherit(alloc, after, value)?;
     let permissions = permissions_at(alloc, value)?;
     Ok(Group {
@@ -299,7 +264,7 @@ impl Groups {
         Ok(Groups::from_list(group_list(alloc, value)?))
     }
 
-    /// The groups that a value stands for, or the place of the first that isn't in its form.
+    /// The groups that a value stands for, or the index of the first that isn't in its form.
     pub fn from_value(alloc: Global, value: &Value) -> Result<Groups, GroupFault>
         ensures { GivesGroups result (groups_in (view value.now)) }
     {

@@ -1,13 +1,12 @@
 -- The lists of the hall after a start, and the ratings after a report.
-use Rattle.std.proofs.Common.{◌≡◌, ℕ, List, [], ◌∷◌, ◌++◌, Option, Some, None, refl, sym, ap, ◌∙◌, append-nil, option_to_list}
+use Rattle.std.proofs.Common.{◌≡◌, ℕ, List, [], ◌++◌, Option, Some, None, refl, sym, ap, ◌∙◌, append-nil, option_to_list}
 use Rattle.std.specs.Prelude.{ℤ, unwrap_or}
-use Rattle.std.specs.FinMap.{get}
-use Rattle.ps_roster.specs.ById.{ById}
+use Rattle.ps_base.specs.ById.{ById}
 use Rattle.ps_pms.proofs.MapLemmas.{get_inserted}
 use Rattle.ps_ladder.specs.Ratings.{Standing, standing_of, rating}
 use Rattle.ps_hall.specs.declared.game.Game.{Game}
 use Rattle.ps_hall.specs.Records.{Record}
-use Rattle.ps_hall.specs.Looks.{ladder_in}
+use Rattle.ps_hall.specs.Lookups.{ladder_in}
 use Rattle.ps_hall.specs.Starts.{with_game}
 use Rattle.ps_hall.specs.Steps.{standing_with, with_settled}
 
@@ -24,10 +23,6 @@ pms_then h None = refl
 pms_then h (Some g) = refl
 
 pub ruleset starts = (games_then, searches_then, pms_then)
-
--- nobody was rated in a format without a ladder
-pub of_missing : (ladders : ById Standing) (format : List ℕ) → get ladders format ≡ None → standing_of [] ≡ ladder_in ladders format
-of_missing ladders format missing = ap (λ (o : Option Standing). unwrap_or o (standing_of [])) (sym missing)
 
 -- the ladder of a format after a result
 pub settled_in : (ladders : ById Standing) (format winner loser : List ℕ) → ladder_in (with_settled ladders format winner loser) format ≡ standing_with (ladder_in ladders format) winner loser

@@ -1,68 +1,66 @@
 -- What the refusals rule out, and what stays ready.
-use Rattle.std.proofs.Common.{◌≡◌, ℕ, ◌<◌, Bool, true, false, cond, not, List, [], ◌∷◌, ◌++◌, Option, Some, None, IfSome, IfNone, All, refl, sym, subst, nat_le, arith, option_map, is_none, Result, Ok, Err, OnOk}
+use Rattle.std.proofs.Common.{◌≡◌, ℕ, ◌<◌, Bool, true, false, cond, not, List, [], ◌∷◌, Option, Some, None, IfSome, IfNone, All, refl, sym, subst, nat_le, arith, option_map, is_none, Result, Ok, Err, OnOk}
 use Rattle.std.specs.List.{filter}
 use Rattle.std.proofs.lemmas.Bool.Decides.{nat_tests}
 use Rattle.std.proofs.lemmas.List.Elements.{All-nil, All-cons, All-head, All-tail, All-append, All-filter}
+use Rattle.std.proofs.lemmas.Bool.{not-false}
 use Rattle.ps_base.specs.Ids.{id_of}
+use Rattle.ps_base.specs.Limits.{most_battles}
 use Rattle.ps_base.specs.declared.hall_why.HallWhy.{HallWhy}
 use Rattle.ps_base.specs.declared.hall_why.HallWhy.TheVariants as why
 use Rattle.ps_lines.specs.declared.command.HallCmd.{HallCmd}
 use Rattle.ps_lines.specs.declared.command.HallCmd.TheVariants.{Open, Quit, Bad, Name, Team, Search, CancelSearch, Challenge, CancelChallenge, Reject, Accept, Whisper, Block, Unblock, Rank, Report}
-use Rattle.ps_dex.specs.declared.row.Tables.{Tables}
-use Rattle.ps_rules.specs.declared.row.Format.{Format}
+use Rattle.ps_dex.specs.declared.item.Tables.{Tables}
+use Rattle.ps_rules.specs.declared.table.Format.{Format}
 use Rattle.ps_pms.specs.declared.asked.Asked.{Asked}
 use Rattle.ps_pms.specs.Refusals.{when}
 use Rattle.ps_hall.specs.Records.{Record}
-use Rattle.ps_valid.specs.declared.start.Legal.{Legal}
+use Rattle.ps_valid.specs.declared.legal.Legal.{Legal}
 use Rattle.ps_valid.specs.Ready.{IsReady}
 use Rattle.ps_ladder.specs.declared.searches.Search.{Search as Waiting}
 use Rattle.ps_ladder.specs.Waiting.{waits}
 use Rattle.ps_hall.specs.declared.kept.KeptTeam.{KeptTeam}
 use Rattle.ps_hall.specs.declared.game.Game.{Game}
-use Rattle.ps_hall.specs.Looks.{is_full, challenge_from, format_in, is_kept, is_kept_of, is_kept_with, without_kept, legal_team, opponent, badge_of, game_in}
-use Rattle.ps_hall.specs.Places.{IsKeptReady, AreReady, IsLegalReady, IsKeepReady}
+use Rattle.ps_hall.specs.Lookups.{is_full, challenge_from, format_in, is_kept, is_kept_of, is_kept_with, without_kept, legal_team, opponent, badge_of, game_in}
+use Rattle.ps_hall.specs.KeptIndices.{IsKeptReady, AreReady, IsLegalReady, IsKeepReady}
 use Rattle.ps_hall.specs.Starts.{start_of_search, start_of_accept, game_of, with_game}
 use Rattle.ps_hall.specs.Steps.{with_users, forgotten_if, forgotten, after_quit, after_team, keep, kept_by_search, with_search, with_accept, after_named, reported, after_report}
 use Rattle.ps_hall.specs.Refusals.{or_else, of_team, of_battles, of_waiting, of_search, of_accepted, of_accept, refusal_of_search, refusal_of_accept, is_winner, refusal_of_report}
 
-is_true : (a : Bool) → not a ≡ false → a ≡ true
-is_true true h = refl
-is_true false h = absurd cc
-
-when_more : (t : Bool) (w : HallWhy) (m : Option HallWhy) → when t w m ≡ None → m ≡ None
+pub when_more : (t : Bool) (w : HallWhy) (m : Option HallWhy) → when t w m ≡ None → m ≡ None
 when_more true w m e = absurd cc
 when_more false w m e = e
 
-when_not : (t : Bool) (w : HallWhy) (m : Option HallWhy) → when t w m ≡ None → t ≡ false
+pub when_not : (t : Bool) (w : HallWhy) (m : Option HallWhy) → when t w m ≡ None → t ≡ false
 when_not true w m e = absurd cc
 when_not false w m e = refl
 
-else_more : (a b : Option HallWhy) → or_else a b ≡ None → b ≡ None
+pub else_more : (a b : Option HallWhy) → or_else a b ≡ None → b ≡ None
 else_more (Some w) b e = absurd cc
 else_more None b e = e
 
-few : (h : Record) → of_battles h ≡ None → h.started < 65536
-few h e = let full : nat_le 65536 h.started ≡ false = when_not (is_full h) why.BattlesFull None e in grind (arith, nat_tests, full)
+few : (h : Record) → of_battles h ≡ None → h.started < most_battles
+few h e = let full : nat_le most_battles h.started ≡ false = when_not (is_full h) why.BattlesFull None e in grind (arith, nat_tests, full)
 
-few_search_by : (h : Record) (me format : List ℕ) (f : Option Format) → of_search h me format f ≡ None → h.started < 65536
+few_search_by : (h : Record) (me format : List ℕ) (f : Option Format) → of_search h me format f ≡ None → h.started < most_battles
 few_search_by h me format None e = absurd cc
 few_search_by h me format (Some f) e =
     let rest : or_else (of_team h me f) (of_waiting h me format) ≡ None = when_more (not f.table.rated) why.NotRated (or_else (of_team h me f) (of_waiting h me format)) e in
     few h (when_more (waits h.searches me format) why.AlreadySearching (of_battles h) (else_more (of_team h me f) (of_waiting h me format) rest))
 
-pub few_search : (h : Record) (me format : List ℕ) → refusal_of_search h me format ≡ None → h.started < 65536
+pub few_search : (h : Record) (me format : List ℕ) → refusal_of_search h me format ≡ None → h.started < most_battles
 unfolding refusal_of_search
 few_search h me format e = few_search_by h me format (format_in h format) e
 
-few_accepted : (h : Record) (me : List ℕ) (f : Option Format) → of_accepted h me f ≡ None → h.started < 65536
+few_accepted : (h : Record) (me : List ℕ) (f : Option Format) → of_accepted h me f ≡ None → h.started < most_battles
 few_accepted h me None e = absurd cc
 few_accepted h me (Some f) e = few h (else_more (of_team h me f) (of_battles h) e)
 
-few_accept_by : (h : Record) (me : List ℕ) (a : Option Asked) → of_accept h me a ≡ None → h.started < 65536
+few_accept_by : (h : Record) (me : List ℕ) (a : Option Asked) → of_accept h me a ≡ None → h.started < most_battles
 few_accept_by h me None e = absurd cc
 few_accept_by h me (Some a) e = few_accepted h me (format_in h a.format) e
 
-pub few_accept : (h : Record) (me user : List ℕ) → refusal_of_accept h me user ≡ None → h.started < 65536
+pub few_accept : (h : Record) (me user : List ℕ) → refusal_of_accept h me user ≡ None → h.started < most_battles
 unfolding refusal_of_accept
 few_accept h me user e = few_accept_by h me (challenge_from h me user) e
 
@@ -150,6 +148,6 @@ pub winner_is : (h : Record) (number : ℕ) (winner : Option ℕ) → refusal_of
 unfolding refusal_of_report
 winner_is h number winner e =
     let rest : when (not (is_winner winner)) why.NoBattle None ≡ None = when_more (is_none (game_in h number)) why.NoBattle (when (not (is_winner winner)) why.NoBattle None) e in
-    is_true (is_winner winner) (when_not (not (is_winner winner)) why.NoBattle None rest)
+    not-false (is_winner winner) (when_not (not (is_winner winner)) why.NoBattle None rest)
 
 pub ruleset steps = (users_ready, quit_ready, report_ready, named_ready, winner_is)

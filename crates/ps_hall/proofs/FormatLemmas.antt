@@ -4,7 +4,7 @@ use Rattle.std.specs.Char.{encode_utf8}
 use Rattle.std.specs.List.{join_with_byte}
 use Rattle.std.proofs.lemmas.List.{length-map, get_or-map, take-map}
 use Rattle.ps_packed.proofs.Joins.{joins}
-use Rattle.ps_rules.specs.declared.row.Format.{Format}
+use Rattle.ps_rules.specs.declared.table.Format.{Format}
 
 abbrev pub name_of : Format → List ℕ
 name_of f = f.name

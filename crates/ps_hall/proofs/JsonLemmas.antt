@@ -1,7 +1,8 @@
 -- Objects with free keys, and that the JSON of the lines has no float, so its text is named.
-use Rattle.std.proofs.Common.{◌≡◌, ℕ, Bool, true, false, true≢false, ◌||◌, List, [], ◌∷◌, length, map, Option, Some, None, String, Global, Ordering, Less, Equal, Greater, nat_cmp, refl}
+use Rattle.std.proofs.Common.{◌≡◌, ℕ, Bool, true, false, ◌||◌, List, [], ◌∷◌, length, map, Option, Some, None, String, Global, Ordering, Less, Equal, Greater, nat_cmp, refl}
 use Rattle.std.specs.Cmp.Lexicographic.{slice_cmp}
 use Rattle.std.specs.Ordering.{match_ordering}
+use Rattle.std.proofs.lemmas.Bool.{or_parts}
 use Rattle.serde_json.specs.declared.value.Value.{Value}
 use Rattle.serde_json.specs.Data.{Data, string, object, Members, no_members, member, put}
 use Rattle.serde_json.specs.View.{items_of, members_view}
@@ -21,14 +22,10 @@ some_members (e ∷ es) h = refl
 abbrev pub ArePlain : Members → Type 0
 ArePlain ms = members_have_float ms ≡ false
 
-rest_plain : (a b : Bool) → (a || b) ≡ false → b ≡ false
-rest_plain true b e = absurd (true≢false e)
-rest_plain false b e = e
-
 put_plain_at : (o : Ordering) (k l s : List ℕ) (e : Data) (ms : Members) → ArePlain (member l e ms) → ArePlain (put k (string s) ms)
     → ArePlain (match_ordering o (member k (string s) (member l e ms)) (member l (string s) ms) (member l e (put k (string s) ms)))
 put_plain_at Less k l s e ms plain later = plain
-put_plain_at Equal k l s e ms plain later = rest_plain (has_float e) (members_have_float ms) plain
+put_plain_at Equal k l s e ms plain later = (or_parts (has_float e) (members_have_float ms) plain).1
 put_plain_at Greater k l s e ms plain later = rw later (first_plain (has_float e) (members_have_float ms) plain)
   where
     first_plain : (a b : Bool) → (a || b) ≡ false → (a || false) ≡ false
@@ -38,7 +35,7 @@ put_plain_at Greater k l s e ms plain later = rw later (first_plain (has_float e
 -- a text at a key adds no float
 put_plain : (k s : List ℕ) (ms : Members) → ArePlain ms → ArePlain (put k (string s) ms)
 put_plain k s no_members plain = refl
-put_plain k s (member l e ms) plain = put_plain_at (slice_cmp nat_cmp k l) k l s e ms plain (put_plain k s ms (rest_plain (has_float e) (members_have_float ms) plain))
+put_plain k s (member l e ms) plain = put_plain_at (slice_cmp nat_cmp k l) k l s e ms plain (put_plain k s ms (or_parts (has_float e) (members_have_float ms) plain).1)
 
 games_plain : (gs : List Game) (ms : Members) → ArePlain ms → ArePlain (with_games ms gs)
 games_plain [] ms plain = plain

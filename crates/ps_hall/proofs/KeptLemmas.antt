@@ -1,10 +1,10 @@
--- The place of a kept team.
+-- The index of a kept team.
 use Rattle.std.proofs.Common.{◌≡◌, ℕ, ◌+◌, ◌<◌, Bool, true, false, List, [], ◌∷◌, ◌++◌, length, get_or, take, drop, refl, sym, ap, ◌∙◌, add-one, arith}
 use Rattle.std.specs.List.{remove}
 use Rattle.std.proofs.lemmas.List.{drop_more}
 use Rattle.ps_hall.specs.declared.kept.KeptTeam.{KeptTeam}
-use Rattle.ps_hall.specs.Looks.{is_kept, without_kept}
-use Rattle.ps_hall.specs.Places.{IsKeptPlace}
+use Rattle.ps_hall.specs.Lookups.{is_kept, without_kept}
+use Rattle.ps_hall.specs.KeptIndices.{IsKeptIndex}
 
 module _ (user with_id : List ℕ) where
   first_left : (k : KeptTeam) (ks : List KeptTeam) → is_kept user with_id k ≡ true → without_kept user with_id (k ∷ ks) ≡ ks
@@ -13,7 +13,7 @@ module _ (user with_id : List ℕ) where
   -- the one at which the walk stops
   pub stops : (ks : List KeptTeam) (i : ℕ) (k : KeptTeam) → i < length ks → k ≡ get_or ks i k → is_kept user with_id k ≡ true
       → take i ks ++ without_kept user with_id (drop i ks) ≡ without_kept user with_id ks
-      → IsKeptPlace ks user with_id i
+      → IsKeptIndex ks user with_id i
   stops ks i k lt is t w =
       let more : drop i ks ≡ k ∷ drop (i + 1) ks = drop_more ks i k lt ∙ ap (λ (x : KeptTeam). x ∷ drop (i + 1) ks) (sym is) in
       record {

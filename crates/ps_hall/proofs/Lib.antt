@@ -2,9 +2,10 @@ mod FormatLemmas
 mod JsonLemmas
 pub mod KeptLemmas
 pub mod LadderLemmas
-pub mod LookLemmas
+pub mod LookupLemmas
 pub mod PackLemmas
 pub mod StartLemmas
 pub mod ApplyLemmas
 pub mod AnswerLemmas
 pub mod PullLemmas
+pub mod StepLemmas

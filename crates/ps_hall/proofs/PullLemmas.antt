@@ -5,7 +5,8 @@ use Rattle.std.proofs.Math.Seq.{drop-append_seam}
 use Rattle.ps_hall.specs.declared.entry.HallEntry.{HallEntry}
 use Rattle.ps_hall.specs.declared.notice.Notice.{Notice}
 use Rattle.ps_hall.specs.Records.{Record}
-use Rattle.ps_hall.specs.Halls.{after, notices, message, sent, view, run_record, run_seen, seen_after, seen_opened, Seen, pulled, PullsView}
+use Rattle.ps_hall.specs.Halls.{after, notices, message, view, run_record, run_seen, seen_after, seen_opened, Seen, pulled, PullsView}
+use Rattle.ps_base.specs.Messages.{sent}
 
 abbrev logs : Record → List HallEntry → List (List Notice)
 logs h [] = []

@@ -1,44 +1,30 @@
 -- A battle that starts can start.
-use Rattle.std.proofs.Common.{◌≡◌, ◌≢◌, ℕ, ℤ, Bool, true, false, cond, not, ◌&&◌, List, [], ◌∷◌, ◌++◌, Option, Some, None, Result, Ok, Err, IfOk, IfSome, IsSome, find, All, refl, sym, ap, subst, ◌∙◌}
+use Rattle.std.proofs.Common.{◌≡◌, ◌≢◌, ℕ, ℤ, Bool, true, false, cond, List, [], ◌∷◌, Option, Some, None, Result, Ok, Err, IfOk, IfSome, IsSome, find, All, refl, sym, ap, subst, ◌∙◌}
 use Rattle.std.specs.Str.{bytes_eq}
 use Rattle.std.proofs.lemmas.Slice.Eq.{bytes_eq-Decides}
 use Rattle.std.proofs.lemmas.List.Elements.{All-head, All-tail}
+use Rattle.std.proofs.lemmas.Bool.{and_parts, not-true, both_ways}
 use Rattle.ps_base.specs.Ids.{id_of}
-use Rattle.ps_dex.specs.declared.row.Tables.{Tables}
-use Rattle.ps_rules.specs.declared.row.Format.{Format}
-use Rattle.ps_valid.specs.declared.start.Legal.{Legal}
-use Rattle.ps_valid.specs.declared.start.Start.{Start}
+use Rattle.ps_dex.specs.declared.item.Tables.{Tables}
+use Rattle.ps_rules.specs.declared.table.Format.{Format}
+use Rattle.ps_valid.specs.declared.legal.Legal.{Legal}
+use Rattle.rules_start.specs.declared.start.Start.{Start}
 use Rattle.ps_valid.specs.Ready.{IsReady}
-use Rattle.ps_start.specs.Fits.{IsFit}
+use Rattle.rules_start.specs.Fits.{IsFit}
 use Rattle.ps_pms.specs.declared.asked.Asked.{Asked}
-use Rattle.ps_pms.specs.Looks.{is_of, asked_of}
+use Rattle.ps_pms.specs.Lookups.{is_of, asked_of}
 use Rattle.ps_ladder.specs.declared.searches.Search.{Search}
 use Rattle.ps_ladder.specs.Waiting.{suits, found}
 use Rattle.ps_hall.specs.declared.kept.KeptTeam.{KeptTeam}
 use Rattle.ps_hall.specs.Records.{Record}
-use Rattle.ps_hall.specs.Looks.{is_kept, kept_team, legal_or, checked, legal_under, legal_team, format_in, challenge_from, opponent, rating_in}
-use Rattle.ps_hall.specs.Places.{IsKeptReady, AreReady}
+use Rattle.ps_hall.specs.Lookups.{is_kept, kept_team, legal_or, checked, legal_under, legal_team, format_in, challenge_from, opponent, rating_in}
+use Rattle.ps_hall.specs.KeptIndices.{IsKeptReady, AreReady}
 use Rattle.ps_hall.specs.Starts.{start_if}
 
 -- ---- tests
 
-both : (a b : Bool) → (a && b) ≡ true → (a ≡ true) × (b ≡ true)
-both true b h = (refl, h)
-both false b h = absurd cc
-
-same_bytes : (a b : List ℕ) → bytes_eq a b ≡ true → a ≡ b
-same_bytes a b t = (bytes_eq-Decides a b).0 t
-
-apart_by : (a b : List ℕ) (t : Bool) → bytes_eq a b ≡ t → t ≡ false → a ≢ b
-apart_by a b true e f = absurd cc
-apart_by a b false e f = λ same. let t : bytes_eq a b ≡ true = (bytes_eq-Decides a b).1 same in absurd cc
-
 apart : (a b : List ℕ) → bytes_eq a b ≡ false → a ≢ b
-apart a b f = apart_by a b (bytes_eq a b) refl f
-
-is_false : (a : Bool) → not a ≡ true → a ≡ false
-is_false true h = absurd cc
-is_false false h = refl
+apart a b f same = both_ways (bytes_eq a b) f ((bytes_eq-Decides a b).1 same)
 
 some_all : {A : Type 0} {P : Type 0} (o : Option A) → P → IfSome o (λ _. P)
 some_all None p = tt
@@ -103,7 +89,7 @@ fit_if h format name (Some k) (Some l) kept legal known = record { first = kept.
 -- whose kept team was found is the user that was looked for
 apart_kept : (h : Record) (name user with_id : List ℕ) (k : Option KeptTeam) → IfSome k (IsFoundKept h.dex user with_id) → user ≢ id_of name → IfSome k (IsFitKept h name)
 apart_kept h name user with_id None found other = tt
-apart_kept h name user with_id (Some k) found other = (found.0, λ same. other (sym (same_bytes (id_of k.name) user (both _ _ found.1).0) ∙ same))
+apart_kept h name user with_id (Some k) found other = (found.0, λ same. other (sym ((bytes_eq-Decides (id_of k.name) user).0 (and_parts _ _ found.1).0) ∙ same))
 
 fit_by : (h : Record) (format name user with_id : List ℕ) (ks : List KeptTeam) (k : Option KeptTeam) (l : Option Legal) → All (IsKeptReady h.dex) ks → user ≢ id_of name
     → k ≡ kept_team user with_id ks → l ≡ legal_team h (id_of name) format → IfSome l (λ x. IsReady h.dex x)
@@ -119,7 +105,7 @@ fit_by h format name user with_id ks k l all other is legal ready =
 other_apart : (h : Record) (me format : List ℕ) (s : Search) → opponent h me format ≡ Some s → s.user ≢ me
 other_apart h me format s is =
     let t = subst (λ (x : Option Search). IfSome x (λ y. suits me format (rating_in h format me) y ≡ true)) is (found_suits me format (rating_in h format me) h.searches) in
-    apart s.user me (is_false _ (both _ _ t).0)
+    apart s.user me (not-true _ (and_parts _ _ t).0)
 
 pub fit_match : (h : Record) (name format : List ℕ) (s : Search) (k : Option KeptTeam) (l : Option Legal) → AreReady h → opponent h (id_of name) format ≡ Some s
     → k ≡ kept_team s.user format h.search_teams → l ≡ legal_team h (id_of name) format → IfSome l (λ x. IsReady h.dex x)
@@ -131,7 +117,7 @@ from_by : (h : Record) (me user : List ℕ) (a : Asked) (b : Bool) → bytes_eq 
 from_by h me user a true t is = absurd cc
 from_by h me user a false t is =
     let of = subst (λ (x : Option Asked). IfSome x (λ y. is_of user me y ≡ true)) is (asked_found user me h.pms.asked) in
-    λ same. apart user me t (sym (same_bytes a.by user (both _ _ of).0) ∙ same)
+    λ same. apart user me t (sym ((bytes_eq-Decides a.by user).0 (and_parts _ _ of).0) ∙ same)
 
 pub fit_challenge : (h : Record) (name user : List ℕ) (a : Asked) (k : Option KeptTeam) (l : Option Legal) → AreReady h → challenge_from h (id_of name) user ≡ Some a
     → k ≡ kept_team a.by (id_of name) h.challenge_teams → l ≡ legal_team h (id_of name) a.format → IfSome l (λ x. IsReady h.dex x)

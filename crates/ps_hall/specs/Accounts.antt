@@ -1,8 +1,8 @@
 -- The registered names of a configuration, by their ids.
 use Rattle.std.specs.Prelude.{List, [], ◌∷◌}
 use Rattle.std.specs.FinMap.{insert, empty}
-use Rattle.ps_valid.specs.declared.row.Registered.{Registered}
-use Rattle.ps_roster.specs.ById.{ById}
+use Rattle.rules_config.specs.declared.settings.Registered.{Registered}
+use Rattle.ps_base.specs.ById.{ById}
 use Rattle.ps_users.specs.declared.account.Account.{Account}
 
 abbrev pub account_of : Registered → Account

@@ -3,9 +3,9 @@ use Rattle.std.specs.Prelude.{◌≡◌, ℕ, List, [], ◌∷◌, ◌++◌, ◌
 use Rattle.std.specs.List.{flat_map}
 use Rattle.ps_base.specs.declared.badge.Badge.{Badge}
 use Rattle.ps_base.specs.declared.hall_why.HallWhy.{HallWhy}
-use Rattle.ps_base.specs.declared.msg.Msg.{Msg}
+use Rattle.ps_base.specs.Messages.{sent}
 use Rattle.ps_lines.specs.declared.command.HallCmd.{HallCmd}
-use Rattle.ps_valid.specs.declared.start.Start.{Start}
+use Rattle.rules_start.specs.declared.start.Start.{Start}
 use Rattle.ps_users.specs.Steps.{granted}
 use Rattle.ps_hall.specs.declared.entry.HallEntry.{HallEntry}
 use Rattle.ps_hall.specs.declared.notice.Notice.{Notice}
@@ -69,11 +69,6 @@ message_of conn ns = flat_map (lines_for conn) ns
 abbrev pub message : ℕ → Record → HallEntry → List (List ℕ)
 message conn h e = message_of conn (notices h e)
 
--- a message, where it has lines
-abbrev pub sent : List (List ℕ) → List (List (List ℕ))
-sent [] = []
-sent (line ∷ lines) = (line ∷ lines) ∷ []
-
 -- all that a connection is sent over a history, message by message
 abbrev pub view : ℕ → Record → List HallEntry → List (List (List ℕ))
 view conn h [] = []
@@ -114,9 +109,6 @@ first_cursor conn = record { conn = conn; at = 0 }
 -- at the end of what is kept
 abbrev pub cursor_past : Cursor → Seen → Cursor
 cursor_past c s = record { conn = c.conn; at = length s.log }
-
-abbrev pub msg_lines : Msg → List (List ℕ)
-msg_lines m = m.lines
 
 -- What who has passed the history `before` is given of a hall whose history goes on with `later`: the part of its view past
 -- that place, and the cursor stands at the end.

@@ -1,7 +1,7 @@
 pub mod Accounts
 pub mod Records
 pub mod Packs
-pub mod Looks
+pub mod Lookups
 pub mod Refusals
 pub mod Starts
 pub mod Steps
@@ -9,4 +9,4 @@ pub mod Lines
 pub mod Told
 pub mod Halls
 pub mod States
-pub mod Places
+pub mod KeptIndices

@@ -12,15 +12,16 @@ use Rattle.ps_base.specs.declared.hall_why.HallWhy.TheVariants as why
 use Rattle.ps_lines.specs.declared.command.HallCmd.{HallCmd}
 use Rattle.ps_lines.specs.declared.command.HallCmd.TheVariants.{Name}
 use Rattle.ps_group.specs.declared.group.Group.{Group}
-use Rattle.ps_rules.specs.declared.row.Format.{Format}
-use Rattle.ps_roster.specs.ShownNames.{sname}
+use Rattle.ps_rules.specs.declared.table.Format.{Format}
+use Rattle.ps_group.specs.ShownNames.{shown_name}
 use Rattle.ps_users.specs.Assertions.{challstr_of}
 use Rattle.ps_users.specs.Refusals.{read_of}
-use Rattle.ps_pms.specs.Looks.{is_by, is_to}
+use Rattle.ps_pms.specs.Lookups.{is_by, is_to}
 use Rattle.ps_pms.specs.declared.asked.Asked.{Asked}
 use Rattle.ps_ladder.specs.declared.searches.Search.{Search}
 use Rattle.ps_hall.specs.declared.game.Game.{Game}
-use Rattle.ps_hall.specs.Looks.{searched, games_of, battle_id, battle_title}
+use Rattle.rules_start.specs.Starts.{battle_id, battle_title}
+use Rattle.ps_hall.specs.Lookups.{searched, games_of}
 
 -- ---- connecting
 
@@ -41,7 +42,7 @@ open_lines nonce formats conn = challstr_line nonce conn ∷ guest_line conn ∷
 
 -- what who takes a name is sent
 abbrev pub user_line : List Group → Badge → List ℕ
-user_line groups badge = codes "|updateuser|" ++ sname groups badge.rank badge.name ++ codes "|1|0|{}"
+user_line groups badge = codes "|updateuser|" ++ shown_name groups badge.rank badge.name ++ codes "|1|0|{}"
 
 -- ---- `|updatesearch|`
 
@@ -91,7 +92,7 @@ challenge_line asked id = codes "|updatechallenges|" ++ compact_text (challenge_
 
 -- `|pm|SNAME|SNAME|TEXT`
 abbrev pub whisper_line : List Group → Badge → Badge → List ℕ → List ℕ
-whisper_line groups from to text = codes "|pm|" ++ sname groups from.rank from.name ++ codes "|" ++ sname groups to.rank to.name ++ codes "|" ++ text
+whisper_line groups from to text = codes "|pm|" ++ shown_name groups from.rank from.name ++ codes "|" ++ shown_name groups to.rank to.name ++ codes "|" ++ text
 
 -- `|popup|ID FORMAT RATING`
 abbrev pub rating_line : List ℕ → List ℕ → ℤ → List ℕ

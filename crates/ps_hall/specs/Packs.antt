@@ -9,7 +9,7 @@ use Rattle.ps_packed.specs.Packed.{bytes_of, kind_of, IsTeam, Refuses}
 use Rattle.ps_packed.specs.Scan.{State, start, step, accepts, need_of, nameless_at, team_of}
 
 -- the byte of the fault, and its kind
-pub record PackPlace : Type 0 where
+pub record PackFaultAt : Type 0 where
   pub at : ℕ
   pub kind : PackKind
 
@@ -17,25 +17,25 @@ pub record PackPlace : Type 0 where
 abbrev pub kind_in : State → Option ℕ → PackKind
 kind_in s next = kind_of (nameless_at s.bare s.field s.word) s.sets s.field s.word next
 
-abbrev pub place : ℕ → PackKind → Option PackPlace
-place at kind = Some (record { at = at; kind = kind })
+abbrev pub fault_at : ℕ → PackKind → Option PackFaultAt
+fault_at at kind = Some (record { at = at; kind = kind })
 
 -- what is wrong at a character, or behind it
-abbrev pub next_fault : State → ℕ → ℕ → Option State → (State → Option PackPlace) → Option PackPlace
-next_fault s at c None behind = place at (kind_in s (Some c))
-next_fault s at c (Some t) behind = if nat_lt 4096 (at + bytes_of (c ∷ []) + need_of t) then place at Long else behind t
+abbrev pub next_fault : State → ℕ → ℕ → Option State → (State → Option PackFaultAt) → Option PackFaultAt
+next_fault s at c None behind = fault_at at (kind_in s (Some c))
+next_fault s at c (Some t) behind = if nat_lt 4096 (at + bytes_of (c ∷ []) + need_of t) then fault_at at Long else behind t
 
 -- from a state, with so many bytes before these characters
-abbrev pub fault_from : State → ℕ → List ℕ → Option PackPlace
-fault_from s at [] = if accepts s then None else place at (kind_in s None)
-fault_from s at (c ∷ text) = if nat_le 4096 at then place at Long else next_fault s at c (step s c) (λ t. fault_from t (at + bytes_of (c ∷ [])) text)
+abbrev pub fault_from : State → ℕ → List ℕ → Option PackFaultAt
+fault_from s at [] = if accepts s then None else fault_at at (kind_in s None)
+fault_from s at (c ∷ text) = if nat_le 4096 at then fault_at at Long else next_fault s at c (step s c) (λ t. fault_from t (at + bytes_of (c ∷ [])) text)
 
 -- the fault of a text, if it is no packed team
-abbrev pub pack_fault : List ℕ → Option PackPlace
+abbrev pub pack_fault : List ℕ → Option PackFaultAt
 pack_fault text = fault_from start 0 text
 
 -- what a fault, or none, says of a text: that it has no team and why, or the team
-abbrev pub Tells : List ℕ → Option PackPlace → Type 0
+abbrev pub Tells : List ℕ → Option PackFaultAt → Type 0
 Tells text None = IsTeam text (team_of text)
 Tells text (Some p) = Refuses text (Fault p.at p.kind)
 

@@ -2,9 +2,9 @@
 use Rattle.std.specs.Prelude.{ℕ, ◌-◌, List, [], length}
 use Rattle.std.specs.FinMap.{empty}
 use Rattle.ps_packed.specs.declared.set.Set.{Set}
-use Rattle.ps_dex.specs.declared.row.Tables.{Tables}
-use Rattle.ps_valid.specs.declared.row.Settings.{Settings}
-use Rattle.ps_roster.specs.ById.{ById}
+use Rattle.ps_dex.specs.declared.item.Tables.{Tables}
+use Rattle.rules_config.specs.declared.settings.Settings.{Settings}
+use Rattle.ps_base.specs.ById.{ById}
 use Rattle.ps_users.specs.Records.{Record as Users, nobody}
 use Rattle.ps_pms.specs.Records.{Record as Pms, nothing}
 use Rattle.ps_ladder.specs.Ratings.{Standing}

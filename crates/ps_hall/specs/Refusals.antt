@@ -12,17 +12,17 @@ use Rattle.ps_lines.specs.declared.command.HallCmd.{HallCmd}
 use Rattle.ps_lines.specs.declared.command.HallCmd.TheVariants.{Open, Quit, Bad, Name, Team, Search, CancelSearch, Challenge, CancelChallenge, Reject, Accept, Whisper, Block, Unblock, Rank, Report}
 use Rattle.ps_packed.specs.declared.set.Set.{Set}
 use Rattle.ps_packed.specs.Scan.{team_of}
-use Rattle.ps_rules.specs.declared.row.Format.{Format}
-use Rattle.ps_valid.specs.declared.start.Legal.{Legal}
+use Rattle.ps_rules.specs.declared.table.Format.{Format}
+use Rattle.ps_valid.specs.declared.legal.Legal.{Legal}
 use Rattle.ps_valid.specs.declared.verdict.Verdict.{Verdict}
-use Rattle.ps_roster.specs.SentTexts.{is_blank, is_long}
+use Rattle.ps_lines.specs.SentTexts.{is_blank, is_long}
 use Rattle.ps_users.specs.Refusals.{refusal as refusal_of_user}
 use Rattle.ps_pms.specs.Refusals.{when, refusal_of_asking, refusal_of_cancel, refusal_of_whisper, refusal_of_block, refusal_of_unblock}
 use Rattle.ps_pms.specs.declared.asked.Asked.{Asked}
 use Rattle.ps_ladder.specs.Waiting.{waits}
-use Rattle.ps_hall.specs.Packs.{PackPlace, pack_fault}
+use Rattle.ps_hall.specs.Packs.{PackFaultAt, pack_fault}
 use Rattle.ps_hall.specs.Records.{Record}
-use Rattle.ps_hall.specs.Looks.{badge_of, is_online, format_in, checked, challenge_from, is_searching, is_full, game_in}
+use Rattle.ps_hall.specs.Lookups.{badge_of, is_online, format_in, checked, challenge_from, is_searching, is_full, game_in}
 
 -- why a text is no command of its connection, as a reason of refusal
 abbrev pub bad_why : BadWhy → HallWhy
@@ -62,7 +62,7 @@ of_battles h = when (is_full h) why.BattlesFull None
 
 -- ---- the rows
 
-abbrev pub of_pack : Option PackPlace → Option HallWhy
+abbrev pub of_pack : Option PackFaultAt → Option HallWhy
 of_pack None = None
 of_pack (Some p) = Some (why.BadPack p.at p.kind)
 

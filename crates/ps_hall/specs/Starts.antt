@@ -2,15 +2,15 @@
 use Rattle.std.specs.Prelude.{ℕ, ◌+◌, Bool, true, false, List, [], ◌∷◌, ◌++◌, option_map, Option, Some, None}
 use Rattle.ps_base.specs.Ids.{id_of}
 use Rattle.ps_base.specs.declared.badge.Badge.{Badge}
-use Rattle.ps_valid.specs.declared.start.Legal.{Legal}
-use Rattle.ps_valid.specs.declared.start.Start.{Start}
-use Rattle.ps_valid.specs.Seeds.{seed_of}
+use Rattle.ps_valid.specs.declared.legal.Legal.{Legal}
+use Rattle.rules_start.specs.declared.start.Start.{Start}
+use Rattle.rules_config.specs.Seeds.{seed_of}
 use Rattle.ps_pms.specs.declared.asked.Asked.{Asked}
 use Rattle.ps_ladder.specs.declared.searches.Search.{Search}
 use Rattle.ps_hall.specs.declared.kept.KeptTeam.{KeptTeam}
 use Rattle.ps_hall.specs.declared.game.Game.{Game}
 use Rattle.ps_hall.specs.Records.{Record}
-use Rattle.ps_hall.specs.Looks.{legal_team, kept_team, challenge_from, opponent}
+use Rattle.ps_hall.specs.Lookups.{legal_team, kept_team, challenge_from, opponent}
 
 -- the next battle, of a format, between who comes with a kept team and who has the name and the team
 abbrev pub start_with : Record → List ℕ → KeptTeam → List ℕ → Legal → Start

@@ -9,9 +9,10 @@ use Rattle.ps_lines.specs.declared.command.HallCmd.{HallCmd}
 use Rattle.ps_lines.specs.declared.command.HallCmd.TheVariants.{Open, Quit, Bad, Name, Team, Search, CancelSearch, Challenge, CancelChallenge, Reject, Accept, Whisper, Block, Unblock, Rank, Report}
 use Rattle.ps_packed.specs.declared.set.Set.{Set}
 use Rattle.ps_packed.specs.Scan.{team_of}
-use Rattle.ps_valid.specs.declared.start.Legal.{Legal}
-use Rattle.ps_valid.specs.declared.start.Start.{Start}
-use Rattle.ps_roster.specs.ById.{ById}
+use Rattle.ps_valid.specs.declared.legal.Legal.{Legal}
+use Rattle.rules_start.specs.declared.start.Start.{Start}
+use Rattle.ps_base.specs.ById.{ById}
+use Rattle.ps_base.specs.Limits.{most_battles}
 use Rattle.ps_users.specs.Steps.{after as users_after}
 use Rattle.ps_pms.specs.Changes.{after as pms_after}
 use Rattle.ps_ladder.specs.Ratings.{Standing, standing_after}
@@ -20,7 +21,7 @@ use Rattle.ps_ladder.specs.declared.searches.Search.{Search as Waiting}
 use Rattle.ps_hall.specs.declared.kept.KeptTeam.{KeptTeam}
 use Rattle.ps_hall.specs.declared.game.Game.{Game}
 use Rattle.ps_hall.specs.Records.{Record}
-use Rattle.ps_hall.specs.Looks.{badge_of, legal_team, without_kept, without_user, without_either, rating_in, opponent, ladder_in, game_in, has_number, player_id}
+use Rattle.ps_hall.specs.Lookups.{badge_of, legal_team, without_kept, without_user, without_either, rating_in, opponent, ladder_in, game_in, has_number, player_id}
 use Rattle.ps_hall.specs.Starts.{start_of_search, start_of_accept, with_start}
 
 -- blocks and challenges after a command
@@ -121,7 +122,7 @@ loser_of g s = player_id g (if nat_lt s 1 then 1 else 0)
 
 -- a ladder has as many results as battles that started at the most, and each is of two users
 abbrev pub takes : Standing → List ℕ → List ℕ → Bool
-takes ladder winner loser = nat_lt ladder.count 65536 && not (bytes_eq winner loser)
+takes ladder winner loser = nat_lt ladder.count most_battles && not (bytes_eq winner loser)
 
 abbrev pub standing_with : Standing → List ℕ → List ℕ → Standing
 standing_with ladder winner loser = if takes ladder winner loser then standing_after ladder winner loser else ladder

@@ -8,19 +8,19 @@ use Rattle.ps_base.specs.declared.badge.Badge.{Badge}
 use Rattle.ps_lines.specs.declared.command.HallCmd.{HallCmd}
 use Rattle.ps_lines.specs.declared.command.HallCmd.TheVariants.{Open, Quit, Bad, Name, Search, CancelSearch, Challenge, CancelChallenge, Reject, Accept, Whisper, Rank, Report}
 use Rattle.ps_group.specs.declared.group.Group.{Group}
-use Rattle.ps_valid.specs.declared.row.Settings.{Settings}
-use Rattle.ps_roster.specs.ById.{ById}
+use Rattle.rules_config.specs.declared.settings.Settings.{Settings}
+use Rattle.ps_base.specs.ById.{ById}
 use Rattle.ps_users.specs.Records.{Record as Users}
 use Rattle.ps_users.specs.Seats.{badge_in}
 use Rattle.ps_users.specs.Steps.{granted}
 use Rattle.ps_pms.specs.Records.{Record as Pms}
-use Rattle.ps_pms.specs.Looks.{asked_by, partners}
+use Rattle.ps_pms.specs.Lookups.{asked_by, partners}
 use Rattle.ps_pms.specs.declared.asked.Asked.{Asked}
 use Rattle.ps_ladder.specs.declared.searches.Search.{Search as Waiting}
 use Rattle.ps_hall.specs.declared.game.Game.{Game}
 use Rattle.ps_hall.specs.declared.notice.Notice.{Notice}
 use Rattle.ps_hall.specs.Records.{Record}
-use Rattle.ps_hall.specs.Looks.{badge_of, opponent, rating_in, game_in, player_id}
+use Rattle.ps_hall.specs.Lookups.{badge_of, opponent, rating_in, game_in, player_id}
 use Rattle.ps_hall.specs.Lines.{open_lines, user_line, search_line, challenge_line, whisper_line, rating_line}
 
 -- ---- who is told

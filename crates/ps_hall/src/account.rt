@@ -2,9 +2,9 @@
 ghost use Rattle.std.specs.Prelude.{◌≡◌, OnOk, IfOk};
 ghost use Rattle.ps_hall.specs.Accounts.{account_of, accounts_from, accounts_of};
 
-use ps_roster::id_map::IdMap;
+use ps_base::id_map::IdMap;
 use ps_users::account::Account;
-use ps_valid::row::Registered;
+use rules_config::settings::Registered;
 use std::alloc::{AllocError, Global};
 
 fn account_of(alloc: Global, user: &Registered) -> Result<Account, AllocError>

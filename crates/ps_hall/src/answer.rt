@@ -2,11 +2,12 @@
 ghost use Rattle.std.specs.Prelude.{◌≡◌, ◌<◌, ◌+◌, ◌∷◌, [], IfOk, Some, None, true, false};
 ghost use Rattle.std.specs.Option.{option_copied, option_map};
 ghost use Rattle.ps_base.specs.Ids.{id_of};
+ghost use Rattle.ps_base.specs.Limits.{most_battles};
 ghost use Rattle.ps_ladder.specs.Ratings.{rating};
-ghost use Rattle.ps_pms.specs.Looks.{asked_by};
+ghost use Rattle.ps_pms.specs.Lookups.{asked_by};
 ghost use Rattle.ps_users.specs.Refusals.{read_of};
 ghost use Rattle.ps_users.specs.Steps.{badge_for};
-ghost use Rattle.ps_hall.specs.Looks.{badge_of, challenge_from, game_in, ladder_in, opponent, player_id, rating_in};
+ghost use Rattle.ps_hall.specs.Lookups.{badge_of, challenge_from, game_in, ladder_in, opponent, player_id, rating_in};
 ghost use Rattle.ps_hall.specs.Refusals.{is_winner, refusal, refusal_by, refusal_of_named};
 ghost use Rattle.ps_hall.specs.Starts.{game_of, start_if, start_of_accept, start_of_challenge, start_of_match, start_of_search};
 ghost use Rattle.ps_hall.specs.States.{record_of};
@@ -20,7 +21,7 @@ use crate::coming::{
 };
 use crate::game::Game;
 use crate::kept::{KeptTeam, find_kept};
-use crate::look::{self, challenge_from};
+use crate::lookup::{self, challenge_from};
 use crate::notice::Notice;
 use crate::report::{loser_of, takes, winner_of};
 use crate::start::legal_team;
@@ -31,6 +32,7 @@ use crate::told::{
 };
 use ps_base::badge::Badge;
 use ps_base::id::Id;
+use ps_base::id_map::IdMap;
 use ps_base::list::List;
 use ps_base::name::Name;
 use ps_base::number::ConnNo;
@@ -38,10 +40,9 @@ use ps_ladder::ladder::Ladder;
 use ps_ladder::searches::Search;
 use ps_lines::command::HallCmd;
 use ps_pms::asked::Asked;
-use ps_roster::id_map::IdMap;
 use ps_users::read::read_of;
 use ps_users::users::Users;
-use ps_valid::start::Legal;
+use ps_valid::legal::Legal;
 use std::alloc::{AllocError, Global};
 
 fn none(alloc: Global) -> List<Notice>
@@ -112,7 +113,7 @@ fn game_with(
     name: &Name,
     rated: bool,
 ) -> Result<Game, AllocError>
-    requires { (record_of state.now).started < 65536 }
+    requires { (record_of state.now).started < most_battles }
     ensures { IfOk result (λ g. g ≡ record { number = (record_of state.now).started + 1; format = format.now; players = kept.now.name ∷ name.now ∷ []; rated = rated }) }
 {
     Ok(Game {
@@ -132,7 +133,7 @@ fn game_if(
     legal: &Option<Legal>,
     rated: bool,
 ) -> Result<Option<Game>, AllocError>
-    requires { (record_of state.now).started < 65536 }
+    requires { (record_of state.now).started < most_battles }
     ensures { IfOk result (λ o. o ≡ option_map (game_of rated) (start_if (record_of state.now) format.now (option_copied kept.entry) name.now legal.now)) }
 {
     match kept {
@@ -157,7 +158,7 @@ fn game_of_match(
     format: &Id,
     other: Option<&Search>,
 ) -> Result<Option<Game>, AllocError>
-    requires { (record_of state.now).started < 65536 }
+    requires { (record_of state.now).started < most_battles }
     ensures { IfOk result (λ o. o ≡ option_map (game_of true) (start_of_match (record_of state.now) name.now format.now (option_copied other.entry))) }
 {
     match other {
@@ -177,7 +178,7 @@ fn new_search(alloc: Global, state: &State, me: &Id, format: &Id) -> Result<Sear
     Ok(Search {
         user: me.copy(alloc)?,
         format: format.copy(alloc)?,
-        rating: look::rating_in(&state.ladders, format, me),
+        rating: lookup::rating_in(&state.ladders, format, me),
     })
 }
 
@@ -189,11 +190,11 @@ fn told_search(
     name: &Name,
     format: &Id,
 ) -> Result<List<Notice>, AllocError>
-    requires { (record_of state.now).started < 65536 }
+    requires { (record_of state.now).started < most_battles }
     ensures { IfOk result (λ l. l ≡ rows.told_of_search (record_of state.now).users.online (after_search (record_of state.now) name.now format.now).games (after_search (record_of state.now) name.now format.now).searches conn (id_of name.now) (opponent (record_of state.now) (id_of name.now) format.now)) }
 {
     let me = name.id();
-    let other = look::opponent(&state.searches, &state.ladders, me, format);
+    let other = lookup::opponent(&state.searches, &state.ladders, me, format);
     let game = game_of_match(alloc, state, name, format, other)?;
     let new = new_search(alloc, state, me, format)?;
     let games = games_and(alloc, state.games.as_slice(), game.as_ref())?;
@@ -288,7 +289,7 @@ fn game_of_challenge(
     name: &Name,
     asked: Option<&Asked>,
 ) -> Result<Option<Game>, AllocError>
-    requires { (record_of state.now).started < 65536 }
+    requires { (record_of state.now).started < most_battles }
     ensures { IfOk result (λ o. o ≡ option_map (game_of false) (start_of_challenge (record_of state.now) name.now (option_copied asked.entry))) }
 {
     match asked {
@@ -309,7 +310,7 @@ fn told_accept(
     name: &Name,
     user: &Id,
 ) -> Result<List<Notice>, AllocError>
-    requires { (record_of state.now).started < 65536 }
+    requires { (record_of state.now).started < most_battles }
     ensures { IfOk result (λ l. l ≡ rows.told_of_accept (record_of state.now).users.online (after_accept (record_of state.now) name.now user.now).games (after_accept (record_of state.now) name.now user.now).searches (after_accept (record_of state.now) name.now user.now).pms.asked conn (id_of name.now) user.now) }
 {
     let me = name.id();
@@ -387,8 +388,8 @@ fn ratings_before(ladders: &IdMap<Ladder>, game: &Game) -> (i32, i32)
     ensures two { result.1 ≡ rating (ladder_in ladders.now game.now.format).ratings (player_id game.now 1) }
 {
     (
-        look::rating_in(ladders, &game.format, game.first_id()),
-        look::rating_in(ladders, &game.format, game.second_id()),
+        lookup::rating_in(ladders, &game.format, game.first_id()),
+        lookup::rating_in(ladders, &game.format, game.second_id()),
     )
 }
 
@@ -446,7 +447,7 @@ fn told_report(
     requires { is_winner winner ≡ true }
     ensures { IfOk result (λ l. l ≡ rows.told_of_report (record_of state.now).users.online (after_report (record_of state.now) number winner) winner (game_in (record_of state.now) number)) }
 {
-    match look::game_in(state.games.as_slice(), number) {
+    match lookup::game_in(state.games.as_slice(), number) {
         None => Ok(none(alloc)),
         Some(game) => told_game(alloc, state, number, winner, game),
     }
@@ -491,7 +492,7 @@ fn told_of_named(
             conn,
             user,
             format,
-            look::rating_in(&state.ladders, format, user),
+            lookup::rating_in(&state.ladders, format, user),
         ),
         _ => Ok(none(alloc)),
     }

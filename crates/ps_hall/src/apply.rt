@@ -2,11 +2,11 @@
 ghost use Rattle.std.specs.Prelude.{◌≡◌, OnOk, OnErr, IfOk, IfSome, IfNone, None, Some};
 ghost use Rattle.std.specs.Option.{option_copied};
 ghost use Rattle.ps_base.specs.Ids.{id_of};
-ghost use Rattle.ps_start.specs.Fits.{IsFit};
+ghost use Rattle.rules_start.specs.Fits.{IsFit};
 ghost use Rattle.ps_lines.specs.declared.command.HallCmd.TheVariants.{Accept};
 ghost use Rattle.ps_hall.specs.States.{record_of};
-ghost use Rattle.ps_hall.specs.Places.{AreReady, IsKeepReady, IsLegalReady};
-ghost use Rattle.ps_hall.specs.Looks.{badge_of, opponent};
+ghost use Rattle.ps_hall.specs.KeptIndices.{AreReady, IsKeepReady, IsLegalReady};
+ghost use Rattle.ps_hall.specs.Lookups.{badge_of, opponent};
 ghost use Rattle.ps_hall.specs.Starts.{start_of_search, start_of_accept};
 ghost use Rattle.ps_hall.specs.declared.outcome.HallVerdict.TheVariants.{Applied};
 ghost use Rattle.ps_hall.specs.Halls.{out_by};
@@ -25,7 +25,7 @@ use ps_base::id::Id;
 use ps_base::name::Name;
 use ps_base::number::ConnNo;
 use ps_lines::command::HallCmd;
-use ps_valid::start::Start;
+use rules_start::start::Start;
 use std::alloc::{AllocError, Global};
 
 // A Search that is allowed: the battle that it starts.

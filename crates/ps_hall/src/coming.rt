@@ -2,14 +2,13 @@
 ghost use Rattle.std.specs.Prelude.{◌≡◌, ◌++◌, ◌∷◌, [], not, map, OnOk, IfOk, option_to_list};
 ghost use Rattle.std.specs.List.{filter};
 ghost use Rattle.std.specs.Option.{option_copied};
-ghost use Rattle.ps_pms.specs.Looks.{is_by, is_of, is_with};
+ghost use Rattle.ps_pms.specs.Lookups.{is_by, is_of, is_with};
 ghost use Rattle.ps_ladder.specs.Waiting.{has_user, suits, without, added, cancelled};
 ghost use Rattle.ps_hall.specs.Steps.{without_game};
 
 use crate::game::Game;
 use ps_base::id::Id;
-use ps_ladder::gain::distance;
-use ps_ladder::searches::{Search, Searches};
+use ps_ladder::searches::{Search, Searches, is_near};
 use ps_pms::asked::Asked;
 use std::alloc::{AllocError, Global};
 
@@ -136,7 +135,7 @@ fn suits(entry: &Search, new: &Search) -> bool
 {
     !has_user(entry, &new.user)
         && entry.format.as_str() == new.format.as_str()
-        && distance(entry.rating, new.rating) <= 300
+        && is_near(entry.rating, new.rating)
 }
 
 // The searches without the one that has waited longest of those that suit.

@@ -1,8 +1,8 @@
 //! Entries that are applied or refused.
 ghost use Rattle.std.specs.Prelude.{◌≡◌, ◌++◌, ◌∷◌, [], IfOk, IfSome, OnOk, OnErr, None, Some};
-ghost use Rattle.ps_start.specs.Fits.{IsFit};
+ghost use Rattle.rules_start.specs.Fits.{IsFit};
 ghost use Rattle.ps_hall.specs.States.{record_of};
-ghost use Rattle.ps_hall.specs.Places.{AreReady};
+ghost use Rattle.ps_hall.specs.KeptIndices.{AreReady};
 ghost use Rattle.ps_hall.specs.Refusals.{refusal};
 ghost use Rattle.ps_hall.specs.Lines.{refused_line};
 ghost use Rattle.ps_hall.specs.declared.outcome.HallVerdict.TheVariants.{Refused};

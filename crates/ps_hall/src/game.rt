@@ -1,10 +1,12 @@
 //! Battles that have started.
 ghost use Rattle.std.specs.Prelude.{◌≡◌, [], IfOk, slice_index_or};
-ghost use Rattle.ps_hall.specs.Looks.{player_id, plays, battle_id, battle_title};
+ghost use Rattle.ps_hall.specs.Lookups.{player_id, plays};
+ghost use Rattle.rules_start.specs.Starts.{battle_title};
 
 use ps_base::id::Id;
 use ps_base::name::Name;
 use ps_base::text::Text;
+use rules_start::start::battle_title;
 use std::alloc::{AllocError, Global};
 
 /// A battle that has started and wasn't reported yet.
@@ -54,18 +56,4 @@ pub fn plays(id: &str, game: &Game) -> bool
         return true;
     }
     game.second_id().as_str() == id
-}
-
-/// The id of a battle's room: `battle-FORMAT-N` of PROTOCOL.md.
-pub fn battle_id(alloc: Global, format: &Id, number: u32) -> Result<Text, AllocError>
-    ensures { IfOk result (λ t. t ≡ battle_id format.now number) }
-{
-    Ok(Text::from_string(format!(in alloc; "battle-{format}-{number}")?))
-}
-
-/// The title of a battle: the names of both players.
-pub fn battle_title(alloc: Global, one: &Name, two: &Name) -> Result<Text, AllocError>
-    ensures { IfOk result (λ t. t ≡ battle_title one.now two.now) }
-{
-    Ok(Text::from_string(format!(in alloc; "{one} vs. {two}")?))
 }

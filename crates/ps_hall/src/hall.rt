@@ -2,14 +2,15 @@
 ghost use Rattle.std.specs.Prelude.{◌≡◌, ◌-◌, IfOk, IfSome, OnOk, OnErr, length, map};
 ghost use Rattle.std.specs.Option.{option_copied};
 ghost use Rattle.std.specs.Arc.{arc_value};
-ghost use Rattle.ps_start.specs.Fits.{IsFit};
+ghost use Rattle.rules_start.specs.Fits.{IsFit};
 ghost use Rattle.ps_users.specs.Seats.{is_seat};
 ghost use Rattle.ps_hall.specs.Records.{opened};
-ghost use Rattle.ps_hall.specs.Looks.{badge_of};
+ghost use Rattle.ps_hall.specs.Lookups.{badge_of};
 ghost use Rattle.ps_hall.specs.States.{record_of};
-ghost use Rattle.ps_hall.specs.Places.{AreReady};
+ghost use Rattle.ps_hall.specs.KeptIndices.{AreReady};
 ghost use Rattle.ps_hall.specs.Refusals.{refusal};
-ghost use Rattle.ps_hall.specs.Halls.{seen_opened, seen_after, out_of, pulled_past, cursor_past, msg_lines, last_told};
+ghost use Rattle.ps_hall.specs.Halls.{seen_opened, seen_after, out_of, pulled_past, cursor_past, last_told};
+ghost use Rattle.ps_base.specs.Messages.{msg_lines};
 
 use crate::account::accounts_of;
 use crate::cursor::Cursor;
@@ -22,6 +23,7 @@ use crate::refusal::refusal;
 use crate::state::State;
 use ps_base::badge::Badge;
 use ps_base::hall_why::HallWhy;
+use ps_base::id_map::IdMap;
 use ps_base::list::List;
 use ps_base::msg::Msg;
 use ps_base::number::ConnNo;
@@ -30,9 +32,8 @@ use ps_dex::dex::Dex;
 use ps_ladder::searches::Searches;
 use ps_lines::command::HallCmd;
 use ps_pms::pms::Pms;
-use ps_roster::id_map::IdMap;
 use ps_users::users::Users;
-use ps_valid::config::Config;
+use rules_config::config::Config;
 use std::alloc::{AllocError, Global};
 use std::marker::Model;
 use std::sync::Arc;
@@ -48,10 +49,10 @@ pub struct Hall {
 impl Model for Hall {
     ghost use Rattle.std.specs.Coded.{codes, coded_ℕ, coded_ℤ};
     ghost use base.Stored.{coded_unit};
-    ghost use Rattle.ps_roster.specs.ById.{by_id_code};
+    ghost use Rattle.ps_base.specs.ById.{by_id_code};
     ghost use Rattle.ps_users.specs.ByConn.{by_conn_code};
     ghost use Rattle.ps_hall.specs.States.{record_of};
-    ghost use Rattle.ps_hall.specs.Places.{AreReady};
+    ghost use Rattle.ps_hall.specs.KeptIndices.{AreReady};
     ghost use Rattle.ps_hall.specs.Halls.{Seen};
 
     ghost Value = { Seen };

@@ -1,14 +1,13 @@
 //! Teams that are kept with a challenge or a search.
-ghost use Rattle.std.specs.Prelude.{◌≡◌, ◌++◌, ◌∷◌, [], IfOk, IfNone, IfSome, None};
+ghost use Rattle.std.specs.Prelude.{◌≡◌, IfOk, IfNone, IfSome, None};
 ghost use Rattle.std.specs.Option.{option_copied};
-ghost use Rattle.ps_hall.specs.Looks.{is_kept, is_kept_of, is_kept_with, kept_team, without_kept, without_user, without_either};
-ghost use Rattle.ps_hall.specs.Places.{IsKeptPlace};
+ghost use Rattle.ps_hall.specs.Lookups.{is_kept, is_kept_of, is_kept_with, kept_team, without_kept, without_user, without_either};
+ghost use Rattle.ps_hall.specs.KeptIndices.{IsKeptIndex};
 
 use ps_base::id::Id;
-use ps_base::list::List;
 use ps_base::name::Name;
-use ps_base::text::Text;
-use ps_valid::start::Legal;
+use ps_base::text::copies;
+use ps_valid::legal::Legal;
 use std::alloc::{AllocError, Global};
 
 /// A team as it was when its user challenged somebody or began to search.
@@ -22,24 +21,13 @@ pub struct KeptTeam {
     pub team: Legal,
 }
 
-fn nicks_copy(alloc: Global, nicks: &[Text]) -> Result<Vec<Text>, AllocError>
-    ensures { IfOk result (λ v. v.items ≡ nicks.now) }
-{
-    let mut copies = Vec::new(alloc);
-    for nick in nicks {
-        copies.push(nick.copy(alloc)?)?;
-    }
-    Ok(copies)
-}
-
 /// The same team.
 pub(crate) fn legal_copy(alloc: Global, legal: &Legal) -> Result<Legal, AllocError>
     ensures { IfOk result (λ l. l ≡ legal.now) }
 {
-    let nicks = nicks_copy(alloc, legal.nicks.as_slice())?;
     Ok(Legal {
         team: legal.team,
-        nicks: List::from_vec(nicks),
+        nicks: copies(alloc, legal.nicks.as_slice())?,
     })
 }
 
@@ -89,10 +77,10 @@ pub(crate) fn find_kept<'a>(list: &'a [KeptTeam], user: &Id, with_id: &Id) -> Op
     None
 }
 
-// The place of the first team of a user that was kept with an id.
-fn place_of(list: &[KeptTeam], user: &Id, with_id: &Id) -> Option<usize>
+// The index of the first team of a user that was kept with an id.
+fn index_of(list: &[KeptTeam], user: &Id, with_id: &Id) -> Option<usize>
     ensures none { IfNone result (without_kept user.now with_id.now list.now ≡ list.now) }
-    ensures some { IfSome result (IsKeptPlace list.now user.now with_id.now) }
+    ensures some { IfSome result (IsKeptIndex list.now user.now with_id.now) }
 {
     for i in 0..list.len() {
         if is_kept(&list[i], user, with_id) {
@@ -106,10 +94,10 @@ fn place_of(list: &[KeptTeam], user: &Id, with_id: &Id) -> Option<usize>
 pub(crate) fn drop_kept(list: &mut Vec<KeptTeam>, user: &Id, with_id: &Id)
     ensures { list.new.items ≡ without_kept user.now with_id.now list.old.items }
 {
-    match place_of(list.as_slice(), user, with_id) {
+    match index_of(list.as_slice(), user, with_id) {
         None => {}
-        Some(place) => {
-            let _ = list.remove(place);
+        Some(index) => {
+            let _ = list.remove(index);
         }
     }
 }

@@ -14,7 +14,7 @@ pub mod kept;
 pub mod law;
 pub mod line;
 mod log;
-mod look;
+mod lookup;
 pub mod notice;
 pub mod outcome;
 pub mod pack;

@@ -1,28 +1,29 @@
 //! The lines of the hall.
-ghost use Rattle.std.specs.Prelude.{◌≡◌, ◌∷◌, ◌++◌, [], false, find, map, codes, string_bytes, IfOk, OnOk};
+ghost use Rattle.std.specs.Prelude.{◌≡◌, ◌∷◌, ◌++◌, [], find, map, codes, string_bytes, IfOk, OnOk};
 ghost use Rattle.std.specs.List.{filter, join_with_byte};
 ghost use Rattle.std.specs.Option.{option_copied};
 ghost use Rattle.serde_json.specs.Data.{string, array, object, member, no_members, put as with_member};
 ghost use Rattle.serde_json.specs.View.{view, items_of, members_view};
-ghost use Rattle.serde_json.specs.Written.{has_float, compact_text};
-ghost use Rattle.ps_pms.specs.Looks.{is_by, is_to};
-ghost use Rattle.ps_hall.specs.Looks.{games_of, searched};
+ghost use Rattle.ps_pms.specs.Lookups.{is_by, is_to};
+ghost use Rattle.ps_hall.specs.Lookups.{games_of, searched};
 ghost use Rattle.ps_hall.specs.Lines.{challstr_line, guest_line, formats_line, open_lines, user_line, with_game, with_games, games_data, object_or_null, search_data, search_line, asked_data, with_asked, challenge_data, challenge_line, whisper_line, rating_line, taken_by, taken_line, refused_line};
 
-use crate::game::{Game, battle_id, plays};
+use crate::game::{Game, plays};
 use ps_base::badge::Badge;
 use ps_base::hall_why::{HallWhy, nametaken_line, popup_line};
 use ps_base::id::Id;
 use ps_base::list::List;
 use ps_base::number::ConnNo;
 use ps_base::text::Text;
+use ps_data::writing::written;
 use ps_group::groups::Groups;
+use ps_group::shown_name::shown_name;
 use ps_ladder::searches::Search;
 use ps_lines::command::HallCmd;
 use ps_pms::asked::Asked;
-use ps_roster::shown_name::sname;
-use ps_rules::row::Format;
+use ps_rules::table::Format;
 use ps_users::read::read_of;
+use rules_start::start::battle_id;
 use serde_json::{Map, Value, json};
 use std::alloc::{AllocError, Global};
 
@@ -87,19 +88,11 @@ pub(crate) fn open_lines(
 pub(crate) fn user_line(alloc: Global, groups: &Groups, badge: &Badge) -> Result<Text, AllocError>
     ensures { IfOk result (λ t. t ≡ user_line groups.now badge.now) }
 {
-    let shown = sname(alloc, groups, badge.rank, &badge.name)?;
+    let shown = shown_name(alloc, groups, badge.rank, &badge.name)?;
     Ok(Text::from_string(format!(in alloc; "|updateuser|{shown}|1|0|{{}}")?))
 }
 
 // ---- JSON
-
-/// A value without floats as text, without spaces.
-fn written(alloc: Global, value: &Value) -> Result<String, AllocError>
-    requires { has_float (view value.now) ≡ false }
-    ensures { IfOk result (λ text. string_bytes text ≡ compact_text (view value.now)) }
-{
-    value.to_string(alloc)
-}
 
 /// Puts a text at a key.
 fn put_text(
@@ -320,8 +313,8 @@ pub(crate) fn whisper_line(
 ) -> Result<Text, AllocError>
     ensures { IfOk result (λ t. t ≡ whisper_line groups.now from.now to.now text.now) }
 {
-    let from = sname(alloc, groups, from.rank, &from.name)?;
-    let to = sname(alloc, groups, to.rank, &to.name)?;
+    let from = shown_name(alloc, groups, from.rank, &from.name)?;
+    let to = shown_name(alloc, groups, to.rank, &to.name)?;
     Ok(Text::from_string(format!(in alloc; "|pm|{from}|{to}|{text}")?))
 }
 

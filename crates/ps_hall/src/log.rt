@@ -1,22 +1,14 @@
 //! What the hall keeps of its entries, for those who look later.
 ghost use Rattle.std.specs.Prelude.{◌≡◌, ◌++◌, map, drop, OnOk, IfOk};
-ghost use Rattle.ps_hall.specs.Halls.{lines_for, message_of, sent, pulled, msg_lines};
+ghost use Rattle.ps_hall.specs.Halls.{lines_for, message_of, pulled};
+ghost use Rattle.ps_base.specs.Messages.{sent, msg_lines};
 
 use crate::notice::Notice;
 use ps_base::list::List;
-use ps_base::msg::Msg;
+use ps_base::msg::{Msg, push_message};
 use ps_base::number::ConnNo;
-use ps_base::text::Text;
+use ps_base::text::{Text, push_copies};
 use std::alloc::{AllocError, Global};
-
-fn push_copies(alloc: Global, lines: &mut Vec<Text>, more: &[Text]) -> Result<(), AllocError>
-    ensures { OnOk result (lines.new.items ≡ lines.old.items ++ more.now) }
-{
-    for line in more {
-        lines.push(line.copy(alloc)?)?;
-    }
-    Ok(())
-}
 
 fn push_notice(
     alloc: Global,
@@ -55,17 +47,7 @@ fn message_of(alloc: Global, conn: ConnNo, notices: &[Notice]) -> Result<List<Te
     Ok(List::from_vec(lines))
 }
 
-// Puts a message behind the others, where it has lines.
-fn push_message(messages: &mut Vec<Msg>, lines: List<Text>) -> Result<(), AllocError>
-    ensures { OnOk result (map msg_lines messages.new.items ≡ map msg_lines messages.old.items ++ sent lines) }
-{
-    if !lines.as_slice().is_empty() {
-        messages.push(Msg { lines })?;
-    }
-    Ok(())
-}
-
-/// What is kept past a place.
+/// What is kept past an index.
 pub(crate) fn past(log: &[List<Notice>], at: usize) -> &[List<Notice>]
     ensures { result.now ≡ drop at log.now }
 {

@@ -1,7 +1,7 @@
 //! What the hall answers to an entry.
 use ps_base::badge::Badge;
 use ps_base::hall_why::HallWhy;
-use ps_valid::start::Start;
+use rules_start::start::Start;
 
 /// Whether an entry was applied.
 #[derive(Debug, Drop)]

@@ -6,7 +6,7 @@ ghost use Rattle.ps_hall.specs.Refusals.{bad_why, of_found, of_team, of_text, of
 ghost use Rattle.ps_hall.specs.Refusals.{refusal_of_search, refusal_of_cancel_search, refusal_of_challenge, refusal_of_cancel_challenge, refusal_of_reject, refusal_of_accept, refusal_of_pm, refusal_of_rank, refusal_of_report, refusal_of_named, refusal_by, refusal};
 ghost use Rattle.ps_valid.specs.TeamRows.{legal_in};
 
-use crate::look;
+use crate::lookup;
 use crate::pack::pack_refusal;
 use crate::state::State;
 use ps_base::badge::Badge;
@@ -16,10 +16,10 @@ use ps_base::number::ConnNo;
 use ps_base::text::Text;
 use ps_dex::dex::Dex;
 use ps_lines::command::{BadWhy, HallCmd};
+use ps_lines::sent_text::{is_blank, is_long};
 use ps_packed::team::Team;
 use ps_pms::asked::Asked;
-use ps_roster::sent_text::{is_blank, is_long};
-use ps_rules::row::{Format, RuleTable};
+use ps_rules::table::{Format, RuleTable};
 use ps_valid::check::check_team;
 use ps_valid::verdict::TeamFault;
 use std::alloc::{AllocError, Global};
@@ -92,7 +92,7 @@ fn of_text(text: &str) -> Option<HallWhy>
 fn of_battles(state: &State) -> Option<HallWhy>
     ensures { result ≡ of_battles (record_of state.now) }
 {
-    if look::is_full(state.started) {
+    if lookup::is_full(state.started) {
         return Some(HallWhy::BattlesFull);
     }
     None
@@ -147,7 +147,7 @@ fn refusal_of_search(
         state,
         me,
         format,
-        look::format_in(&state.config, format),
+        lookup::format_in(&state.config, format),
     )
 }
 
@@ -189,7 +189,7 @@ fn refusal_of_challenge(
 ) -> Result<Option<HallWhy>, AllocError>
     ensures { IfOk result (λ o. o ≡ refusal_of_challenge (record_of state.now) me.now user.now format.now) }
 {
-    if !look::is_online(&state.users, user) {
+    if !lookup::is_online(&state.users, user) {
         return Ok(Some(HallWhy::NoSuchUser));
     }
     if user.as_str() == me.as_str() {
@@ -200,7 +200,7 @@ fn refusal_of_challenge(
         state,
         me,
         user,
-        look::format_in(&state.config, format),
+        lookup::format_in(&state.config, format),
     )
 }
 
@@ -215,7 +215,7 @@ fn refusal_of_cancel_challenge(state: &State, me: &Id) -> Option<HallWhy>
 fn refusal_of_reject(state: &State, me: &Id, user: &Id) -> Option<HallWhy>
     ensures { result ≡ refusal_of_reject (record_of state.now) me.now user.now }
 {
-    if look::challenge_from(state, me, user).is_none() {
+    if lookup::challenge_from(state, me, user).is_none() {
         return Some(HallWhy::NoChallenge);
     }
     None
@@ -252,7 +252,7 @@ fn of_accept(
             alloc,
             state,
             me,
-            look::format_in(&state.config, &asked.format),
+            lookup::format_in(&state.config, &asked.format),
         ),
     }
 }
@@ -266,14 +266,14 @@ fn refusal_of_accept(
 ) -> Result<Option<HallWhy>, AllocError>
     ensures { IfOk result (λ o. o ≡ refusal_of_accept (record_of state.now) me.now user.now) }
 {
-    of_accept(alloc, state, me, look::challenge_from(state, me, user))
+    of_accept(alloc, state, me, lookup::challenge_from(state, me, user))
 }
 
 #[tactic(auto, unfolding(crate::specs::Refusals::refusal_of_pm))]
 fn refusal_of_pm(state: &State, me: &Id, user: &Id, text: &str) -> Option<HallWhy>
     ensures { result ≡ refusal_of_pm (record_of state.now) me.now user.now text.now }
 {
-    if !look::is_online(&state.users, user) {
+    if !lookup::is_online(&state.users, user) {
         return Some(HallWhy::NoSuchUser);
     }
     match of_text(text) {
@@ -286,7 +286,7 @@ fn refusal_of_pm(state: &State, me: &Id, user: &Id, text: &str) -> Option<HallWh
 fn refusal_of_rank(state: &State, format: &Id) -> Option<HallWhy>
     ensures { result ≡ refusal_of_rank (record_of state.now) format.now }
 {
-    if look::format_in(&state.config, format).is_none() {
+    if lookup::format_in(&state.config, format).is_none() {
         return Some(HallWhy::UnknownFormat);
     }
     None
@@ -306,7 +306,7 @@ fn is_winner(winner: Option<u8>) -> bool
 fn refusal_of_report(state: &State, number: u32, winner: Option<u8>) -> Option<HallWhy>
     ensures { result ≡ refusal_of_report (record_of state.now) number winner }
 {
-    if look::game_in(state.games.as_slice(), number).is_none() {
+    if lookup::game_in(state.games.as_slice(), number).is_none() {
         return Some(HallWhy::NoBattle);
     }
     if !is_winner(winner) {

@@ -4,24 +4,25 @@ ghost use Rattle.std.specs.Option.{option_copied};
 ghost use Rattle.std.specs.FinMap.{get, insert};
 ghost use Rattle.ps_base.specs.Ids.{id_of};
 ghost use Rattle.ps_ladder.specs.Ratings.{Standing, standing_of};
-ghost use Rattle.ps_hall.specs.Looks.{has_number};
+ghost use Rattle.ps_hall.specs.Lookups.{has_number};
 ghost use Rattle.ps_hall.specs.Refusals.{is_winner};
 ghost use Rattle.ps_hall.specs.States.{record_of};
 ghost use Rattle.ps_hall.specs.Steps.{winner_of, loser_of, takes, standing_with, with_settled, settled_by, without_game, after_report};
 
 use crate::game::Game;
-use crate::look;
+use crate::lookup;
 use crate::state::State;
 use ps_base::id::Id;
+use ps_base::id_map::IdMap;
+use ps_base::limit::MOST_BATTLES;
 use ps_ladder::ladder::Ladder;
-use ps_roster::id_map::IdMap;
 use std::alloc::{AllocError, Global};
 
 // Whether a ladder takes a result.
 pub(crate) fn takes(ladder: &Ladder, winner: &Id, loser: &Id) -> bool
     ensures { result ≡ takes ladder.now winner.now loser.now }
 {
-    ladder.count() < 65536 && !(winner.as_str() == loser.as_str())
+    ladder.count() < MOST_BATTLES && !(winner.as_str() == loser.as_str())
 }
 
 // A ladder after a result.
@@ -163,7 +164,7 @@ pub(crate) fn after_report(
     ensures ok { OnOk result (record_of state.new ≡ after_report (record_of state.old) number winner) }
     ensures err { OnErr result (record_of state.new ≡ record_of state.old) }
 {
-    match look::game_in(state.games.as_slice(), number) {
+    match lookup::game_in(state.games.as_slice(), number) {
         None => Ok(()),
         Some(game) => {
             settle_game(alloc, &mut state.ladders, game, winner)?;

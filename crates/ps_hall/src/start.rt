@@ -2,17 +2,18 @@
 ghost use Rattle.std.specs.Prelude.{◌≡◌, ◌<◌, IfOk, IfSome, Option, Some, None};
 ghost use Rattle.std.specs.Option.{option_copied, option_map};
 ghost use Rattle.ps_base.specs.Ids.{id_of};
-ghost use Rattle.ps_start.specs.Fits.{IsFit};
+ghost use Rattle.ps_base.specs.Limits.{most_battles};
+ghost use Rattle.rules_start.specs.Fits.{IsFit};
 ghost use Rattle.ps_valid.specs.Ready.{IsReady};
 ghost use Rattle.ps_valid.specs.TeamRows.{legal_in};
-ghost use Rattle.ps_hall.specs.Looks.{legal_or, legal_under, legal_team, challenge_from, opponent};
-ghost use Rattle.ps_hall.specs.Places.{AreReady};
+ghost use Rattle.ps_hall.specs.Lookups.{legal_or, legal_under, legal_team, challenge_from, opponent};
+ghost use Rattle.ps_hall.specs.KeptIndices.{AreReady};
 ghost use Rattle.ps_hall.specs.Starts.{start_with, start_if, start_of_match, start_of_search, start_of_challenge, start_of_accept, game_of};
 ghost use Rattle.ps_hall.specs.States.{record_of};
 
 use crate::game::Game;
 use crate::kept::{KeptTeam, find_kept, legal_copy};
-use crate::look;
+use crate::lookup;
 use crate::state::State;
 use ps_base::id::Id;
 use ps_base::name::Name;
@@ -20,11 +21,12 @@ use ps_dex::dex::Dex;
 use ps_ladder::searches::Search;
 use ps_packed::team::Team;
 use ps_pms::asked::Asked;
-use ps_rules::row::{Format, RuleTable};
+use ps_rules::table::{Format, RuleTable};
 use ps_valid::check::check_team;
-use ps_valid::seed::seed_of;
-use ps_valid::start::{Legal, Start};
+use ps_valid::legal::Legal;
 use ps_valid::verdict::TeamFault;
+use rules_config::seed::seed_of;
+use rules_start::start::Start;
 use std::alloc::{AllocError, Global};
 
 // A team, where the rules find no fault.
@@ -72,7 +74,7 @@ pub(crate) fn legal_team(
     ensures value { IfOk result (λ o. o ≡ legal_team (record_of state.now) me.now format.now) }
     ensures ready { IfOk result (λ o. IfSome o (λ l. IsReady (record_of state.now).dex l)) }
 {
-    legal_under(alloc, state, me, look::format_in(&state.config, format))
+    legal_under(alloc, state, me, lookup::format_in(&state.config, format))
 }
 
 // The next battle, of a format, between who comes with a kept team and who has the name and the team.
@@ -84,7 +86,7 @@ fn start_with(
     name: &Name,
     legal: Legal,
 ) -> Result<Start, AllocError>
-    requires { (record_of state.now).started < 65536 }
+    requires { (record_of state.now).started < most_battles }
     ensures { IfOk result (λ s. s ≡ start_with (record_of state.now) format.now kept.now name.now legal) }
 {
     let number = state.started + 1;
@@ -106,7 +108,7 @@ fn start_if(
     name: &Name,
     legal: Option<Legal>,
 ) -> Result<Option<Start>, AllocError>
-    requires { (record_of state.now).started < 65536 }
+    requires { (record_of state.now).started < most_battles }
     ensures { IfOk result (λ o. o ≡ start_if (record_of state.now) format.now (option_copied kept.entry) name.now legal) }
 {
     match kept {
@@ -129,7 +131,7 @@ fn start_of_match(
     format: &Id,
     other: &Search,
 ) -> Result<Option<Start>, AllocError>
-    requires few { (record_of state.now).started < 65536 }
+    requires few { (record_of state.now).started < most_battles }
     requires ready { AreReady (record_of state.now) }
     requires other { opponent (record_of state.now) (id_of name.now) format.now ≡ Some other.now }
     ensures value { IfOk result (λ o. o ≡ start_of_match (record_of state.now) name.now format.now (Some other.now)) }
@@ -148,12 +150,12 @@ pub(crate) fn start_of_search(
     name: &Name,
     format: &Id,
 ) -> Result<Option<Start>, AllocError>
-    requires few { (record_of state.now).started < 65536 }
+    requires few { (record_of state.now).started < most_battles }
     requires ready { AreReady (record_of state.now) }
     ensures value { IfOk result (λ o. o ≡ start_of_search (record_of state.now) name.now format.now) }
     ensures fit { IfOk result (λ o. IfSome o (λ s. IsFit s (record_of state.now).config (record_of state.now).dex)) }
 {
-    match look::opponent(&state.searches, &state.ladders, name.id(), format) {
+    match lookup::opponent(&state.searches, &state.ladders, name.id(), format) {
         None => Ok(None),
         Some(other) => start_of_match(alloc, state, name, format, other),
     }
@@ -167,7 +169,7 @@ fn start_of_challenge(
     user: &Id,
     asked: &Asked,
 ) -> Result<Option<Start>, AllocError>
-    requires few { (record_of state.now).started < 65536 }
+    requires few { (record_of state.now).started < most_battles }
     requires ready { AreReady (record_of state.now) }
     requires asked { challenge_from (record_of state.now) (id_of name.now) user.now ≡ Some asked.now }
     ensures value { IfOk result (λ o. o ≡ start_of_challenge (record_of state.now) name.now (Some asked.now)) }
@@ -186,12 +188,12 @@ pub(crate) fn start_of_accept(
     name: &Name,
     user: &Id,
 ) -> Result<Option<Start>, AllocError>
-    requires few { (record_of state.now).started < 65536 }
+    requires few { (record_of state.now).started < most_battles }
     requires ready { AreReady (record_of state.now) }
     ensures value { IfOk result (λ o. o ≡ start_of_accept (record_of state.now) name.now user.now) }
     ensures fit { IfOk result (λ o. IfSome o (λ s. IsFit s (record_of state.now).config (record_of state.now).dex)) }
 {
-    match look::challenge_from(state, name.id(), user) {
+    match lookup::challenge_from(state, name.id(), user) {
         None => Ok(None),
         Some(asked) => start_of_challenge(alloc, state, name, user, asked),
     }

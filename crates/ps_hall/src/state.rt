@@ -1,14 +1,14 @@
 //! The state of the hall.
 use crate::game::Game;
 use crate::kept::KeptTeam;
+use ps_base::id_map::IdMap;
 use ps_dex::dex::Dex;
 use ps_ladder::ladder::Ladder;
 use ps_ladder::searches::Searches;
 use ps_packed::team::Team;
 use ps_pms::pms::Pms;
-use ps_roster::id_map::IdMap;
 use ps_users::users::Users;
-use ps_valid::config::Config;
+use rules_config::config::Config;
 use std::sync::Arc;
 
 /// The parts of the hall, without what it keeps for those who look later.

@@ -7,17 +7,18 @@ ghost use Rattle.ps_users.specs.Steps.{granted};
 ghost use Rattle.std.specs.Option.{option_copied, option_map};
 ghost use Rattle.std.specs.FinMap.{insert, remove};
 ghost use Rattle.ps_base.specs.Ids.{id_of};
-ghost use Rattle.ps_start.specs.Fits.{IsFit};
+ghost use Rattle.ps_base.specs.Limits.{most_battles};
+ghost use Rattle.rules_start.specs.Fits.{IsFit};
 ghost use Rattle.ps_ladder.specs.Waiting.{added};
 ghost use Rattle.ps_hall.specs.States.{record_of};
-ghost use Rattle.ps_hall.specs.Looks.{opponent, rating_in};
-ghost use Rattle.ps_hall.specs.Places.{AreReady, IsLegalReady};
+ghost use Rattle.ps_hall.specs.Lookups.{opponent, rating_in};
+ghost use Rattle.ps_hall.specs.KeptIndices.{AreReady, IsLegalReady};
 ghost use Rattle.ps_hall.specs.Starts.{start_of_search, start_of_accept, game_of, with_game};
 ghost use Rattle.ps_hall.specs.Steps.{with_users, with_pms, forgotten_by, forgotten_if, after_quit, after_team, with_team, kept_by, with_search, after_search, after_accept, after_challenge, after_cancel_search, after_cancel_challenge, after_reject};
 
 use crate::game::Game;
 use crate::kept::{KeptTeam, drop_either, drop_kept, drop_user, new_kept};
-use crate::look;
+use crate::lookup;
 use crate::pack::read_pack;
 use crate::start::{game_of, legal_team, start_of_accept, start_of_search};
 use crate::state::State;
@@ -29,7 +30,8 @@ use ps_base::text::Text;
 use ps_ladder::searches::Searches;
 use ps_lines::command::HallCmd;
 use ps_packed::team::Team;
-use ps_valid::start::{Legal, Start};
+use ps_valid::legal::Legal;
+use rules_start::start::Start;
 use std::alloc::{AllocError, Global};
 
 /// Open, Quit and Name, as far as users go: the badge that a Name gives.
@@ -303,8 +305,8 @@ fn with_search(alloc: Global, state: &mut State, name: &Name, format: &Id) -> Re
     ensures games { state.new.games ≡ state.old.games }
     ensures err { OnErr result (record_of state.new ≡ record_of state.old) }
 {
-    let rating = look::rating_in(&state.ladders, format, name.id());
-    match look::opponent(&state.searches, &state.ladders, name.id(), format) {
+    let rating = lookup::rating_in(&state.ladders, format, name.id());
+    match lookup::opponent(&state.searches, &state.ladders, name.id(), format) {
         None => wait(alloc, state, name, format, rating),
         Some(other) => {
             let user = other.user.copy(alloc)?;
@@ -332,7 +334,7 @@ pub(crate) fn after_search(
     name: &Name,
     format: &Id,
 ) -> Result<Option<Start>, AllocError>
-    requires few { (record_of state.old).started < 65536 }
+    requires few { (record_of state.old).started < most_battles }
     requires ready { AreReady (record_of state.old) }
     ensures value { IfOk result (λ o. o ≡ start_of_search (record_of state.old) name.now format.now) }
     ensures fit { IfOk result (λ o. IfSome o (λ s. IsFit s (record_of state.old).config (record_of state.old).dex)) }
@@ -363,7 +365,7 @@ pub(crate) fn after_accept(
     cmd: &HallCmd,
 ) -> Result<Option<Start>, AllocError>
     requires cmd { cmd.now ≡ Accept user.now }
-    requires few { (record_of state.old).started < 65536 }
+    requires few { (record_of state.old).started < most_battles }
     requires ready { AreReady (record_of state.old) }
     ensures value { IfOk result (λ o. o ≡ start_of_accept (record_of state.old) name.now user.now) }
     ensures fit { IfOk result (λ o. IfSome o (λ s. IsFit s (record_of state.old).config (record_of state.old).dex)) }

@@ -17,7 +17,7 @@ use ps_ladder::searches::Search;
 use ps_pms::asked::Asked;
 use ps_pms::pms::Pms;
 use ps_users::users::Users;
-use ps_valid::config::Config;
+use rules_config::config::Config;
 use std::alloc::{AllocError, Global};
 
 // ---- who is told

@@ -1,7 +1,8 @@
 -- Each step keeps the rule.
-use Rattle.std.proofs.Common.{◌≡◌, ◌≢◌, ℕ, zero, suc, ◌+◌, ◌-◌, ◌*◌, ◌/◌, ◌%◌, ◌^◌, ◌<◌, ◌≤◌, List, [], ◌∷◌, ◌++◌, length, get_or, set, refl, ap, sym, ◌∙◌, inl, inr, subst, arith, append-nil, length-append, length-set, get_or-set_same, true, false, true≢false, eqb, eq-eqb, ne_eqb, ⊎_elim, Option, Some}
+use Rattle.std.proofs.Common.{◌≡◌, ◌≢◌, ℕ, zero, suc, ◌+◌, ◌-◌, ◌*◌, ◌/◌, ◌%◌, ◌^◌, ◌<◌, ◌≤◌, List, [], ◌∷◌, ◌++◌, length, get_or, set, refl, ap, sym, ◌∙◌, inl, inr, subst, arith, append-nil, length-append, length-set, get_or-set_same, true, false, eqb, eq-eqb, ne_eqb, ⊎_elim, Option, Some}
 use Rattle.std.proofs.lemmas.List.Elements.{All-append}
 use Rattle.std.proofs.lemmas.List.{map-append, length-map}
+use Rattle.std.proofs.lemmas.Bool.{false≢true}
 use mathlib.Core.Option.{some, none, some-injective, some-ne-none}
 use mathlib.Core.Logic.{dite}
 use native.Mathlib.Decide.{ℕ_discrete}
@@ -15,9 +16,6 @@ use Rattle.ps_histlock.specs.Histories.{entries_of, entry, commands}
 use Rattle.ps_histlock.specs.Views.{newcomer, offspring, with_number, after_look, after_meeting, holder, after_entry, after_turn}
 use Rattle.ps_histlock.specs.Locks.{Fits, Nobody, AtHome, IsOut, IsKept, Mine, Arrives, Names, Looks, Meets, Seizes, Appends, Releases}
 use Rattle.ps_histlock.proofs.Lists.{prefix_self, prefix_more, prefix_length, all_one, all_more, at_lt, at_end, entries_of-append, own_more, other_entry, none_before}
-
-off : false ≡ true → ⊥
-off e = true≢false (sym e)
 
 module _ {O C : Type 0} where
   fits_set : (o : O) (log : List (Entry C)) (views : List (View O C)) (id : ℕ) (w : View O C)
@@ -62,10 +60,10 @@ module _ {K O C : Type 0} (origin : K → O) (stands : List C → K → Type 0) 
         log = r.log;
         short = r.short;
         words = length-set s.words 0 (get_or s.words 0 0) ∙ r.words;
-        place = ⊎_elim
+        seat_state = ⊎_elim
             (λ (x : AtHome origin stands o r.log s). inl (same ∙ x.0, x.1, nobody_set s.views id w (λ j u _ e h. x.2 j u e h) (λ h. x.2 id v at (holds h))))
             (λ (x : IsOut origin stands r.log s). inr (same ∙ x.0, (x.1.0, only_set s.views id x.1.0 w (λ j u _ e h. x.1.1 j u e h) (λ h. x.1.1 id v at (holds h)))))
-            r.place;
+            r.seat_state;
         fits = fits_set o r.log s.views id w (λ j u _ e. r.fits j u e) fit;
         unmade = λ by le. r.unmade by (subst (λ (n : ℕ). n ≤ by) (length-set s.views id w) le);
       }
@@ -74,22 +72,22 @@ module _ {K O C : Type 0} (origin : K → O) (stands : List C → K → Type 0) 
   joined : (o : O) (s : St) (r : IsKept origin stands o s) (w : View O C) → Fits o r.log (length s.views) w → w.holds ≡ false
       → IsKept origin stands o (record { words = s.words; homes = s.homes; views = s.views ++ w ∷ [] })
   joined o s r w fit idle =
-      let idle' : w.holds ≡ true → ⊥ = λ h. off (sym idle ∙ h) in
+      let idle' : w.holds ≡ true → ⊥ = λ h. false≢true (sym idle ∙ h) in
       record {
         log = r.log;
         short = r.short;
         words = r.words;
-        place = ⊎_elim
+        seat_state = ⊎_elim
             (λ (x : AtHome origin stands o r.log s). inl (x.0, x.1, λ j u e h. ⊎_elim (λ t. x.2 j u t h) (λ (t : (j ≡ length s.views) × (w ≡ u)). idle' (ap (λ (v : View O C). v.holds) t.1 ∙ h)) (at_end s.views w u j e)))
             (λ (x : IsOut origin stands r.log s). inr (x.0, (x.1.0, λ j u e h. ⊎_elim (λ t. x.1.1 j u t h) (λ (t : (j ≡ length s.views) × (w ≡ u)). absurd (idle' (ap (λ (v : View O C). v.holds) t.1 ∙ h))) (at_end s.views w u j e))))
-            r.place;
+            r.seat_state;
         fits = λ j u e. ⊎_elim (λ t. r.fits j u t) (λ (t : (j ≡ length s.views) × (w ≡ u)). subst (λ (y : ℕ × View O C). Fits o r.log y.0 y.1) (λ i. (sym t.0 i, t.1 i)) fit) (at_end s.views w u j e);
         unmade = λ by le. let l = length-append s.views (w ∷ []) in r.unmade by (omega arith);
       }
 
   -- the view of a new pass fits
   new_fits : (o : O) (log : List (Entry C)) (n : ℕ) → entries_of n log ≡ [] → Fits o log n (newcomer o n)
-  new_fits o log n e = record { origin_is = refl; begins = (log, refl); number_is = λ _. refl; own = sym e; own_seen = refl; looked = λ k d h. absurd (omega arith); whole = λ h. absurd (off h) }
+  new_fits o log n e = record { origin_is = refl; begins = (log, refl); number_is = λ _. refl; own = sym e; own_seen = refl; looked = λ k d h. absurd (omega arith); whole = λ h. absurd (false≢true h) }
 
   pub opens : (k : K) (slots : List (Option K)) → slots ≡ Some k ∷ [] → stands [] k → IsKept origin stands (origin k) (opening (0 ∷ []) slots (newcomer (origin k) 0))
   opens k slots is e = subst (λ (xs : List (Option K)). IsKept origin stands (origin k) (opening (0 ∷ []) xs (newcomer (origin k) 0))) (sym is)
@@ -97,13 +95,13 @@ module _ {K O C : Type 0} (origin : K → O) (stands : List C → K → Type 0) 
         log = [];
         short = omega arith;
         words = refl;
-        place = inl (refl, (k, refl, (refl, e)), λ by v e h. nobody by v e h);
+        seat_state = inl (refl, (k, refl, (refl, e)), λ by v e h. nobody by v e h);
         fits = λ by v e. one by v e;
         unmade = λ by le. refl;
       }
     where
       nobody : (by : ℕ) (v : View O C) → get_elem? (newcomer (origin k) 0 ∷ []) by ≡ some v → v.holds ≡ true → ⊥
-      nobody zero v e h = off (ap (λ (u : View O C). u.holds) (some-injective _ _ e) ∙ h)
+      nobody zero v e h = false≢true (ap (λ (u : View O C). u.holds) (some-injective _ _ e) ∙ h)
       nobody (suc by) v e h = some-ne-none v (sym e)
 
       one : (by : ℕ) (v : View O C) → get_elem? (newcomer (origin k) 0 ∷ []) by ≡ some v → Fits (origin k) [] by v
@@ -117,7 +115,7 @@ module _ {K O C : Type 0} (origin : K → O) (stands : List C → K → Type 0) 
 
   -- the number of entries that a word shows
   shown : (o : O) (s : St) (r : IsKept origin stands o s) → get_or s.words 0 0 / 2 ≡ length r.log
-  shown o s r = ⊎_elim (λ (x : AtHome origin stands o r.log s). let e = x.0 in omega arith) (λ (x : IsOut origin stands r.log s). let e = x.0 in omega arith) r.place
+  shown o s r = ⊎_elim (λ (x : AtHome origin stands o r.log s). let e = x.0 in omega arith) (λ (x : IsOut origin stands r.log s). let e = x.0 in omega arith) r.seat_state
 
   pub looks : (o : O) (slots id : ℕ) (me : Mine origin stands) → Allows (IsKept origin stands o) slots id me 0 (λ n. n) (Looks origin stands (step slots 0 0 0 none) me)
   looks o slots id me s r wide at small =
@@ -166,7 +164,7 @@ module _ {K O C : Type 0} (origin : K → O) (stands : List C → K → Type 0) 
       let n = length s.views in
       subst (λ (vs : List (View O C)). IsKept origin stands o (record { words = s.words; homes = s.homes; views = vs ++ offspring v ∷ [] })) (sym (set_again s.views id v at))
       (joined o s r (offspring v)
-      (record { origin_is = f.origin_is; begins = f.begins; number_is = λ h. absurd (off h); own = sym (r.unmade n (omega arith)); own_seen = sym (none_before n v.seen r.log f.begins (r.unmade n (omega arith))); looked = λ k d h. absurd (omega arith); whole = λ h. absurd (off h) })
+      (record { origin_is = f.origin_is; begins = f.begins; number_is = λ h. absurd (false≢true h); own = sym (r.unmade n (omega arith)); own_seen = sym (none_before n v.seen r.log f.begins (r.unmade n (omega arith))); looked = λ k d h. absurd (omega arith); whole = λ h. absurd (false≢true h) })
       refl)
 
   -- the turn is taken, or another word is found
@@ -180,7 +178,7 @@ module _ {K O C : Type 0} (origin : K → O) (stands : List C → K → Type 0) 
       let w : View O C = holder v r.log in
       dite (ℕ_discrete x old)
       (λ hit.
-      let home = ⊎_elim (λ (t : AtHome origin stands o r.log s). t) (λ (t : IsOut origin stands r.log s). absurd (let e = t.0 in omega arith)) r.place in
+      let home = ⊎_elim (λ (t : AtHome origin stands o r.log s). t) (λ (t : IsOut origin stands r.log s). absurd (let e = t.0 in omega arith)) r.seat_state in
       let k = home.1.0 in
       let here : get_or (set s.words 0 (old + 1)) 0 0 ≡ old + 1 = get_or-set_same s.words 0 (old + 1) 0 (omega arith) in (
         w,
@@ -191,7 +189,7 @@ module _ {K O C : Type 0} (origin : K → O) (stands : List C → K → Type 0) 
               log = r.log;
               short = r.short;
               words = length-set s.words 0 (old + 1) ∙ r.words;
-              place = inr ((let e = home.0 in omega arith), (id, only_set s.views id id w (λ j u _ e h. absurd (home.2 j u e h)) (λ _. refl)));
+              seat_state = inr ((let e = home.0 in omega arith), (id, only_set s.views id id w (λ j u _ e h. absurd (home.2 j u e h)) (λ _. refl)));
               fits = fits_set o r.log s.views id w (λ j u _ e. r.fits j u e)
                   (record { origin_is = f.origin_is; begins = prefix_self r.log; number_is = f.number_is; own = f.own; own_seen = f.own; looked = f.looked; whole = λ _. refl });
               unmade = λ by le. r.unmade by (subst (λ (n : ℕ). n ≤ by) (length-set s.views id w) le);
@@ -215,7 +213,7 @@ module _ {K O C : Type 0} (origin : K → O) (stands : List C → K → Type 0) 
       ⊎_elim
       (λ (t : AtHome origin stands o r.log s). absurd (t.2 id v at has))
       (λ (t : IsOut origin stands r.log s). (t.0, λ j u apart e h. apart (t.1.1 j u e h ∙ sym (t.1.1 id v at has))))
-      r.place
+      r.seat_state
 
   pub appends : (o : O) (id : ℕ) (v : View O C) (k : K) (c : C) (written : Option C) → v.holds ≡ true → v.named ≡ true → origin k ≡ v.origin → written ≡ Some c → stands (commands v.seen ++ c ∷ []) k → length (commands v.seen ++ c ∷ []) < 2 ^ 62
       → Allows (IsKept origin stands o) 1 id (v, (0, Some k) ∷ []) 0 (λ n. (n + 1) % 2 ^ 64) (Appends origin stands written (step 1 0 1 0 none) (v, (0, Some k) ∷ []))
@@ -247,7 +245,7 @@ module _ {K O C : Type 0} (origin : K → O) (stands : List C → K → Type 0) 
           log = log;
           short = omega arith;
           words = length-set s.words 0 n ∙ r.words;
-          place = inl (here ∙ value, (k, set_here s.homes 0 (some (Some k)) (omega arith), (from ∙ f.origin_is, tells')), nobody_set s.views id w h.1 (λ t. off t));
+          seat_state = inl (here ∙ value, (k, set_here s.homes 0 (some (Some k)) (omega arith), (from ∙ f.origin_is, tells')), nobody_set s.views id w h.1 (λ t. false≢true t));
           fits = fits_set o log s.views id w
               (λ j u apart at'. let g = r.fits j u at' in record {
                 origin_is = g.origin_is;
@@ -265,7 +263,7 @@ module _ {K O C : Type 0} (origin : K → O) (stands : List C → K → Type 0) 
                 own = mine;
                 own_seen = mine ∙ ap (λ (l : List (Entry C)). entries_of id (l ++ e ∷ [])) (sym seen);
                 looked = all_more (length r.log) (length log) v.looks (omega arith) f.looked;
-                whole = λ t. absurd (off t);
+                whole = λ t. absurd (false≢true t);
               });
           unmade = λ by le.
               let le' : length s.views ≤ by = subst (λ (m : ℕ). m ≤ by) (length-set s.views id w) le in
@@ -296,10 +294,10 @@ module _ {K O C : Type 0} (origin : K → O) (stands : List C → K → Type 0) 
           log = r.log;
           short = r.short;
           words = length-set s.words 0 n ∙ r.words;
-          place = inl (here ∙ value, (k, set_here s.homes 0 (some (Some k)) (omega arith), (from ∙ f.origin_is, subst (λ (l : List (Entry C)). stands (commands l) k) seen tells)), nobody_set s.views id w h.1 (λ t. off t));
+          seat_state = inl (here ∙ value, (k, set_here s.homes 0 (some (Some k)) (omega arith), (from ∙ f.origin_is, subst (λ (l : List (Entry C)). stands (commands l) k) seen tells)), nobody_set s.views id w h.1 (λ t. false≢true t));
           fits = fits_set o r.log s.views id w
               (λ j u apart at'. r.fits j u at')
-              (record { origin_is = f.origin_is; begins = f.begins; number_is = f.number_is; own = f.own; own_seen = f.own_seen; looked = f.looked; whole = λ t. absurd (off t) });
+              (record { origin_is = f.origin_is; begins = f.begins; number_is = f.number_is; own = f.own; own_seen = f.own_seen; looked = f.looked; whole = λ t. absurd (false≢true t) });
           unmade = λ by le. r.unmade by (subst (λ (m : ℕ). m ≤ by) (length-set s.views id w) le);
         },
         refl,

@@ -45,7 +45,7 @@ module _ {K O C : Type 0} (origin : K → O) (stands : List C → K → Type 0) 
     pub log : List (Entry C)
     pub short : length log < 2 ^ 62
     pub words : length s.words ≡ 1
-    pub place : AtHome o log s ⊎ IsOut log s
+    pub seat_state : AtHome o log s ⊎ IsOut log s
     pub fits : (by : ℕ) (v : View O C) → get_elem? s.views by ≡ some v → Fits o log by v
     pub unmade : (by : ℕ) → length s.views ≤ by → entries_of by log ≡ []
 

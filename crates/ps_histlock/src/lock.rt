@@ -44,7 +44,7 @@ impl<K: Kept> Model for HistLock<K> {
     ghost invariant = { λ l. (l.table.shared.table_id.words ≡ 1) × (l.table.shared.table_id.slots ≡ 1) };
 }
 
-type Place<K> = Seat<Option<K>, View<<K as Kept>::Origin, <K as Kept>::Cmd>>;
+type OwnSeat<K> = Seat<Option<K>, View<<K as Kept>::Origin, <K as Kept>::Cmd>>;
 
 /// The right to look at one lock and to take turns, with all that its holder knows of the history. Contracts see the
 /// lock's name and a view. Between two calls it never has the turn.
@@ -116,7 +116,7 @@ impl<K: Kept> HistLock<K> {
     }
 
     // Takes the turn and the value, or answers the last word met.
-    fn seize(&self, seat: &mut Place<K>) -> Result<K, u64>
+    fn seize(&self, seat: &mut OwnSeat<K>) -> Result<K, u64>
         requires { (seat.old.table_id ≡ self.now.0) × (seat.old.me.1 ≡ []) × (seat.old.me.0.named ≡ true) }
         ensures same { (seat.new.table_id ≡ seat.old.table_id) × (seat.new.id ≡ seat.old.id) }
         ensures ok { IfOk result (λ k. (log : List (Entry K.Cmd)) × Extends seat.old.me.0 log × Stands K.origin K.stands seat.old.me.0.origin log k × (seat.new.me ≡ (holder (after_meeting seat.old.me.0 (2 * length log)) log, (0, None) ∷ []))) }
@@ -135,8 +135,8 @@ impl<K: Kept> HistLock<K> {
     }
 
     // Puts the value back and ends the turn with an entry, that of the command which W names.
-    fn append<W: Writes<K::Cmd>>(&self, seat: &mut Place<K>, kept: K)
-        requires place { (seat.old.table_id ≡ self.now.0) × (seat.old.me.1 ≡ (0, None) ∷ []) }
+    fn append<W: Writes<K::Cmd>>(&self, seat: &mut OwnSeat<K>, kept: K)
+        requires seat_state { (seat.old.table_id ≡ self.now.0) × (seat.old.me.1 ≡ (0, None) ∷ []) }
         requires turn { (seat.old.me.0.holds ≡ true) × (seat.old.me.0.named ≡ true) }
         requires own { seat.old.me.0.mine ≡ entries_of seat.old.me.0.number seat.old.me.0.seen }
         requires value { K.origin kept ≡ seat.old.me.0.origin }
@@ -151,8 +151,8 @@ impl<K: Kept> HistLock<K> {
     }
 
     // Puts the value back and ends the turn without an entry.
-    fn release(&self, seat: &mut Place<K>, kept: K)
-        requires place { (seat.old.table_id ≡ self.now.0) × (seat.old.me.1 ≡ (0, None) ∷ []) }
+    fn release(&self, seat: &mut OwnSeat<K>, kept: K)
+        requires seat_state { (seat.old.table_id ≡ self.now.0) × (seat.old.me.1 ≡ (0, None) ∷ []) }
         requires turn { seat.old.me.0.holds ≡ true }
         requires value { (K.origin kept ≡ seat.old.me.0.origin) × K.stands (commands seat.old.me.0.seen) kept }
         ensures same { (seat.new.table_id ≡ seat.old.table_id) × (seat.new.id ≡ seat.old.id) }
@@ -164,8 +164,8 @@ impl<K: Kept> HistLock<K> {
     }
 
     // The rest of a turn that asks for no entry.
-    fn read(&self, seat: &mut Place<K>, cursor: &mut K::Cursor, kept: K) -> Turn<K>
-        requires place { (seat.old.table_id ≡ self.now.0) × (seat.old.me.1 ≡ (0, None) ∷ []) }
+    fn read(&self, seat: &mut OwnSeat<K>, cursor: &mut K::Cursor, kept: K) -> Turn<K>
+        requires seat_state { (seat.old.table_id ≡ self.now.0) × (seat.old.me.1 ≡ (0, None) ∷ []) }
         requires turn { seat.old.me.0.holds ≡ true }
         requires value { (K.origin kept ≡ seat.old.me.0.origin) × K.stands (commands seat.old.me.0.seen) kept }
         ensures same { (seat.new.table_id ≡ seat.old.table_id) × (seat.new.id ≡ seat.old.id) }
@@ -183,12 +183,12 @@ impl<K: Kept> HistLock<K> {
     // The rest of a turn that asks for an entry, that of the command which W names.
     fn write<W: Writes<K::Cmd>>(
         &self,
-        seat: &mut Place<K>,
+        seat: &mut OwnSeat<K>,
         cursor: &mut K::Cursor,
         mut kept: K,
         cmd: K::Cmd,
     ) -> Turn<K>
-        requires place { (seat.old.table_id ≡ self.now.0) × (seat.old.me.1 ≡ (0, None) ∷ []) }
+        requires seat_state { (seat.old.table_id ≡ self.now.0) × (seat.old.me.1 ≡ (0, None) ∷ []) }
         requires turn { (seat.old.me.0.holds ≡ true) × (seat.old.me.0.named ≡ true) }
         requires own { seat.old.me.0.mine ≡ entries_of seat.old.me.0.number seat.old.me.0.seen }
         requires value { (K.origin kept ≡ seat.old.me.0.origin) × K.stands (commands seat.old.me.0.seen) kept }

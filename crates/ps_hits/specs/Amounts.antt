@@ -5,7 +5,7 @@ use Rattle.ps_mon.specs.Facts.{Figures}
 use Rattle.ps_mon.specs.Moves.{move_of, move_factors}
 use Rattle.ps_mon.specs.declared.effect.Effect.{Effect}
 use Rattle.ps_mon.specs.declared.effect.Effect.TheVariants as effects
-use Rattle.ps_hits.specs.Scenes.{Play, ◌>>=◌, give, look, tell, choose, draw}
+use Rattle.ps_hits.specs.Scenes.{Play, ◌>>=◌, give, duel_now, tell, choose, draw}
 use Rattle.ps_hits.specs.Told.{who_of}
 use Rattle.ps_hits.specs.Fighters.{types_now, speed_of}
 use Rattle.ps_hits.specs.Strikes.{deal, accuracy_test}
@@ -29,26 +29,26 @@ fixed_row amount facts mv = where_it_lands facts mv (deal_alone mv amount)
 -- level: the user's level
 unfoldable pub level_row : Figures → ℕ → Play (Unit {0})
 level_row facts mv = where_it_lands facts mv do
-  d ← look
+  d ← duel_now
   deal_alone mv d.user.level
 
 -- half: half of the foe's health, at least 1
 unfoldable pub half_row : Figures → ℕ → Play (Unit {0})
 half_row facts mv = where_it_lands facts mv do
-  d ← look
+  d ← duel_now
   deal_alone mv (max 1 (d.foe.hp / 2))
 
 -- psywave: 1 to one and a half times the user's level
 unfoldable pub psywave_row : Figures → ℕ → Play (Unit {0})
 psywave_row facts mv = where_it_lands facts mv do
-  d ← look
+  d ← duel_now
   n ← draw (3 * d.user.level / 2)
   deal_alone mv (1 + n)
 
 -- ohko: no effect by a factor 0, Fail where the user is slower, then all of the foe's health
 unfoldable pub ohko_row : Figures → ℕ → Play (Unit {0})
 ohko_row facts mv = do
-  d ← look
+  d ← duel_now
   let factors = move_factors facts mv (types_now d.foe)
   choose (slice_index factors 0 == 0 || slice_index factors 1 == 0) (tell (events.Immune (who_of d.foe)))
       (choose (nat_lt (speed_of d.user) (speed_of d.foe)) (tell (events.Fail (who_of d.user)))

@@ -1,5 +1,5 @@
 -- A battle, the events told so far, and what a play of its two active members makes of them.
-use Rattle.std.specs.Prelude.{ℕ, List}
+use Rattle.std.specs.Prelude.{ℕ, List, []}
 use Rattle.arrayvec.specs.ArrayVec.{ArrayVec}
 use Rattle.ps_event.specs.declared.event.Event.{Event}
 use Rattle.ps_mon.specs.declared.record.Battle.{Battle}
@@ -18,3 +18,7 @@ played row user before =
 
 abbrev pub course : Battle → ArrayVec Event → Course
 course b events = record { battle = b; told = events.items }
+
+-- a battle of which nothing is told yet
+abbrev pub untold : Battle → Course
+untold b = record { battle = b; told = [] }

@@ -2,7 +2,7 @@
 use Rattle.std.specs.Prelude.{ℕ, true, false}
 use Rattle.ps_event.specs.declared.event.Event.TheVariants as events
 use Rattle.ps_mon.specs.Facts.{Figures}
-use Rattle.ps_hits.specs.Scenes.{Play, ◌>>=◌, ◌>>◌, give, look, tell, change}
+use Rattle.ps_hits.specs.Scenes.{Play, ◌>>=◌, ◌>>◌, give, duel_now, tell, change}
 use Rattle.ps_hits.specs.Told.{who_of}
 use Rattle.ps_hits.specs.Strikes.{strike_with}
 
@@ -17,5 +17,5 @@ unfoldable pub explode_row : Figures → ℕ → Play (Unit {0})
 explode_row facts mv = do
   struck ← strike_with facts mv true
   change (λ d. record d { user = record d.user { hp = 0 } })
-  d ← look
+  d ← duel_now
   tell (events.Faint (who_of d.user))

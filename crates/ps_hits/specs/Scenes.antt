@@ -27,8 +27,8 @@ abbrev pub give : {A : Type 0} → A → Play A
 give x = λ s. (x, s)
 
 -- the duel as it is now
-abbrev pub look : Play Duel
-look = λ s. (s.duel, s)
+abbrev pub duel_now : Play Duel
+duel_now = λ s. (s.duel, s)
 
 abbrev pub tell : Event → Play (Unit {0})
 tell e = λ s. (tt, record s { told = s.told ++ e ∷ [] })

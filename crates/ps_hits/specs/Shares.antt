@@ -8,14 +8,14 @@ use Rattle.ps_mon.specs.declared.effect.Effect.TheVariants as effects
 use Rattle.ps_mon.specs.Duels.{is_slp}
 use Rattle.ps_hits.specs.declared.strike.Struck.{Struck}
 use Rattle.ps_hits.specs.declared.strike.Struck.TheVariants.{NoEffect, Missed, Hit}
-use Rattle.ps_hits.specs.Scenes.{Play, ◌>>=◌, ◌>>◌, give, look, tell, change, choose}
+use Rattle.ps_hits.specs.Scenes.{Play, ◌>>=◌, ◌>>◌, give, duel_now, tell, change, choose}
 use Rattle.ps_hits.specs.Told.{who_of, health_of}
 use Rattle.ps_hits.specs.Strikes.{strike_with}
 
 -- the user gains up to n; Heal is told at full health too
 unfoldable pub gain : ℕ → Play (Unit {0})
 gain n = do
-  d ← look
+  d ← duel_now
   let user = record d.user { hp = min d.user.max (d.user.hp + n) }
   change (λ d. record d { user = user })
   tell (events.Heal (who_of user) (health_of user))
@@ -23,7 +23,7 @@ gain n = do
 -- the user loses up to n, and faints at 0
 unfoldable pub lose : ℕ → ℕ → Play (Unit {0})
 lose from n = do
-  d ← look
+  d ← duel_now
   let user = record d.user { hp = d.user.hp - n }
   change (λ d. record d { user = user })
   tell (events.Damage (who_of user) (health_of user) from)
@@ -44,7 +44,7 @@ drain_row facts mv = do
 -- dreameater: Fail unless the foe sleeps, then drain
 unfoldable pub dreameater_row : Figures → ℕ → Play (Unit {0})
 dreameater_row facts mv = do
-  d ← look
+  d ← duel_now
   choose (is_slp d.foe.status) (drain_row facts mv) (tell (events.Fail (who_of d.user)))
 
 -- what was dealt divided by a number, at least 1

@@ -17,14 +17,14 @@ use Rattle.ps_hits.specs.declared.strike.Blow.{Blow}
 use Rattle.ps_hits.specs.declared.strike.Dealt.{Dealt}
 use Rattle.ps_hits.specs.declared.strike.Struck.{Struck}
 use Rattle.ps_hits.specs.declared.strike.Struck.TheVariants.{NoEffect, Missed, Hit}
-use Rattle.ps_hits.specs.Scenes.{Play, ◌>>=◌, ◌>>◌, give, look, tell, change, choose, draw}
+use Rattle.ps_hits.specs.Scenes.{Play, ◌>>=◌, ◌>>◌, give, duel_now, tell, change, choose, draw}
 use Rattle.ps_hits.specs.Told.{who_of, health_of}
 use Rattle.ps_hits.specs.Fighters.{types_now, is_of_type, is_away, rages, attack_of, defence_of, own_attack, own_defence}
 
 -- Deal to a substitute: it loses up to n in the foe's place, and ends at 0
 unfoldable pub deal_to_substitute : ℕ → Play Dealt
 deal_to_substitute n = do
-  d ← look
+  d ← duel_now
   let left = d.foe.vol.substitute - n
   change (λ d. record d { foe = record d.foe { vol = record d.foe.vol { substitute = left } } })
   choose (left == 0) (tell (events.VolEnd (who_of d.foe) numbers.effect_substitute)) (tell (events.Activate (who_of d.foe) numbers.effect_substitute None))
@@ -50,7 +50,7 @@ hurt_by mv lost f = record f { hp = f.hp - lost; vol = record f.vol { taken = ta
 -- a raging foe's Attack rises by one stage, up to 6
 unfoldable pub enrage : Play (Unit {0})
 enrage = do
-  d ← look
+  d ← duel_now
   choose (int_lt d.foe.vol.stages.atk (pos 6)) (do
     change (λ d. record d { foe = record d.foe { vol = record d.foe.vol { stages = record d.foe.vol.stages { atk = d.foe.vol.stages.atk +ℤ pos 1 } } } })
     tell (events.Boost (who_of d.foe) numbers.stat_atk 1))
@@ -59,13 +59,13 @@ enrage = do
 -- a foe that lost health, and rages
 unfoldable pub rage_on : ℕ → Play (Unit {0})
 rage_on lost = do
-  d ← look
+  d ← duel_now
   choose (nat_lt 0 lost && rages d.foe.vol.lock) enrage (give tt)
 
 -- Deal to the foe itself: it loses up to n, faints at 0, and rages on
 unfoldable pub deal_to_foe : ℕ → ℕ → Play Dealt
 deal_to_foe mv n = do
-  d ← look
+  d ← duel_now
   let lost = min n d.foe.hp
   let foe = hurt_by mv lost d.foe
   change (λ d. record d { foe = foe })
@@ -77,13 +77,13 @@ deal_to_foe mv n = do
 -- Deal: a substitute loses health in the foe's place
 unfoldable pub deal : ℕ → ℕ → Play Dealt
 deal mv n = do
-  d ← look
+  d ← duel_now
   choose (nat_lt 0 d.foe.vol.substitute) (deal_to_substitute n) (deal_to_foe mv n)
 
 -- the accuracy test: 0 always hits, with no draw; who is away is missed, with no draw; else a draw below the byte hits
 unfoldable pub accuracy_test : ℕ → Play Bool
 accuracy_test percent = do
-  d ← look
+  d ← duel_now
   choose (percent == 0) (give true)
       (choose (is_away d.foe.vol.lock)
       (do
@@ -116,7 +116,7 @@ numbers_of d blow crit roll = record {
 -- Super or Resisted, where the product of the factors is over or under one
 unfoldable pub tell_factors : List ℕ → Play (Unit {0})
 tell_factors factors = do
-  d ← look
+  d ← duel_now
   let product = slice_index factors 0 * slice_index factors 1
   choose (nat_lt 100 product) (tell (events.Super (who_of d.foe)))
       (choose (nat_lt product 100) (tell (events.Resisted (who_of d.foe))) (give tt))
@@ -124,7 +124,7 @@ tell_factors factors = do
 -- a strike that lands: whether it is critical, the roll, what is told of them, and Deal
 unfoldable pub hit : Blow → Play Dealt
 hit blow = do
-  before ← look
+  before ← duel_now
   c ← draw 256
   let crit = nat_lt c (crit_byte_of before.user.base_speed blow.move_data.high before.user.vol.focus)
   r ← draw 39
@@ -141,7 +141,7 @@ IsStruck (Hit dealt) = dealt.damage ≤ 5992
 -- a strike: no effect by a factor 0, the accuracy test, and the hit
 unfoldable pub strike : Blow → Play Struck
 strike blow = do
-  d ← look
+  d ← duel_now
   choose (slice_index blow.factors 0 == 0 || slice_index blow.factors 1 == 0)
       (do
         tell (events.Immune (who_of d.foe))
@@ -161,5 +161,5 @@ blow_of facts mv half foe = record { mv = mv; move_data = move_of facts mv; fact
 -- a move as a strike on the foe
 unfoldable pub strike_with : Figures → ℕ → Bool → Play Struck
 strike_with facts mv half = do
-  d ← look
+  d ← duel_now
   strike (blow_of facts mv half d.foe)

@@ -6,12 +6,12 @@ use Rattle.ps_histlock.specs.declared.view.Entry.{Entry}
 use Rattle.ps_histlock.specs.declared.view.View.{View}
 use Rattle.ps_histlock.specs.Histories.{entry, entries_of}
 use Rattle.ps_histlock.proofs.Lists.{own_more}
-use Rattle.ps_places.specs.declared.site.Root.{Root}
+use Rattle.server_places.specs.declared.site.Root.{Root}
 use Rattle.ps_hub.specs.Hubs.{Hub}
 use Rattle.ps_hub.specs.Passes.{AreOf, IsHallPass}
 use Rattle.ps_hub.specs.Calls.{hall_entry, Admits}
 use Rattle.ps_hub.specs.declared.passes.Passes.{Passes}
-use Rattle.ps_hub.proofs.RowLemmas.{hall_of}
+use Rattle.ps_hub.proofs.PassListLemmas.{hall_of}
 
 -- it is the last entry, and its pass has no other
 pub record IsOpened (by : ℕ) (opening : Entry HallEntry) (seen : List (Entry HallEntry)) : Type 0 where

@@ -8,10 +8,10 @@ use Rattle.ps_base.specs.declared.badge.Badge.{Badge}
 use Rattle.ps_base.specs.declared.msg.Msg.{Msg}
 use Rattle.ps_lines.specs.declared.command.Command.TheVariants as room_commands
 use Rattle.ps_lines.specs.declared.command.HallCmd.TheVariants as hall_commands
-use Rattle.ps_valid.specs.declared.start.Start.{Start}
-use Rattle.ps_places.specs.declared.command.RoomCmd.TheVariants.{Begin, Play}
-use Rattle.ps_places.specs.Halls.{HallAnswers}
-use Rattle.ps_places.specs.Rooms.{Answers}
+use Rattle.rules_start.specs.declared.start.Start.{Start}
+use Rattle.server_places.specs.declared.command.RoomCmd.TheVariants.{Begin, Play}
+use Rattle.server_places.specs.Halls.{HallAnswers}
+use Rattle.server_places.specs.Rooms.{Answers}
 use Rattle.ps_hub.specs.Hubs.{Hub, root_of, site_of}
 use Rattle.ps_hub.specs.Passes.{IsHallPass, IsRoomPass, numbers, AreOf, Keeps}
 use Rattle.ps_hub.specs.Turns.{TurnsAtLast, FallsShortAtLast}
@@ -20,54 +20,54 @@ use Rattle.ps_hub.specs.declared.pass.HallPass.{HallPass}
 use Rattle.ps_hub.specs.declared.pass.RoomPass.{RoomPass}
 use Rattle.ps_hub.specs.declared.passes.Passes.{Passes}
 use Rattle.ps_hub.proofs.QuitLemmas.{zip_weaker, zip_append, zip_self, IsDoneTo, parts_of}
-use Rattle.ps_hub.proofs.RowLemmas.{kept_then, set_seam}
+use Rattle.ps_hub.proofs.PassListLemmas.{kept_then, set_seam}
 use Rattle.ps_hub.proofs.ShortLemmas.{short_turns_at_last}
 
 -- ---- the begin of a battle
 
 begun : (hub : Hub) (start : Start) (number place : ℕ) (does : RoomPass → RoomPass → Type 0) (old : Passes) (h : RoomPass) (mid : Passes) (k : RoomPass) (new : Passes) → number ≡ 15 + start.number → Keeps hub number place old h mid
     → new ≡ record mid { rooms = new.rooms } → new.rooms.items ≡ slice_set mid.rooms.items place k → (k.at ≡ h.at) × (k.number ≡ h.number) × (k.id ≡ h.id) → does h k → BeginsAt hub start does old new
-begun hub start number place does old h mid k new is keeps rest row same done =
-    record { before = h; behind = k; number = keeps.number_is ∙ is; id = same.2; at = same.0; but = kept_then hub number place old h mid k new keeps rest row same.1; done = done }
+begun hub start number place does old h mid k new is keeps rest pass_list same done =
+    record { before = h; behind = k; number = keeps.number_is ∙ is; id = same.2; at = same.0; but = kept_then hub number place old h mid k new keeps rest pass_list same.1; done = done }
 
 pub started : {T E : Type 0} (hub : Hub) (start : Start) (number place : ℕ) (old : Passes) (h : RoomPass) (mid : Passes) (k : RoomPass) (new : Passes) (result : Result T E) → number ≡ 15 + start.number → Keeps hub number place old h mid
     → new ≡ record mid { rooms = new.rooms } → new.rooms.items ≡ slice_set mid.rooms.items place k → (k.at ≡ h.at) × (k.number ≡ h.number) × (k.id ≡ h.id)
     → OnOk result (TurnsAtLast h.pass.1 (Some (Begin start)) k.pass.1) → OnErr result (BeginsAtMost hub start h k) → Starts hub start old result new
-started hub start number place old h mid k new (Ok done) is keeps rest row same ok err = begun hub start number place _ old h mid k new is keeps rest row same ok
-started hub start number place old h mid k new (Err e) is keeps rest row same ok err = inr (begun hub start number place (BeginsAtMost hub start) old h mid k new is keeps rest row same err)
+started hub start number place old h mid k new (Ok done) is keeps rest pass_list same ok err = begun hub start number place _ old h mid k new is keeps rest pass_list same ok
+started hub start number place old h mid k new (Err e) is keeps rest pass_list same ok err = inr (begun hub start number place (BeginsAtMost hub start) old h mid k new is keeps rest pass_list same err)
 
 -- ---- catching up
 
 pub caught_hall : {E : Type 0} (hub : Hub) (old new : Passes) (h k : HallPass) (result : Result (Vec Msg Global) E) → IsHallPass hub old.conn h → old.hall ≡ Some h → new.hall ≡ Some k → new.rooms.items ≡ old.rooms.items → new.conn ≡ old.conn → new.badge ≡ old.badge
     → IfOk result (λ msgs. (hub : Hub) (conn : ℕ) → IsHallPass hub conn h → HallCaught hub conn msgs.items h k) → OnErr result (LooksAtMost h.pass.1 k.pass.1 × (k.at ≡ h.at)) → CatchesUpHall hub old result new
-caught_hall hub old new h k (Ok msgs) p was is rows conn badge ok err = record { before = h; behind = k; was = was; is = is; done = ok hub old.conn p; rooms = rows; conn = conn; badge = badge }
-caught_hall hub old new h k (Err e) p was is rows conn badge ok err = record { before = h; behind = k; was = was; is = is; done = err; rooms = rows; conn = conn; badge = badge }
+caught_hall hub old new h k (Ok msgs) p was is pass_lists conn badge ok err = record { before = h; behind = k; was = was; is = is; done = ok hub old.conn p; rooms = pass_lists; conn = conn; badge = badge }
+caught_hall hub old new h k (Err e) p was is pass_lists conn badge ok err = record { before = h; behind = k; was = was; is = is; done = err; rooms = pass_lists; conn = conn; badge = badge }
 
 pub caught_room : {E : Type 0} (hub : Hub) (place : ℕ) (old new : Passes) (h k : RoomPass) (result : Result (Vec Msg Global) E) → IsRoomPass hub old.conn h → slice_get old.rooms.items place ≡ Some h → new ≡ record old { rooms = new.rooms } → new.rooms.items ≡ slice_set old.rooms.items place k
     → (k.number ≡ h.number) × (k.id ≡ h.id) → IfOk result (λ msgs. (hub : Hub) (conn : ℕ) → IsRoomPass hub conn h → Caught hub conn msgs.items h k) → OnErr result (LooksAtMost h.pass.1 k.pass.1 × (k.at ≡ h.at)) → CatchesUp hub place old result new
-caught_room hub place old new h k (Ok msgs) p was rest row same ok err =
-    record { before = h; behind = k; was = was; rooms = row; number = same.0; id = same.1; done = ok hub old.conn p; conn = ap (λ (q : Passes). q.conn) rest; badge = ap (λ (q : Passes). q.badge) rest; hall = ap (λ (q : Passes). q.hall) rest }
-caught_room hub place old new h k (Err e) p was rest row same ok err =
-    record { before = h; behind = k; was = was; rooms = row; number = same.0; id = same.1; done = err; conn = ap (λ (q : Passes). q.conn) rest; badge = ap (λ (q : Passes). q.badge) rest; hall = ap (λ (q : Passes). q.hall) rest }
+caught_room hub place old new h k (Ok msgs) p was rest pass_list same ok err =
+    record { before = h; behind = k; was = was; rooms = pass_list; number = same.0; id = same.1; done = ok hub old.conn p; conn = ap (λ (q : Passes). q.conn) rest; badge = ap (λ (q : Passes). q.badge) rest; hall = ap (λ (q : Passes). q.hall) rest }
+caught_room hub place old new h k (Err e) p was rest pass_list same ok err =
+    record { before = h; behind = k; was = was; rooms = pass_list; number = same.0; id = same.1; done = err; conn = ap (λ (q : Passes). q.conn) rest; badge = ap (λ (q : Passes). q.badge) rest; hall = ap (λ (q : Passes). q.hall) rest }
 
 -- ---- counting
 
 pub counted_hall : (old new : Passes) (h k : HallPass) (n : ℕ) → old.hall ≡ Some h → new.hall ≡ Some k → new.rooms.items ≡ old.rooms.items → new.conn ≡ old.conn → new.badge ≡ old.badge → LooksHall n h k → (room : Option (List ℕ)) → room ≡ None → Counts room old n new
-counted_hall old new h k n was is rows conn badge done room none = subst (λ (o : Option (List ℕ)). Counts o old n new) (sym none) (record { before = h; behind = k; was = was; is = is; done = done; rooms = rows; conn = conn; badge = badge })
+counted_hall old new h k n was is pass_lists conn badge done room none = subst (λ (o : Option (List ℕ)). Counts o old n new) (sym none) (record { before = h; behind = k; was = was; is = is; done = done; rooms = pass_lists; conn = conn; badge = badge })
 
 pub counted_room : (place : ℕ) (old new : Passes) (h k : RoomPass) (n : ℕ) (id : List ℕ) (there : (held : RoomPass) × (slice_get old.rooms.items place ≡ Some held) × (held.id ≡ Some id)) → slice_get old.rooms.items place ≡ Some h → new ≡ record old { rooms = new.rooms } → new.rooms.items ≡ slice_set old.rooms.items place k → LooksRoom n h k → (room : Option (List ℕ)) → room ≡ Some id → Counts room old n new
-counted_room place old new h k n id there was rest row done room some = subst (λ (o : Option (List ℕ)). Counts o old n new) (sym some) (
+counted_room place old new h k n id there was rest pass_list done room some = subst (λ (o : Option (List ℕ)). Counts o old n new) (sym some) (
   place,
   there.0,
   there.1,
   there.2,
-  record { before = h; behind = k; was = was; rooms = row; number = ap (λ (q : RoomPass). q.number) done.1; id = ap (λ (q : RoomPass). q.id) done.1; done = done; conn = ap (λ (q : Passes). q.conn) rest; badge = ap (λ (q : Passes). q.badge) rest; hall = ap (λ (q : Passes). q.hall) rest },
+  record { before = h; behind = k; was = was; rooms = pass_list; number = ap (λ (q : RoomPass). q.number) done.1; id = ap (λ (q : RoomPass). q.id) done.1; done = done; conn = ap (λ (q : Passes). q.conn) rest; badge = ap (λ (q : Passes). q.badge) rest; hall = ap (λ (q : Passes). q.hall) rest },
 )
 
 -- ---- the end of a connection
 
 pub hall_only : (does : HallPass → HallPass → Type 0) (old new : Passes) (h k : HallPass) → old.hall ≡ Some h → new.hall ≡ Some k → new.rooms.items ≡ old.rooms.items → new.conn ≡ old.conn → new.badge ≡ old.badge → does h k → HallOnly does old new
-hall_only does old new h k was is rows conn badge done = record { before = h; behind = k; was = was; is = is; done = done; rooms = rows; conn = conn; badge = badge }
+hall_only does old new h k was is pass_lists conn badge done = record { before = h; behind = k; was = was; is = is; done = done; rooms = pass_lists; conn = conn; badge = badge }
 
 -- where a room is held
 pub quits_by : (badge : Option Badge) (conn moment : ℕ) (h k : RoomPass) (id : List ℕ) (b : Badge) → h.id ≡ Some id → badge ≡ Some b → TurnsAtLast h.pass.1 (Some (Play (room_entry conn b moment room_commands.Quit))) k.pass.1 → (k.at ≡ h.at) × (k.number ≡ h.number) × (k.id ≡ h.id) → QuitsRoom badge conn moment h k
@@ -78,7 +78,7 @@ pub quits_short : (hub : Hub) (badge : Option Badge) (conn moment : ℕ) (h k : 
     → FallsShortAtLast (Answers (site_of hub h.number)) h.pass.1 h.cursor (Play (room_entry conn b moment room_commands.Quit)) k.pass.1 k.cursor → QuitsRoomAtMost hub badge conn moment h k
 quits_short hub badge conn moment h k id b held is same done = (subst IsSome (sym held) refl, b, is, done, same.0, same.1, same.2)
 
--- the row where the next one fell short
+-- the list where the next one fell short
 pub quits_up_to : (hub : Hub) (badge : Option Badge) (conn moment place : ℕ) (old now new : List RoomPass) (h k : RoomPass) → slice_get now place ≡ Some h → new ≡ slice_set now place k → QuitsRoomAtMost hub badge conn moment h k → IsDoneTo (QuitsRoom badge conn moment) place old now → QuitsUpTo hub badge conn moment old new
 quits_up_to hub badge conn moment place old now new h k there set short done =
     let p = parts_of (QuitsRoom badge conn moment) place old now h there done in
@@ -126,7 +126,7 @@ quit_number : (badge : Option Badge) (conn moment : ℕ) (h k : RoomPass) (id : 
 quit_number badge conn moment h k None q = ap (λ (p : RoomPass). p.number) q
 quit_number badge conn moment h k (Some id) q = q.4
 
--- the row has the same places after Quits
+-- the list has the same places after Quits
 pub quit_numbers : (badge : Option Badge) (conn moment : ℕ) (old new : List RoomPass) → AllZip (QuitsRoom badge conn moment) old new → numbers new ≡ numbers old
 quit_numbers badge conn moment [] [] all = refl
 quit_numbers badge conn moment [] (k ∷ ks) all = absurd all

@@ -8,13 +8,13 @@ use Rattle.ps_histlock.specs.declared.view.View.{View}
 use Rattle.ps_histlock.specs.Histories.{commands}
 use Rattle.ps_histlock.specs.Seated.{TableId}
 use Rattle.ps_histlock.specs.Views.{after_look}
-use Rattle.ps_places.specs.declared.command.RoomCmd.{RoomCmd}
-use Rattle.ps_places.specs.declared.cursor.HallCursor.{HallCursor}
-use Rattle.ps_places.specs.declared.cursor.RoomCursor.{RoomCursor}
-use Rattle.ps_places.specs.declared.site.Root.{Root}
-use Rattle.ps_places.specs.declared.site.Site.{Site}
-use Rattle.ps_places.specs.Rooms.{Answers, Pulls, Shows, StandsAt}
-use Rattle.ps_places.specs.Halls.{HallAnswers, HallPulls, HallShows, HallStandsAt}
+use Rattle.server_places.specs.declared.command.RoomCmd.{RoomCmd}
+use Rattle.server_places.specs.declared.cursor.HallCursor.{HallCursor}
+use Rattle.server_places.specs.declared.cursor.RoomCursor.{RoomCursor}
+use Rattle.server_places.specs.declared.site.Root.{Root}
+use Rattle.server_places.specs.declared.site.Site.{Site}
+use Rattle.server_places.specs.Rooms.{Answers, Pulls, Shows, StandsAt}
+use Rattle.server_places.specs.Halls.{HallAnswers, HallPulls, HallShows, HallStandsAt}
 use Rattle.ps_hub.specs.Hubs.{Hub, root_of, site_of}
 use Rattle.ps_hub.specs.Passes.{lines_of, IsTold, IsHallPass, IsRoomPass}
 use Rattle.ps_hub.specs.Turns.{TurnsAtLast, TakesAtLast}

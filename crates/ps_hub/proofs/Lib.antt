@@ -1,6 +1,6 @@
 pub mod ToldLemmas
 pub mod PassLemmas
-pub mod RowLemmas
+pub mod PassListLemmas
 pub mod LockLemmas
 pub mod NameLemmas
 pub mod BadgeLemmas

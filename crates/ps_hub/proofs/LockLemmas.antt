@@ -4,9 +4,9 @@ use Rattle.std.specs.Prelude.{nat_lt, slice_get, IfNone}
 use Rattle.std.proofs.lemmas.Bool.Decides.{nat_tests}
 use Rattle.std.proofs.lemmas.List.{length-map}
 use Rattle.std.proofs.lemmas.Option.{none-some, same_Some, slice_get_within, slice_get-map}
-use Rattle.ps_dex.specs.declared.row.Tables.{Tables}
-use Rattle.ps_valid.specs.declared.row.Settings.{Settings}
-use Rattle.ps_places.specs.declared.site.Site.{Site}
+use Rattle.ps_dex.specs.declared.item.Tables.{Tables}
+use Rattle.rules_config.specs.declared.settings.Settings.{Settings}
+use Rattle.server_places.specs.declared.site.Site.{Site}
 use Rattle.ps_histlock.specs.Seated.{TableId}
 use Rattle.ps_hub.specs.Hubs.{Hub, site_of, lock_of, name_of, AreAt}
 use Rattle.ps_hub.specs.Names.{IsNoChat, IsBattleId, Names}

@@ -1,5 +1,5 @@
 -- The parts of the id of a battle.
-use Rattle.std.proofs.Common.{◌≡◌, ◌≢◌, ℕ, ◌+◌, ◌%◌, ◌<◌, ◌≤◌, ◌^◌, ◌==◌, Bool, true, false, if◌then◌else◌, List, [], ◌∷◌, ◌++◌, length, drop, codes, Option, Some, None, refl, sym, ap, ◌∙◌, inl, inr, arith, append_assoc, eq-eqb, ne_eqb}
+use Rattle.std.proofs.Common.{◌≡◌, ◌≢◌, ℕ, ◌+◌, ◌%◌, ◌<◌, ◌≤◌, ◌^◌, ◌==◌, Bool, true, false, if◌then◌else◌, List, [], ◌∷◌, ◌++◌, length, drop, codes, Option, Some, None, refl, sym, ap, ◌∙◌, inl, inr, arith, append_assoc}
 use Rattle.std.specs.Prelude.{All, IfNone, slice_get}
 use Rattle.std.specs.Fmt.{decimal}
 use Rattle.std.proofs.lemmas.Bool.Decides.{eqb_tells}
@@ -7,26 +7,21 @@ use Rattle.std.proofs.lemmas.Fmt.{decimal_by_steps, decimal_is_IsNumeral}
 use Rattle.std.proofs.lemmas.List.Elements.{All-nil, All-head, All-tail, All-push}
 use Rattle.std.proofs.lemmas.Option.{none-some, same_Some, slice_get_within}
 use Rattle.std.specs.Str.Parse.{digits_value}
-use Rattle.ps_valid.specs.declared.row.ChatRoom.{ChatRoom}
-use Rattle.ps_valid.specs.declared.row.Settings.{Settings}
-use Rattle.ps_hall.specs.Looks.{battle_id}
+use Rattle.std.proofs.lemmas.Bool.{ne_eqb, eq-eqb}
+use Rattle.rules_config.specs.declared.settings.ChatRoom.{ChatRoom}
+use Rattle.rules_config.specs.declared.settings.Settings.{Settings}
+use Rattle.rules_start.specs.Starts.{battle_id}
 use Rattle.ps_lines.specs.Parts.{before_parts, later_or_here, at_last}
 use Rattle.ps_hub.specs.Names.{IsChatId, IsBattleId, IsFirstChat, IsNoChat, Names}
-
-same_byte : (c : ℕ) → (c == c) ≡ true
-same_byte c = eq-eqb c c refl
-
-other_byte : (b c : ℕ) → b ≢ c → (b == c) ≡ false
-other_byte b c h = ne_eqb b c h
 
 -- ---- the last of a byte
 
 lacks : (c : ℕ) (text : List ℕ) → All (λ b. b ≢ c) text → at_last c text ≡ None
 lacks c [] all = refl
-lacks c (b ∷ text) all = rw (lacks c text (All-tail (λ b. b ≢ c) b text all), other_byte b c (All-head (λ b. b ≢ c) b text all)) refl
+lacks c (b ∷ text) all = rw (lacks c text (All-tail (λ b. b ≢ c) b text all), ne_eqb b c (All-head (λ b. b ≢ c) b text all)) refl
 
 last_append : (c : ℕ) (front back : List ℕ) → at_last c back ≡ None → at_last c (front ++ c ∷ back) ≡ Some (front, back)
-last_append c [] back none_there = rw (none_there, same_byte c) refl
+last_append c [] back none_there = rw (none_there, eq-eqb c c refl) refl
 last_append c (b ∷ front) back none_there = rw (last_append c front back none_there) refl
 
 -- the bytes of a number in decimal are digits

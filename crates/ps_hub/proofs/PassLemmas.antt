@@ -8,23 +8,24 @@ use Rattle.ps_hall.specs.declared.entry.HallEntry.{HallEntry}
 use Rattle.ps_hall.specs.declared.outcome.HallOut.{HallOut}
 use Rattle.ps_room.specs.declared.outcome.RoomOut.{RoomOut}
 use Rattle.ps_room.specs.Openings.{Opening}
-use Rattle.ps_openings.specs.Openings.{chat_opening}
+use Rattle.ps_room.specs.Openings.{chat_opening}
+use Rattle.ps_room.specs.Stories.{story, Story}
 use Rattle.ps_histlock.specs.declared.view.View.{View}
 use Rattle.ps_histlock.specs.Histories.{commands}
 use Rattle.ps_histlock.specs.Seated.{TableId}
 use Rattle.ps_histlock.specs.Views.{newcomer, IsAtRest}
-use Rattle.ps_places.specs.declared.command.RoomCmd.{RoomCmd}
-use Rattle.ps_places.specs.declared.cursor.HallCursor.{HallCursor}
-use Rattle.ps_places.specs.declared.cursor.RoomCursor.{RoomCursor}
-use Rattle.ps_places.specs.declared.site.Root.{Root}
-use Rattle.ps_places.specs.declared.site.Site.{Site}
-use Rattle.ps_places.specs.Sites.{chat_at, Story, story, plays, TellsBy, Tells, view_told, id_told}
-use Rattle.ps_places.specs.Rooms.{cursor_of, Answers, Pulls, Shows, StandsAt}
-use Rattle.ps_places.specs.Halls.{HallAnswers, HallPulls, HallShows, HallStandsAt}
-use Rattle.ps_places.proofs.GoOnLemmas.{pulls_go_on}
-use Rattle.ps_places.proofs.HallLemmas.{hall_goes_on}
-use Rattle.ps_places.proofs.StandLemmas.{no_chat}
-use Rattle.ps_places.proofs.TellLemmas.{tells_more, going_on}
+use Rattle.server_places.specs.declared.command.RoomCmd.{RoomCmd}
+use Rattle.server_places.specs.declared.cursor.HallCursor.{HallCursor}
+use Rattle.server_places.specs.declared.cursor.RoomCursor.{RoomCursor}
+use Rattle.server_places.specs.declared.site.Root.{Root}
+use Rattle.server_places.specs.declared.site.Site.{Site}
+use Rattle.server_places.specs.Sites.{chat_at, plays, TellsBy, Tells, view_told, id_told}
+use Rattle.server_places.specs.Rooms.{cursor_of, Answers, Pulls, Shows, StandsAt}
+use Rattle.server_places.specs.Halls.{HallAnswers, HallPulls, HallShows, HallStandsAt}
+use Rattle.server_places.proofs.GoOnLemmas.{pulls_go_on}
+use Rattle.server_places.proofs.HallLemmas.{hall_goes_on}
+use Rattle.server_places.proofs.StandLemmas.{no_chat}
+use Rattle.server_places.proofs.TellLemmas.{tells_more, going_on}
 use Rattle.ps_hub.specs.Hubs.{Hub, root_of, site_of, lock_of}
 use Rattle.ps_hub.specs.Names.{IsChatId, Names}
 use Rattle.ps_hub.specs.Passes.{lines_of, IsTold, IsHallPass, HeldBy, IsRoomPass, IsNewPass}

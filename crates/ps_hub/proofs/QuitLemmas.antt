@@ -1,10 +1,10 @@
--- The Quits in the rooms of a row, one after the other.
+-- The Quits in the rooms of a list, one after the other.
 use Rattle.std.proofs.Common.{◌≡◌, ℕ, zero, suc, ◌+◌, ◌≤◌, List, [], ◌∷◌, ◌++◌, length, take, drop, set, Some, refl, sym, ap, ◌∙◌, subst, arith}
 use Rattle.std.specs.Prelude.{slice_get, slice_set}
 use Rattle.std.specs.List.{AllZip}
 use Rattle.std.proofs.lemmas.List.{take-append-drop, take_all, drop_at}
 use Rattle.std.proofs.lemmas.List.Elements.{length_all_zip}
-use Rattle.ps_hub.proofs.RowLemmas.{parted, get_seam, set_seam}
+use Rattle.ps_hub.proofs.PassListLemmas.{parted, get_seam, set_seam}
 
 module _ {A : Type 0} (R : A → A → Type 0) where
   pub zip_append : (xs ys us vs : List A) → AllZip R xs ys → AllZip R us vs → AllZip R (xs ++ us) (ys ++ vs)
@@ -17,7 +17,7 @@ module _ {A : Type 0} (R : A → A → Type 0) where
   zip_self self [] = tt
   zip_self self (x ∷ xs) = (self x, zip_self self xs)
 
-  -- a row of which a part is done: what stands behind is as it was
+  -- a list of which a part is done: what stands behind is as it was
   pub record IsDoneTo (i : ℕ) (old now : List A) : Type 0 where
     pub done : AllZip R (take i old) (take i now)
     pub rest : drop i now ≡ drop i old

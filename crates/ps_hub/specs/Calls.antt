@@ -11,28 +11,29 @@ use Rattle.ps_lines.specs.declared.command.HallCmd.{HallCmd}
 use Rattle.ps_lines.specs.declared.command.HallCmd.TheVariants as hall_commands
 use Rattle.ps_lines.specs.declared.order.Order.{Order}
 use Rattle.ps_lines.specs.declared.order.Order.TheVariants.{Hall, Room}
-use Rattle.ps_valid.specs.declared.start.Start.{Start}
+use Rattle.rules_start.specs.declared.start.Start.{Start}
 use Rattle.ps_hall.specs.declared.entry.HallEntry.{HallEntry}
 use Rattle.ps_hall.specs.declared.outcome.HallOut.{HallOut}
 use Rattle.ps_room.specs.declared.entry.Entry.{Entry}
-use Rattle.ps_room.specs.declared.outcome.Ending.{Ending}
 use Rattle.ps_room.specs.declared.outcome.RoomOut.{RoomOut}
 pub use Rattle.ps_room.specs.Logs.{entry_of as room_entry}
-use Rattle.ps_openings.specs.Openings.{first_battle, room_of_battle}
+use Rattle.ps_room.specs.Openings.{first_battle, room_of_battle}
+use Rattle.ps_room.specs.Stories.{Story}
+use Rattle.ps_room.specs.Logs.{ended_in}
 use Rattle.ps_histlock.specs.declared.view.Entry.{Entry as Made}
 use Rattle.ps_histlock.specs.declared.view.View.{View}
 use Rattle.ps_histlock.specs.declared.lock.TheConstants.{OWN_LIMIT}
 use Rattle.ps_histlock.specs.Histories.{commands}
 use Rattle.ps_histlock.specs.Views.{after_look, newcomer, offspring, with_number, Extends}
 use Rattle.ps_histlock.specs.Turns.{turned, IsBusy}
-use Rattle.ps_places.specs.declared.command.RoomCmd.{RoomCmd}
-use Rattle.ps_places.specs.declared.command.RoomCmd.TheVariants.{Begin, Play}
+use Rattle.server_places.specs.declared.command.RoomCmd.{RoomCmd}
+use Rattle.server_places.specs.declared.command.RoomCmd.TheVariants.{Begin, Play}
 use Rattle.ps_users.specs.Refusals.{read_of}
-use Rattle.ps_places.specs.declared.site.Root.{Root}
-use Rattle.ps_places.specs.declared.site.Site.{Site}
-use Rattle.ps_places.specs.Sites.{Story, Tells, id_told}
-use Rattle.ps_places.specs.Rooms.{Answers, Shows}
-use Rattle.ps_places.specs.Halls.{HallAnswers, HallShows}
+use Rattle.server_places.specs.declared.site.Root.{Root}
+use Rattle.server_places.specs.declared.site.Site.{Site}
+use Rattle.server_places.specs.Sites.{Tells, id_told}
+use Rattle.server_places.specs.Rooms.{Answers, Shows}
+use Rattle.server_places.specs.Halls.{HallAnswers, HallShows}
 use Rattle.ps_hub.specs.declared.out.EnterFault.{EnterFault}
 use Rattle.ps_hub.specs.declared.out.EnterFault.TheVariants as enter_faults
 use Rattle.ps_hub.specs.declared.out.HubFault.{HubFault}
@@ -50,11 +51,6 @@ use Rattle.ps_hub.specs.Turns.{Turns, TurnsAtLast, FallsShort, FallsShortAtLast}
 
 abbrev pub hall_entry : ℕ → ℕ → HallCmd → HallEntry
 hall_entry conn moment cmd = record { conn = conn; moment = moment; cmd = cmd }
-
--- the end of a battle that an entry of a room gave
-abbrev pub ended_in : Option RoomOut → Option Ending
-ended_in None = None
-ended_in (Some out) = out.ended
 
 -- the badge that a connection has after an entry that gave this one, or none
 abbrev pub badge_after : Option Badge → Option Badge → Option Badge
@@ -300,7 +296,7 @@ CatchesUpHall hub old (Err e) new = HallOnly (λ h k. LooksAtMost h.pass.1 k.pas
 abbrev pub Caught : Hub → ℕ → List Msg → RoomPass → RoomPass → Type 0
 Caught hub conn msgs h k = LooksAnd h.pass.1 h.cursor.passed k.pass.1 × HandsOut (Shows conn (site_of hub h.number)) (commands h.pass.1.seen) h.at msgs (commands k.pass.1.seen) k.at
 
--- what a call does to the pass that stands at a place of the row, and to nothing else
+-- what a call does to the pass that stands at an index of the list, and to nothing else
 pub record RoomOnly (place : ℕ) (does : RoomPass → RoomPass → Type 0) (old new : Passes) : Type 0 where
   pub before : RoomPass
   pub behind : RoomPass
@@ -366,7 +362,7 @@ QuitsRoomAtMost hub badge conn moment h k =
 abbrev pub QuitsHallAtMost : Hub → ℕ → ℕ → HallPass → HallPass → Type 0
 QuitsHallAtMost hub conn moment h k = FallsShortAtLast (HallAnswers (root_of hub)) h.pass.1 h.cursor (hall_entry conn moment hall_commands.Quit) k.pass.1 k.cursor × (k.at ≡ h.at)
 
--- The Quits in the rooms of a row, up to one that fell short: before it each was made, and behind it nothing changed.
+-- The Quits in the rooms of a list, up to one that fell short: before it each was made, and behind it nothing changed.
 pub record QuitsUpTo (hub : Hub) (badge : Option Badge) (conn moment : ℕ) (old new : List RoomPass) : Type 0 where
   pub front : List RoomPass
   pub quitted : List RoomPass

@@ -1,10 +1,10 @@
 -- A hub: the places of a server, each behind a lock of its own.
 use Rattle.std.specs.Prelude.{◌≡◌, ℕ, suc, ◌-◌, List, [], ◌∷◌, slice_get, nat_lt, Option, if◌then◌else◌}
-use Rattle.ps_dex.specs.declared.row.Tables.{Tables}
-use Rattle.ps_valid.specs.declared.row.Settings.{Settings}
-use Rattle.ps_openings.specs.Openings.{first_battle}
-use Rattle.ps_places.specs.declared.site.Root.{Root}
-use Rattle.ps_places.specs.declared.site.Site.{Site}
+use Rattle.ps_dex.specs.declared.item.Tables.{Tables}
+use Rattle.rules_config.specs.declared.settings.Settings.{Settings}
+use Rattle.ps_room.specs.Openings.{first_battle}
+use Rattle.server_places.specs.declared.site.Root.{Root}
+use Rattle.server_places.specs.declared.site.Site.{Site}
 use Rattle.ps_histlock.specs.Seated.{TableId}
 
 -- its configuration and its dex, and the names of its locks: of the hall, of the chat rooms in the order of the configuration,

@@ -1,9 +1,10 @@
 -- Which place an id names.
 use Rattle.std.specs.Prelude.{◌≡◌, ◌⊎◌, ℕ, ◌+◌, ◌<◌, ◌≤◌, List, slice_get, Some}
-use Rattle.ps_valid.specs.declared.row.ChatRoom.{ChatRoom}
-use Rattle.ps_valid.specs.declared.row.Settings.{Settings}
-use Rattle.ps_hall.specs.Looks.{battle_id, most_battles}
-use Rattle.ps_openings.specs.Openings.{first_battle, room_of_battle}
+use Rattle.rules_config.specs.declared.settings.ChatRoom.{ChatRoom}
+use Rattle.rules_config.specs.declared.settings.Settings.{Settings}
+use Rattle.ps_base.specs.Limits.{most_battles}
+use Rattle.rules_start.specs.Starts.{battle_id}
+use Rattle.ps_room.specs.Openings.{first_battle, room_of_battle}
 
 -- the id of the chat room with this number
 abbrev pub IsChatId : Settings → List ℕ → ℕ → Type 0

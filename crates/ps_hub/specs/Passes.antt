@@ -2,17 +2,18 @@
 use Rattle.std.specs.Prelude.{◌≡◌, ◌≢◌, ◌⊎◌, ℕ, ◌<◌, ◌≤◌, List, [], ◌∷◌, ◌++◌, map, length, take, slice_get, All, Option, Some, None}
 use Rattle.std.specs.List.{AllWithin}
 use Rattle.ps_base.specs.declared.msg.Msg.{Msg}
-use Rattle.ps_hall.specs.Halls.{msg_lines}
+use Rattle.ps_base.specs.Messages.{msg_lines}
 use Rattle.ps_histlock.specs.Histories.{commands}
 use Rattle.ps_histlock.specs.Seated.{TableId}
 use Rattle.ps_histlock.specs.Views.{newcomer, IsAtRest}
-use Rattle.ps_places.specs.Sites.{Story, Tells, id_told}
-use Rattle.ps_places.specs.Rooms.{cursor_of, Shows, StandsAt}
-use Rattle.ps_places.specs.Halls.{HallShows, HallStandsAt}
+use Rattle.server_places.specs.Sites.{Tells, id_told}
+use Rattle.server_places.specs.Rooms.{cursor_of, Shows, StandsAt}
+use Rattle.server_places.specs.Halls.{HallShows, HallStandsAt}
 use Rattle.ps_hub.specs.Hubs.{Hub, root_of, site_of, lock_of}
 use Rattle.ps_hub.specs.declared.pass.HallPass.{HallPass}
 use Rattle.ps_hub.specs.declared.pass.RoomPass.{RoomPass}
 use Rattle.ps_hub.specs.declared.passes.Passes.{Passes}
+use Rattle.ps_room.specs.Stories.{Story}
 
 -- the lines of messages
 abbrev pub lines_of : List Msg → List (List (List ℕ))
@@ -49,7 +50,7 @@ pub record IsRoomPass (hub : Hub) (conn : ℕ) (k : RoomPass) : Type 0 where
   pub told : IsTold (Shows conn (site_of hub k.number)) (StandsAt conn (site_of hub k.number)) (commands k.pass.1.seen) k.cursor k.cursor.passed (lines_of (k.kept.items ++ k.fresh.items)) k.at
   pub held : HeldBy k.id hub k
 
--- the numbers of the places of a row
+-- the numbers of the places of a list
 abbrev pub numbers : List RoomPass → List ℕ
 numbers rooms = map (λ (k : RoomPass). k.number) rooms
 
@@ -69,15 +70,15 @@ pub record AreOf (hub : Hub) (passes : Passes) : Type 0 where
 
 -- ---- looking into passes
 
--- all is as it was; the row may have got room
+-- all is as it was; the list may have got room
 abbrev pub IsAsBefore : Passes → Passes → Type 0
 IsAsBefore old new = (new ≡ record old { rooms = new.rooms }) × (new.rooms.items ≡ old.rooms.items)
 
--- this place in a row is that of the first pass of a higher place, or the end
+-- this index in a list is that of the first pass of a higher place, or the end
 abbrev pub IsGap : ℕ → ℕ → List RoomPass → Type 0
 IsGap number place rooms = AllWithin (λ (k : RoomPass). k.number ≤ number) rooms 0 place × ((k : RoomPass) → slice_get rooms place ≡ Some k → number < k.number)
 
--- a pass more, at this place in the row
+-- a pass more, at this index in the list
 abbrev pub IsAdded : Passes → ℕ → RoomPass → Passes → Type 0
 IsAdded old place k new = (xs ys : List RoomPass) × (old.rooms.items ≡ xs ++ ys) × (length xs ≡ place) × (new ≡ record old { rooms = new.rooms }) × (new.rooms.items ≡ xs ++ k ∷ ys) × IsGap k.number place old.rooms.items
 
@@ -90,7 +91,7 @@ pub record IsNewPass (hub : Hub) (conn number : ℕ) (k : RoomPass) : Type 0 whe
   pub kept : k.kept.items ++ k.fresh.items ≡ []
   pub at : k.at ≡ 0
 
--- The pass of a place, which is there already or is added as a new one, at this place in the row; all else is as it was.
+-- The pass of a place, which is there already or is added as a new one, at this index in the list; all else is as it was.
 pub record Keeps (hub : Hub) (number place : ℕ) (old : Passes) (k : RoomPass) (new : Passes) : Type 0 where
   pub before : List RoomPass
   pub behind : List RoomPass

@@ -12,8 +12,8 @@ use crate::passes::Passes;
 use crate::taken::Taken;
 use ps_base::msg::Msg;
 use ps_histlock::HistLock;
-use ps_places::hall_place::HallPlace;
-use ps_places::room_place::RoomPlace;
+use server_places::hall_place::HallPlace;
+use server_places::room_place::RoomPlace;
 use std::alloc::{AllocError, Global};
 use std::sync::Wait;
 
@@ -138,7 +138,7 @@ impl Hub {
         }
     }
 
-    /// The same of the room whose pass stands at this place in the row, whether the room is held or not.
+    /// The same of the room whose pass stands at this index in the list, whether the room is held or not.
     pub fn catch_up_at<R: Wait>(
         &self,
         rt: &R,

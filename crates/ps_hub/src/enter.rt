@@ -1,6 +1,6 @@
 //! Holding the place of a room.
 ghost use Rattle.std.specs.Prelude.{◌≡◌, ◌≢◌, ◌≤◌, ℕ, None, Some, IsTrue, IsFalse, IfOk, OnErr, slice_get};
-ghost use Rattle.ps_openings.specs.Openings.{first_battle};
+ghost use Rattle.ps_room.specs.Openings.{first_battle};
 ghost use Rattle.ps_hub.specs.Hubs.{lock_of};
 ghost use Rattle.ps_hub.specs.Names.{Names};
 ghost use Rattle.ps_hub.specs.Passes.{AreOf, IsRoomPass, IsAsBefore, Keeps};
@@ -12,8 +12,8 @@ use crate::pass::{RoomPass, is_held};
 use crate::passes::Passes;
 use crate::taken::Taken;
 use ps_base::text::Text;
-use ps_openings::opening::FIRST_BATTLE;
-use ps_places::cursor::RoomCursor;
+use ps_room::opening::FIRST_BATTLE;
+use server_places::cursor::RoomCursor;
 use std::alloc::AllocError;
 
 // Whether the room that a cursor has read has this id.

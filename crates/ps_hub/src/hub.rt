@@ -1,20 +1,21 @@
 //! The hub.
 ghost use Rattle.std.specs.Prelude.{◌≡◌, ◌≢◌, ◌+◌, ◌≤◌, None, Some, IfOk, IfSome, IfNone, length, slice_get};
 ghost use Rattle.std.specs.Arc.{arc_value};
-ghost use Rattle.ps_hall.specs.Looks.{most_battles};
-ghost use Rattle.ps_openings.specs.Openings.{first_battle, room_of_battle};
+ghost use Rattle.ps_base.specs.Limits.{most_battles};
+ghost use Rattle.ps_room.specs.Openings.{first_battle, room_of_battle};
 ghost use Rattle.ps_hub.specs.Hubs.{site_of, root_of, lock_of, AreAt};
 ghost use Rattle.ps_hub.specs.Names.{Names};
 ghost use Rattle.ps_hub.specs.Calls.{NamesNone};
 
 use crate::name::place_named;
+use ps_base::limit::MOST_BATTLES;
 use ps_dex::dex::Dex;
 use ps_histlock::HistLock;
-use ps_openings::opening::{FIRST_BATTLE, MOST_BATTLES, room_of_battle};
-use ps_places::hall_place::HallPlace;
-use ps_places::room_place::RoomPlace;
-use ps_valid::config::Config;
-use ps_valid::row::ChatRoom;
+use ps_room::opening::{FIRST_BATTLE, room_of_battle};
+use rules_config::config::Config;
+use rules_config::settings::ChatRoom;
+use server_places::hall_place::HallPlace;
+use server_places::room_place::RoomPlace;
 use std::alloc::{AllocError, Global};
 use std::marker::Model;
 use std::sync::Arc;
@@ -34,8 +35,8 @@ pub struct Hub {
 impl Model for Hub {
     ghost use Rattle.std.specs.Prelude.{◌≡◌, ◌≤◌, map, length};
     ghost use Rattle.std.specs.Arc.{arc_value};
-    ghost use Rattle.ps_hall.specs.Looks.{most_battles};
-    ghost use Rattle.ps_openings.specs.Openings.{first_battle};
+    ghost use Rattle.ps_base.specs.Limits.{most_battles};
+    ghost use Rattle.ps_room.specs.Openings.{first_battle};
     ghost use Rattle.ps_hub.specs.Hubs.{Hub as Seen, name_of, AreAt};
 
     ghost Value = { Seen };
@@ -89,7 +90,7 @@ fn battles(
     Ok(locks)
 }
 
-// The lock at this place of a row.
+// The lock at this place of a list.
 fn lock_at(locks: &[HistLock<RoomPlace>], place: usize) -> Option<&HistLock<RoomPlace>>
     ensures found { IfSome result (λ l. slice_get locks.now place ≡ Some l.now) }
     ensures none { IfNone result (slice_get locks.now place ≡ None) }

@@ -2,13 +2,14 @@
 ghost use Rattle.std.specs.Prelude.{◌≡◌, ◌<◌, ℕ, IfSome, IfNone};
 ghost use Rattle.std.specs.Option.{option_map};
 ghost use Rattle.ps_lines.specs.Parts.{at_last};
-ghost use Rattle.ps_openings.specs.Openings.{first_battle};
+ghost use Rattle.ps_room.specs.Openings.{first_battle};
 ghost use Rattle.ps_hub.specs.Names.{IsBattleId, IsFirstChat, IsNoChat, Names};
 
 use ps_base::cut::after;
 use ps_base::decimal::read_u32;
-use ps_openings::opening::{MOST_BATTLES, room_of_battle};
-use ps_valid::config::Config;
+use ps_base::limit::MOST_BATTLES;
+use ps_room::opening::room_of_battle;
+use rules_config::config::Config;
 
 // The number of the chat room with this id.
 fn chat_named(config: &Config, id: &str) -> Option<u32>

@@ -4,7 +4,8 @@ ghost use Rattle.ps_base.specs.declared.badge.Badge.{Badge};
 ghost use Rattle.ps_lines.specs.declared.order.Order.TheVariants.{Hall, Room};
 ghost use Rattle.ps_hub.specs.Hubs.{Hub, site_of};
 ghost use Rattle.ps_hub.specs.Passes.{AreOf, IsHallPass, IsRoomPass};
-ghost use Rattle.ps_hub.specs.Calls.{Orders, HallTakes, RoomTakes, NeedsBadge, name_asked, badge_after, ended_in};
+ghost use Rattle.ps_hub.specs.Calls.{Orders, HallTakes, RoomTakes, NeedsBadge, name_asked, badge_after};
+ghost use Rattle.ps_room.specs.Logs.{ended_in};
 
 use crate::hub::Hub;
 use crate::out::{EnterFault, HubFault, HubOut};
@@ -20,11 +21,11 @@ use ps_hall::outcome::HallOut;
 use ps_histlock::HistLock;
 use ps_lines::command::{Command, HallCmd};
 use ps_lines::order::Order;
-use ps_places::command::RoomCmd;
-use ps_places::hall_place::HallPlace;
 use ps_room::entry::Entry;
 use ps_room::outcome::{Ending, RoomOut};
 use ps_users::read::read_of;
+use server_places::command::RoomCmd;
+use server_places::hall_place::HallPlace;
 use std::alloc::{AllocError, Global};
 
 // The name that a command asks for, made before the entry: then keeping the badge takes no memory.

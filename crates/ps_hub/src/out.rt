@@ -3,7 +3,7 @@ use ps_base::badge::Badge;
 use ps_base::text::Text;
 use ps_lines::order::Order;
 use ps_room::outcome::Ending;
-use ps_valid::start::Start;
+use rules_start::start::Start;
 
 /// What an entry gave.
 #[derive(Debug, Drop)]

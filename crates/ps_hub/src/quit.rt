@@ -12,8 +12,8 @@ use ps_base::badge::Badge;
 use ps_base::number::{ConnNo, Moment};
 use ps_hall::entry::HallEntry;
 use ps_lines::command::{Command, HallCmd};
-use ps_places::command::RoomCmd;
 use ps_room::entry::Entry;
+use server_places::command::RoomCmd;
 use std::alloc::AllocError;
 use std::sync::Wait;
 

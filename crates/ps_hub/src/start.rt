@@ -1,8 +1,8 @@
 //! The begin of a battle.
 ghost use Rattle.std.specs.Prelude.{◌≡◌, ◌≤◌, ℕ, Some, OnOk, OnErr};
-ghost use Rattle.ps_start.specs.Fits.{IsFit};
-ghost use Rattle.ps_hall.specs.Looks.{most_battles};
-ghost use Rattle.ps_places.specs.declared.command.RoomCmd.TheVariants.{Begin};
+ghost use Rattle.rules_start.specs.Fits.{IsFit};
+ghost use Rattle.ps_base.specs.Limits.{most_battles};
+ghost use Rattle.server_places.specs.declared.command.RoomCmd.TheVariants.{Begin};
 ghost use Rattle.ps_hub.specs.Turns.{TurnsAtLast};
 ghost use Rattle.ps_hub.specs.Passes.{AreOf, IsRoomPass};
 ghost use Rattle.ps_hub.specs.Calls.{Starts, BeginsAtMost};
@@ -11,8 +11,8 @@ use crate::hub::Hub;
 use crate::pass::RoomPass;
 use crate::passes::Passes;
 use crate::taken::Taken;
-use ps_places::command::RoomCmd;
-use ps_valid::start::Start;
+use rules_start::start::Start;
+use server_places::command::RoomCmd;
 use std::alloc::AllocError;
 use std::sync::Wait;
 

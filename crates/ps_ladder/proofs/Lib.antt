@@ -1,3 +1,3 @@
 pub mod MapLemmas
-pub mod PlaceLemmas
+pub mod IndexLemmas
 pub mod SumLemmas

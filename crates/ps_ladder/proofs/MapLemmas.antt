@@ -1,5 +1,5 @@
 -- Ratings by id: what a rating is after others were put into the map.
-use Rattle.std.proofs.Common.{◌≡◌, ℕ, Bool, true, false, not, cond, ◌||◌, List, [], ◌∷◌, Option, Some, None, is_some, unwrap_or, refl, sym, ap, ◌∙◌, ℤ, pos}
+use Rattle.std.proofs.Common.{◌≡◌, ℕ, Bool, true, false, cond, ◌||◌, List, [], ◌∷◌, Option, Some, None, is_some, unwrap_or, refl, sym, ap, ◌∙◌, ℤ, pos}
 use Rattle.std.specs.Ordering.{nat_cmp}
 use Rattle.std.specs.Str.{bytes_eq}
 use Rattle.std.specs.Cmp.Lexicographic.{slice_cmp, nat_list_cmp_total}
@@ -8,9 +8,6 @@ use Rattle.std.proofs.lemmas.Map.Text.{is_eq-slice_cmp}
 use Rattle.std.proofs.lemmas.Slice.Eq.{bytes_eq-Decides}
 use Rattle.std.specs.List.{list_any}
 use Rattle.ps_ladder.specs.Ratings.{Won, Ratings, rating, settled, ratings_from, ratings_of, has_played}
-
-pub itself : (k : List ℕ) → bytes_eq k k ≡ true
-itself k = (bytes_eq-Decides k k).1 refl
 
 turned_by : (k q : List ℕ) (b : Bool) → bytes_eq k q ≡ b → bytes_eq q k ≡ b
 turned_by k q true e = (bytes_eq-Decides q k).1 (sym ((bytes_eq-Decides k q).0 e))
@@ -43,7 +40,7 @@ rating-insert m k v q = ap (λ o. unwrap_or o (pos 1000)) (got m k v q) ∙ out 
 -- ---- who has a rating
 
 pub has_put : (m : Ratings) (k : List ℕ) (v : ℤ) → contains_key (insert m k v) k ≡ true
-has_put m k v = ap is_some (got m k v k ∙ ap (λ b. cond b (Some v) (get m k)) (itself k))
+has_put m k v = ap is_some (got m k v k ∙ ap (λ b. cond b (Some v) (get m k)) ((bytes_eq-Decides k k).1 refl))
 
 pub keeps_put : (m : Ratings) (k : List ℕ) (v : ℤ) (q : List ℕ) → contains_key m q ≡ true → contains_key (insert m k v) q ≡ true
 keeps_put m k v q h = ap is_some (got m k v q) ∙ by (bytes_eq q k)
@@ -97,14 +94,6 @@ unrated m k h = by (get m k) h
     by : (o : Option ℤ) → is_some o ≡ false → unwrap_or o (pos 1000) ≡ pos 1000
     by None e = refl
     by (Some v) e = absurd cc
-
-pub fresh_is : (b : Bool) → not b ≡ true → b ≡ false
-fresh_is true e = absurd cc
-fresh_is false e = refl
-
-pub known_is : (b : Bool) → not b ≡ false → b ≡ true
-known_is true e = refl
-known_is false e = absurd cc
 
 -- ---- who was rated
 

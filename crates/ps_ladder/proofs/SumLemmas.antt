@@ -11,9 +11,11 @@ use Rattle.std.proofs.lemmas.Int.{ints}
 use Rattle.std.specs.FinMap.Entries.{by_order, length-put}
 use Rattle.std.proofs.lemmas.List.{length_push, nil_from_length}
 use Rattle.std.proofs.lemmas.List.Elements.{All-head, All-tail}
+use Rattle.ps_base.specs.Limits.{most_battles}
+use Rattle.std.proofs.lemmas.Slice.Eq.{bytes_eq-Decides}
 use Rattle.ps_ladder.specs.Gains.{gain_of}
 use Rattle.ps_ladder.specs.Ratings.{Won, Ratings, Standing, rating, moved, settled, ratings_from, ratings_of, standing_of, standing_after, sum, IsBalanced, IsOfTwo, IsNear, AreNear, IsSound}
-use Rattle.ps_ladder.proofs.MapLemmas.{rating-insert, itself, turned}
+use Rattle.ps_ladder.proofs.MapLemmas.{rating-insert, turned}
 
 abbrev Entry : Type 0
 Entry = List ℕ × ℤ
@@ -125,9 +127,6 @@ near_down n z g near few = let low = near.low in let high = near.high in record 
 near_stay : (n : ℕ) (z : ℤ) → IsNear n z → IsNear (n + 1) z
 near_stay n z near = let low = near.low in let high = near.high in record { low = omega (arith, ints); high = omega (arith, ints) }
 
-pub near_wider : (n k : ℕ) (z : ℤ) → n ≤ k → IsNear n z → IsNear k z
-near_wider n k z le near = let low = near.low in let high = near.high in record { low = omega (arith, ints); high = omega (arith, ints) }
-
 pub near_moved : (n : ℕ) (m : Ratings) (winner loser : List ℕ) (g : ℕ) → g ≤ 32 → AreNear n m → AreNear (n + 1) (moved m winner loser g)
 near_moved n m winner loser g few near = λ q.
     let mid : Ratings = insert m winner (rating m winner +ℤ pos g) in
@@ -147,7 +146,7 @@ near_empty = λ q. subst (λ o. IsNear 0 (unwrap_or o (pos 1000))) (sym (get-emp
 pub sound_new : IsSound (record { count = 0; ratings = empty })
 sound_new = record { few = omega arith; near = near_empty; balanced = balanced_empty }
 
-pub sound_after : (count : ℕ) (m new : Ratings) (winner loser : List ℕ) → IsSound (record { count = count; ratings = m }) → count < 65536 → bytes_eq winner loser ≡ false → gain_of (rating m winner) (rating m loser) ≤ 32
+pub sound_after : (count : ℕ) (m new : Ratings) (winner loser : List ℕ) → IsSound (record { count = count; ratings = m }) → count < most_battles → bytes_eq winner loser ≡ false → gain_of (rating m winner) (rating m loser) ≤ 32
     → new ≡ settled m winner loser → IsSound (record { count = count + 1; ratings = new })
 sound_after count m new winner loser sound few apart gain is =
     subst (λ (r : Ratings). IsSound (record { count = count + 1; ratings = r })) (sym is)
@@ -170,9 +169,9 @@ pub winner_new : (m : Ratings) (winner loser : List ℕ) (g : ℕ) → bytes_eq 
 winner_new m winner loser g apart =
     rating-insert (insert m winner (rating m winner +ℤ pos g)) loser (rating m loser -ℤ pos g) winner
     ∙ ap (λ b. cond b (rating m loser -ℤ pos g) (rating (insert m winner (rating m winner +ℤ pos g)) winner)) apart
-    ∙ rating-insert m winner (rating m winner +ℤ pos g) winner ∙ ap (λ b. cond b (rating m winner +ℤ pos g) (rating m winner)) (itself winner)
+    ∙ rating-insert m winner (rating m winner +ℤ pos g) winner ∙ ap (λ b. cond b (rating m winner +ℤ pos g) (rating m winner)) ((bytes_eq-Decides winner winner).1 refl)
 
 pub loser_new : (m : Ratings) (winner loser : List ℕ) (g : ℕ) → rating (moved m winner loser g) loser ≡ rating m loser -ℤ pos g
 loser_new m winner loser g =
     rating-insert (insert m winner (rating m winner +ℤ pos g)) loser (rating m loser -ℤ pos g) loser
-    ∙ ap (λ b. cond b (rating m loser -ℤ pos g) (rating (insert m winner (rating m winner +ℤ pos g)) loser)) (itself loser)
+    ∙ ap (λ b. cond b (rating m loser -ℤ pos g) (rating (insert m winner (rating m winner +ℤ pos g)) loser)) ((bytes_eq-Decides loser loser).1 refl)

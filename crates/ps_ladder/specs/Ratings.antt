@@ -2,7 +2,8 @@
 use Rattle.std.specs.Prelude.{◌≡◌, ℕ, ◌+◌, ◌*◌, ◌≤◌, Bool, false, ◌||◌, ℤ, pos, ◌+ℤ◌, ◌-ℤ◌, ◌≤ℤ◌, List, [], ◌∷◌, length, unwrap_or}
 use Rattle.std.specs.FinMap.{get, insert, empty, len, values}
 use Rattle.std.specs.Str.{bytes_eq}
-use Rattle.ps_roster.specs.ById.{ById}
+use Rattle.ps_base.specs.ById.{ById}
+use Rattle.ps_base.specs.Limits.{most_battles}
 use Rattle.ps_ladder.specs.Gains.{gain_of}
 
 -- who won a rated battle, and who lost it, by their ids
@@ -79,6 +80,6 @@ AreNear count ratings = (user : List ℕ) → IsNear count (rating ratings user)
 
 -- what is true of a ladder at any time
 pub record IsSound (s : Standing) : Type 0 where
-  pub few : s.count ≤ 65536
+  pub few : s.count ≤ most_battles
   pub near : AreNear s.count s.ratings
   pub balanced : IsBalanced s.ratings

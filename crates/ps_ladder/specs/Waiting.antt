@@ -19,9 +19,12 @@ is_for user format s = bytes_eq s.user user && bytes_eq s.format format
 abbrev pub waits : List Search → List ℕ → List ℕ → Bool
 waits list user format = list_any (is_for user format) list
 
--- two ratings are near where they are at most 300 points apart
+-- how far apart two ratings may be that are near
+abbrev pub reach : ℕ
+reach = 300
+
 abbrev pub is_near : ℤ → ℤ → Bool
-is_near a b = nat_le (distance a b) 300
+is_near a b = nat_le (distance a b) reach
 
 -- whether a search suits a user who wants to play a format: another's, of that format, at a near rating
 abbrev pub suits : List ℕ → List ℕ → ℤ → Search → Bool
@@ -59,8 +62,8 @@ IsAddFault waiting NoMemory = waiting ≡ false
 abbrev pub cancelled : List Search → List ℕ → List Search
 cancelled list user = filter (λ s. not (has_user user s)) list
 
--- it is the place, counted from 0, of the search that is found
-pub record IsPlace (list : List Search) (user format : List ℕ) (rating : ℤ) (place : ℕ) : Type 0 where
-  pub below : place < length list
-  pub here : (other : Search) → found list user format rating ≡ Some (slice_index_or list place other)
-  pub left : without list user format rating ≡ remove list place
+-- it is the index, counted from 0, of the search that is found
+pub record IsIndex (list : List Search) (user format : List ℕ) (rating : ℤ) (index : ℕ) : Type 0 where
+  pub below : index < length list
+  pub here : (other : Search) → found list user format rating ≡ Some (slice_index_or list index other)
+  pub left : without list user format rating ≡ remove list index

@@ -3,6 +3,7 @@ ghost use Rattle.std.specs.Prelude.{◌≡◌, ◌<◌, ◌≤◌, ◌++◌, ◌
 ghost use Rattle.std.specs.FinMap.{contains_key, empty};
 ghost use Rattle.std.specs.List.{All, list_any};
 ghost use Rattle.std.specs.Str.{bytes_eq};
+ghost use Rattle.ps_base.specs.Limits.{most_battles};
 ghost use Rattle.ps_ladder.specs.Gains.{gain_of};
 ghost use Rattle.ps_ladder.specs.Ratings.{Won, rating, settled, ratings_of, rating_of, standing_of, standing_after, IsBalanced, IsNear, IsOfTwo, has_played};
 
@@ -21,7 +22,7 @@ pub struct Ladder {
 
 impl Model for Ladder {
     ghost use Rattle.std.specs.Coded.{codes, coded_ℤ};
-    ghost use Rattle.ps_roster.specs.ById.{by_id_code};
+    ghost use Rattle.ps_base.specs.ById.{by_id_code};
     ghost use Rattle.ps_ladder.specs.Ratings.{Standing, IsSound};
 
     ghost Value = { Standing };
@@ -45,7 +46,24 @@ fn new_ratings(winner: i32, loser: i32) -> (i32, i32)
     (winner + gain, loser - gain)
 }
 
-// The two new ratings, winner's first.
+// The two new ratings, winner's first, before they are settled.
+fn preview(scores: &Scores, winner: &Id, loser: &Id) -> (i32, i32)
+    requires winner { IsNear 65535 (rating scores.now winner.now) }
+    requires loser { IsNear 65535 (rating scores.now loser.now) }
+    requires apart { bytes_eq winner.now loser.now ≡ false }
+    ensures winner { result.0 ≡ rating (settled scores.now winner.now loser.now) winner.now }
+    ensures loser { result.1 ≡ rating (settled scores.now winner.now loser.now) loser.now }
+    ensures higher { result.0 ≡ rating scores.now winner.now +ℤ pos (gain_of (rating scores.now winner.now) (rating scores.now loser.now)) }
+    ensures lower { result.1 ≡ rating scores.now loser.now -ℤ pos (gain_of (rating scores.now winner.now) (rating scores.now loser.now)) }
+    ensures gain { gain_of (rating scores.now winner.now) (rating scores.now loser.now) ≤ 32 }
+{
+    let higher = scores.rating(winner.as_str());
+    let lower = scores.rating(loser.as_str());
+    let (higher, lower) = new_ratings(higher, lower);
+    (higher, lower)
+}
+
+// Settles them, and gives the two new ratings, winner's first.
 fn settle(
     scores: &mut Scores,
     alloc: Global,
@@ -61,9 +79,7 @@ fn settle(
     ensures err { OnErr result (scores.new ≡ scores.old) }
     ensures gain { gain_of (rating scores.old winner.now) (rating scores.old loser.now) ≤ 32 }
 {
-    let higher = scores.rating(winner.as_str());
-    let lower = scores.rating(loser.as_str());
-    let (higher, lower) = new_ratings(higher, lower);
+    let (higher, lower) = preview(scores, winner, loser);
     set_both(
         scores,
         alloc,
@@ -73,20 +89,6 @@ fn settle(
         lower,
     )?;
     Ok((higher, lower))
-}
-
-// The two new ratings, winner's first, before they are settled.
-fn preview(scores: &Scores, winner: &Id, loser: &Id) -> (i32, i32)
-    requires winner { IsNear 65535 (rating scores.now winner.now) }
-    requires loser { IsNear 65535 (rating scores.now loser.now) }
-    requires apart { bytes_eq winner.now loser.now ≡ false }
-    ensures winner { result.0 ≡ rating (settled scores.now winner.now loser.now) winner.now }
-    ensures loser { result.1 ≡ rating (settled scores.now winner.now loser.now) loser.now }
-{
-    let higher = scores.rating(winner.as_str());
-    let lower = scores.rating(loser.as_str());
-    let (higher, lower) = new_ratings(higher, lower);
-    (higher, lower)
 }
 
 impl Ladder {
@@ -121,7 +123,7 @@ impl Ladder {
     /// The two new ratings that a rated battle will give, the winner's first, before it is settled. Takes no memory.
     pub fn preview(&self, winner: &Id, loser: &Id) -> (i32, i32)
         requires apart { bytes_eq winner.now loser.now ≡ false }
-        requires few { self.now.count < 65536 }
+        requires few { self.now.count < most_battles }
         ensures winner { result.0 ≡ rating (standing_after self.now winner.now loser.now).ratings winner.now }
         ensures loser { result.1 ≡ rating (standing_after self.now winner.now loser.now).ratings loser.now }
     {
@@ -137,7 +139,7 @@ impl Ladder {
         loser: &Id,
     ) -> Result<(i32, i32), AllocError>
         requires apart { bytes_eq winner.now loser.now ≡ false }
-        requires few { self.old.count < 65536 }
+        requires few { self.old.count < most_battles }
         ensures winner { IfOk result (λ new. new.0 ≡ rating (settled self.old.ratings winner.now loser.now) winner.now) }
         ensures loser { IfOk result (λ new. new.1 ≡ rating (settled self.old.ratings winner.now loser.now) loser.now) }
         ensures after { OnOk result (self.new ≡ standing_after self.old winner.now loser.now) }

@@ -15,7 +15,7 @@ pub struct Scores {
 
 impl Model for Scores {
     ghost use Rattle.std.specs.Coded.{coded_ℤ};
-    ghost use Rattle.ps_roster.specs.ById.{by_id, by_id_code};
+    ghost use Rattle.ps_base.specs.ById.{by_id, by_id_code};
     ghost use Rattle.ps_ladder.specs.Ratings.{Ratings};
 
     ghost Value = { Ratings };

@@ -2,7 +2,7 @@
 ghost use Rattle.std.specs.Prelude.{◌≡◌, OnOk, OnErr, IfOk, IfErr, IfNone, IfSome, None, Some, true, false, [], not};
 ghost use Rattle.std.specs.List.{list_any, filter};
 ghost use Rattle.std.specs.Option.{option_copied};
-ghost use Rattle.ps_ladder.specs.Waiting.{has_user, is_for, suits, waits, found, added, answer, cancelled, IsPlace, IsAddFault};
+ghost use Rattle.ps_ladder.specs.Waiting.{has_user, is_for, is_near, suits, waits, found, added, answer, cancelled, IsIndex, IsAddFault};
 ghost use Rattle.ps_ladder.specs.declared.searches.AddFault.TheVariants.{NoMemory};
 
 use crate::gain::distance;
@@ -77,12 +77,22 @@ fn is_for(entry: &Search, user: &Id, format: &Id) -> bool
     has_user(entry, user) && entry.format.as_str() == format.as_str()
 }
 
+/// How many points apart two ratings may be that are near.
+pub const REACH: u32 = 300;
+
+/// Whether two ratings are near: at most `REACH` points apart.
+pub fn is_near(one: i32, two: i32) -> bool
+    ensures { result ≡ is_near one two }
+{
+    distance(one, two) <= REACH
+}
+
 fn suits(entry: &Search, user: &Id, format: &Id, rating: i32) -> bool
     ensures { result ≡ suits user.now format.now rating entry.now }
 {
     !has_user(entry, user)
         && entry.format.as_str() == format.as_str()
-        && distance(entry.rating, rating) <= 300
+        && is_near(entry.rating, rating)
 }
 
 fn waits(list: &[Search], user: &Id, format: &Id) -> bool
@@ -124,10 +134,10 @@ fn longest_waiting<'a>(
     None
 }
 
-// The place of the search that has waited longest of those that suit.
-fn place_of(list: &[Search], user: &Id, format: &Id, rating: i32) -> Option<usize>
+// The index of the search that has waited longest of those that suit.
+fn index_of(list: &[Search], user: &Id, format: &Id, rating: i32) -> Option<usize>
     ensures none { IfNone result (found list.now user.now format.now rating ≡ None) }
-    ensures some { IfSome result (IsPlace list.now user.now format.now rating) }
+    ensures some { IfSome result (IsIndex list.now user.now format.now rating) }
 {
     for i in 0..list.len() {
         if suits(&list[i], user, format, rating) {
@@ -175,14 +185,14 @@ fn add_new(
     ensures added { OnOk result (list.new.items ≡ added list.old.items user.now format.now rating) }
     ensures err { OnErr result (list.new.items ≡ list.old.items) }
 {
-    match place_of(list.as_slice(), user, format, rating) {
+    match index_of(list.as_slice(), user, format, rating) {
         None => {
             let entry = new_search(alloc, user, format, rating)?;
             list.push(entry)?;
             Ok(Found::Waiting)
         }
-        Some(place) => {
-            let other = list.remove(place);
+        Some(index) => {
+            let other = list.remove(index);
             Ok(matched(other))
         }
     }
@@ -220,7 +230,7 @@ impl Searches {
     }
 
     /// The search that a user at a rating would be matched with: the one that has waited longest of those of others for the
-    /// format at a rating that is at most 300 points away. `None` exactly where there is none. Takes no memory.
+    /// format at a near rating. `None` exactly where there is none. Takes no memory.
     pub fn find(&self, user: &Id, format: &Id, rating: i32) -> Option<&Search>
         ensures { option_copied result ≡ found self.now user.now format.now rating }
     {
@@ -229,9 +239,9 @@ impl Searches {
 
     /// A user at a rating searches for a battle of a format.
     ///
-    /// `Matched` exactly where another waits for the format at a rating that is at most 300 points away: of
-    /// these the one that has waited longest, which waits no more. `Waiting` otherwise.
-    /// `AddFault::Already` exactly where the user waits for the format. At a fault nothing changes.
+    /// `Matched` exactly where another waits for the format at a near rating: of these the one that has waited longest,
+    /// which waits no more. `Waiting` otherwise. `AddFault::Already` exactly where the user waits for the format. At a
+    /// fault nothing changes.
     pub fn add(
         &mut self,
         alloc: Global,

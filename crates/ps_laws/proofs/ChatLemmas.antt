@@ -6,8 +6,8 @@ use Rattle.ps_base.specs.declared.why.Why.{Why}
 use Rattle.ps_lines.specs.declared.command.Command.{Command}
 use Rattle.ps_lines.specs.declared.command.Command.TheVariants.{Modnote, Choose, Undo, Forfeit}
 use Rattle.ps_mon.specs.declared.choice.Choice.{Choice}
-use Rattle.ps_bout.specs.Fights.{Fight, refusal_in}
-use Rattle.ps_chat.specs.Looks.{member}
+use Rattle.battle_rounds.specs.Fights.{Fight, refusal_in}
+use Rattle.ps_chat.specs.Lookups.{member}
 use Rattle.ps_chat.specs.Records.{Record as ChatRecord, Opening as ChatOpening}
 use Rattle.ps_chat.specs.Rooms.{presents}
 use Rattle.ps_chat.specs.Changes.{record_after}
@@ -31,10 +31,6 @@ chat_by None o chat e = record_after o.groups chat e.conn e.badge e.moment e.cmd
 
 abbrev pub chat_next : ChatOpening → ChatRecord → Entry → ChatRecord
 chat_next o chat e = chat_by (chat_verdict o chat e.conn e.badge e.moment e.cmd) o chat e
-
--- what the battle refuses changes no chat
-record IsQuiet (r : Record) (e : Entry) : Type 0 where
-  chat : record_after r.opening.groups r.chat e.conn e.badge e.moment e.cmd ≡ r.chat
 
 battle_quiet_by : (r : Record) (e : Entry) (cmd : Command) (side : Option ℕ) (f : Fight) (why : Why) → e.cmd ≡ cmd → refusal_in f.cast.dex f.bout side cmd ≡ Some why → record_after r.opening.groups r.chat e.conn e.badge e.moment cmd ≡ r.chat
 battle_quiet_by r e (Choose choice rqid) side f why is refused = refl
@@ -117,11 +113,6 @@ abbrev pub chat_over : ChatOpening → ChatRecord → List Item → ChatRecord
 chat_over o chat [] = chat
 chat_over o chat (whole e ∷ is) = chat_over o (chat_next o chat e) is
 chat_over o chat (commit one two ∷ is) = chat_over o chat is
-
-pub items_opening : (r : Record) (is : List Item) → (items_after r is).opening ≡ r.opening
-items_opening r [] = refl
-items_opening r (whole e ∷ is) = items_opening (item_after r (whole e)) is ∙ whole_opening r e
-items_opening r (commit one two ∷ is) = items_opening (item_after r (commit one two)) is ∙ commit_opening r one two
 
 pub items_chat : (r : Record) (is : List Item) → (items_after r is).chat ≡ chat_over r.opening r.chat is
 items_chat r [] = refl

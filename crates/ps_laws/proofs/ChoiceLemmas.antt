@@ -4,11 +4,11 @@ use Rattle.ps_base.specs.declared.why.Why.{Why}
 use Rattle.ps_lines.specs.declared.command.Command.TheVariants.{Choose}
 use Rattle.ps_mon.specs.declared.choice.Choice.{Choice}
 use Rattle.ps_dex.specs.Figures.{figures_of}
-use Rattle.ps_bout.specs.declared.bout.Bout.{Bout}
-use Rattle.ps_bout.specs.Bouts.{with_waiting}
-use Rattle.ps_bout.specs.Refusals.{chosen}
-use Rattle.ps_bout.specs.Rounds.{is_ready, choice_or_pass, committed, completed}
-use Rattle.ps_bout.specs.Fights.{Fight, outcome_in, refusal_in}
+use Rattle.battle_rounds.specs.declared.bout.Bout.{Bout}
+use Rattle.battle_rounds.specs.Bouts.{with_waiting}
+use Rattle.battle_rounds.specs.Refusals.{chosen}
+use Rattle.battle_rounds.specs.Rounds.{is_ready, choice_or_pass, committed, completed}
+use Rattle.battle_rounds.specs.Fights.{Fight, outcome_in, refusal_in}
 use Rattle.ps_chat.specs.declared.present.Present.{Present}
 use Rattle.ps_room.specs.Roles.{side_of_member}
 use Rattle.ps_laws.specs.Alike.{own_bout, own_fight}

@@ -3,12 +3,12 @@ use Rattle.std.proofs.Common.{◌≡◌, ℕ, Bool, List, [], ◌∷◌, ◌++�
 use Rattle.ps_base.specs.declared.why.Why.{Why}
 use Rattle.ps_mon.specs.declared.record.Battle.{Battle}
 use Rattle.ps_mon.specs.declared.choice.Choice.{Choice}
-use Rattle.ps_dex.specs.declared.row.Tables.{Tables}
+use Rattle.ps_dex.specs.declared.item.Tables.{Tables}
 use Rattle.ps_dex.specs.Figures.{figures_of}
-use Rattle.ps_bout.specs.declared.bout.Bout.{Bout}
-use Rattle.ps_bout.specs.Fights.{Fight}
+use Rattle.battle_rounds.specs.declared.bout.Bout.{Bout}
+use Rattle.battle_rounds.specs.Fights.{Fight}
 use Rattle.ps_chat.specs.declared.present.Present.{Present}
-use Rattle.ps_alike.specs.Places.{Hidden}
+use Rattle.battle_secrecy.specs.Places.{Hidden}
 use Rattle.ps_room.specs.Records.{Record}
 use Rattle.ps_room.specs.Roles.{side_of_member}
 use Rattle.ps_laws.specs.Alike.{own_fight, AreAlike, AreMaybeAlike}
@@ -66,8 +66,8 @@ waiting_battle : (dex : Tables) (b : Bout) (side : Option ℕ) (choice : List �
 waiting_battle dex b None choice rqid = refl
 waiting_battle dex b (Some s) choice rqid = put_battle s _ b
 
-pub fine_held : (own : ℕ → Bool) (places : Hidden) (f : Fight) (me : Option Present) (choice : List ℕ) (rqid : Option ℕ) (one two : Choice) → IsFineRound places f one two → AreFineChoices places (own_fight own (waiting_fight (Some f) me choice rqid)) one two
-fine_held own places f me choice rqid one two h =
+pub fine_with_choice : (own : ℕ → Bool) (places : Hidden) (f : Fight) (me : Option Present) (choice : List ℕ) (rqid : Option ℕ) (one two : Choice) → IsFineRound places f one two → AreFineChoices places (own_fight own (waiting_fight (Some f) me choice rqid)) one two
+fine_with_choice own places f me choice rqid one two h =
     let same : (waiting_in f.cast.dex f.bout (side_of_member f.cast me) choice rqid).battle ≡ f.bout.battle = waiting_battle f.cast.dex f.bout (side_of_member f.cast me) choice rqid in
     record {
       choices = subst (λ (b : Battle). AreChoices b one two) (sym same) h.choices;

@@ -1,25 +1,26 @@
 -- Alike: how the record of the hall stands to one that was made of a low history, which has no teams of others, no challenges
 -- between others and no blocks between others.
-use Rattle.std.proofs.Common.{◌≡◌, ℕ, Bool, true, false, cond, not, ◌&&◌, ◌||◌, List, [], ◌∷◌, ◌++◌, Option, Some, None, option_map, find, map, refl, sym, ap, subst, ◌∙◌}
+use Rattle.std.proofs.Common.{◌≡◌, ℕ, Bool, true, false, cond, not, ◌&&◌, ◌||◌, List, [], ◌∷◌, ◌++◌, Option, Some, None, option_map, find, map, refl, sym, ap, ◌∙◌}
 use Rattle.std.proofs.lemmas.Bool.{or_left, or_right}
 use Rattle.std.specs.List.{filter}
 use Rattle.std.specs.Str.{bytes_eq}
 use Rattle.std.specs.FinMap.{get}
+use Rattle.std.proofs.lemmas.Slice.Eq.{bytes_eq-Decides}
 use Rattle.ps_base.specs.Ids.{id_of}
 use Rattle.ps_packed.specs.declared.set.Set.{Set}
-use Rattle.ps_valid.specs.declared.start.Legal.{Legal}
-use Rattle.ps_roster.specs.ById.{ById}
+use Rattle.ps_valid.specs.declared.legal.Legal.{Legal}
+use Rattle.ps_base.specs.ById.{ById}
 use Rattle.ps_pms.specs.declared.asked.Asked.{Asked}
 use Rattle.ps_pms.specs.Records.{Record as Pms}
-use Rattle.ps_pms.specs.Looks.{blocks, is_by, is_to}
+use Rattle.ps_pms.specs.Lookups.{blocks, is_by, is_to}
 use Rattle.ps_hall.specs.declared.kept.KeptTeam.{KeptTeam}
 use Rattle.ps_hall.specs.Records.{Record}
-use Rattle.ps_hall.specs.Looks.{is_kept, kept_team, without_kept, without_user, without_either}
+use Rattle.ps_hall.specs.Lookups.{is_kept, kept_team, without_kept, without_user, without_either}
 use Rattle.ps_hall.specs.Lines.{challenge_line}
 use Rattle.ps_hall.specs.Steps.{keep}
 use Rattle.ps_laws.specs.HallLow.{is_user}
 use Rattle.ps_laws.proofs.HallListLemmas.{find_within, keep_within, map_kept, find_mapped}
-use Rattle.ps_laws.proofs.HallTellLemmas.{is_ours, same_bytes}
+use Rattle.ps_laws.proofs.HallTellLemmas.{is_ours}
 
 -- ---- the parts that aren't known to everybody
 
@@ -134,9 +135,6 @@ module _ (ids : List (List ℕ)) where
   pub alike_self : (h : Record) → AreAlike ids h h
   alike_self h = record { open_parts = refl; near = near_self (parts_of h) }
 
-  pub alike_is : (h l : Record) → h ≡ l → AreAlike ids h l
-  alike_is h l same = subst (AreAlike ids h) same (alike_self h)
-
   pub alike_turned : (h l : Record) → AreAlike ids h l → AreAlike ids l h
   alike_turned h l w = record {
     open_parts = sym (ap (λ (x : Record). join x (parts_of h)) w.open_parts);
@@ -153,10 +151,10 @@ module _ (ids : List (List ℕ)) where
 
 module _ (ids : List (List ℕ)) (me : List ℕ) (mine : is_user ids me ≡ true) where
   by_ours : (a : Asked) → is_by me a ≡ true → is_ours ids a ≡ true
-  by_ours a is = or_left (is_user ids a.by) (is_user ids a.to) (ap (is_user ids) (same_bytes a.by me is) ∙ mine)
+  by_ours a is = or_left (is_user ids a.by) (is_user ids a.to) (ap (is_user ids) ((bytes_eq-Decides a.by me).0 is) ∙ mine)
 
   to_ours : (a : Asked) → is_to me a ≡ true → is_ours ids a ≡ true
-  to_ours a is = or_right (is_user ids a.by) (is_user ids a.to) (ap (is_user ids) (same_bytes a.to me is) ∙ mine)
+  to_ours a is = or_right (is_user ids a.by) (is_user ids a.to) (ap (is_user ids) ((bytes_eq-Decides a.to me).0 is) ∙ mine)
 
   module _ (one two : List Asked) (same : filter (is_ours ids) one ≡ filter (is_ours ids) two) where
     pub made_same : find (is_by me) one ≡ find (is_by me) two

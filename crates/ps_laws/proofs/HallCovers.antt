@@ -1,23 +1,22 @@
 -- Covered: the name that the connection has, and each id that is online on it, is one of its users. And what entries and items
 -- change of who is connected.
 use Rattle.std.proofs.Common.{◌≡◌, ℕ, ◌==◌, Bool, true, false, cond, List, [], ◌∷◌, ◌++◌, Option, Some, None, option_map, refl, sym, ap, subst, ◌∙◌, arith}
-use Rattle.std.proofs.lemmas.Bool.{or_left, or_right}
 use Rattle.std.specs.Option.{option_and_then}
-use Rattle.std.specs.Str.{bytes_eq}
 use Rattle.std.specs.Ordering.{nat_cmp, eq_by_cmp}
 use Rattle.std.specs.Cmp.{nat_cmp_total, unsigned_tied}
 use Rattle.std.specs.Cmp.Lexicographic.{slice_cmp, nat_list_cmp_total}
 use Rattle.std.specs.FinMap.{get, insert, remove, empty, get-empty, get-insert, get-remove}
 use Rattle.std.proofs.lemmas.Bool.Decides.{nat_tests}
+use Rattle.std.proofs.lemmas.Cmp.{nat_eq_equiv}
 use Rattle.std.proofs.lemmas.Slice.Eq.{bytes_eq-Decides}
 use Rattle.std.proofs.lemmas.Map.Text.{is_eq-slice_cmp}
 use Rattle.ps_base.specs.Ids.{id_of}
 use Rattle.ps_base.specs.declared.badge.Badge.{Badge}
 use Rattle.ps_base.specs.declared.hall_why.HallWhy.{HallWhy}
 use Rattle.ps_lines.specs.declared.command.HallCmd.{HallCmd}
-use Rattle.ps_lines.specs.declared.command.HallCmd.TheVariants.{Open, Quit, Bad, Name, Team, Search, Accept, Report}
-use Rattle.ps_valid.specs.declared.start.Legal.{Legal}
-use Rattle.ps_roster.specs.ById.{ById}
+use Rattle.ps_lines.specs.declared.command.HallCmd.TheVariants.{Open, Quit, Name, Accept}
+use Rattle.ps_valid.specs.declared.legal.Legal.{Legal}
+use Rattle.ps_base.specs.ById.{ById}
 use Rattle.ps_users.specs.Records.{Record as Users}
 use Rattle.ps_users.specs.Refusals.{read_of, refusal as refusal_of_user}
 use Rattle.ps_users.specs.Seats.{Seats, badge_in, opened_by, without}
@@ -27,53 +26,23 @@ use Rattle.ps_ladder.specs.declared.searches.Search.{Search as Waiting}
 use Rattle.ps_hall.specs.declared.entry.HallEntry.{HallEntry}
 use Rattle.ps_hall.specs.declared.game.Game.{Game}
 use Rattle.ps_hall.specs.Records.{Record}
-use Rattle.ps_hall.specs.Looks.{badge_of, opponent, game_in, challenge_from}
+use Rattle.ps_hall.specs.Lookups.{badge_of, opponent, challenge_from}
 use Rattle.ps_hall.specs.Refusals.{refusal}
-use Rattle.ps_hall.specs.Starts.{with_game, game_of, start_of_search, start_of_accept}
-use Rattle.ps_hall.specs.Steps.{forgotten, with_search, with_accept, after_team, reported, after_named, after_by as applied_by, applied}
+use Rattle.ps_hall.specs.Starts.{with_game}
+use Rattle.ps_hall.specs.Steps.{with_accept}
 use Rattle.ps_hall.specs.Halls.{after, after_by, out_by}
+use Rattle.ps_hall.proofs.StepLemmas.{applied_users}
 use Rattle.ps_laws.specs.HallLow.{HallItem, whole, named, searched, search_cancelled, started, challenged, challenge_cancelled, rejected, is_user, is_own_entry, id_taken, ids_taken}
-use Rattle.ps_laws.proofs.HallTellLemmas.{same_bytes}
 use Rattle.ps_laws.proofs.HallEffects.{battle_of, searched_by, accepted_by}
 use Rattle.ps_laws.proofs.HallOwnLemmas.{IsMine}
 use Rattle.ps_laws.proofs.HallItems.{no_team, accepted_of, shown_after, whole_after, item_after, item_users, item_taken, users_by, badge_by}
+use Rattle.ps_laws.proofs.UserLists.{AreUsers}
 
 -- ---- who is connected after an entry
 
 game_users : (h : Record) (o : Option Game) → (with_game h o).users ≡ h.users
 game_users h None = refl
 game_users h (Some g) = refl
-
-team_users : (h : Record) (me : List ℕ) (pack : Option (List ℕ)) → (after_team h me pack).users ≡ h.users
-team_users h me None = refl
-team_users h me (Some text) = refl
-
-named_users : (h : Record) (name : List ℕ) (cmd : HallCmd) → (after_named h name cmd).users ≡ h.users
-named_users h name (Team pack) = team_users h (id_of name) pack
-named_users h name (Search format) = game_users (with_search h name format) (option_map (game_of true) (start_of_search h name format))
-named_users h name (Accept user) = game_users (with_accept h (id_of name) user) (option_map (game_of false) (start_of_accept h name user))
-named_users h name other = refl
-
-by_users : (h : Record) (badge : Option Badge) (cmd : HallCmd) → (applied_by h badge cmd).users ≡ h.users
-by_users h None cmd = refl
-by_users h (Some b) cmd = named_users h b.name cmd
-
-forgotten_users : (h : Record) (badge : Option Badge) → (forgotten h badge).users ≡ h.users
-forgotten_users h None = refl
-forgotten_users h (Some b) = refl
-
-reported_users : (h : Record) (number : ℕ) (winner : Option ℕ) (o : Option Game) → (reported h number winner o).users ≡ h.users
-reported_users h number winner None = refl
-reported_users h number winner (Some g) = refl
-
-applied_users : (h : Record) (conn : ℕ) (cmd : HallCmd) → (applied h conn cmd).users ≡ users_after h.users conn cmd
-unfolding applied
-applied_users h conn Open = refl
-applied_users h conn Quit = ap (λ (u : Users). users_after u conn Quit) (forgotten_users h (badge_of h conn))
-applied_users h conn (Bad reason) = refl
-applied_users h conn (Name name assertion) = refl
-applied_users h conn (Report number winner) = reported_users h number winner (game_in h number)
-applied_users h conn other = by_users h (badge_of h conn) other
 
 -- a refused entry changes nothing, and Open and Quit are never refused
 judged_users : (h : Record) (conn : ℕ) (cmd : HallCmd) (v : Option HallWhy) → users_after h.users conn cmd ≡ h.users → (after_by v h conn cmd).users ≡ h.users
@@ -146,18 +115,6 @@ users_after_item conn ids l (rejected me user format) = refl
 
 -- ---- all of these are users
 
-abbrev pub AreUsers : List (List ℕ) → List (List ℕ) → Type 0
-AreUsers ids [] = Unit {0}
-AreUsers ids (x ∷ xs) = (is_user ids x ≡ true) × AreUsers ids xs
-
-more_users : (ids : List (List ℕ)) (x : List ℕ) (xs : List (List ℕ)) → AreUsers ids xs → AreUsers (x ∷ ids) xs
-more_users ids x [] all = tt
-more_users ids x (y ∷ xs) all = (or_right (bytes_eq y x) (is_user ids y) all.0, more_users ids x xs all.1)
-
-pub users_self : (ids : List (List ℕ)) → AreUsers ids ids
-users_self [] = tt
-users_self (x ∷ ids) = (or_left (bytes_eq x x) (is_user ids x) ((bytes_eq-Decides x x).1 refl), more_users ids x ids (users_self ids))
-
 pub users_front : (ids xs ys : List (List ℕ)) → AreUsers ids (xs ++ ys) → AreUsers ids xs
 users_front ids [] ys all = tt
 users_front ids (x ∷ xs) ys all = (all.0, users_front ids xs ys all.1)
@@ -172,9 +129,6 @@ pub record IsCovered (conn : ℕ) (ids : List (List ℕ)) (users : Users) : Type
   pub seat : IsMine ids (badge_in users.seats conn)
   pub online : (id : List ℕ) → get users.online id ≡ Some conn → is_user ids id ≡ true
 
-same_conn : (conn sender : ℕ) → (conn == sender) ≡ true → (sender == conn) ≡ true
-same_conn conn sender is = grind (arith, nat_tests)
-
 is_conn : (sender conn : ℕ) → Some sender ≡ Some conn → (sender == conn) ≡ true
 is_conn sender conn is = let same : sender ≡ conn = cc in grind (arith, nat_tests)
 
@@ -187,15 +141,12 @@ module _ (conn : ℕ) (ids : List (List ℕ)) where
   seat_put : (seats : Seats) (sender : ℕ) (seat : Option Badge) → ((sender == conn) ≡ true → IsMine ids seat) → IsMine ids (badge_in seats conn) → IsMine ids (badge_in (insert seats sender seat) conn)
   seat_put seats sender seat put old =
       subst (λ (o : Option (Option Badge)). IsMine ids (option_and_then (λ x. x) o)) (sym (get-insert nat_cmp_total seats sender seat conn))
-      (seat_at (eq_by_cmp nat_cmp conn sender) (Some seat) (get seats conn) (λ is. put (same_conn conn sender (sym (unsigned_tied conn sender) ∙ is))) old)
+      (seat_at (eq_by_cmp nat_cmp conn sender) (Some seat) (get seats conn) (λ is. put (nat_eq_equiv.symm sender conn ∙ (sym (unsigned_tied conn sender) ∙ is))) old)
 
   seat_gone : (seats : Seats) (sender : ℕ) → IsMine ids (badge_in seats conn) → IsMine ids (badge_in (remove seats sender) conn)
   seat_gone seats sender old =
       subst (λ (o : Option (Option Badge)). IsMine ids (option_and_then (λ x. x) o)) (sym (get-remove nat_cmp_total seats sender conn))
       (seat_at (eq_by_cmp nat_cmp conn sender) None (get seats conn) (λ is. tt) old)
-
-  AreOurs : ById ℕ → Type 0
-  AreOurs online = (id : List ℕ) → get online id ≡ Some conn → is_user ids id ≡ true
 
   gone_at : (id : List ℕ) (b : Bool) (there : Option ℕ) → (there ≡ Some conn → is_user ids id ≡ true) → cond b None there ≡ Some conn → is_user ids id ≡ true
   gone_at id true there old is = absurd cc
@@ -224,7 +175,7 @@ module _ (conn : ℕ) (ids : List (List ℕ)) where
   name_covered users sender (Some name) w all = record {
     seat = seat_put users.seats sender (Some (badge_for users name)) (taken_here (id_of name) (sender == conn) all) w.seat;
     online = λ id is. put_at id (id_of name) sender (eq_by_cmp (slice_cmp nat_cmp) id (id_of name)) (get users.online id)
-        (λ same. same_bytes id (id_of name) (sym (is_eq-slice_cmp id (id_of name)) ∙ same))
+        (λ same. ((bytes_eq-Decides id (id_of name)).0 (sym (is_eq-slice_cmp id (id_of name)) ∙ same)))
         (taken_here (id_of name) (sender == conn) all) (w.online id)
         (sym (get-insert nat_list_cmp_total users.online (id_of name) sender id) ∙ is);
   }

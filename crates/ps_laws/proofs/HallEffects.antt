@@ -8,25 +8,26 @@ use Rattle.std.specs.Ordering.{nat_cmp, eq_by_cmp}
 use Rattle.std.specs.Cmp.Lexicographic.{slice_cmp, nat_list_cmp_total}
 use Rattle.std.specs.FinMap.{get, insert, remove, get-insert, get-remove}
 use Rattle.std.proofs.lemmas.List.Elements.{filter-append}
+use Rattle.std.proofs.lemmas.Slice.Eq.{bytes_eq-Decides}
 use Rattle.ps_base.specs.Ids.{id_of}
 use Rattle.ps_packed.specs.declared.set.Set.{Set}
 use Rattle.ps_lines.specs.declared.command.HallCmd.TheVariants.{Challenge, Block, Unblock}
-use Rattle.ps_valid.specs.declared.start.Legal.{Legal}
-use Rattle.ps_roster.specs.ById.{ById}
+use Rattle.ps_valid.specs.declared.legal.Legal.{Legal}
+use Rattle.ps_base.specs.ById.{ById}
 use Rattle.ps_pms.specs.declared.asked.Asked.{Asked}
-use Rattle.ps_pms.specs.Looks.{is_by, is_to, is_of, is_with, asked_of}
+use Rattle.ps_pms.specs.Lookups.{is_by, is_to, is_of, is_with, asked_of}
 use Rattle.ps_pms.proofs.BlockLemmas.{blocks_after_block, blocks_after_unblock}
 use Rattle.ps_ladder.specs.declared.searches.Search.{Search}
 use Rattle.ps_ladder.specs.Waiting.{added}
 use Rattle.ps_hall.specs.declared.kept.KeptTeam.{KeptTeam}
 use Rattle.ps_hall.specs.declared.game.Game.{Game}
 use Rattle.ps_hall.specs.Records.{Record}
-use Rattle.ps_hall.specs.Looks.{without_kept, challenge_from, opponent, rating_in}
+use Rattle.ps_hall.specs.Lookups.{without_kept, challenge_from, opponent, rating_in}
 use Rattle.ps_hall.specs.Starts.{with_game}
 use Rattle.ps_hall.specs.Steps.{with_pms, keep, forgotten_by, after_team, with_accept, after_cancel_search, after_cancel_challenge, after_reject}
 use Rattle.ps_laws.specs.HallLow.{is_user}
 use Rattle.ps_laws.proofs.HallListLemmas.{find_within, find_passes, keep_turned}
-use Rattle.ps_laws.proofs.HallTellLemmas.{is_ours, same_bytes}
+use Rattle.ps_laws.proofs.HallTellLemmas.{is_ours}
 use Rattle.ps_laws.proofs.HallAlike.{Parts, parts_of, join, Label, labels, label_is, label_of, label_with, without_label, label_ours, labels_without_user, labels_without_either}
 use Rattle.ps_laws.proofs.HallAlike.{labels_without_kept, labels_keep, name_kept, name_found, AreNear, AreAlike}
 
@@ -69,7 +70,7 @@ accepted_after h name user = accepted_by h name user (challenge_from h (id_of na
 
 by_found : (user me : List ℕ) (o : Option Asked) → IfSome o (λ a. is_of user me a ≡ true) → IfSome o (λ a. a.by ≡ user)
 by_found user me None is = tt
-by_found user me (Some a) is = same_bytes a.by user (and_parts (is_by user a) (is_to me a) is).0
+by_found user me (Some a) is = ((bytes_eq-Decides a.by user).0 (and_parts (is_by user a) (is_to me a) is).0)
 
 challenger_by : (h : Record) (me user : List ℕ) (b : Bool) → IfSome (cond b None (asked_of h.pms user me)) (λ a. a.by ≡ user)
 challenger_by h me user true = tt
@@ -92,18 +93,18 @@ module _ (ids : List (List ℕ)) where
   drop_in : (user with_id : List ℕ) (z : Label) (zs : List Label) (a b : Bool) → label_is user with_id z ≡ a → label_ours ids z ≡ b → (a ≡ true → b ≡ true)
       → filter (label_ours ids) (without_label user with_id zs) ≡ without_label user with_id (filter (label_ours ids) zs)
       → filter (label_ours ids) (cond a zs (z ∷ without_label user with_id zs)) ≡ without_label user with_id (cond b (z ∷ filter (label_ours ids) zs) (filter (label_ours ids) zs))
-  drop_in user with_id z zs true true is held sub more = rw is refl
-  drop_in user with_id z zs true false is held sub more = let wrong : false ≡ true = sub refl in absurd cc
-  drop_in user with_id z zs false true is held sub more = rw (is, held) (ap (λ (ys : List Label). z ∷ ys) more)
-  drop_in user with_id z zs false false is held sub more = rw held more
+  drop_in user with_id z zs true true is with_choice sub more = rw is refl
+  drop_in user with_id z zs true false is with_choice sub more = let wrong : false ≡ true = sub refl in absurd cc
+  drop_in user with_id z zs false true is with_choice sub more = rw (is, with_choice) (ap (λ (ys : List Label). z ∷ ys) more)
+  drop_in user with_id z zs false false is with_choice sub more = rw with_choice more
 
   pair_mine : (user with_id x y : List ℕ) (a b c d : Bool) → bytes_eq x user ≡ a → bytes_eq y with_id ≡ b → is_user ids x ≡ c → is_user ids y ≡ d
       → (is_user ids user || is_user ids with_id) ≡ true → (a && b) ≡ true → (c || d) ≡ true
   pair_mine user with_id x y true true true d at with_at first second mine is = refl
   pair_mine user with_id x y true true false true at with_at first second mine is = refl
   pair_mine user with_id x y true true false false at with_at first second mine is =
-      let user_out : is_user ids user ≡ false = ap (is_user ids) (sym (same_bytes x user at)) ∙ first in
-      let with_out : is_user ids with_id ≡ false = ap (is_user ids) (sym (same_bytes y with_id with_at)) ∙ second in
+      let user_out : is_user ids user ≡ false = ap (is_user ids) (sym ((bytes_eq-Decides x user).0 at)) ∙ first in
+      let with_out : is_user ids with_id ≡ false = ap (is_user ids) (sym ((bytes_eq-Decides y with_id).0 with_at)) ∙ second in
       let wrong : false ≡ true = sym (ap₂ (λ (v w : Bool). v || w) user_out with_out) ∙ mine in
       absurd cc
   pair_mine user with_id x y true false c d at with_at first second mine is = absurd cc
@@ -123,15 +124,15 @@ module _ (ids : List (List ℕ)) where
   drop_out : (user with_id : List ℕ) (z : Label) (zs : List Label) (a b : Bool) → label_is user with_id z ≡ a → label_ours ids z ≡ b → (a ≡ true → b ≡ false)
       → filter (label_ours ids) (without_label user with_id zs) ≡ filter (label_ours ids) zs
       → filter (label_ours ids) (cond a zs (z ∷ without_label user with_id zs)) ≡ cond b (z ∷ filter (label_ours ids) zs) (filter (label_ours ids) zs)
-  drop_out user with_id z zs true true is held sub more = let wrong : true ≡ false = sub refl in absurd cc
-  drop_out user with_id z zs true false is held sub more = refl
-  drop_out user with_id z zs false true is held sub more = rw held (ap (λ (ys : List Label). z ∷ ys) more)
-  drop_out user with_id z zs false false is held sub more = rw held more
+  drop_out user with_id z zs true true is with_choice sub more = let wrong : true ≡ false = sub refl in absurd cc
+  drop_out user with_id z zs true false is with_choice sub more = refl
+  drop_out user with_id z zs false true is with_choice sub more = rw with_choice (ap (λ (ys : List Label). z ∷ ys) more)
+  drop_out user with_id z zs false false is with_choice sub more = rw with_choice more
 
   label_other : (user with_id : List ℕ) (z : Label) (a b : Bool) → bytes_eq (id_of z.name) user ≡ a → bytes_eq z.with_id with_id ≡ b
       → is_user ids user ≡ false → is_user ids with_id ≡ false → (a && b) ≡ true → label_ours ids z ≡ false
   label_other user with_id z true true at with_at out with_out is =
-      ap₂ (λ (x y : Bool). x || y) (ap (is_user ids) (same_bytes (id_of z.name) user at) ∙ out) (ap (is_user ids) (same_bytes z.with_id with_id with_at) ∙ with_out)
+      ap₂ (λ (x y : Bool). x || y) (ap (is_user ids) ((bytes_eq-Decides (id_of z.name) user).0 at) ∙ out) (ap (is_user ids) ((bytes_eq-Decides z.with_id with_id).0 with_at) ∙ with_out)
   label_other user with_id z true false at with_at out with_out is = absurd cc
   label_other user with_id z false b at with_at out with_out is = absurd cc
 

@@ -1,18 +1,18 @@
 -- Histories of the hall: a view is the view over the low history, and so are the users; so equal low histories give equal views.
-use Rattle.std.proofs.Common.{◌≡◌, ℕ, ◌==◌, Bool, true, false, cond, ◌||◌, List, [], ◌∷◌, ◌++◌, Option, Some, None, refl, sym, ap, ap₂, subst, ◌∙◌, arith}
-use Rattle.std.proofs.lemmas.Bool.{or_parts}
-use Rattle.std.proofs.lemmas.Bool.Decides.{nat_tests}
+use Rattle.std.proofs.Common.{◌≡◌, ℕ, ◌==◌, Bool, true, false, cond, ◌||◌, List, [], ◌∷◌, ◌++◌, Option, Some, None, refl, sym, ap, ap₂, subst, ◌∙◌}
+use Rattle.std.proofs.lemmas.Bool.{or_parts, eqb-true}
 use Rattle.ps_base.specs.declared.badge.Badge.{Badge}
 use Rattle.ps_base.specs.declared.hall_why.HallWhy.{HallWhy}
+use Rattle.ps_base.specs.Messages.{sent}
 use Rattle.ps_users.specs.Records.{Record as Users}
 use Rattle.ps_users.specs.Seats.{badge_in}
 use Rattle.ps_hall.specs.declared.entry.HallEntry.{HallEntry}
 use Rattle.ps_hall.specs.Records.{Record}
-use Rattle.ps_hall.specs.Looks.{badge_of}
+use Rattle.ps_hall.specs.Lookups.{badge_of}
 use Rattle.ps_hall.specs.Steps.{applied}
 use Rattle.ps_hall.specs.Lines.{refused_line}
 use Rattle.ps_hall.specs.Told.{told}
-use Rattle.ps_hall.specs.Halls.{verdict, after, after_by, notices_by, message_of, sent, view, run_record}
+use Rattle.ps_hall.specs.Halls.{verdict, after, after_by, notices_by, message_of, view, run_record}
 use Rattle.ps_laws.specs.HallStories.{HallOpening, HallStory, hall_opened, hall_story, hall_view_of}
 use Rattle.ps_laws.specs.HallLow.{HallItem, whole, is_sender_user, is_own_entry, items_of_own, items_of_others, hall_items_of, hall_low_from, hall_low, ids_taken, hall_users_from, hall_users}
 use Rattle.ps_laws.specs.HallSame.{HallViewsAreEqual, IsUnshown, HallUnshownMayBeMissing}
@@ -23,12 +23,10 @@ use Rattle.ps_laws.proofs.HallOwnLemmas.{IsMine, alike_by, own_judged, own_done,
 use Rattle.ps_laws.proofs.HallItems.{item_after, item_message, item_taken, item_users, whole_after, whole_message, IsWalked, after_allowed, message_allowed, none_taken}
 use Rattle.ps_laws.proofs.HallTidy.{IsTidy, tidy_after, tidy_first, run_tidy}
 use Rattle.ps_laws.proofs.HallOtherRows.{allowed_walked}
-use Rattle.ps_laws.proofs.HallCovers.{IsCovered, covered_after, covered_first, users_after_entry, users_after_item, taken_is, AreUsers, users_self, users_front, users_rest}
+use Rattle.ps_laws.proofs.HallCovers.{IsCovered, covered_after, covered_first, users_after_entry, users_after_item, taken_is, users_front, users_rest}
+use Rattle.ps_laws.proofs.UserLists.{AreUsers, users_self}
 
 -- ---- one entry
-
-same_sender : (sender conn : ℕ) → (sender == conn) ≡ true → conn ≡ sender
-same_sender sender conn is = grind (arith, nat_tests)
 
 sender_mine : (ids : List (List ℕ)) (badge : Option Badge) → is_sender_user ids badge ≡ true → IsMine ids badge
 sender_mine ids None is = tt
@@ -36,7 +34,7 @@ sender_mine ids (Some b) is = is
 
 module _ (conn : ℕ) (ids : List (List ℕ)) (h : Record) (covered : IsCovered conn ids h.users) where
   own_mine : (e : HallEntry) (b : Bool) → (e.conn == conn) ≡ b → (b || is_sender_user ids (badge_of h e.conn)) ≡ true → IsMine ids (badge_of h e.conn)
-  own_mine e true here own = subst (λ (c : ℕ). IsMine ids (badge_in h.users.seats c)) (same_sender e.conn conn here) covered.seat
+  own_mine e true here own = subst (λ (c : ℕ). IsMine ids (badge_in h.users.seats c)) (sym (eqb-true e.conn conn here)) covered.seat
   own_mine e false here own = sender_mine ids (badge_of h e.conn) own
 
   module _ (p : Parts) (n : AreNear ids (parts_of h) p) where

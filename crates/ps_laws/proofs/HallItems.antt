@@ -5,13 +5,13 @@ use Rattle.ps_base.specs.declared.badge.Badge.{Badge}
 use Rattle.ps_base.specs.declared.hall_why.HallWhy.{HallWhy}
 use Rattle.ps_lines.specs.declared.command.HallCmd.{HallCmd}
 use Rattle.ps_lines.specs.declared.command.HallCmd.TheVariants.{Accept}
-use Rattle.ps_valid.specs.declared.start.Legal.{Legal}
+use Rattle.ps_valid.specs.declared.legal.Legal.{Legal}
 use Rattle.ps_users.specs.Records.{Record as Users}
 use Rattle.ps_users.specs.Refusals.{refusal as refusal_of_user}
 use Rattle.ps_users.specs.Steps.{after as users_after, granted, with_name}
 use Rattle.ps_hall.specs.declared.entry.HallEntry.{HallEntry}
 use Rattle.ps_hall.specs.Records.{Record}
-use Rattle.ps_hall.specs.Looks.{badge_of, opponent}
+use Rattle.ps_hall.specs.Lookups.{badge_of, opponent}
 use Rattle.ps_hall.specs.Steps.{after_cancel_search, after_cancel_challenge, after_reject, applied}
 use Rattle.ps_hall.specs.Lines.{challenge_line}
 use Rattle.ps_hall.specs.Told.{told, told_matched, to_user}

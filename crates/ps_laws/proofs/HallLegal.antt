@@ -3,28 +3,24 @@ use Rattle.std.proofs.Common.{◌≡◌, ℕ, Bool, true, false, List, [], ◌�
 use Rattle.ps_base.specs.Ids.{id_of}
 use Rattle.ps_base.specs.declared.hall_why.HallWhy.{HallWhy}
 use Rattle.ps_base.specs.declared.hall_why.HallWhy.TheVariants as why
-use Rattle.ps_rules.specs.declared.row.Format.{Format}
-use Rattle.ps_valid.specs.declared.start.Legal.{Legal}
+use Rattle.ps_rules.specs.declared.table.Format.{Format}
+use Rattle.ps_valid.specs.declared.legal.Legal.{Legal}
 use Rattle.ps_valid.specs.declared.verdict.Verdict.{Verdict}
 use Rattle.std.specs.FinMap.{get}
 use Rattle.std.specs.Str.{bytes_eq}
 use Rattle.std.specs.Prelude.{◌+◌, not}
-use Rattle.ps_pms.specs.Refusals.{when}
 use Rattle.ps_pms.specs.declared.asked.Asked.{Asked}
 use Rattle.ps_ladder.specs.declared.searches.Search.{Search}
 use Rattle.ps_hall.specs.declared.kept.KeptTeam.{KeptTeam}
 use Rattle.ps_hall.specs.Records.{Record}
-use Rattle.ps_hall.specs.Looks.{checked, legal_or, legal_team, legal_under, format_in, kept_team, is_online, challenge_from, opponent}
+use Rattle.ps_hall.specs.Lookups.{checked, legal_or, legal_team, legal_under, format_in, kept_team, is_online, challenge_from, opponent}
 use Rattle.ps_hall.specs.Refusals.{or_else, of_checked, of_team, of_search, of_challenge, of_accepted, of_accept, refusal_of_search, refusal_of_challenge, refusal_of_accept}
 use Rattle.ps_hall.specs.Starts.{start_if, start_of_search, start_of_accept, with_start}
 use Rattle.ps_hall.specs.Steps.{after_search, after_challenge, after_accept, with_accept}
+use Rattle.ps_hall.proofs.ApplyLemmas.{when_more}
 use Rattle.ps_laws.proofs.HallEffects.{battle_of, with_battle, searched_by, searched_after, challenged_after, accepted_by, accepted_after}
 
 -- ---- no reason
-
-when_none : (b : Bool) (reason : HallWhy) (more : Option HallWhy) → when b reason more ≡ None → more ≡ None
-when_none true reason more none = absurd cc
-when_none false reason more none = none
 
 first_none : (one two : Option HallWhy) → or_else one two ≡ None → one ≡ None
 first_none (Some reason) two none = absurd cc
@@ -43,7 +39,7 @@ legal_of h me format f is none =
 
 search_of : (h : Record) (me format : List ℕ) (f : Option Format) → format_in h format ≡ f → of_search h me format f ≡ None → (l : Legal) × (legal_team h me format ≡ Some l)
 search_of h me format None is none = absurd cc
-search_of h me format (Some f) is none = legal_of h me format f is (first_none _ _ (when_none _ _ _ none))
+search_of h me format (Some f) is none = legal_of h me format f is (first_none _ _ (when_more _ _ _ none))
 
 challenge_of : (h : Record) (me user format : List ℕ) (f : Option Format) → format_in h format ≡ f → of_challenge h me user f ≡ None → (l : Legal) × (legal_team h me format ≡ Some l)
 challenge_of h me user format None is none = absurd cc
@@ -59,7 +55,7 @@ search_legal h me format none = search_of h me format (format_in h format) refl 
 
 pub challenge_legal : (h : Record) (me user format : List ℕ) → refusal_of_challenge h me user format ≡ None → (l : Legal) × (legal_team h me format ≡ Some l)
 unfolding refusal_of_challenge
-challenge_legal h me user format none = challenge_of h me user format (format_in h format) refl (when_none (bytes_eq user me) why.SelfTarget _ (when_none (not (is_online h user)) why.NoSuchUser _ none))
+challenge_legal h me user format none = challenge_of h me user format (format_in h format) refl (when_more (bytes_eq user me) why.SelfTarget _ (when_more (not (is_online h user)) why.NoSuchUser _ none))
 
 pub accept_legal : (h : Record) (me format : List ℕ) → of_accepted h me (format_in h format) ≡ None → (l : Legal) × (legal_team h me format ≡ Some l)
 accept_legal h me format none = accept_of h me format (format_in h format) refl none

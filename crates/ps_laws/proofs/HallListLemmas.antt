@@ -5,9 +5,9 @@ use Rattle.std.specs.List.{filter, list_any}
 module _ {X : Type 0} where
   find_at : (p q : X → Bool) (x : X) (xs : List X) (a b : Bool) → p x ≡ a → q x ≡ b → (a ≡ true → b ≡ true) → find p (filter q xs) ≡ find p xs
       → find p (cond b (x ∷ filter q xs) (filter q xs)) ≡ cond a (Some x) (find p xs)
-  find_at p q x xs a true is held sub more = rw is (ap (cond a (Some x)) more)
-  find_at p q x xs true false is held sub more = let wrong : false ≡ true = sub refl in absurd cc
-  find_at p q x xs false false is held sub more = more
+  find_at p q x xs a true is with_choice sub more = rw is (ap (cond a (Some x)) more)
+  find_at p q x xs true false is with_choice sub more = let wrong : false ≡ true = sub refl in absurd cc
+  find_at p q x xs false false is with_choice sub more = more
 
   -- the first that passes is looked for among those that a wider test lets through
   pub find_within : (p q : X → Bool) → ((x : X) → p x ≡ true → q x ≡ true) → (xs : List X) → find p (filter q xs) ≡ find p xs
@@ -25,9 +25,9 @@ module _ {X : Type 0} where
 
   keep_at : (p q : X → Bool) (x : X) (xs : List X) (a b : Bool) → p x ≡ a → q x ≡ b → (a ≡ true → b ≡ true) → filter p (filter q xs) ≡ filter p xs
       → filter p (cond b (x ∷ filter q xs) (filter q xs)) ≡ cond a (x ∷ filter p xs) (filter p xs)
-  keep_at p q x xs a true is held sub more = rw is (ap (λ (ys : List X). cond a (x ∷ ys) ys) more)
-  keep_at p q x xs true false is held sub more = let wrong : false ≡ true = sub refl in absurd cc
-  keep_at p q x xs false false is held sub more = more
+  keep_at p q x xs a true is with_choice sub more = rw is (ap (λ (ys : List X). cond a (x ∷ ys) ys) more)
+  keep_at p q x xs true false is with_choice sub more = let wrong : false ≡ true = sub refl in absurd cc
+  keep_at p q x xs false false is with_choice sub more = more
 
   -- those that pass are looked for among those that a wider test lets through
   pub keep_within : (p q : X → Bool) → ((x : X) → p x ≡ true → q x ≡ true) → (xs : List X) → filter p (filter q xs) ≡ filter p xs
@@ -36,10 +36,10 @@ module _ {X : Type 0} where
 
   turn_at : (p q : X → Bool) (x : X) (xs : List X) (a b : Bool) → p x ≡ a → q x ≡ b → filter p (filter q xs) ≡ filter q (filter p xs)
       → filter p (cond b (x ∷ filter q xs) (filter q xs)) ≡ filter q (cond a (x ∷ filter p xs) (filter p xs))
-  turn_at p q x xs true true is held more = rw (is, held) (ap (λ (ys : List X). x ∷ ys) more)
-  turn_at p q x xs true false is held more = rw held more
-  turn_at p q x xs false true is held more = rw is more
-  turn_at p q x xs false false is held more = more
+  turn_at p q x xs true true is with_choice more = rw (is, with_choice) (ap (λ (ys : List X). x ∷ ys) more)
+  turn_at p q x xs true false is with_choice more = rw with_choice more
+  turn_at p q x xs false true is with_choice more = rw is more
+  turn_at p q x xs false false is with_choice more = more
 
   -- two tests, in either order
   pub keep_turned : (p q : X → Bool) (xs : List X) → filter p (filter q xs) ≡ filter q (filter p xs)
@@ -50,10 +50,10 @@ module _ {X : Type 0} where
   quiet_at : (p q : X → Bool) (x : X) (xs : List X) (a b : Bool) → p x ≡ a → q x ≡ b → ((a && not b) || list_any (λ y. p y && not (q y)) xs) ≡ false
       → (list_any (λ y. p y && not (q y)) xs ≡ false → filter p (filter q xs) ≡ filter p xs)
       → filter p (cond b (x ∷ filter q xs) (filter q xs)) ≡ cond a (x ∷ filter p xs) (filter p xs)
-  quiet_at p q x xs true true is held none more = rw is (ap (λ (ys : List X). x ∷ ys) (more none))
-  quiet_at p q x xs true false is held none more = let wrong : true ≡ false = none in absurd cc
-  quiet_at p q x xs false true is held none more = rw is (more none)
-  quiet_at p q x xs false false is held none more = more none
+  quiet_at p q x xs true true is with_choice none more = rw is (ap (λ (ys : List X). x ∷ ys) (more none))
+  quiet_at p q x xs true false is with_choice none more = let wrong : true ≡ false = none in absurd cc
+  quiet_at p q x xs false true is with_choice none more = rw is (more none)
+  quiet_at p q x xs false false is with_choice none more = more none
 
   pub keep_quiet : (p q : X → Bool) (xs : List X) → list_any (λ y. p y && not (q y)) xs ≡ false → filter p (filter q xs) ≡ filter p xs
   keep_quiet p q [] none = refl

@@ -9,16 +9,16 @@ use Rattle.ps_base.specs.declared.hall_why.HallWhy.TheVariants as why
 use Rattle.ps_lines.specs.declared.command.HallCmd.{HallCmd}
 use Rattle.ps_lines.specs.declared.command.HallCmd.TheVariants.{Open, Quit, Bad, Name, Team, Search, CancelSearch, Challenge, CancelChallenge, Reject, Accept, Whisper, Block, Unblock, Rank, Report}
 use Rattle.ps_group.specs.declared.group.Group.{Group}
-use Rattle.ps_valid.specs.declared.start.Legal.{Legal}
+use Rattle.ps_valid.specs.declared.legal.Legal.{Legal}
 use Rattle.ps_users.specs.Refusals.{read_of}
 use Rattle.ps_users.specs.Steps.{granted}
 use Rattle.ps_pms.specs.declared.asked.Asked.{Asked}
-use Rattle.ps_pms.specs.Looks.{blocks, asked_by}
+use Rattle.ps_pms.specs.Lookups.{blocks, asked_by}
 use Rattle.ps_pms.specs.Refusals.{when}
 use Rattle.ps_hall.specs.declared.entry.HallEntry.{HallEntry}
 use Rattle.ps_hall.specs.declared.kept.KeptTeam.{KeptTeam}
 use Rattle.ps_hall.specs.Records.{Record}
-use Rattle.ps_hall.specs.Looks.{badge_of, is_online, challenge_from, game_in, kept_team}
+use Rattle.ps_hall.specs.Lookups.{badge_of, is_online, challenge_from, game_in, kept_team}
 use Rattle.ps_hall.specs.Refusals.{or_else, of_text, of_accept, refusal_of_cancel_challenge, refusal_of_reject, refusal_of_accept, refusal_of_pm, refusal_of_report, refusal_of_named, refusal_by, refusal}
 use Rattle.ps_hall.specs.Starts.{start_if, start_of_accept}
 use Rattle.ps_hall.specs.Steps.{with_users, with_accept, after_named, after_by, applied}

@@ -10,13 +10,13 @@ use Rattle.ps_base.specs.declared.hall_why.HallWhy.TheVariants as why
 use Rattle.ps_lines.specs.declared.command.HallCmd.{HallCmd}
 use Rattle.ps_lines.specs.declared.command.HallCmd.TheVariants.{Open, Quit, Bad, Name, Team, Search, CancelSearch, Challenge, CancelChallenge, Reject, Accept, Whisper, Block, Unblock, Report}
 use Rattle.ps_packed.specs.declared.set.Set.{Set}
-use Rattle.ps_rules.specs.declared.row.Format.{Format}
+use Rattle.ps_rules.specs.declared.table.Format.{Format}
 use Rattle.ps_pms.specs.declared.asked.Asked.{Asked}
-use Rattle.ps_pms.specs.Looks.{blocks, asked_by}
+use Rattle.ps_pms.specs.Lookups.{blocks, asked_by}
 use Rattle.ps_pms.specs.Refusals.{when, refusal_of_asking}
 use Rattle.ps_hall.specs.declared.game.Game.{Game}
 use Rattle.ps_hall.specs.Records.{Record}
-use Rattle.ps_hall.specs.Looks.{badge_of, is_online, checked, format_in, challenge_from, game_in}
+use Rattle.ps_hall.specs.Lookups.{badge_of, is_online, checked, format_in, challenge_from, game_in}
 use Rattle.ps_hall.specs.Refusals.{or_else, of_checked, of_team, of_waiting, of_battles, of_text, of_search, of_challenge, of_accepted, of_accept, refusal_of_search}
 use Rattle.ps_hall.specs.Refusals.{refusal_of_cancel_search, refusal_of_challenge, refusal_of_cancel_challenge, refusal_of_reject, refusal_of_accept, refusal_of_pm}
 use Rattle.ps_hall.specs.Refusals.{refusal_of_rank, refusal_of_report, refusal_of_named, refusal_by, refusal}

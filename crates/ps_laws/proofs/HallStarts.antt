@@ -6,13 +6,13 @@ use Rattle.ps_base.specs.declared.badge.Badge.{Badge}
 use Rattle.ps_base.specs.declared.hall_why.HallWhy.{HallWhy}
 use Rattle.ps_lines.specs.declared.command.HallCmd.{HallCmd}
 use Rattle.ps_lines.specs.declared.command.HallCmd.TheVariants.{Accept}
-use Rattle.ps_valid.specs.declared.start.Legal.{Legal}
+use Rattle.ps_valid.specs.declared.legal.Legal.{Legal}
 use Rattle.ps_pms.specs.declared.asked.Asked.{Asked}
-use Rattle.ps_pms.specs.Looks.{asked_of}
+use Rattle.ps_pms.specs.Lookups.{asked_of}
 use Rattle.ps_hall.specs.declared.entry.HallEntry.{HallEntry}
 use Rattle.ps_hall.specs.declared.kept.KeptTeam.{KeptTeam}
 use Rattle.ps_hall.specs.Records.{Record}
-use Rattle.ps_hall.specs.Looks.{badge_of, kept_team, challenge_from}
+use Rattle.ps_hall.specs.Lookups.{badge_of, kept_team, challenge_from}
 use Rattle.ps_hall.specs.Refusals.{of_accept, refusal_of_accept, refusal_by, refusal}
 use Rattle.ps_hall.specs.Starts.{start_if, start_of_accept}
 use Rattle.ps_hall.specs.Steps.{start_by, start_of}

@@ -1,24 +1,20 @@
 -- What notices tell a connection: who is told on it is one of its users, so what differs for others makes no difference to it.
-use Rattle.std.proofs.Common.{◌≡◌, ℕ, ◌==◌, Bool, true, false, cond, ◌||◌, List, [], ◌∷◌, ◌++◌, append-nil, Option, Some, None, refl, sym, ap, ap₂, ◌∙◌, arith}
-use Rattle.std.proofs.lemmas.Bool.{or_parts}
+use Rattle.std.proofs.Common.{◌≡◌, ℕ, ◌==◌, Bool, true, false, cond, ◌||◌, List, [], ◌∷◌, ◌++◌, append-nil, Option, Some, None, refl, sym, ap, ap₂, ◌∙◌}
+use Rattle.std.proofs.lemmas.Bool.{or_parts, eqb-true}
 use Rattle.std.specs.List.{filter}
 use Rattle.std.specs.Str.{bytes_eq}
 use Rattle.std.specs.FinMap.{get}
-use Rattle.std.proofs.lemmas.Bool.Decides.{nat_tests}
-use Rattle.std.proofs.lemmas.Slice.Eq.{bytes_eq-Decides}
 use Rattle.std.proofs.lemmas.List.Elements.{filter-append}
 use Rattle.std.proofs.lemmas.List.Concat.{flat_map-append}
-use Rattle.ps_roster.specs.ById.{ById}
+use Rattle.std.proofs.lemmas.Slice.Eq.{bytes_eq-Decides}
+use Rattle.ps_base.specs.ById.{ById}
 use Rattle.ps_pms.specs.declared.asked.Asked.{Asked}
-use Rattle.ps_pms.specs.Looks.{is_by, is_to, partner, has_id, with_new, partners_of}
+use Rattle.ps_pms.specs.Lookups.{is_by, is_to, partner, has_id, with_new, partners_of}
 use Rattle.ps_hall.specs.declared.notice.Notice.{Notice}
 use Rattle.ps_hall.specs.Halls.{lines_for, message_of}
 use Rattle.ps_hall.specs.Lines.{challenge_line}
 use Rattle.ps_hall.specs.Told.{notice, to_conn, to_user, told_partners}
 use Rattle.ps_laws.specs.HallLow.{is_user}
-
-pub same_bytes : (a b : List ℕ) → bytes_eq a b ≡ true → a ≡ b
-same_bytes a b t = (bytes_eq-Decides a b).0 t
 
 -- whether a challenge is with one of these users
 abbrev pub is_ours : List (List ℕ) → Asked → Bool
@@ -26,15 +22,12 @@ is_ours ids a = is_user ids a.by || is_user ids a.to
 
 -- ---- notices to one
 
-same_number : (n conn : ℕ) → (n == conn) ≡ true → n ≡ conn
-same_number n conn h = grind (arith, nat_tests)
-
 module _ (conn : ℕ) where
   pub message_append : (ns ms : List Notice) → message_of conn (ns ++ ms) ≡ message_of conn ns ++ message_of conn ms
   message_append ns ms = flat_map-append (lines_for conn) ns ms
 
   one_same : (n : ℕ) (one two : List (List ℕ)) (b : Bool) → (n == conn) ≡ b → (n ≡ conn → one ≡ two) → cond b one [] ++ [] ≡ cond b two [] ++ []
-  one_same n one two true is same = ap (λ (ls : List (List ℕ)). ls ++ []) (same (same_number n conn is))
+  one_same n one two true is same = ap (λ (ls : List (List ℕ)). ls ++ []) (same (eqb-true n conn is))
   one_same n one two false is same = refl
 
   -- lines to a connection, which only matter where it is this one
@@ -43,7 +36,7 @@ module _ (conn : ℕ) where
   told_same (Some n) one two same = one_same n one two (n == conn) refl (λ is. same (ap Some is))
 
   one_none : (n : ℕ) (lines : List (List ℕ)) (b : Bool) → (n == conn) ≡ b → (n ≡ conn → lines ≡ []) → cond b lines [] ++ [] ≡ []
-  one_none n lines true is none = ap (λ (ls : List (List ℕ)). ls ++ []) (none (same_number n conn is))
+  one_none n lines true is none = ap (λ (ls : List (List ℕ)). ls ++ []) (none (eqb-true n conn is))
   one_none n lines false is none = refl
 
   pub told_none : (o : Option ℕ) (lines : List (List ℕ)) → (o ≡ Some conn → lines ≡ []) → message_of conn (to_conn o lines) ≡ []
@@ -92,7 +85,7 @@ module _ (ids : List (List ℕ)) where
   has_at : (id x : List ℕ) (b c : Bool) (rest kept : Bool) → is_user ids x ≡ b → bytes_eq x id ≡ c → is_user ids id ≡ true → kept ≡ rest
       → cond b (c || kept) kept ≡ (c || rest)
   has_at id x true c rest kept is eq mine more = rw more refl
-  has_at id x false true rest kept is eq mine more = let wrong : false ≡ true = sym is ∙ ap (is_user ids) (same_bytes x id eq) ∙ mine in absurd cc
+  has_at id x false true rest kept is eq mine more = let wrong : false ≡ true = sym is ∙ ap (is_user ids) ((bytes_eq-Decides x id).0 eq) ∙ mine in absurd cc
   has_at id x false false rest kept is eq mine more = more
 
   has_if : (id x : List ℕ) (others : List (List ℕ)) (b : Bool) → has_id (cond b (x ∷ ours others) (ours others)) id ≡ cond b (bytes_eq x id || has_id (ours others) id) (has_id (ours others) id)

@@ -11,23 +11,24 @@ use Rattle.ps_base.specs.declared.hall_why.HallWhy.{HallWhy}
 use Rattle.ps_base.specs.declared.hall_why.HallWhy.TheVariants as why
 use Rattle.ps_lines.specs.declared.command.HallCmd.{HallCmd}
 use Rattle.ps_lines.specs.declared.command.HallCmd.TheVariants.{Open, Quit, Bad, Name, Team, Search, CancelSearch, Challenge, CancelChallenge, Reject, Accept, Block, Unblock, Report}
-use Rattle.ps_valid.specs.declared.start.Legal.{Legal}
-use Rattle.ps_rules.specs.declared.row.Format.{Format}
+use Rattle.ps_valid.specs.declared.legal.Legal.{Legal}
+use Rattle.ps_rules.specs.declared.table.Format.{Format}
 use Rattle.ps_pms.specs.declared.asked.Asked.{Asked}
-use Rattle.ps_pms.specs.Looks.{is_by, is_of, asked_by, asked_of}
+use Rattle.ps_pms.specs.Lookups.{is_by, is_of, asked_by, asked_of}
 use Rattle.ps_pms.specs.Refusals.{when, refusal_of_asking}
 use Rattle.ps_hall.specs.declared.entry.HallEntry.{HallEntry}
 use Rattle.ps_hall.specs.declared.game.Game.{Game}
 use Rattle.ps_hall.specs.Records.{Record}
-use Rattle.ps_hall.specs.Looks.{badge_of, is_online, format_in, kept_team, game_in}
-use Rattle.ps_hall.specs.Refusals.{or_else, of_team, of_challenge, refusal_of_challenge, refusal_by, refusal, refusal_of_named}
+use Rattle.ps_hall.specs.Lookups.{badge_of, is_online, format_in, kept_team, game_in}
+use Rattle.ps_hall.specs.Refusals.{of_team, of_challenge, refusal_of_challenge, refusal_by, refusal, refusal_of_named}
 use Rattle.ps_hall.specs.Starts.{with_game, game_of, start_of_search, start_of_accept}
 use Rattle.ps_hall.specs.Steps.{forgotten, with_search, after_challenge, after_team, with_accept, after_cancel_challenge, reported, after_named, after_by, applied}
 use Rattle.ps_hall.specs.Halls.{verdict, after, run_record}
+use Rattle.ps_hall.proofs.ApplyLemmas.{else_more}
 use Rattle.ps_laws.specs.HallStories.{HallOpening, hall_opened}
 use Rattle.ps_laws.specs.HallLow.{is_user}
 use Rattle.ps_laws.proofs.HallListLemmas.{keep_quiet, map_kept, find_mapped, any_mapped}
-use Rattle.ps_laws.proofs.HallTellLemmas.{is_ours, same_bytes}
+use Rattle.ps_laws.proofs.HallTellLemmas.{is_ours}
 use Rattle.ps_laws.proofs.HallAlike.{Label, label, labels, label_is, label_of, label_with, without_label, label_ours, labels_without_user, labels_without_either, labels_without_kept, labels_keep, AreAlike}
 use Rattle.ps_laws.proofs.HallEffects.{challenged_after}
 use Rattle.ps_laws.proofs.HallLegal.{challenge_is}
@@ -80,7 +81,7 @@ once_kept test [] once = tt
 once_kept test (e ∷ es) once = once_at test e es (test e) once (once_kept test es once.1)
 
 turned_by : (a b : List ℕ) (c d : Bool) → bytes_eq a b ≡ c → bytes_eq b a ≡ d → c ≡ false → d ≡ false
-turned_by a b c true left right none = let wrong : false ≡ true = sym none ∙ sym left ∙ (bytes_eq-Decides a b).1 (sym (same_bytes b a right)) in absurd cc
+turned_by a b c true left right none = let wrong : false ≡ true = sym none ∙ sym left ∙ (bytes_eq-Decides a b).1 (sym ((bytes_eq-Decides b a).0 right)) in absurd cc
 turned_by a b c false left right none = refl
 
 any_put : (p : Ends → Bool) (es : List Ends) (e : Ends) → list_any p es ≡ false → p e ≡ false → list_any p (es ++ e ∷ []) ≡ false
@@ -113,7 +114,7 @@ all_stay by to (e ∷ es) none = keep_at by to e es (bytes_eq e.by by) (bytes_eq
 first_at : (by to : List ℕ) (e : Ends) (es : List Ends) (a b : Bool) → bytes_eq e.by by ≡ a → bytes_eq e.to to ≡ b → list_any (λ other. bytes_eq other.by e.by) es ≡ false
     → without_ends by to es ≡ filter (λ x. not (ends_are by to x)) es
     → cond (a && b) es (e ∷ without_ends by to es) ≡ cond (not (a && b)) (e ∷ filter (λ x. not (ends_are by to x)) es) (filter (λ x. not (ends_are by to x)) es)
-first_at by to e es true true is at none more = all_stay by to es (subst (λ (x : List ℕ). list_any (λ other. bytes_eq other.by x) es ≡ false) (same_bytes e.by by is) none)
+first_at by to e es true true is at none more = all_stay by to es (subst (λ (x : List ℕ). list_any (λ other. bytes_eq other.by x) es ≡ false) ((bytes_eq-Decides e.by by).0 is) none)
 first_at by to e es true false is at none more = ap (λ (xs : List Ends). e ∷ xs) more
 first_at by to e es false b is at none more = ap (λ (xs : List Ends). e ∷ xs) more
 
@@ -204,14 +205,10 @@ when_not : (b : Bool) (reason : HallWhy) (more : Option HallWhy) → when b reas
 when_not true reason more none = absurd cc
 when_not false reason more none = (refl, none)
 
-second_none : (one two : Option HallWhy) → or_else one two ≡ None → two ≡ None
-second_none (Some reason) two none = absurd cc
-second_none None two none = none
-
 asked_none : (h : Record) (me user : List ℕ) (f : Option Format) → of_challenge h me user f ≡ None → list_any (is_by me) h.pms.asked ≡ false
 asked_none h me user None none = absurd cc
 asked_none h me user (Some f) none =
-    let asking : refusal_of_asking h.pms me user ≡ None = second_none (of_team h me f) (refusal_of_asking h.pms me user) none in
+    let asking : refusal_of_asking h.pms me user ≡ None = else_more (of_team h me f) (refusal_of_asking h.pms me user) none in
     let second = when_not (is_some (asked_by h.pms me)) why.AlreadyChallenged None (when_not _ why.Blocked (when (is_some (asked_by h.pms me)) why.AlreadyChallenged None) asking).1 in
     none_found (is_by me) h.pms.asked second.0
 
@@ -304,12 +301,12 @@ module _ (ids : List (List ℕ)) (me : List ℕ) (out : is_user ids me ≡ false
       → (to : List ℕ) → is_user ids to ≡ false → option_map (λ x. x.to) (cond a (Some e) (find (λ x. bytes_eq x.by me) es)) ≡ Some to
       → (option_map (λ x. x.to) (find (λ x. bytes_eq x.by me) es) ≡ Some to → list_any is_lost es ≡ false)
       → (((b || c) && not (not a)) || list_any is_lost es) ≡ false
-  one_at e es true true c is by at none to to_out found more = let wrong : true ≡ false = sym by ∙ ap (is_user ids) (same_bytes e.by me is) ∙ out in absurd cc
+  one_at e es true true c is by at none to to_out found more = let wrong : true ≡ false = sym by ∙ ap (is_user ids) ((bytes_eq-Decides e.by me).0 is) ∙ out in absurd cc
   one_at e es true false true is by at none to to_out found more =
       let same : e.to ≡ to = cc in
       let wrong : true ≡ false = sym at ∙ ap (is_user ids) same ∙ to_out in
       absurd cc
-  one_at e es true false false is by at none to to_out found more = none_lost es (subst (λ (x : List ℕ). list_any (λ other. bytes_eq other.by x) es ≡ false) (same_bytes e.by me is) none)
+  one_at e es true false false is by at none to to_out found more = none_lost es (subst (λ (x : List ℕ). list_any (λ other. bytes_eq other.by x) es ≡ false) ((bytes_eq-Decides e.by me).0 is) none)
   one_at e es false true c is by at none to to_out found more = more found
   one_at e es false false true is by at none to to_out found more = more found
   one_at e es false false false is by at none to to_out found more = more found

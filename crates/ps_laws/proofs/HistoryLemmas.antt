@@ -1,19 +1,20 @@
 -- Histories of one world: a view is the view over the items of its history, which are fine and tell the connection's users.
-use Rattle.std.proofs.Common.{◌≡◌, ℕ, Bool, true, false, ◌||◌, List, [], ◌∷◌, ◌++◌, Option, Some, None, option_to_list, append_assoc, refl, ap, ◌∙◌, sym, subst, arith}
+use Rattle.std.proofs.Common.{◌≡◌, ℕ, Bool, true, false, ◌||◌, List, [], ◌∷◌, ◌++◌, Option, Some, None, option_to_list, append_assoc, refl, ap, ◌∙◌, sym, subst}
 use Rattle.std.proofs.lemmas.Bool.{or_parts}
-use Rattle.std.proofs.lemmas.Bool.Decides.{nat_tests}
 use Rattle.std.specs.Prelude.{◌==◌}
+use Rattle.std.proofs.lemmas.Cmp.{nat_eq_equiv}
 use Rattle.ps_base.specs.Ids.{id_of}
 use Rattle.ps_base.specs.declared.why.Why.{Why}
+use Rattle.ps_base.specs.Messages.{sent}
 use Rattle.ps_lines.specs.declared.command.Command.{Command}
 use Rattle.ps_lines.specs.declared.command.Command.TheVariants.{Join}
-use Rattle.ps_bout.specs.Fights.{Fight}
-use Rattle.ps_alike.specs.Places.{Hidden}
+use Rattle.battle_rounds.specs.Fights.{Fight}
+use Rattle.battle_secrecy.specs.Places.{Hidden}
 use Rattle.ps_chat.specs.declared.present.Present.{Present}
 use Rattle.ps_chat.specs.Records.{Record as ChatRecord, Opening as ChatOpening}
 use Rattle.ps_room.specs.declared.entry.Entry.{Entry}
 use Rattle.ps_room.specs.Records.{Record}
-use Rattle.ps_room.specs.Rooms.{sender_of, verdict, after, battle_after, view, message, sent, is_join, joiner_of}
+use Rattle.ps_room.specs.Rooms.{sender_of, verdict, after, battle_after, view, message, is_join, joiner_of}
 use Rattle.ps_room.proofs.AnswerLemmas.{after_allowed, after_refused}
 use Rattle.ps_laws.specs.Alike.{own_fight, own_part}
 use Rattle.ps_laws.specs.Users.{user_of, users_from}
@@ -21,7 +22,7 @@ use Rattle.ps_laws.specs.Rounds.{Round, round_of, rounds_from}
 use Rattle.ps_laws.specs.Low.{Item, items_of, is_own, low_from}
 use Rattle.ps_laws.proofs.PartLemmas.{PlaysOwn, is_choice, verdict_free}
 use Rattle.ps_laws.proofs.ItemLemmas.{item_after, items_after, items_view, item_message}
-use Rattle.ps_laws.proofs.UserLemmas.{OwnsOf, is_user, own_of_member, own_of_sender, plays_own}
+use Rattle.ps_laws.proofs.UserLemmas.{OwnsOf, own_of_member, own_of_sender, plays_own}
 use Rattle.ps_laws.proofs.HomeLemmas.{AreHome, home_after, is_home, join_user}
 use Rattle.ps_laws.proofs.WaitLemmas.{WaitsIn, waits_after_entry}
 use Rattle.ps_laws.proofs.ShownLemmas.{AreUnshown}
@@ -30,6 +31,8 @@ use Rattle.ps_laws.proofs.TwinLemmas.{IsEntryGood}
 use Rattle.ps_laws.proofs.StepLemmas.{StandFor, own_entry}
 use Rattle.ps_laws.proofs.OtherLemmas.{PlaysOther, other_entry}
 use Rattle.ps_laws.proofs.ChatLemmas.{chat_over, user_if, items_users, users_more, own_users, others_users, items_chat, opening_after}
+use Rattle.ps_laws.proofs.UserLists.{AreUsers}
+use Rattle.ps_laws.specs.HallLow.{is_user}
 
 -- ---- what holds of a world at any time
 
@@ -93,27 +96,19 @@ either_user : (mine user : Bool) → (mine || user) ≡ true → (mine ≡ true 
 either_user true user e h = h refl
 either_user false user e h = e
 
-pub not_same : (a b : ℕ) → (a == b) ≡ false → (b == a) ≡ false
-not_same a b e = grind (arith, nat_tests)
-
 entry_by : (conn : ℕ) (ids : List (List ℕ)) (own : ℕ → Bool) (r : Record) (e : Entry) (mine : Bool) → is_own conn ids r e ≡ mine → IsSettled conn ids own r → ((e.conn == conn) ≡ true → is_user ids (user_of r e) ≡ true) → StandFor conn own r e (items_of conn ids r e)
 entry_by conn ids own r e true is h user =
     let known : is_user ids (user_of r e) ≡ true = either_user (e.conn == conn) _ is user in
     rw is (own_entry conn own r e (plays_of ids own r e r.battle h.owns known) (own_good conn ids own r e h.owns known))
 entry_by conn ids own r e false is h user =
     let n = or_parts (e.conn == conn) (is_user ids (user_of r e)) is in
-    rw is (other_entry conn own r e (not_same e.conn conn n.0) (plays_other_of ids own r e r.battle h.owns n.1) (λ s lt other. plays_own conn ids own r s h.owns (is_home conn ids r h.home) lt other))
+    rw is (other_entry conn own r e (nat_eq_equiv.symm conn e.conn ∙ n.0) (plays_other_of ids own r e r.battle h.owns n.1) (λ s lt other. plays_own conn ids own r s h.owns (is_home conn ids r h.home) lt other))
 
 -- the items of an entry stand for it
 pub entry_stands : (conn : ℕ) (ids : List (List ℕ)) (own : ℕ → Bool) (r : Record) (e : Entry) → IsSettled conn ids own r → ((e.conn == conn) ≡ true → is_user ids (user_of r e) ≡ true) → StandFor conn own r e (items_of conn ids r e)
 entry_stands conn ids own r e h user = entry_by conn ids own r e (is_own conn ids r e) refl h user
 
 -- ---- histories
-
--- they are users
-abbrev pub AreUsers : List (List ℕ) → List (List ℕ) → Type 0
-AreUsers ids [] = Unit {0}
-AreUsers ids (id ∷ more) = (is_user ids id ≡ true) × AreUsers ids more
 
 pub users_split : (ids : List (List ℕ)) (mine : Bool) (id : List ℕ) (more : List (List ℕ)) → AreUsers ids (user_if mine id ++ more) → (mine ≡ true → is_user ids id ≡ true) × AreUsers ids more
 users_split ids true id more h = (λ e. h.0, h.1)

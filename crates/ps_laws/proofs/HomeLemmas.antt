@@ -10,9 +10,9 @@ use Rattle.ps_lines.specs.declared.command.Command.{Command}
 use Rattle.ps_lines.specs.declared.command.Command.TheVariants.{Join, Leave, Quit, Say, Announce, Modnote, Warn, Mute, Unmute, Ban, Unban, Promote, Modchat, Choose, Undo, Forfeit}
 use Rattle.ps_group.specs.declared.group.Group.{Group}
 use Rattle.ps_group.specs.Ranks.{rank_of}
-use Rattle.ps_roster.specs.ById.{ById}
+use Rattle.ps_base.specs.ById.{ById}
 use Rattle.ps_chat.specs.declared.present.Present.{Present}
-use Rattle.ps_chat.specs.Looks.{member, kept}
+use Rattle.ps_chat.specs.Lookups.{member, kept}
 use Rattle.ps_chat.specs.Records.{Member, Record as ChatRecord, Opening as ChatOpening}
 use Rattle.ps_chat.specs.Rooms.{present, presents, room_of}
 use Rattle.ps_chat.specs.Changes.{record_after, with_rank}
@@ -23,7 +23,8 @@ use Rattle.ps_room.specs.Records.{Record, presents_of}
 use Rattle.ps_room.specs.Rooms.{verdict, after, sender_of}
 use Rattle.ps_room.proofs.AnswerLemmas.{after_allowed, after_refused, chat_allows}
 use Rattle.ps_laws.specs.Users.{badge_of, user_of}
-use Rattle.ps_laws.proofs.UserLemmas.{IsHome, is_user}
+use Rattle.ps_laws.proofs.UserLemmas.{IsHome}
+use Rattle.ps_laws.specs.HallLow.{is_user}
 
 -- each member of the connection is one of the users
 abbrev pub AreHome : ℕ → List (List ℕ) → List Member → Type 0

@@ -2,28 +2,30 @@
 use Rattle.std.proofs.Common.{◌≡◌, ℕ, Bool, true, false, cond, List, [], ◌∷◌, ◌++◌, Option, Some, None, Result, Ok, Err, refl, sym}
 use Rattle.std.specs.Prelude.{◌==◌}
 use Rattle.ps_base.specs.declared.why.Why.{Why}
+use Rattle.ps_base.specs.Messages.{sent}
 use Rattle.ps_lines.specs.declared.command.Command.{Command}
 use Rattle.ps_lines.specs.declared.command.Command.TheVariants.{Choose, Undo}
 use Rattle.ps_mon.specs.declared.choice.Choice.{Choice}
-use Rattle.ps_dex.specs.declared.row.Tables.{Tables}
+use Rattle.ps_dex.specs.declared.item.Tables.{Tables}
 use Rattle.ps_dex.specs.Figures.{figures_of}
 use Rattle.ps_view.specs.declared.role.Role.{Role}
 use Rattle.ps_battle.specs.Turns.{turn}
-use Rattle.ps_bout.specs.declared.bout.Bout.{Bout}
-use Rattle.ps_bout.specs.Bouts.{with_waiting}
-use Rattle.ps_bout.specs.Casts.{Cast}
-use Rattle.ps_bout.specs.Refusals.{chosen}
-use Rattle.ps_bout.specs.Rounds.{Outcome, untold, in_round, next_round}
-use Rattle.ps_bout.specs.Fights.{Fight, requests}
+use Rattle.battle_rounds.specs.declared.bout.Bout.{Bout}
+use Rattle.battle_rounds.specs.Bouts.{with_waiting}
+use Rattle.battle_rounds.specs.Casts.{Cast}
+use Rattle.battle_rounds.specs.Refusals.{chosen}
+use Rattle.battle_rounds.specs.Rounds.{Outcome, in_round, next_round}
+use Rattle.battle_rounds.specs.Fights.{Fight, requests}
 use Rattle.ps_chat.specs.declared.present.Present.{Present}
 use Rattle.ps_room.specs.declared.entry.Entry.{Entry}
 use Rattle.ps_room.specs.Tolds.{Logged}
 use Rattle.ps_room.specs.Records.{Record, cast_in}
 use Rattle.ps_room.specs.Roles.{side_of_member}
-use Rattle.ps_room.specs.Rooms.{sender_of, verdict, told, after, applied, logged_of, message, role, sent, shown_events, seen_texts, allowed_events, allowed_lines, joined_or}
+use Rattle.ps_room.specs.Rooms.{sender_of, verdict, told, after, applied, logged_of, message, role, shown_events, seen_texts, allowed_events, allowed_lines, joined_or}
 use Rattle.ps_room.proofs.AnswerLemmas.{after_allowed, after_refused}
 use Rattle.ps_laws.specs.Low.{Item, whole, commit}
 use Rattle.ps_laws.proofs.PartLemmas.{is_choose}
+use Rattle.ps_hits.specs.Courses.{untold}
 
 -- ---- an entry by itself: a choice waits, and completes nothing
 
@@ -39,12 +41,12 @@ abbrev pub waiting_fight : Option Fight → Option Present → List ℕ → Opti
 waiting_fight None me choice rqid = None
 waiting_fight (Some f) me choice rqid = Some (record f { bout = waiting_in f.cast.dex f.bout (side_of_member f.cast me) choice rqid })
 
-abbrev pub held : Record → Entry → List ℕ → Option ℕ → Record
-held r e choice rqid = record r { battle = waiting_fight r.battle (sender_of r e) choice rqid }
+abbrev pub with_choice : Record → Entry → List ℕ → Option ℕ → Record
+with_choice r e choice rqid = record r { battle = waiting_fight r.battle (sender_of r e) choice rqid }
 
 abbrev pub whole_after : Option Why → Record → Entry → Command → Record
 whole_after (Some why) r e cmd = r
-whole_after None r e (Choose choice rqid) = held r e choice rqid
+whole_after None r e (Choose choice rqid) = with_choice r e choice rqid
 whole_after None r e other = applied r e
 
 abbrev pub whole_message : Option Why → ℕ → Record → Entry → Command → List (List ℕ)

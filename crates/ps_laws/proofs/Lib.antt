@@ -36,3 +36,4 @@ pub mod HallHistoryLemmas
 pub mod HallStarts
 pub mod MissingLemmas
 pub mod UndoneLemmas
+pub mod UserLists

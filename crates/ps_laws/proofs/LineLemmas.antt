@@ -7,14 +7,15 @@ use Rattle.ps_event.specs.declared.event.Who.{Who}
 use Rattle.ps_event.specs.declared.side.Side.{Side}
 use Rattle.ps_event.specs.declared.side.Side.TheVariants.{P1, P2}
 use Rattle.ps_event.specs.Table.{audience_of}
-use Rattle.ps_dex.specs.declared.row.Tables.{Tables}
+use Rattle.ps_event.specs.Sides.{side_number}
+use Rattle.ps_dex.specs.declared.item.Tables.{Tables}
 use Rattle.ps_view.specs.declared.names.Names.{Names}
 use Rattle.ps_view.specs.declared.role.Role.{Role}
 use Rattle.ps_view.specs.Named.{player_of}
 use Rattle.ps_view.specs.Lines.{row_of, is_shown, line_of}
 use Rattle.ps_view.specs.Roles.{reads_exactly}
-use Rattle.ps_alike.specs.Places.{Hidden}
-use Rattle.ps_alike.specs.Showing.{side_number, whos}
+use Rattle.battle_secrecy.specs.Places.{Hidden}
+use Rattle.battle_secrecy.specs.Showing.{whos}
 use Rattle.ps_laws.specs.Alike.{AreNamesAlike}
 
 -- an event names no hidden member

@@ -2,14 +2,15 @@
 use Rattle.std.proofs.Common.{◌≡◌, ℕ, ◌==◌, Bool, true, false, cond, List, [], ◌∷◌, ◌++◌, Option, Some, None, refl, sym, ap, ◌∙◌}
 use Rattle.std.proofs.lemmas.Bool.{or_parts}
 use Rattle.std.specs.Prelude.{IfSome}
+use Rattle.std.proofs.lemmas.Cmp.{nat_eq_equiv}
 use Rattle.ps_base.specs.declared.why.Why.{Why}
 use Rattle.ps_lines.specs.declared.command.Command.{Command}
 use Rattle.ps_lines.specs.declared.command.Command.TheVariants.{Modnote, Choose, Undo}
-use Rattle.ps_dex.specs.declared.row.Tables.{Tables}
-use Rattle.ps_valid.specs.declared.row.Settings.{Settings}
-use Rattle.ps_valid.specs.declared.start.Start.{Start}
-use Rattle.ps_start.specs.Fits.{IsFit}
-use Rattle.ps_alike.specs.Places.{Hidden}
+use Rattle.ps_dex.specs.declared.item.Tables.{Tables}
+use Rattle.rules_config.specs.declared.settings.Settings.{Settings}
+use Rattle.rules_start.specs.declared.start.Start.{Start}
+use Rattle.rules_start.specs.Fits.{IsFit}
+use Rattle.battle_secrecy.specs.Places.{Hidden}
 use Rattle.ps_room.specs.declared.entry.Entry.{Entry}
 use Rattle.ps_room.specs.Records.{Record, opened}
 use Rattle.ps_room.specs.Rooms.{verdict, after, run_record}
@@ -17,13 +18,12 @@ use Rattle.ps_room.specs.Unseen.{sees_notes}
 use Rattle.ps_room.proofs.AnswerLemmas.{after_refused}
 use Rattle.ps_room.proofs.ChatLemmas.{IsChat, chat_opened, chat_after, choice_refused, undo_refused}
 use Rattle.ps_room.proofs.UnseenLemmas.{note_unseen}
-use Rattle.ps_laws.specs.Stories.{story}
+use Rattle.ps_room.specs.Stories.{story}
 use Rattle.ps_laws.specs.Users.{user_of, users_from, users}
 use Rattle.ps_laws.specs.Hidden.{hidden_in_both}
 use Rattle.ps_laws.specs.Low.{Item, whole, items_of_round, items_of_allowed, items_of_others, items_of, is_own, low_from}
 use Rattle.ps_laws.specs.Same.{AreBattlesSame, UnshownMayBeMissing}
-use Rattle.ps_laws.proofs.UserLemmas.{is_user}
-use Rattle.ps_laws.proofs.HistoryLemmas.{not_same}
+use Rattle.ps_laws.specs.HallLow.{is_user}
 
 -- an entry of another that leaves the record as it was
 record IsIdle (conn : ℕ) (r : Record) (e : Entry) : Type 0 where
@@ -32,7 +32,7 @@ record IsIdle (conn : ℕ) (r : Record) (e : Entry) : Type 0 where
 
 of_modnote : (conn : ℕ) (r : Record) (e : Entry) (text : List ℕ) (sees : Bool) → (e.conn == conn) ≡ false → e.cmd ≡ Modnote text → verdict r e ≡ None → sees_notes conn r ≡ sees → cond sees (whole e ∷ []) [] ≡ [] → after r e ≡ r
 of_modnote conn r e text true other is v sees none = absurd cc
-of_modnote conn r e text false other is v sees none = (note_unseen conn r e text (not_same e.conn conn other) is v sees).unchanged
+of_modnote conn r e text false other is v sees none = (note_unseen conn r e text (nat_eq_equiv.symm conn e.conn ∙ other) is v sees).unchanged
 
 of_allowed : (conn : ℕ) (r : Record) (e : Entry) (cmd : Command) → IsChat r → (e.conn == conn) ≡ false → e.cmd ≡ cmd → verdict r e ≡ None → items_of_allowed conn r e cmd ≡ [] → after r e ≡ r
 of_allowed conn r e (Choose choice rqid) chat other is v none = absurd (let some = choice_refused r e choice rqid chat is in let wrong : None ≡ Some some.0 = sym v ∙ some.1 in cc)

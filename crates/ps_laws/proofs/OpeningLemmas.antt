@@ -1,38 +1,40 @@
 -- Openings that are the same to a connection: their records are alike, and every world begins settled.
-use Rattle.std.proofs.Common.{◌≡◌, ℕ, zero, suc, ◌<◌, ◌≤◌, Bool, true, false, ◌&&◌, List, [], Option, Some, None, All, map, get_or, append-nil, refl, ap, ◌∙◌, sym, subst, arith}
+use Rattle.std.proofs.Common.{◌≡◌, ℕ, ◌<◌, ◌≤◌, Bool, true, false, ◌&&◌, List, [], Option, Some, None, All, map, get_or, append-nil, refl, ap, ◌∙◌, sym, subst, arith}
 use Rattle.std.proofs.Math.ListN.{get_or-map}
-use Rattle.std.proofs.lemmas.Bool.Decides.{nat_tests}
 use Rattle.std.specs.Prelude.{not, nat_lt, is_some, option_map, slice_get, unwrap_or}
+use Rattle.std.proofs.lemmas.Bool.{ltb-true}
 use Rattle.ps_mon.specs.declared.team.Member.{Member}
 use Rattle.ps_mon.specs.declared.team.MoveSlot.{MoveSlot}
 use Rattle.ps_mon.specs.declared.team.BattleTeam.{BattleTeam}
 use Rattle.ps_mon.specs.Reading.{slot_of}
 use Rattle.ps_mon.specs.Teams.{IsFresh, IsFreshMember}
+use Rattle.ps_mon.proofs.SideLemmas.{each_side}
 use Rattle.ps_event.specs.declared.event.Event.{Event}
 use Rattle.ps_event.specs.declared.side.Side.{Side}
 use Rattle.ps_event.specs.declared.side.Side.TheVariants.{P1, P2}
-use Rattle.ps_dex.specs.declared.row.Tables.{Tables}
-use Rattle.ps_valid.specs.declared.row.Settings.{Settings}
-use Rattle.ps_valid.specs.declared.start.Start.{Start}
-use Rattle.ps_valid.specs.declared.start.Legal.{Legal}
-use Rattle.ps_start.specs.Fits.{IsFit, legal_of, no_legal}
+use Rattle.ps_event.specs.Sides.{side_number}
+use Rattle.ps_dex.specs.declared.item.Tables.{Tables}
+use Rattle.rules_config.specs.declared.settings.Settings.{Settings}
+use Rattle.rules_start.specs.declared.start.Start.{Start}
+use Rattle.ps_valid.specs.declared.legal.Legal.{Legal}
+use Rattle.rules_start.specs.Fits.{IsFit, legal_of, no_legal}
 use Rattle.ps_view.specs.Named.{nick_of}
 use Rattle.ps_battle.specs.Openings.{open_course, team_of}
-use Rattle.ps_bout.specs.Rounds.{Outcome, in_round, opened as opened_bout}
+use Rattle.battle_rounds.specs.Rounds.{Outcome, in_round, opened as opened_bout}
 use Rattle.ps_hits.specs.Courses.{Course}
-use Rattle.ps_alike.specs.Places.{Hidden}
-use Rattle.ps_alike.specs.Alike.{AreSlotsAlike, AreShownAlike}
-use Rattle.ps_alike.specs.Showing.{side_number, NamesNoHidden}
-use Rattle.ps_alike.specs.Teams.{AreTeamsAlike, AreBothTeamsAlike}
-use Rattle.ps_alike.proofs.OpeningLemmas.{fresh_teams_alike, open_alike}
-use Rattle.ps_alike.proofs.TellTurnLemmas.{open_names}
+use Rattle.battle_secrecy.specs.Places.{Hidden}
+use Rattle.battle_secrecy.specs.Alike.{AreSlotsAlike, AreShownAlike}
+use Rattle.battle_secrecy.specs.Showing.{NamesNoHidden}
+use Rattle.battle_secrecy.specs.Teams.{AreTeamsAlike, AreBothTeamsAlike}
+use Rattle.battle_secrecy.proofs.OpeningLemmas.{fresh_teams_alike, open_alike}
+use Rattle.battle_secrecy.proofs.TellTurnLemmas.{open_names}
 use Rattle.ps_room.specs.Openings.{Opening, format_in, name_of_format, clauses_of_format, team_of_legal, nicks_of_legal, names_of, bout_with, fight_with}
 use Rattle.ps_room.specs.Records.{logged_events, logged_with, opened}
 use Rattle.ps_laws.specs.Alike.{AreNamesAlike, AreBoutsAlike, AreFightsAlike, AreMaybeAlike, IsLoggedOpenly, own_bout, own_fight}
 use Rattle.ps_laws.specs.Hidden.{member_in, hidden_with, own_sides}
 use Rattle.ps_laws.specs.Rounds.{Round}
 use Rattle.ps_laws.specs.Same.{IsSlotSame, AreEqualMembers, IsMemberSame, IsNickSame, nick_in, AreTeamsSame, AreStartsSame, AreBattlesSame}
-use Rattle.ps_laws.proofs.PartLemmas.{if_none}
+use Rattle.ps_laws.proofs.PartLemmas.{if_none, side_below_two}
 use Rattle.ps_laws.proofs.UserLemmas.{OwnsOf}
 use Rattle.ps_laws.proofs.WaitLemmas.{WaitsIn}
 use Rattle.ps_laws.proofs.TwinSideLemmas.{IsOpen}
@@ -85,9 +87,6 @@ inside_by true true c d e = refl
 inside_by true false c d e = absurd cc
 inside_by false b c d e = absurd cc
 
-below_of : (j n : ℕ) → nat_lt j n ≡ true → j < n
-below_of j n e = grind (arith, nat_tests)
-
 -- ---- teams
 
 team_at : (teams : List Legal) (s : ℕ) → team_of (map team_of_legal teams) s ≡ (legal_of teams s).team
@@ -127,13 +126,8 @@ team_alike places one two s inside moves first fresh fresh_too w =
     (member_alike (places.slot s k) (member_in one s k) (member_in two s k) (fresh.members k lt) (fresh_too.members k (let count = w.count in omega (arith, lt, count))) (inside k) (shown_same (places.member s k) (places.slot s k) _ _ shown (w.members k lt))))
     w.rest
 
-both_fit : (P : ℕ → Type 0) → P 0 → P 1 → (s : ℕ) → s < 2 → P s
-both_fit P one two zero lt = one
-both_fit P one two (suc zero) lt = two
-both_fit P one two (suc (suc s)) lt = absurd (omega arith)
-
 slot_inside : (own : ℕ → Bool) (st : Start) (rs : List Round) (other : Hidden) (s k j : ℕ) → (both own (Some st) rs other).slot s k j ≡ true → j < (member_in st s k).slot_count
-slot_inside own st rs other s k j h = below_of j (member_in st s k).slot_count (inside_by (not (own s)) (nat_lt j (member_in st s k).slot_count) _ (other.slot s k j) h)
+slot_inside own st rs other s k j h = ltb-true j (member_in st s k).slot_count (inside_by (not (own s)) (nat_lt j (member_in st s k).slot_count) _ (other.slot s k j) h)
 
 slot_move : (own : ℕ → Bool) (st : Start) (rs : List Round) (other : Hidden) (s k j : ℕ) → (both own (Some st) rs other).move s k j ≡ (slot_of (member_in st s k) j).mv
 slot_move own st rs other s k j = refl
@@ -141,8 +135,8 @@ slot_move own st rs other s k j = refl
 teams_alike : (own : ℕ → Bool) (rs : List Round) (other : Hidden) (config : Settings) (dex : Tables) (one two : Start) → IsFit one config dex → IsFit two config dex → AreStartsSame (both own (Some one) rs other) one two → AreBothTeamsAlike (both own (Some one) rs other) (map team_of_legal one.teams) (map team_of_legal two.teams)
 teams_alike own rs other config dex one two fit fit_too w = λ s lt.
     let places = both own (Some one) rs other in
-    let fresh : IsFresh (legal_of one.teams s).team = both_fit (λ s. IsFresh (legal_of one.teams s).team) fit.first.fresh fit.second.fresh s lt in
-    let fresh_too : IsFresh (legal_of two.teams s).team = both_fit (λ s. IsFresh (legal_of two.teams s).team) fit_too.first.fresh fit_too.second.fresh s lt in
+    let fresh : IsFresh (legal_of one.teams s).team = each_side (λ s. IsFresh (legal_of one.teams s).team) fit.first.fresh fit.second.fresh s lt in
+    let fresh_too : IsFresh (legal_of two.teams s).team = each_side (λ s. IsFresh (legal_of two.teams s).team) fit_too.first.fresh fit_too.second.fresh s lt in
     let alike = team_alike places one two s (slot_inside own one rs other s) (slot_move own one rs other s) (first_shown own one rs other s) fresh fresh_too (w.teams s lt) in
     subst (λ (t : BattleTeam). AreTeamsAlike (places.member s) (places.slot s) (places.move s) t (team_of (map team_of_legal two.teams) s)) (sym (team_at one.teams s))
     (subst (λ (t : BattleTeam). AreTeamsAlike (places.member s) (places.slot s) (places.move s) (legal_of one.teams s).team t) (sym (team_at two.teams s)) alike)
@@ -159,10 +153,6 @@ nick_same true x y shown same = absurd cc
 nick_is : (config : Settings) (st : Start) (side : Side) (k : ℕ) → nick_of (names_of config st) (record { side = side; member = k }) ≡ nick_in st (side_number side) k
 nick_is config st P1 k = ap (λ (ns : List (List ℕ)). unwrap_or (slice_get ns k) []) (nicks_at st.teams 0)
 nick_is config st P2 k = ap (λ (ns : List (List ℕ)). unwrap_or (slice_get ns k) []) (nicks_at st.teams 1)
-
-side_below_two : (side : Side) → side_number side < 2
-side_below_two P1 = omega arith
-side_below_two P2 = omega arith
 
 format_same : (config : Settings) (one two : Start) → one.format ≡ two.format → format_in config one ≡ format_in config two
 format_same config one two e = ap (λ (f : List ℕ). format_in config (record one { format = f })) e

@@ -2,7 +2,9 @@
 -- nothing; with one the item stands for it.
 use Rattle.std.proofs.Common.{◌≡◌, ◌⊎◌, ℕ, zero, suc, ◌<◌, Bool, true, false, ◌&&◌, List, [], ◌∷◌, Option, Some, None, append-nil, refl, ap, ◌∙◌, sym, subst, inl, inr, arith}
 use Rattle.std.specs.Prelude.{◌==◌}
+use Rattle.std.proofs.lemmas.Cmp.{nat_eq_equiv}
 use Rattle.ps_base.specs.declared.why.Why.{Why}
+use Rattle.ps_base.specs.Messages.{sent}
 use Rattle.ps_lines.specs.declared.command.Command.{Command}
 use Rattle.ps_lines.specs.declared.command.Command.TheVariants.{Choose, Undo, Modnote}
 use Rattle.ps_view.specs.declared.role.Role.{Role}
@@ -14,18 +16,18 @@ use Rattle.ps_event.specs.declared.event.Event.{Event}
 use Rattle.ps_event.specs.declared.event.Event.TheVariants as events
 use Rattle.ps_event.specs.declared.side.Side.{Side}
 use Rattle.ps_hits.specs.Told.{side_name}
-use Rattle.ps_bout.specs.declared.bout.Bout.{Bout}
-use Rattle.ps_bout.specs.Bouts.{with_waiting}
-use Rattle.ps_bout.specs.Casts.{Cast, event_text}
-use Rattle.ps_bout.specs.Rounds.{undone}
-use Rattle.ps_bout.specs.Fights.{Fight, outcome_in, refusal_in}
+use Rattle.battle_rounds.specs.declared.bout.Bout.{Bout}
+use Rattle.battle_rounds.specs.Bouts.{with_waiting}
+use Rattle.battle_rounds.specs.Casts.{Cast, event_text}
+use Rattle.battle_rounds.specs.Rounds.{undone}
+use Rattle.battle_rounds.specs.Fights.{Fight, outcome_in, refusal_in}
 use Rattle.ps_chat.specs.declared.present.Present.{Present}
 use Rattle.ps_chat.specs.Told.{lines}
 use Rattle.ps_room.specs.declared.entry.Entry.{Entry}
 use Rattle.ps_room.specs.Tolds.{Logged}
 use Rattle.ps_room.specs.Records.{Record}
 use Rattle.ps_room.specs.Roles.{side_of_member}
-use Rattle.ps_room.specs.Rooms.{sender_of, verdict, after, message, role, sent, refusal_by_battle}
+use Rattle.ps_room.specs.Rooms.{sender_of, verdict, after, message, role, refusal_by_battle}
 use Rattle.ps_room.specs.Unseen.{sees_notes}
 use Rattle.ps_room.proofs.AnswerLemmas.{after_allowed, after_refused, silent_line, battle_allows}
 use Rattle.ps_room.proofs.UnseenLemmas.{note_unseen}
@@ -34,9 +36,9 @@ use Rattle.ps_laws.specs.Low.{commit, commit_of, items_of_others, items_of_allow
 use Rattle.ps_laws.proofs.PartLemmas.{side_below, is_choose, is_choice, verdict_free}
 use Rattle.ps_laws.proofs.ItemLemmas.{waiting_fight, undo_message}
 use Rattle.ps_laws.proofs.ChoiceLemmas.{Waits, Completes, choice_does, waiting_other}
-use Rattle.ps_alike.specs.Places.{Hidden}
+use Rattle.battle_secrecy.specs.Places.{Hidden}
 use Rattle.ps_mon.specs.declared.choice.Choice.{Choice}
-use Rattle.ps_laws.proofs.TwinLemmas.{IsEntryGood, same_number}
+use Rattle.ps_laws.proofs.TwinLemmas.{IsEntryGood}
 use Rattle.ps_laws.proofs.FineLemmas.{IsFineRound, AreFineChoices}
 use Rattle.ps_laws.proofs.StepLemmas.{round_fine, StandFor, one_item, made, said, round_at, waits_after, waits_message, completes_after, completes_message, chat_choice_after, chat_choice_message, chat_choice_round, commit_seen}
 
@@ -158,7 +160,7 @@ other_undo conn own r e (Some f) is v b other plays =
 other_good : (conn : ℕ) (own : ℕ → Bool) (r : Record) (e : Entry) → (conn == e.conn) ≡ false → is_choose e.cmd ≡ false → IsEntryGood conn own (own_part own r) e
 other_good conn own r e away free = record {
   chooses = λ chooses. absurd (let wrong : true ≡ false = sym chooses ∙ free in cc);
-  joins = λ v mine joins. absurd (let wrong : true ≡ false = sym (same_number e.conn conn mine) ∙ away in cc);
+  joins = λ v mine joins. absurd (let wrong : true ≡ false = sym (nat_eq_equiv.symm conn e.conn ∙ mine) ∙ away in cc);
 }
 
 of_modnote : (conn : ℕ) (own : ℕ → Bool) (r : Record) (e : Entry) (text : List ℕ) (sees : Bool) → e.cmd ≡ Modnote text → verdict r e ≡ None → (conn == e.conn) ≡ false → sees_notes conn r ≡ sees → StandFor conn own r e (items_of_modnote conn r e)

@@ -7,16 +7,18 @@ use Rattle.ps_lines.specs.declared.command.Command.{Command}
 use Rattle.ps_lines.specs.declared.command.Command.TheVariants.{Choose, Undo, Forfeit}
 use Rattle.ps_mon.specs.declared.choice.Choice.{Choice}
 use Rattle.ps_mon.specs.Valid.{is_over}
-use Rattle.ps_dex.specs.declared.row.Tables.{Tables}
-use Rattle.ps_view.specs.declared.names.Names.{Names}
+use Rattle.ps_dex.specs.declared.item.Tables.{Tables}
 use Rattle.ps_event.specs.declared.event.Event.{Event}
-use Rattle.ps_bout.specs.declared.bout.Bout.{Bout}
-use Rattle.ps_bout.specs.Bouts.{waiting, with_waiting}
-use Rattle.ps_bout.specs.Casts.{Cast, plays}
-use Rattle.ps_bout.specs.Refusals.{chosen, refused}
-use Rattle.ps_bout.specs.Rounds.{gave_up, Outcome}
-use Rattle.ps_bout.specs.Asked.{request_line}
-use Rattle.ps_bout.specs.Fights.{Fight, outcome_in, refusal_in, requests, request_unless, open_request}
+use Rattle.ps_event.specs.Sides.{side_number}
+use Rattle.ps_event.specs.declared.side.Side.{Side}
+use Rattle.ps_event.specs.declared.side.Side.TheVariants.{P1, P2}
+use Rattle.battle_rounds.specs.declared.bout.Bout.{Bout}
+use Rattle.battle_rounds.specs.Bouts.{waiting, with_waiting}
+use Rattle.battle_rounds.specs.Casts.{Cast, plays}
+use Rattle.battle_rounds.specs.Refusals.{chosen, refused}
+use Rattle.battle_rounds.specs.Rounds.{gave_up, Outcome}
+use Rattle.battle_rounds.specs.Asked.{request_line}
+use Rattle.battle_rounds.specs.Fights.{Fight, outcome_in, refusal_in, requests, request_unless, open_request}
 use Rattle.ps_chat.specs.declared.present.Present.{Present}
 use Rattle.ps_room.specs.declared.entry.Entry.{Entry}
 use Rattle.ps_chat.specs.Lines.{Line}
@@ -36,6 +38,10 @@ side_below_by s false false e = absurd cc
 pub side_below : (cast : Cast) (me : Option Present) (s : ℕ) → side_of_member cast me ≡ Some s → s < 2
 side_below cast None s e = absurd cc
 side_below cast (Some p) s e = side_below_by s _ _ e
+
+pub side_below_two : (side : Side) → side_number side < 2
+side_below_two P1 = omega arith
+side_below_two P2 = omega arith
 
 waiting_by : (s : ℕ) (own : ℕ → Bool) (b : Bout) → s < 2 → own s ≡ true → waiting (own_bout own b) s ≡ waiting b s
 waiting_by zero own b lt mine = rw mine refl
@@ -123,11 +129,6 @@ side_told_own own dex b (Some s) (Choose choice rqid) free = absurd cc
 side_told_own own dex b (Some s) Undo free = refl
 side_told_own own dex b (Some s) Forfeit free = ap (λ (o : Outcome). o.told) (gave_up_told own s b)
 side_told_own own dex b (Some s) other free = refl
-
--- a request doesn't tell what waits
-request_own : (own : ℕ → Bool) (b : Bout) (dex : Tables) (names : Names) (s : ℕ) → request_line (own_bout own b) dex names s ≡ request_line b dex names s
-unfolding request_line
-request_own own b dex names s = refl
 
 requests_own : (own : ℕ → Bool) (c : Cast) (b : Bout) (events : List Event) → requests c (own_bout own b) events ≡ requests c b events
 unfolding request_line

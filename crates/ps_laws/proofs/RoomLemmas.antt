@@ -1,35 +1,33 @@
 -- Two stories of a room that are the same to a connection give it equal views.
-use Rattle.std.proofs.Common.{◌≡◌, ℕ, Bool, true, false, ◌||◌, List, [], ◌∷◌, Option, Some, None, refl, ap, ◌∙◌, sym, subst}
-use Rattle.std.proofs.lemmas.Bool.{or_right}
+use Rattle.std.proofs.Common.{◌≡◌, ℕ, Bool, false, List, Option, Some, None, refl, ap, ◌∙◌, sym, subst}
 use Rattle.std.specs.Prelude.{is_some, IfSome, option_map}
 use Rattle.std.specs.List.{list_any}
-use Rattle.std.specs.Str.{bytes_eq}
-use Rattle.std.proofs.lemmas.Slice.Eq.{bytes_eq-Decides}
-use Rattle.ps_dex.specs.declared.row.Tables.{Tables}
-use Rattle.ps_valid.specs.declared.row.Settings.{Settings}
-use Rattle.ps_valid.specs.declared.start.Start.{Start}
-use Rattle.ps_start.specs.Fits.{IsFit}
+use Rattle.ps_dex.specs.declared.item.Tables.{Tables}
+use Rattle.rules_config.specs.declared.settings.Settings.{Settings}
+use Rattle.rules_start.specs.declared.start.Start.{Start}
+use Rattle.rules_start.specs.Fits.{IsFit}
 use Rattle.ps_hits.specs.Told.{side_name}
-use Rattle.ps_bout.specs.Casts.{plays}
-use Rattle.ps_bout.specs.Fights.{Fight}
-use Rattle.ps_alike.specs.Places.{Hidden}
+use Rattle.battle_rounds.specs.Casts.{plays}
+use Rattle.battle_rounds.specs.Fights.{Fight}
+use Rattle.battle_secrecy.specs.Places.{Hidden}
 use Rattle.ps_chat.specs.Records.{Opening as ChatOpening}
 use Rattle.ps_room.specs.Openings.{Opening, fight_with, names_of}
 use Rattle.ps_room.specs.Records.{chat_opening, logged_with}
-use Rattle.ps_laws.specs.Stories.{Story, begun, view_of}
+use Rattle.ps_room.specs.Stories.{Story, begun, view_of}
 use Rattle.ps_laws.specs.Users.{users, is_own_side}
 use Rattle.ps_laws.specs.Alike.{AreAlike, AreMaybeAlike, own_fight, own_part}
 use Rattle.ps_laws.specs.Hidden.{own_sides, hidden, hidden_in_both}
 use Rattle.ps_laws.specs.Rounds.{rounds}
 use Rattle.ps_laws.specs.Low.{low}
 use Rattle.ps_laws.specs.Same.{AreBattlesSame, AreOpenedAlike, AreSame}
-use Rattle.ps_laws.proofs.UserLemmas.{OwnsOf, is_user}
+use Rattle.ps_laws.proofs.UserLemmas.{OwnsOf}
 use Rattle.ps_laws.proofs.ItemLemmas.{items_view}
 use Rattle.ps_laws.proofs.ShownLemmas.{story_unshown}
 use Rattle.ps_laws.proofs.ChatLemmas.{items_users}
-use Rattle.ps_laws.proofs.HistoryLemmas.{AreUsers, view_is, low_is_fine, users_is}
+use Rattle.ps_laws.proofs.HistoryLemmas.{view_is, low_is_fine, users_is}
 use Rattle.ps_laws.proofs.WorldLemmas.{views_alike}
 use Rattle.ps_laws.proofs.OpeningLemmas.{settled_opened, owned, own_open, FitsWith, begun_alike}
+use Rattle.ps_laws.proofs.UserLists.{users_self, AreUsers}
 
 -- ---- the openings
 
@@ -66,22 +64,11 @@ opened_alike conn one two same =
 
 -- ---- the users, and the own sides, of both are the same
 
-one_of : (id : List ℕ) (more : List (List ℕ)) → list_any (bytes_eq id) (id ∷ more) ≡ true
-one_of id more = ap (λ (b : Bool). b || list_any (bytes_eq id) more) ((bytes_eq-Decides id id).1 refl)
-
-users_of : (ids more : List (List ℕ)) → ((id : List ℕ) → list_any (bytes_eq id) more ≡ true → is_user ids id ≡ true) → AreUsers ids more
-users_of ids [] all = tt
-users_of ids (id ∷ more) all = (all id (one_of id more), users_of ids more (λ x h. all x (or_right (bytes_eq x id) _ h)))
-
--- each is one of them
-self_users : (ids : List (List ℕ)) → AreUsers ids ids
-self_users ids = users_of ids ids (λ id h. h)
-
 users_told : (conn : ℕ) (s : Story) → users conn s ≡ items_users conn (begun s).opening (begun s).chat (low conn s)
 users_told conn s =
     let ids = users conn s in
     let own = own_sides ids s.opening.config s.opening.battle in
-    users_is conn ids own (begun s) s.history (settled_opened conn ids own s.opening (owned ids s.opening)) (self_users ids)
+    users_is conn ids own (begun s) s.history (settled_opened conn ids own s.opening (owned ids s.opening)) (users_self ids)
 
 -- the low histories tell the same users
 pub users_same : (conn : ℕ) (one two : Story) → AreSame conn one two → users conn one ≡ users conn two
@@ -122,7 +109,7 @@ views_are_equal conn one two same =
     let both = users_same conn one two same in
     let owns = owned ids one.opening in
     let settled = settled_opened conn ids own one.opening owns in
-    let known = self_users ids in
+    let known = users_self ids in
     let sides : (s : ℕ) → own s ≡ own_sides (users conn two) two.opening.config two.opening.battle s = λ s.
     own_same ids one.opening.config places one.opening.battle two.opening.battle s w.battle
     ∙ ap (λ (c : Settings). own_sides ids c two.opening.battle s) w.config
@@ -134,4 +121,4 @@ views_are_equal conn one two same =
     ∙ views_alike conn ids own places (own_part own (begun one)) (own_part own (begun two)) (low conn one) (part_owns ids own (begun one).battle owns) tt listed
     (own_open own one.opening.battle (rounds one) (hidden conn two)) fine alike
     ∙ ap (items_view conn (own_part own (begun two))) same.histories
-    ∙ sym (view_is conn (users conn two) own (begun two) two.history settled_too (self_users (users conn two)))
+    ∙ sym (view_is conn (users conn two) own (begun two) two.history settled_too (users_self (users conn two)))

@@ -1,6 +1,6 @@
 -- No round of a story shows a place that is hidden to a connection there.
 use Rattle.std.proofs.Common.{◌≡◌, ℕ, ◌<◌, ◌-◌, Bool, true, false, ◌&&◌, List, [], ◌∷◌, Option, Some, None, get_or, refl, ap, ◌∙◌, sym, arith}
-use Rattle.std.proofs.lemmas.Bool.{and_parts, or_parts, not-true, false_from_ne_true}
+use Rattle.std.proofs.lemmas.Bool.{and_parts, or_parts, not-true, false_from_ne_true, eq-eqb}
 use Rattle.std.specs.Prelude.{◌==◌, not}
 use Rattle.std.specs.List.{list_any}
 use Rattle.ps_mon.specs.declared.record.Battle.{Battle}
@@ -8,27 +8,27 @@ use Rattle.ps_mon.specs.declared.record.SideState.{SideState}
 use Rattle.ps_mon.specs.declared.choice.Choice.{Choice}
 use Rattle.ps_mon.specs.declared.choice.Choice.TheVariants as choices
 use Rattle.ps_mon.specs.Facts.{Figures}
-use Rattle.ps_mon.specs.Reading.{side_of, place_of, slot_of}
+use Rattle.ps_mon.specs.Reading.{side_of, active_index, slot_of}
 use Rattle.ps_battle.specs.Turns.{turn}
-use Rattle.ps_valid.specs.declared.start.Start.{Start}
-use Rattle.ps_alike.specs.Places.{Hidden}
-use Rattle.ps_alike.specs.Alike.{AreAlike as AreBattlesAlike, IsPlaced}
-use Rattle.ps_alike.specs.Showing.{shows_one, ShowsNoHidden}
-use Rattle.ps_alike.specs.Laws.{IsChoiceUnhidden, forms, fronts, untold}
-use Rattle.ps_alike.proofs.FrontLemmas.{turn_front, front_after, choice_of_side}
+use Rattle.rules_start.specs.declared.start.Start.{Start}
+use Rattle.battle_secrecy.specs.Places.{Hidden}
+use Rattle.battle_secrecy.specs.Alike.{AreAlike as AreBattlesAlike, IsPlaced}
+use Rattle.battle_secrecy.specs.Showing.{shows_one, ShowsNoHidden}
+use Rattle.battle_secrecy.specs.Laws.{IsChoiceUnhidden, forms, fronts}
+use Rattle.battle_secrecy.proofs.FrontLemmas.{turn_front, front_after, choice_of_side}
 use Rattle.ps_laws.specs.Rounds.{Round, choice_of, round_of_choices, rounds}
 use Rattle.ps_laws.specs.Hidden.{member_in, has_stood, is_member_hidden, is_chosen, is_told, is_slot_shown, is_slot_hidden, hidden_with, own_sides, hidden, hidden_in_both}
-use Rattle.ps_laws.specs.Stories.{Story}
+use Rattle.ps_room.specs.Stories.{Story}
 use Rattle.ps_laws.specs.Users.{users}
-use Rattle.ps_room.proofs.AnswerLemmas.{same_is}
 use Rattle.ps_laws.proofs.WaitLemmas.{AreChoices}
+use Rattle.ps_hits.specs.Courses.{untold}
 
 -- ---- rounds that show no hidden place
 
 pub record IsUnshown (places : Hidden) (r : Round) : Type 0 where
-  pub members : (s k : ℕ) → places.member s k ≡ true → (place_of (side_of r.after s) == k) ≡ false
+  pub members : (s k : ℕ) → places.member s k ≡ true → (active_index (side_of r.after s) == k) ≡ false
   pub chosen : (s k j : ℕ) → places.slot s k j ≡ true → is_chosen s k j r ≡ false
-  pub told : (s k j : ℕ) → places.slot s k j ≡ true → shows_one s k (place_of (side_of r.after s) == k) (places.move s k j) (forms r.before r.first r.second s k) r.told ≡ false
+  pub told : (s k j : ℕ) → places.slot s k j ≡ true → shows_one s k (active_index (side_of r.after s) == k) (places.move s k j) (forms r.before r.first r.second s k) r.told ≡ false
 
 abbrev pub AreUnshown : Hidden → List Round → Type 0
 AreUnshown places [] = Unit {0}
@@ -39,7 +39,7 @@ AreUnshown places (r ∷ rs) = IsUnshown places r × AreUnshown places rs
 -- no round shows them
 record AreNeverShown (st : Start) (places : Hidden) (rs : List Round) : Type 0 where
   moves : (s k j : ℕ) → places.move s k j ≡ (slot_of (member_in st s k) j).mv
-  members : (s k : ℕ) → places.member s k ≡ true → list_any (λ r. place_of (side_of r.after s) == k) rs ≡ false
+  members : (s k : ℕ) → places.member s k ≡ true → list_any (λ r. active_index (side_of r.after s) == k) rs ≡ false
   slots : (s k j : ℕ) → places.slot s k j ≡ true → list_any (is_slot_shown st s k j) rs ≡ false
 
 each_unshown : (st : Start) (places : Hidden) (rs : List Round) → AreNeverShown st places rs → AreUnshown places rs
@@ -47,13 +47,13 @@ each_unshown st places [] never = tt
 each_unshown st places (r ∷ rs) never =
     let slot : (s k j : ℕ) → places.slot s k j ≡ true → (is_chosen s k j r ≡ false) × (is_told st s k j r ≡ false) = λ s k j h. or_parts (is_chosen s k j r) (is_told st s k j r) (or_parts (is_slot_shown st s k j r) (list_any (is_slot_shown st s k j) rs) (never.slots s k j h)).0 in (
       record {
-        members = λ s k h. (or_parts (place_of (side_of r.after s) == k) (list_any (λ x. place_of (side_of x.after s) == k) rs) (never.members s k h)).0;
+        members = λ s k h. (or_parts (active_index (side_of r.after s) == k) (list_any (λ x. active_index (side_of x.after s) == k) rs) (never.members s k h)).0;
         chosen = λ s k j h. (slot s k j h).0;
-        told = λ s k j h. ap (λ (mv : ℕ). shows_one s k (place_of (side_of r.after s) == k) mv (forms r.before r.first r.second s k) r.told) (never.moves s k j) ∙ (slot s k j h).1;
+        told = λ s k j h. ap (λ (mv : ℕ). shows_one s k (active_index (side_of r.after s) == k) mv (forms r.before r.first r.second s k) r.told) (never.moves s k j) ∙ (slot s k j h).1;
       },
       each_unshown st places rs (record {
         moves = never.moves;
-        members = λ s k h. (or_parts (place_of (side_of r.after s) == k) (list_any (λ x. place_of (side_of x.after s) == k) rs) (never.members s k h)).1;
+        members = λ s k h. (or_parts (active_index (side_of r.after s) == k) (list_any (λ x. active_index (side_of x.after s) == k) rs) (never.members s k h)).1;
         slots = λ s k j h. (or_parts (is_slot_shown st s k j r) (list_any (is_slot_shown st s k j) rs) (never.slots s k j h)).1;
       }),
     )
@@ -95,11 +95,11 @@ story_unshown conn one two = both_with (own_sides (users conn one) one.opening.c
 -- ---- the choices and the events of such a round
 
 -- the slot or the member that a choice names isn't hidden
-choice_unhidden : (places : Hidden) (r : Round) (s : ℕ) (side : SideState) (choice : Choice) → IsUnshown places r → choice_of r s ≡ choice → place_of (side_of r.before s) ≡ place_of side → place_of (side_of r.after s) ≡ front_after side choice → IsChoiceUnhidden places s side choice
-choice_unhidden places r s side (choices.Move n) h is before after = false_from_ne_true (places.slot s (place_of side) (n - 1)) (λ t.
-    let wrong : true ≡ false = sym (rw (is, before) (rw (same_is (place_of side), same_is (n - 1)) refl)) ∙ h.chosen s (place_of side) (n - 1) t in absurd cc)
+choice_unhidden : (places : Hidden) (r : Round) (s : ℕ) (side : SideState) (choice : Choice) → IsUnshown places r → choice_of r s ≡ choice → active_index (side_of r.before s) ≡ active_index side → active_index (side_of r.after s) ≡ front_after side choice → IsChoiceUnhidden places s side choice
+choice_unhidden places r s side (choices.Move n) h is before after = false_from_ne_true (places.slot s (active_index side) (n - 1)) (λ t.
+    let wrong : true ≡ false = sym (rw (is, before) (rw (eq-eqb (active_index side) (active_index side) refl, eq-eqb (n - 1) (n - 1) refl) refl)) ∙ h.chosen s (active_index side) (n - 1) t in absurd cc)
 choice_unhidden places r s side (choices.Switch p) h is before after = false_from_ne_true (places.member s (get_or side.order (p - 1) 0)) (λ t.
-    let wrong : true ≡ false = sym (rw after (same_is (get_or side.order (p - 1) 0))) ∙ h.members s (get_or side.order (p - 1) 0) t in absurd cc)
+    let wrong : true ≡ false = sym (rw after (eq-eqb (get_or side.order (p - 1) 0) (get_or side.order (p - 1) 0) refl)) ∙ h.members s (get_or side.order (p - 1) 0) t in absurd cc)
 choice_unhidden places r s side choices.Struggle h is before after = tt
 choice_unhidden places r s side choices.Continue h is before after = tt
 choice_unhidden places r s side choices.Pass h is before after = tt
@@ -114,7 +114,7 @@ pub open_choices : (places : Hidden) (facts : Figures) (a b : Battle) (one two :
 open_choices places facts a b one two w c h =
     let p0 : IsPlaced (side_of a 0) = (w.sides 0 (omega arith)).first in
     let p1 : IsPlaced (side_of a 1) = (w.sides 1 (omega arith)).first in
-    let front : (s : ℕ) → s < 2 → place_of (side_of (turn facts one two (untold a)).battle s) ≡ front_after (side_of a s) (choice_of_side one two s) = λ s lt. turn_front facts one two a s lt w.first_two p0 p1 c.first c.second in
+    let front : (s : ℕ) → s < 2 → active_index (side_of (turn facts one two (untold a)).battle s) ≡ front_after (side_of a s) (choice_of_side one two s) = λ s lt. turn_front facts one two a s lt w.first_two p0 p1 c.first c.second in
     record {
       first = choice_unhidden places (round_of_choices facts a one two) 0 (side_of a 0) one h refl refl (front 0 (omega arith));
       second = choice_unhidden places (round_of_choices facts a one two) 1 (side_of a 1) two h refl refl (front 1 (omega arith));

@@ -7,15 +7,12 @@ use Rattle.ps_mon.specs.declared.record.Volatiles.{Volatiles}
 use Rattle.ps_mon.specs.declared.team.Member.{Member}
 use Rattle.ps_mon.specs.declared.team.MoveSlot.{MoveSlot}
 use Rattle.ps_mon.specs.Reading.{no_member, no_slot}
-use Rattle.ps_alike.specs.Alike.{AreSlotsAlike, AreShownAlike, AreMembersAlike, AreSidesAlike}
-
-slot_equal : (hides : Bool) (mv : ℕ) (x y : MoveSlot) → hides ≡ false → AreSlotsAlike hides mv x y → x ≡ y
-slot_equal false mv x y none same = same
-slot_equal true mv x y none same = absurd cc
+use Rattle.battle_secrecy.specs.Alike.{AreShownAlike, AreMembersAlike, AreSidesAlike}
+use Rattle.battle_secrecy.proofs.SlotLemmas.{slots_shown}
 
 shown_equal : (hides : ℕ → Bool) (moves : ℕ → ℕ) (m n : Member) → ((j : ℕ) → hides j ≡ false) → AreShownAlike hides moves m n → m ≡ n
 shown_equal hides moves m n none w =
-    let slots : m.slots ≡ n.slots = ext_get_or no_slot m.slots n.slots (w.four ∙ sym w.four_too) (λ j lt. slot_equal (hides j) (moves j) _ _ (none j) (w.slots j)) in
+    let slots : m.slots ≡ n.slots = ext_get_or no_slot m.slots n.slots (w.four ∙ sym w.four_too) (λ j lt. slots_shown (hides j) (moves j) _ _ (none j) (w.slots j)) in
     ap (λ (x : Member). record x { slots = m.slots }) w.front ∙ ap (λ (s : List MoveSlot). record n { slots = s }) slots
 
 member_equal : (hidden : Bool) (hides : ℕ → Bool) (moves : ℕ → ℕ) (m n : Member) → hidden ≡ false → ((j : ℕ) → hides j ≡ false) → AreMembersAlike hidden hides moves m n → m ≡ n

@@ -2,12 +2,13 @@
 -- connection what the entry gives it.
 use Rattle.std.proofs.Common.{◌≡◌, ◌⊎◌, ℕ, Bool, false, List, [], ◌∷◌, ◌++◌, Option, Some, None, option_to_list, append-nil, refl, ap, ◌∙◌, sym, subst, inl, inr}
 use Rattle.ps_base.specs.declared.why.Why.{Why}
+use Rattle.ps_base.specs.Messages.{sent}
 use Rattle.ps_lines.specs.declared.command.Command.{Command}
 use Rattle.ps_lines.specs.declared.command.Command.TheVariants.{Choose}
 use Rattle.ps_view.specs.declared.role.Role.{Role}
-use Rattle.ps_bout.specs.declared.bout.Bout.{Bout}
-use Rattle.ps_bout.specs.Rounds.{Outcome}
-use Rattle.ps_bout.specs.Fights.{Fight, outcome_in, requests}
+use Rattle.battle_rounds.specs.declared.bout.Bout.{Bout}
+use Rattle.battle_rounds.specs.Rounds.{Outcome}
+use Rattle.battle_rounds.specs.Fights.{Fight, outcome_in, requests}
 use Rattle.ps_dex.specs.Figures.{figures_of}
 use Rattle.ps_mon.specs.declared.choice.Choice.{Choice}
 use Rattle.ps_chat.specs.declared.present.Present.{Present}
@@ -15,19 +16,19 @@ use Rattle.ps_chat.specs.Told.{lines}
 use Rattle.ps_room.specs.declared.entry.Entry.{Entry}
 use Rattle.ps_room.specs.Records.{Record, cast_in}
 use Rattle.ps_room.specs.Roles.{side_of_member}
-use Rattle.ps_room.specs.Rooms.{sender_of, verdict, told, after, message, role, sent, refusal_by_battle, logged_of, shown_events, seen_texts, role_in}
+use Rattle.ps_room.specs.Rooms.{sender_of, verdict, told, after, message, role, refusal_by_battle, logged_of, shown_events, seen_texts, role_in}
 use Rattle.ps_room.proofs.AnswerLemmas.{after_allowed, after_refused, battle_allows}
 use Rattle.ps_laws.specs.Alike.{own_fight, own_part}
 use Rattle.ps_laws.specs.Rounds.{Round, round_of_choices, round_of, round_of_member, round_if_allowed, round_in}
 use Rattle.ps_laws.specs.Low.{Item, whole, commit, commit_of, items_of_own}
 use Rattle.ps_laws.proofs.PartLemmas.{PlaysOwn, side_below, is_choose, verdict_own, after_own, message_own, role_own, cast_own}
-use Rattle.ps_laws.proofs.ItemLemmas.{item_after, item_message, items_after, items_view, whole_after, whole_message, whole_is, whole_message_is, held, waiting_fight, outcome_of_choices, commit_after, commit_message, choice_message}
+use Rattle.ps_laws.proofs.ItemLemmas.{item_after, item_message, items_after, items_view, whole_after, whole_message, whole_is, whole_message_is, with_choice, waiting_fight, outcome_of_choices, commit_after, commit_message, choice_message}
 use Rattle.ps_laws.proofs.ChoiceLemmas.{Waits, Completes, choice_does, fight_waiting_own, waiting_outcome, round_own}
-use Rattle.ps_alike.specs.Places.{Hidden}
+use Rattle.battle_secrecy.specs.Places.{Hidden}
 use Rattle.ps_laws.proofs.WaitLemmas.{WaitsIn}
 use Rattle.ps_laws.proofs.ShownLemmas.{AreUnshown}
 use Rattle.ps_laws.proofs.TwinLemmas.{IsEntryGood}
-use Rattle.ps_laws.proofs.FineLemmas.{IsFineRound, AreFineChoices, AreFine, fine_held, unshown_round}
+use Rattle.ps_laws.proofs.FineLemmas.{IsFineRound, AreFineChoices, AreFine, fine_with_choice, unshown_round}
 
 -- The items of an entry stand for it. They are fine where what waits may be committed and the entry's round shows no hidden place.
 pub record StandFor (conn : ℕ) (own : ℕ → Bool) (r : Record) (e : Entry) (items : List Item) : Type 0 where
@@ -84,7 +85,7 @@ unfolding lines said
 message_choice conn r e choice rqid f is v b = choice_message conn r e choice rqid is v ∙ rw (is, b) refl
 
 -- in a chat room nothing comes of it
-pub chat_choice_after : (r : Record) (e : Entry) (choice : List ℕ) (rqid : Option ℕ) → e.cmd ≡ Choose choice rqid → verdict r e ≡ None → r.battle ≡ None → after r e ≡ held r e choice rqid
+pub chat_choice_after : (r : Record) (e : Entry) (choice : List ℕ) (rqid : Option ℕ) → e.cmd ≡ Choose choice rqid → verdict r e ≡ None → r.battle ≡ None → after r e ≡ with_choice r e choice rqid
 unfolding lines
 chat_choice_after r e choice rqid is v b = after_allowed r e v ∙ rw (is, b) (rw (append-nil r.logged) refl)
 
@@ -96,7 +97,7 @@ pub chat_choice_round : (r : Record) (e : Entry) (choice : List ℕ) (rqid : Opt
 chat_choice_round r e choice rqid is v b = ap (λ (x : Option Why). round_if_allowed x r e) v ∙ rw b refl
 
 -- it waits
-pub waits_after : (r : Record) (e : Entry) (choice : List ℕ) (rqid : Option ℕ) (f : Fight) → e.cmd ≡ Choose choice rqid → verdict r e ≡ None → r.battle ≡ Some f → Waits f (side_of_member f.cast (sender_of r e)) choice rqid → after r e ≡ held r e choice rqid
+pub waits_after : (r : Record) (e : Entry) (choice : List ℕ) (rqid : Option ℕ) (f : Fight) → e.cmd ≡ Choose choice rqid → verdict r e ≡ None → r.battle ≡ Some f → Waits f (side_of_member f.cast (sender_of r e)) choice rqid → after r e ≡ with_choice r e choice rqid
 unfolding made
 waits_after r e choice rqid f is v b w = after_choice r e choice rqid f is v b ∙ ap (made r f) w.outcome ∙ rw (b, append-nil r.logged) refl
 
@@ -117,7 +118,7 @@ completes_message conn r e choice rqid f is v b c = message_choice conn r e choi
 
 -- ---- an allowed choice of an own side
 
-whole_at : (own : ℕ → Bool) (r : Record) (e : Entry) (choice : List ℕ) (rqid : Option ℕ) → e.cmd ≡ Choose choice rqid → verdict r e ≡ None → PlaysOwn own r.battle (sender_of r e) → item_after (own_part own r) (whole e) ≡ own_part own (held r e choice rqid)
+whole_at : (own : ℕ → Bool) (r : Record) (e : Entry) (choice : List ℕ) (rqid : Option ℕ) → e.cmd ≡ Choose choice rqid → verdict r e ≡ None → PlaysOwn own r.battle (sender_of r e) → item_after (own_part own r) (whole e) ≡ own_part own (with_choice r e choice rqid)
 whole_at own r e choice rqid is v plays =
     ap (λ (x : Option Why). whole_after x (own_part own r) e e.cmd) (verdict_own own r e plays ∙ v)
     ∙ ap (whole_after None (own_part own r) e) is
@@ -132,26 +133,26 @@ pub round_at : (r : Record) (e : Entry) (choice : List ℕ) (rqid : Option ℕ) 
 round_at r e choice rqid f is v b = ap (λ (x : Option Why). round_if_allowed x r e) v ∙ rw (b, is) refl
 
 -- the round's item, at what a connection knows of the record while the choice waits
-commit_held : (own : ℕ → Bool) (r : Record) (e : Entry) (choice : List ℕ) (rqid : Option ℕ) (f : Fight) (c : Completes f (side_of_member f.cast (sender_of r e)) choice rqid) → r.battle ≡ Some f → item_after (own_part own (held r e choice rqid)) (commit c.one c.two) ≡ commit_after r (Some f) c.one c.two
+commit_with_choice : (own : ℕ → Bool) (r : Record) (e : Entry) (choice : List ℕ) (rqid : Option ℕ) (f : Fight) (c : Completes f (side_of_member f.cast (sender_of r e)) choice rqid) → r.battle ≡ Some f → item_after (own_part own (with_choice r e choice rqid)) (commit c.one c.two) ≡ commit_after r (Some f) c.one c.two
 unfolding made
-commit_held own r e choice rqid f c b = rw b (ap (made r f) (waiting_outcome f (side_of_member f.cast (sender_of r e)) choice rqid c.one c.two))
+commit_with_choice own r e choice rqid f c b = rw b (ap (made r f) (waiting_outcome f (side_of_member f.cast (sender_of r e)) choice rqid c.one c.two))
 
-cast_held : (fo : Option Fight) (me : Option Present) (choice : List ℕ) (rqid : Option ℕ) → cast_in (waiting_fight fo me choice rqid) ≡ cast_in fo
-cast_held None me choice rqid = refl
-cast_held (Some f) me choice rqid = refl
+cast_with_choice : (fo : Option Fight) (me : Option Present) (choice : List ℕ) (rqid : Option ℕ) → cast_in (waiting_fight fo me choice rqid) ≡ cast_in fo
+cast_with_choice None me choice rqid = refl
+cast_with_choice (Some f) me choice rqid = refl
 
-role_held : (conn : ℕ) (own : ℕ → Bool) (r : Record) (e : Entry) (choice : List ℕ) (rqid : Option ℕ) → role conn (own_part own (held r e choice rqid)) ≡ role conn r
+role_with_choice : (conn : ℕ) (own : ℕ → Bool) (r : Record) (e : Entry) (choice : List ℕ) (rqid : Option ℕ) → role conn (own_part own (with_choice r e choice rqid)) ≡ role conn r
 unfolding role_in
-role_held conn own r e choice rqid = role_own conn own (held r e choice rqid) ∙ rw (cast_held r.battle (sender_of r e) choice rqid) refl
+role_with_choice conn own r e choice rqid = role_own conn own (with_choice r e choice rqid) ∙ rw (cast_with_choice r.battle (sender_of r e) choice rqid) refl
 
-said_of_held : (conn : ℕ) (role : Role) (own : ℕ → Bool) (r : Record) (e : Entry) (choice : List ℕ) (rqid : Option ℕ) (f : Fight) (c : Completes f (side_of_member f.cast (sender_of r e)) choice rqid) → r.battle ≡ Some f → commit_message conn role (own_fight own (waiting_fight r.battle (sender_of r e) choice rqid)) c.one c.two ≡ commit_message conn role (Some f) c.one c.two
+said_of_with_choice : (conn : ℕ) (role : Role) (own : ℕ → Bool) (r : Record) (e : Entry) (choice : List ℕ) (rqid : Option ℕ) (f : Fight) (c : Completes f (side_of_member f.cast (sender_of r e)) choice rqid) → r.battle ≡ Some f → commit_message conn role (own_fight own (waiting_fight r.battle (sender_of r e) choice rqid)) c.one c.two ≡ commit_message conn role (Some f) c.one c.two
 unfolding said
-said_of_held conn role own r e choice rqid f c b = rw b (ap (said conn role f) (waiting_outcome f (side_of_member f.cast (sender_of r e)) choice rqid c.one c.two))
+said_of_with_choice conn role own r e choice rqid f c b = rw b (ap (said conn role f) (waiting_outcome f (side_of_member f.cast (sender_of r e)) choice rqid c.one c.two))
 
-said_held : (conn : ℕ) (own : ℕ → Bool) (r : Record) (e : Entry) (choice : List ℕ) (rqid : Option ℕ) (f : Fight) (c : Completes f (side_of_member f.cast (sender_of r e)) choice rqid) → r.battle ≡ Some f → item_message conn (own_part own (held r e choice rqid)) (commit c.one c.two) ≡ commit_message conn (role conn r) (Some f) c.one c.two
-said_held conn own r e choice rqid f c b =
-    ap (λ (x : Role). commit_message conn x (own_fight own (waiting_fight r.battle (sender_of r e) choice rqid)) c.one c.two) (role_held conn own r e choice rqid)
-    ∙ said_of_held conn (role conn r) own r e choice rqid f c b
+said_with_choice : (conn : ℕ) (own : ℕ → Bool) (r : Record) (e : Entry) (choice : List ℕ) (rqid : Option ℕ) (f : Fight) (c : Completes f (side_of_member f.cast (sender_of r e)) choice rqid) → r.battle ≡ Some f → item_message conn (own_part own (with_choice r e choice rqid)) (commit c.one c.two) ≡ commit_message conn (role conn r) (Some f) c.one c.two
+said_with_choice conn own r e choice rqid f c b =
+    ap (λ (x : Role). commit_message conn x (own_fight own (waiting_fight r.battle (sender_of r e) choice rqid)) c.one c.two) (role_with_choice conn own r e choice rqid)
+    ∙ said_of_with_choice conn (role conn r) own r e choice rqid f c b
 
 -- a round is fine
 pub round_fine : (places : Hidden) (r : Record) (e : Entry) (choice : List ℕ) (rqid : Option ℕ) (f : Fight) (c : Completes f (side_of_member f.cast (sender_of r e)) choice rqid) → r.battle ≡ Some f → round_of r e ≡ Some (round_of_choices (figures_of f.cast.dex) f.bout.battle c.one c.two) → WaitsIn r.battle → AreUnshown places (option_to_list (round_of r e)) → IsFineRound places f c.one c.two
@@ -163,7 +164,7 @@ round_fine places r e choice rqid f c b is waits shown = record {
 fine_completed : (own : ℕ → Bool) (places : Hidden) (r : Record) (e : Entry) (choice : List ℕ) (rqid : Option ℕ) (f : Fight) (c : Completes f (side_of_member f.cast (sender_of r e)) choice rqid) → r.battle ≡ Some f → round_of r e ≡ Some (round_of_choices (figures_of f.cast.dex) f.bout.battle c.one c.two) → WaitsIn r.battle → AreUnshown places (option_to_list (round_of r e)) → AreFineChoices places (own_fight own (waiting_fight r.battle (sender_of r e) choice rqid)) c.one c.two
 fine_completed own places r e choice rqid f c b is waits shown =
     let fine = round_fine places r e choice rqid f c b is waits shown in
-    rw b (fine_held own places f (sender_of r e) choice rqid c.one c.two fine)
+    rw b (fine_with_choice own places f (sender_of r e) choice rqid c.one c.two fine)
 
 own_choice_by : (conn : ℕ) (own : ℕ → Bool) (r : Record) (e : Entry) (choice : List ℕ) (rqid : Option ℕ) (f : Fight) → e.cmd ≡ Choose choice rqid → verdict r e ≡ None → r.battle ≡ Some f → PlaysOwn own r.battle (sender_of r e) → IsEntryGood conn own (own_part own r) e → Waits f (side_of_member f.cast (sender_of r e)) choice rqid ⊎ Completes f (side_of_member f.cast (sender_of r e)) choice rqid → StandFor conn own r e (items_of_own r e)
 own_choice_by conn own r e choice rqid f is v b plays good (inl w) =
@@ -175,17 +176,17 @@ own_choice_by conn own r e choice rqid f is v b plays good (inl w) =
     })
 own_choice_by conn own r e choice rqid f is v b plays good (inr c) =
     let items : items_of_own r e ≡ whole e ∷ commit c.one c.two ∷ [] = ap (λ (x : Option Round). whole e ∷ commit_of x) (round_at r e choice rqid f is v b ∙ c.round) in
-    let whole_is_held = whole_at own r e choice rqid is v plays in
+    let whole_is_with_choice = whole_at own r e choice rqid is v plays in
     subst (StandFor conn own r e) (sym items) (record {
       after =
-          ap (λ (x : Record). item_after x (commit c.one c.two)) whole_is_held
-          ∙ commit_held own r e choice rqid f c b
+          ap (λ (x : Record). item_after x (commit c.one c.two)) whole_is_with_choice
+          ∙ commit_with_choice own r e choice rqid f c b
           ∙ sym (completes_after own r e choice rqid f is v b c);
       view =
           ap (λ (m : List (List ℕ)). sent m ++ (sent (item_message conn (item_after (own_part own r) (whole e)) (commit c.one c.two)) ++ [])) (whole_silent conn own r e choice rqid is v plays)
           ∙ append-nil _
-          ∙ ap sent (ap (λ (x : Record). item_message conn x (commit c.one c.two)) whole_is_held ∙ said_held conn own r e choice rqid f c b ∙ sym (completes_message conn r e choice rqid f is v b c));
-      fine = λ places waits shown. (good, (subst (λ (x : Record). AreFineChoices places x.battle c.one c.two) (sym whole_is_held) (fine_completed own places r e choice rqid f c b (round_at r e choice rqid f is v b ∙ c.round) waits shown), tt));
+          ∙ ap sent (ap (λ (x : Record). item_message conn x (commit c.one c.two)) whole_is_with_choice ∙ said_with_choice conn own r e choice rqid f c b ∙ sym (completes_message conn r e choice rqid f is v b c));
+      fine = λ places waits shown. (good, (subst (λ (x : Record). AreFineChoices places x.battle c.one c.two) (sym whole_is_with_choice) (fine_completed own places r e choice rqid f c b (round_at r e choice rqid f is v b ∙ c.round) waits shown), tt));
     })
 
 -- ---- a choice of an own side, refused

@@ -6,31 +6,32 @@ use Rattle.ps_event.specs.declared.event.Event.{Event}
 use Rattle.ps_event.specs.declared.event.Event.TheVariants as events
 use Rattle.ps_event.specs.declared.side.Side.{Side}
 use Rattle.ps_event.specs.declared.side.Side.TheVariants.{P1, P2}
+use Rattle.ps_event.specs.Sides.{side_number}
 use Rattle.ps_mon.specs.declared.record.Phase.{Phase}
 use Rattle.ps_mon.specs.declared.record.SideState.{SideState}
-use Rattle.ps_mon.specs.Reading.{side_of, place_of, member_of}
+use Rattle.ps_mon.specs.Reading.{side_of, active_index, member_of}
 use Rattle.ps_mon.specs.Valid.{is_over}
 use Rattle.ps_hits.specs.Told.{side_name}
-use Rattle.ps_dex.specs.declared.row.Tables.{Tables}
+use Rattle.ps_dex.specs.declared.item.Tables.{Tables}
 use Rattle.ps_choice.specs.Shown.{text_or_none, nick_of as nick_at}
 use Rattle.ps_choice.specs.Requests.{member_data, member_at_data, members_data, side_data, request_data, request}
 use Rattle.ps_view.specs.declared.names.Names.{Names}
 use Rattle.ps_view.specs.declared.role.Role.{Role}
 use Rattle.ps_view.specs.Named.{nick_of, nicks_of, player_of}
 use Rattle.ps_view.specs.Roles.{is_player}
-use Rattle.ps_bout.specs.declared.bout.Bout.{Bout}
-use Rattle.ps_bout.specs.Asked.{request_line}
-use Rattle.ps_bout.specs.Casts.{Cast}
-use Rattle.ps_bout.specs.Fights.{Fight, number_of_side, request_at, requests, request_unless, open_request}
+use Rattle.battle_rounds.specs.declared.bout.Bout.{Bout}
+use Rattle.battle_rounds.specs.Asked.{request_line}
+use Rattle.battle_rounds.specs.Casts.{Cast}
+use Rattle.battle_rounds.specs.Fights.{Fight, request_at, requests, request_unless, open_request}
 use Rattle.ps_chat.specs.Lines.{Line}
-use Rattle.ps_chat.specs.Looks.{member}
+use Rattle.ps_chat.specs.Lookups.{member}
 use Rattle.ps_chat.specs.declared.present.Present.{Present}
-use Rattle.ps_alike.specs.Places.{Hidden}
+use Rattle.battle_secrecy.specs.Places.{Hidden}
 use Rattle.ps_room.specs.Records.{Record, presents_of}
 use Rattle.ps_room.specs.Roles.{side_of_member}
 use Rattle.ps_room.specs.Rooms.{request_for, role, seen_texts}
 use Rattle.ps_laws.specs.Alike.{AreNamesAlike, AreBoutsAlike, AreFightsAlike, AreMaybeAlike}
-use Rattle.ps_laws.proofs.PartLemmas.{PlaysOwn, side_below}
+use Rattle.ps_laws.proofs.PartLemmas.{PlaysOwn, side_below, side_below_two}
 use Rattle.ps_laws.proofs.UserLemmas.{OwnsOf, IsHome, plays_own}
 use Rattle.ps_laws.proofs.TwinSideLemmas.{IsOpen, own_side_equal, side_same}
 
@@ -58,7 +59,7 @@ player_same_at places one two (suc s) w = ap (λ (ps : List (List ℕ)). player_
 -- a team is told by its nicknames one by one
 members_same : (dex : Tables) (one two : List (List ℕ)) (s : ℕ) (side : SideState) → ((k : ℕ) → nick_at one k ≡ nick_at two k) → members_data dex one s side ≡ members_data dex two s side
 unfolding member_at_data
-members_same dex one two s side same = ap (λ (nick : ℕ → List ℕ). map (λ k. member_data dex s (k == place_of side) (nick k) (member_of side k)) (take side.count side.order)) (λ i k. same k i)
+members_same dex one two s side same = ap (λ (nick : ℕ → List ℕ). map (λ k. member_data dex s (k == active_index side) (nick k) (member_of side k)) (take side.count side.order)) (λ i k. same k i)
 
 side_data_same : (dex : Tables) (name : List ℕ) (one two : List (List ℕ)) (s : ℕ) (side : SideState) → ((k : ℕ) → nick_at one k ≡ nick_at two k) →
     side_data dex name one s side ≡ side_data dex name two s side
@@ -106,7 +107,7 @@ request_same own places c d a b s plain lt mine casts w =
 
 -- who plays a side of which this is the role plays an own one
 abbrev pub AsksOwn : (ℕ → Bool) → Role → Type 0
-AsksOwn own role = (side : Side) → is_player side role ≡ true → own (number_of_side side) ≡ true
+AsksOwn own role = (side : Side) → is_player side role ≡ true → own (side_number side) ≡ true
 
 asks_by : (own : ℕ → Bool) (s : ℕ) (mine plays : Bool) → own s ≡ mine → (own s ≡ false → plays ≡ false) → plays ≡ true → own s ≡ true
 asks_by own s true plays is other e = is
@@ -118,24 +119,20 @@ home_asks conn ids own r owns home P2 e = asks_by own 1 (own 1) _ refl (plays_ow
 
 -- ---- the requests that a connection sees
 
-side_below_two : (side : Side) → number_of_side side < 2
-side_below_two P1 = omega arith
-side_below_two P2 = omega arith
-
 -- a text that is seen is the same in both
 seen_by : (seen : Bool) (x y : List ℕ) (xs ys : List (List ℕ)) → (seen ≡ true → x ≡ y) → xs ≡ ys → cons_option (cond seen (Some x) None) xs ≡ cons_option (cond seen (Some y) None) ys
 seen_by true x y xs ys same more = rw (same refl, more) refl
 seen_by false x y xs ys same more = more
 
 seen_event_same : (conn : ℕ) (role : Role) (c d : Cast) (a b : Bout) (e : Event) (xs ys : List Line) →
-    ((side : Side) → is_player side role ≡ true → request_line a c.dex c.names (number_of_side side) ≡ request_line b d.dex d.names (number_of_side side)) →
+    ((side : Side) → is_player side role ≡ true → request_line a c.dex c.names (side_number side) ≡ request_line b d.dex d.names (side_number side)) →
     seen_texts conn role xs ≡ seen_texts conn role ys →
     seen_texts conn role (cons_option (request_at c a e) xs) ≡ seen_texts conn role (cons_option (request_at d b e) ys)
 seen_event_same conn role c d a b (events.Request side) xs ys same more = seen_by (is_player side role) _ _ _ _ (same side) more
 seen_event_same conn role c d a b other xs ys same more = more
 
 seen_all_same : (conn : ℕ) (role : Role) (c d : Cast) (a b : Bout) (told : List Event) →
-    ((side : Side) → is_player side role ≡ true → request_line a c.dex c.names (number_of_side side) ≡ request_line b d.dex d.names (number_of_side side)) →
+    ((side : Side) → is_player side role ≡ true → request_line a c.dex c.names (side_number side) ≡ request_line b d.dex d.names (side_number side)) →
     seen_texts conn role (requests c a told) ≡ seen_texts conn role (requests d b told)
 seen_all_same conn role c d a b [] same = refl
 seen_all_same conn role c d a b (e ∷ told) same = seen_event_same conn role c d a b e (requests c a told) (requests d b told) same (seen_all_same conn role c d a b told same)
@@ -144,7 +141,7 @@ pub requests_same : (conn : ℕ) (own : ℕ → Bool) (places : Hidden) (role : 
     AreCastsAlike places c d → AreBoutsAlike places a b →
     seen_texts conn role (requests c a told) ≡ seen_texts conn role (requests d b told)
 requests_same conn own places role c d a b told plain asks casts w =
-    seen_all_same conn role c d a b told (λ side plays. request_same own places c d a b (number_of_side side) plain (side_below_two side) (asks side plays) casts w)
+    seen_all_same conn role c d a b told (λ side plays. request_same own places c d a b (side_number side) plain (side_below_two side) (asks side plays) casts w)
 
 -- ---- the request for who joins
 

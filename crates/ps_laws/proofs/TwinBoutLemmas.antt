@@ -11,26 +11,26 @@ use Rattle.ps_mon.specs.declared.record.Battle.{Battle}
 use Rattle.ps_mon.specs.Choices.{IsChoiceOf}
 use Rattle.ps_mon.specs.Facts.{Figures}
 use Rattle.ps_mon.specs.Reading.{side_of}
-use Rattle.ps_dex.specs.declared.row.Tables.{Tables}
+use Rattle.ps_dex.specs.declared.item.Tables.{Tables}
 use Rattle.ps_dex.specs.Figures.{figures_of}
-use Rattle.ps_hits.specs.Courses.{Course}
+use Rattle.ps_hits.specs.Courses.{Course, untold}
 use Rattle.ps_hits.specs.Told.{side_name}
 use Rattle.ps_battle.specs.Openings.{give_up}
 use Rattle.ps_battle.specs.Turns.{turn}
-use Rattle.ps_bout.specs.declared.bout.Bout.{Bout}
-use Rattle.ps_bout.specs.Bouts.{with_waiting}
-use Rattle.ps_bout.specs.Refusals.{chosen}
-use Rattle.ps_bout.specs.Rounds.{Outcome, untold, in_round, next_round, undone, gave_up}
-use Rattle.ps_bout.specs.Fights.{Fight, still, outcome_in}
+use Rattle.battle_rounds.specs.declared.bout.Bout.{Bout}
+use Rattle.battle_rounds.specs.Bouts.{with_waiting}
+use Rattle.battle_rounds.specs.Refusals.{chosen}
+use Rattle.battle_rounds.specs.Rounds.{Outcome, in_round, next_round, undone, gave_up}
+use Rattle.battle_rounds.specs.Fights.{Fight, still, outcome_in}
 use Rattle.ps_chat.specs.declared.present.Present.{Present}
-use Rattle.ps_alike.specs.Places.{Hidden}
-use Rattle.ps_alike.specs.Alike.{AreAlike as AreBattlesAlike}
-use Rattle.ps_alike.specs.Courses.{AreCoursesAlike}
-use Rattle.ps_alike.specs.Laws.{forms, IsChoiceUnhidden, fronts, AreToldAlike}
-use Rattle.ps_alike.specs.Showing.{NamesNoHidden, ShowsNoHidden, whos}
-use Rattle.ps_alike.proofs.OpeningLemmas.{give_up_alike}
-use Rattle.ps_alike.proofs.TellTurnLemmas.{NamesSuch, IsShown, give_up_names}
-use Rattle.ps_alike.proofs.TurnLemmas.{turn_alike}
+use Rattle.battle_secrecy.specs.Places.{Hidden}
+use Rattle.battle_secrecy.specs.Alike.{AreAlike as AreBattlesAlike}
+use Rattle.battle_secrecy.specs.Courses.{AreCoursesAlike}
+use Rattle.battle_secrecy.specs.Laws.{forms, IsChoiceUnhidden, fronts, AreToldAlike}
+use Rattle.battle_secrecy.specs.Showing.{NamesNoHidden, ShowsNoHidden, whos}
+use Rattle.battle_secrecy.proofs.OpeningLemmas.{give_up_alike}
+use Rattle.battle_secrecy.proofs.TellTurnLemmas.{NamesSuch, IsShown, give_up_names}
+use Rattle.battle_secrecy.proofs.TurnLemmas.{turn_alike}
 use Rattle.ps_room.specs.Roles.{side_of_member}
 use Rattle.ps_room.specs.Rooms.{outcome_by}
 use Rattle.ps_laws.specs.Alike.{AreBoutsAlike, AreFightsAlike, AreMaybeAlike}
@@ -105,7 +105,7 @@ active_shown places a b w = record { first = (w.sides 0 (omega arith)).active; s
 
 give_up_told : (places : Hidden) (a b : Battle) (s : ℕ) → AreBattlesAlike places a b → AreToldAlike places (give_up s (untold a)) (give_up s (untold b))
 give_up_told places a b s w =
-    let courses : AreCoursesAlike places (fronts a) (untold a) (untold b) = record { battle = w; places = λ t h. refl; told = refl } in
+    let courses : AreCoursesAlike places (fronts a) (untold a) (untold b) = record { battle = w; indices = λ t h. refl; told = refl } in
     let later = give_up_alike s places (fronts a) (untold a) (untold b) courses in
     record { battle = later.battle; told = later.told; names = (give_up_names s places (untold a) (active_shown places a b w)).told }
 

@@ -1,15 +1,16 @@
 -- From two records that are alike an item leads to two that are alike, and gives the connection the same.
-use Rattle.std.proofs.Common.{◌≡◌, ℕ, Bool, true, false, cond, List, ◌++◌, Option, Some, None, refl, ap, ◌∙◌, sym, subst, inl, inr, arith}
+use Rattle.std.proofs.Common.{◌≡◌, ℕ, Bool, true, false, cond, List, ◌++◌, Option, Some, None, refl, ap, ◌∙◌, sym, subst, inl, inr}
 use Rattle.std.specs.Prelude.{◌==◌}
-use Rattle.std.proofs.lemmas.Bool.Decides.{eqb_tells, nat_tests}
+use Rattle.std.proofs.lemmas.Bool.Decides.{eqb_tells}
+use Rattle.std.proofs.lemmas.Cmp.{nat_eq_equiv}
 use Rattle.ps_base.specs.declared.why.Why.{Why}
 use Rattle.ps_lines.specs.declared.command.Command.{Command}
 use Rattle.ps_lines.specs.declared.command.Command.TheVariants.{Choose}
 use Rattle.ps_view.specs.declared.role.Role.{Role}
-use Rattle.ps_bout.specs.Fights.{Fight}
-use Rattle.ps_chat.specs.Looks.{member}
+use Rattle.battle_rounds.specs.Fights.{Fight}
+use Rattle.ps_chat.specs.Lookups.{member}
 use Rattle.ps_chat.specs.Records.{Opening as ChatOpening, Record as ChatRecord}
-use Rattle.ps_alike.specs.Places.{Hidden}
+use Rattle.battle_secrecy.specs.Places.{Hidden}
 use Rattle.ps_room.specs.declared.entry.Entry.{Entry}
 use Rattle.ps_room.specs.Tolds.{Logged}
 use Rattle.ps_room.specs.Records.{Record, presents_of, cast_in}
@@ -22,7 +23,7 @@ use Rattle.ps_laws.proofs.ItemLemmas.{item_after, item_message, whole_after, who
 use Rattle.ps_laws.proofs.UserLemmas.{OwnsOf, IsHome}
 use Rattle.ps_laws.proofs.TwinSideLemmas.{IsOpen, role_same, refusal_same}
 use Rattle.ps_laws.proofs.TwinAskLemmas.{AsksOwn, home_asks}
-use Rattle.ps_laws.proofs.TwinStepLemmas.{with_fight, AreMaybeGood, applied_alike, entry_texts_same, joined_same, held_alike, commit_alike, commit_message_same}
+use Rattle.ps_laws.proofs.TwinStepLemmas.{with_fight, AreMaybeGood, applied_alike, entry_texts_same, joined_same, with_choice_alike, commit_alike, commit_message_same}
 
 -- ---- the statement
 
@@ -68,9 +69,6 @@ allowed_message : (conn : ℕ) (r : Record) (e : Entry) → verdict r e ≡ None
 unfolding told
 allowed_message conn r e v = rw v refl
 
-pub same_number : (a b : ℕ) → (a == b) ≡ true → (b == a) ≡ true
-same_number a b e = grind (arith, nat_tests)
-
 allowed_same : (conn : ℕ) (own : ℕ → Bool) (places : Hidden) (r : Record) (go : Option Fight) (e : Entry) → IsOpen own places → AsksOwn own (role conn r) →
     IsEntryGood conn own r e → is_choose e.cmd ≡ false → verdict r e ≡ None → verdict (with_fight r go) e ≡ None →
     AreAlike places r (with_fight r go) → message conn r e ≡ message conn (with_fight r go) e
@@ -81,7 +79,7 @@ allowed_same conn own places r go e plain asks good free v v_too w =
     entry_texts_same conn own places (role conn r) r go e plain asks free w.battle
     ∙ ap (λ (x : Role). shown_events (cast_in go) x (allowed_events s e) ++ seen_texts conn x (allowed_lines s e)) (room_role_same conn places r go w.battle) in
     allowed_message conn r e v
-    ∙ joined_same own places r go e _ _ (conn == e.conn) (is_join e.cmd) plain w (λ mine join. good.joins v (same_number conn e.conn mine) join) texts
+    ∙ joined_same own places r go e _ _ (conn == e.conn) (is_join e.cmd) plain w (λ mine join. good.joins v (nat_eq_equiv.symm e.conn conn ∙ mine) join) texts
     ∙ sym (allowed_message conn s e v_too)
 
 -- ---- an entry
@@ -90,7 +88,7 @@ whole_alike : (own : ℕ → Bool) (places : Hidden) (r : Record) (go : Option F
     (is_choose e.cmd ≡ true → PlaysOwn own r.battle (sender_of r e)) → AreAlike places r (with_fight r go) →
     AreAlike places (whole_after v r e cmd) (whole_after v (with_fight r go) e cmd)
 whole_alike own places r go e (Some why) cmd is plain plays w = w
-whole_alike own places r go e None (Choose choice rqid) is plain plays w = held_alike own places r go e choice rqid plain (plays (ap is_choose is)) w
+whole_alike own places r go e None (Choose choice rqid) is plain plays w = with_choice_alike own places r go e choice rqid plain (plays (ap is_choose is)) w
 whole_alike own places r go e None other is plain plays w = applied_alike places r go e (ap is_choose is) w
 
 whole_same : (conn : ℕ) (own : ℕ → Bool) (places : Hidden) (r : Record) (go : Option Fight) (e : Entry) (v : Option Why) (cmd : Command) → e.cmd ≡ cmd → verdict r e ≡ v →

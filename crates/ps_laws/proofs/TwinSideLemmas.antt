@@ -15,15 +15,15 @@ use Rattle.ps_mon.specs.Reading.{side_of}
 use Rattle.ps_mon.specs.Valid.{is_over}
 use Rattle.ps_choice.specs.Resolved.{resolved}
 use Rattle.ps_choice.specs.Wants.{Want, want_in}
-use Rattle.ps_dex.specs.declared.row.Tables.{Tables}
-use Rattle.ps_bout.specs.declared.bout.Bout.{Bout}
-use Rattle.ps_bout.specs.Bouts.{waiting}
-use Rattle.ps_bout.specs.Casts.{side_with_id, role_with}
-use Rattle.ps_bout.specs.Refusals.{with_why, is_stale, choice_in, chosen, refused}
-use Rattle.ps_bout.specs.Fights.{Fight, refusal_in}
+use Rattle.ps_dex.specs.declared.item.Tables.{Tables}
+use Rattle.battle_rounds.specs.declared.bout.Bout.{Bout}
+use Rattle.battle_rounds.specs.Bouts.{waiting}
+use Rattle.battle_rounds.specs.Casts.{side_with_id, role_with}
+use Rattle.battle_rounds.specs.Refusals.{with_why, is_stale, choice_in, chosen, refused}
+use Rattle.battle_rounds.specs.Fights.{Fight, refusal_in}
 use Rattle.ps_chat.specs.declared.present.Present.{Present}
-use Rattle.ps_alike.specs.Places.{Hidden}
-use Rattle.ps_alike.specs.Alike.{AreAlike as AreBattlesAlike}
+use Rattle.battle_secrecy.specs.Places.{Hidden}
+use Rattle.battle_secrecy.specs.Alike.{AreAlike as AreBattlesAlike}
 use Rattle.ps_room.specs.Records.{cast_in}
 use Rattle.ps_room.specs.Roles.{role_of, role_of_member, side_of_member}
 use Rattle.ps_room.specs.Rooms.{refusal_by_battle}

@@ -2,26 +2,27 @@
 use Rattle.std.proofs.Common.{◌≡◌, ℕ, Bool, true, false, cond, List, [], ◌∷◌, ◌++◌, length, take, Option, Some, None, refl, ap, ◌∙◌, sym}
 use Rattle.std.proofs.lemmas.List.Elements.{All-nil, All-append, filter_map-append}
 use Rattle.std.specs.List.{All}
+use Rattle.std.specs.Option.{option_to_list}
 use Rattle.ps_lines.specs.declared.command.Command.{Command}
 use Rattle.ps_event.specs.declared.event.Event.{Event}
 use Rattle.ps_mon.specs.declared.choice.Choice.{Choice}
 use Rattle.ps_view.specs.declared.role.Role.{Role}
-use Rattle.ps_bout.specs.Rounds.{Outcome}
-use Rattle.ps_bout.specs.Fights.{Fight, requests}
+use Rattle.battle_rounds.specs.Rounds.{Outcome}
+use Rattle.battle_rounds.specs.Fights.{Fight, requests}
 use Rattle.ps_chat.specs.Lines.{Line}
 use Rattle.ps_chat.specs.declared.present.Present.{Present}
-use Rattle.ps_alike.specs.Places.{Hidden}
-use Rattle.ps_alike.specs.Showing.{NamesNoHidden, whos}
-use Rattle.ps_alike.proofs.TellTurnLemmas.{IsShown}
+use Rattle.battle_secrecy.specs.Places.{Hidden}
+use Rattle.battle_secrecy.specs.Showing.{NamesNoHidden, whos}
+use Rattle.battle_secrecy.proofs.TellTurnLemmas.{IsShown}
 use Rattle.ps_room.specs.declared.entry.Entry.{Entry}
 use Rattle.ps_room.specs.Tolds.{Logged}
 use Rattle.ps_room.specs.Records.{Record, presents_of, cast_in, logged_events}
 use Rattle.ps_room.specs.Roles.{role_of_member}
-use Rattle.ps_room.specs.Rooms.{events_by, lines_by, battle_after, outcome_by, seen_text, seen_texts, shown_events, shown_items, kept_back, request_texts, logged_lines}
+use Rattle.ps_room.specs.Rooms.{events_by, lines_by, battle_after, outcome_by, seen_text, seen_texts, shown_events, shown_items, kept_back, logged_lines}
 use Rattle.ps_room.specs.Rooms.{logged_of, applied, sender_of, allowed_events, allowed_lines, chat_lines, joiner_of, head, request_for, joined_if, joined_or}
 use Rattle.ps_laws.specs.Alike.{AreAlike, AreFightsAlike, AreMaybeAlike, IsLoggedOpenly}
 use Rattle.ps_laws.proofs.PartLemmas.{PlaysOwn, is_choose}
-use Rattle.ps_laws.proofs.ItemLemmas.{outcome_of_choices, commit_after, commit_message, held}
+use Rattle.ps_laws.proofs.ItemLemmas.{outcome_of_choices, commit_after, commit_message, with_choice}
 use Rattle.ps_laws.proofs.TwinSideLemmas.{IsOpen, member_role_same}
 use Rattle.ps_laws.proofs.TwinAskLemmas.{AsksOwn, casts_alike, requests_same, request_for_same}
 use Rattle.ps_laws.proofs.TwinBoutLemmas.{AreOutcomesAlike, AreChoicesGood, with_outcome, outcome_alike, choices_alike, waiting_fight_alike}
@@ -118,17 +119,17 @@ joined_same own places r go e one two true true plain w plays same =
     let p : Present = joiner_of r e in
     let first : List (List ℕ) = head r (presents_of r ++ p ∷ []) in
     let shown : Option Fight → Role → List (List ℕ) = λ fo role. shown_items (cast_in fo) role (kept_back (cast_in fo) (take (length r.logged) r.logged)) in
-    ap (λ (role : Role). first ++ shown r.battle role ++ request_texts (request_for r.battle p)) (member_role_same places r.battle go p w.battle)
-    ∙ ap (λ (texts : List (List ℕ)). first ++ texts ++ request_texts (request_for r.battle p)) (backlog_same places r.battle go (role_of_member (cast_in go) p) (length r.logged) r.logged w.battle w.openly)
-    ∙ ap (λ (text : Option (List ℕ)). first ++ shown go (role_of_member (cast_in go) p) ++ request_texts text) (request_for_same own places r.battle go p plain (plays refl refl) w.battle)
+    ap (λ (role : Role). first ++ shown r.battle role ++ option_to_list (request_for r.battle p)) (member_role_same places r.battle go p w.battle)
+    ∙ ap (λ (texts : List (List ℕ)). first ++ texts ++ option_to_list (request_for r.battle p)) (backlog_same places r.battle go (role_of_member (cast_in go) p) (length r.logged) r.logged w.battle w.openly)
+    ∙ ap (λ (text : Option (List ℕ)). first ++ shown go (role_of_member (cast_in go) p) ++ option_to_list text) (request_for_same own places r.battle go p plain (plays refl refl) w.battle)
 joined_same own places r go e one two true false plain w plays same = same
 joined_same own places r go e one two false join plain w plays same = same
 
 -- ---- a choice of an own side, which waits
 
-pub held_alike : (own : ℕ → Bool) (places : Hidden) (r : Record) (go : Option Fight) (e : Entry) (choice : List ℕ) (rqid : Option ℕ) → IsOpen own places →
-    PlaysOwn own r.battle (sender_of r e) → AreAlike places r (with_fight r go) → AreAlike places (held r e choice rqid) (held (with_fight r go) e choice rqid)
-held_alike own places r go e choice rqid plain plays w = record {
+pub with_choice_alike : (own : ℕ → Bool) (places : Hidden) (r : Record) (go : Option Fight) (e : Entry) (choice : List ℕ) (rqid : Option ℕ) → IsOpen own places →
+    PlaysOwn own r.battle (sender_of r e) → AreAlike places r (with_fight r go) → AreAlike places (with_choice r e choice rqid) (with_choice (with_fight r go) e choice rqid)
+with_choice_alike own places r go e choice rqid plain plays w = record {
   opening = refl;
   chat = refl;
   logged = refl;

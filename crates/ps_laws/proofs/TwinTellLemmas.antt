@@ -7,15 +7,15 @@ use Rattle.std.specs.Prelude.{IfSome}
 use Rattle.ps_event.specs.declared.event.Event.{Event}
 use Rattle.ps_event.specs.declared.event.Event.TheVariants as events
 use Rattle.ps_event.specs.Table.{is_logged}
-use Rattle.ps_dex.specs.declared.row.Tables.{Tables}
+use Rattle.ps_dex.specs.declared.item.Tables.{Tables}
 use Rattle.ps_view.specs.declared.role.Role.{Role}
 use Rattle.ps_view.specs.Lines.{line_of}
-use Rattle.ps_bout.specs.declared.bout.Bout.{Bout}
-use Rattle.ps_bout.specs.Casts.{Cast, event_text}
-use Rattle.ps_bout.specs.Fights.{Fight, request_at, requests}
+use Rattle.battle_rounds.specs.declared.bout.Bout.{Bout}
+use Rattle.battle_rounds.specs.Casts.{Cast, event_text}
+use Rattle.battle_rounds.specs.Fights.{Fight, request_at, requests}
 use Rattle.ps_chat.specs.Lines.{Line}
-use Rattle.ps_alike.specs.Places.{Hidden}
-use Rattle.ps_alike.specs.Showing.{NamesNoHidden}
+use Rattle.battle_secrecy.specs.Places.{Hidden}
+use Rattle.battle_secrecy.specs.Showing.{NamesNoHidden}
 use Rattle.ps_room.specs.Tolds as logs
 use Rattle.ps_room.specs.Tolds.{Logged}
 use Rattle.ps_room.specs.Records.{cast_in, logged_event, logged_events}

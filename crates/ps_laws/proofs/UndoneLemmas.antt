@@ -10,27 +10,27 @@ use Rattle.ps_mon.specs.declared.team.Member.{Member}
 use Rattle.ps_mon.specs.declared.team.MoveSlot.{MoveSlot}
 use Rattle.ps_mon.specs.Reading.{slot_of}
 use Rattle.ps_mon.specs.Choices.{is_asked}
-use Rattle.ps_bout.specs.declared.bout.Bout.{Bout}
-use Rattle.ps_bout.specs.Bouts.{with_waiting, waiting}
-use Rattle.ps_bout.specs.Refusals.{chosen}
-use Rattle.ps_bout.specs.Fights.{Fight, refusal_in}
-use Rattle.ps_dex.specs.declared.row.Tables.{Tables}
-use Rattle.ps_valid.specs.declared.start.Start.{Start}
-use Rattle.ps_alike.specs.Places.{Hidden}
-use Rattle.ps_chat.specs.Looks.{member}
+use Rattle.battle_rounds.specs.declared.bout.Bout.{Bout}
+use Rattle.battle_rounds.specs.Bouts.{with_waiting, waiting}
+use Rattle.battle_rounds.specs.Refusals.{chosen}
+use Rattle.battle_rounds.specs.Fights.{Fight, refusal_in}
+use Rattle.ps_dex.specs.declared.item.Tables.{Tables}
+use Rattle.rules_start.specs.declared.start.Start.{Start}
+use Rattle.battle_secrecy.specs.Places.{Hidden}
+use Rattle.ps_chat.specs.Lookups.{member}
 use Rattle.ps_room.specs.declared.entry.Entry.{Entry}
 use Rattle.ps_room.specs.Records.{Record, presents_of, opened}
 use Rattle.ps_room.specs.Roles.{side_of_member}
 use Rattle.ps_room.specs.Rooms.{sender_of, verdict, after, run_record, refusal_by_battle}
 use Rattle.ps_room.proofs.AnswerLemmas.{battle_allows}
-use Rattle.ps_laws.specs.Stories.{story}
+use Rattle.ps_room.specs.Stories.{story}
 use Rattle.ps_laws.specs.Users.{user_of, users_from, users}
 use Rattle.ps_laws.specs.Rounds.{round_of}
 use Rattle.ps_laws.specs.Hidden.{hidden_in_both, member_in}
 use Rattle.ps_laws.specs.Low.{Item, whole, items_of, items_of_round, is_own, low_from}
 use Rattle.ps_laws.specs.Same.{IsSlotSame, IsMemberSame, IsNickSame, nick_in, AreBattlesSame, IdleMayBeMissing, UndoneLeavesNothing}
 use Rattle.ps_laws.proofs.PartLemmas.{side_below}
-use Rattle.ps_laws.proofs.ItemLemmas.{put_choice, waiting_in, waiting_fight, held}
+use Rattle.ps_laws.proofs.ItemLemmas.{put_choice, waiting_in, waiting_fight, with_choice}
 use Rattle.ps_laws.proofs.ChoiceLemmas.{Waits, Completes, choice_does}
 use Rattle.ps_laws.proofs.StepLemmas.{waits_after, chat_choice_after, round_at}
 use Rattle.ps_laws.proofs.OtherLemmas.{undo_after, chat_undo_after}
@@ -126,40 +126,40 @@ back_to : (dex : Tables) (b : Bout) (s : ℕ) (choice : List ℕ) (rqid : Option
 back_to dex b s choice rqid (Ok c) is allowed = taken_back s c b (none_waits b s dex choice rqid c _ _ refl refl is)
 back_to dex b s choice rqid (Err why) is allowed = absurd (let wrong : Some why ≡ None = rw is at allowed in cc)
 
-same_sender : (r : Record) (e u : Entry) (choice : List ℕ) (rqid : Option ℕ) → u.conn ≡ e.conn → sender_of (held r e choice rqid) u ≡ sender_of r e
+same_sender : (r : Record) (e u : Entry) (choice : List ℕ) (rqid : Option ℕ) → u.conn ≡ e.conn → sender_of (with_choice r e choice rqid) u ≡ sender_of r e
 same_sender r e u choice rqid same = ap (λ (conn : ℕ). member conn (presents_of r)) same
 
-undone_side : (r : Record) (e u : Entry) (choice : List ℕ) (rqid : Option ℕ) (f : Fight) (side : Option ℕ) → u.cmd ≡ Undo → u.conn ≡ e.conn → r.battle ≡ Some f → side_of_member f.cast (sender_of r e) ≡ side → refusal_in f.cast.dex f.bout side (Choose choice rqid) ≡ None → verdict (held r e choice rqid) u ≡ None → after (held r e choice rqid) u ≡ r
+undone_side : (r : Record) (e u : Entry) (choice : List ℕ) (rqid : Option ℕ) (f : Fight) (side : Option ℕ) → u.cmd ≡ Undo → u.conn ≡ e.conn → r.battle ≡ Some f → side_of_member f.cast (sender_of r e) ≡ side → refusal_in f.cast.dex f.bout side (Choose choice rqid) ≡ None → verdict (with_choice r e choice rqid) u ≡ None → after (with_choice r e choice rqid) u ≡ r
 undone_side r e u choice rqid f None is same b side allowed v = absurd cc
 undone_side r e u choice rqid f (Some s) is same b side allowed v =
     let waits : Fight = record f { bout = put_choice s (chosen f.bout s f.cast.dex choice rqid) f.bout } in
-    let battle : (held r e choice rqid).battle ≡ Some waits = ap (λ (fo : Option Fight). waiting_fight fo (sender_of r e) choice rqid) b ∙ ap (λ (o : Option ℕ). Some (record f { bout = waiting_in f.cast.dex f.bout o choice rqid })) side in
-    let plays : side_of_member waits.cast (sender_of (held r e choice rqid) u) ≡ Some s = ap (side_of_member f.cast) (same_sender r e u choice rqid same) ∙ side in
-    undo_after (held r e choice rqid) u waits s is v battle plays
+    let battle : (with_choice r e choice rqid).battle ≡ Some waits = ap (λ (fo : Option Fight). waiting_fight fo (sender_of r e) choice rqid) b ∙ ap (λ (o : Option ℕ). Some (record f { bout = waiting_in f.cast.dex f.bout o choice rqid })) side in
+    let plays : side_of_member waits.cast (sender_of (with_choice r e choice rqid) u) ≡ Some s = ap (side_of_member f.cast) (same_sender r e u choice rqid same) ∙ side in
+    undo_after (with_choice r e choice rqid) u waits s is v battle plays
     ∙ ap (λ (x : Bout). record r { battle = Some (record f { bout = x }) }) (back_to f.cast.dex f.bout s choice rqid _ refl allowed)
     ∙ ap (λ (fo : Option Fight). record r { battle = fo }) (sym b)
 
-undone_in : (r : Record) (e u : Entry) (choice : List ℕ) (rqid : Option ℕ) (fo : Option Fight) → e.cmd ≡ Choose choice rqid → u.cmd ≡ Undo → u.conn ≡ e.conn → verdict r e ≡ None → verdict (held r e choice rqid) u ≡ None → r.battle ≡ fo → after (held r e choice rqid) u ≡ r
+undone_in : (r : Record) (e u : Entry) (choice : List ℕ) (rqid : Option ℕ) (fo : Option Fight) → e.cmd ≡ Choose choice rqid → u.cmd ≡ Undo → u.conn ≡ e.conn → verdict r e ≡ None → verdict (with_choice r e choice rqid) u ≡ None → r.battle ≡ fo → after (with_choice r e choice rqid) u ≡ r
 undone_in r e u choice rqid None chooses is same v w b =
-    let battle : (held r e choice rqid).battle ≡ None = ap (λ (fo : Option Fight). waiting_fight fo (sender_of r e) choice rqid) b in
-    chat_undo_after (held r e choice rqid) u is w battle ∙ ap (λ (fo : Option Fight). record r { battle = fo }) (sym b)
+    let battle : (with_choice r e choice rqid).battle ≡ None = ap (λ (fo : Option Fight). waiting_fight fo (sender_of r e) choice rqid) b in
+    chat_undo_after (with_choice r e choice rqid) u is w battle ∙ ap (λ (fo : Option Fight). record r { battle = fo }) (sym b)
 undone_in r e u choice rqid (Some f) chooses is same v w b =
     let allowed : refusal_by_battle (Some f) (sender_of r e) (Choose choice rqid) ≡ None = ap (λ (fo : Option Fight). refusal_by_battle fo (sender_of r e) (Choose choice rqid)) (sym b) ∙ ap (refusal_by_battle r.battle (sender_of r e)) (sym chooses) ∙ battle_allows r e v in
     undone_side r e u choice rqid f (side_of_member f.cast (sender_of r e)) is same b refl allowed w
 
 -- it waits, where it completes no round
-waits_by : (r : Record) (e : Entry) (choice : List ℕ) (rqid : Option ℕ) (f : Fight) → e.cmd ≡ Choose choice rqid → verdict r e ≡ None → round_of r e ≡ None → r.battle ≡ Some f → Waits f (side_of_member f.cast (sender_of r e)) choice rqid ⊎ Completes f (side_of_member f.cast (sender_of r e)) choice rqid → after r e ≡ held r e choice rqid
+waits_by : (r : Record) (e : Entry) (choice : List ℕ) (rqid : Option ℕ) (f : Fight) → e.cmd ≡ Choose choice rqid → verdict r e ≡ None → round_of r e ≡ None → r.battle ≡ Some f → Waits f (side_of_member f.cast (sender_of r e)) choice rqid ⊎ Completes f (side_of_member f.cast (sender_of r e)) choice rqid → after r e ≡ with_choice r e choice rqid
 waits_by r e choice rqid f is v none b (inl w) = waits_after r e choice rqid f is v b w
 waits_by r e choice rqid f is v none b (inr c) = absurd (let wrong : None ≡ Some _ = sym none ∙ round_at r e choice rqid f is v b ∙ c.round in cc)
 
-held_in : (r : Record) (e : Entry) (choice : List ℕ) (rqid : Option ℕ) (fo : Option Fight) → e.cmd ≡ Choose choice rqid → verdict r e ≡ None → round_of r e ≡ None → r.battle ≡ fo → after r e ≡ held r e choice rqid
-held_in r e choice rqid None is v none b = chat_choice_after r e choice rqid is v b
-held_in r e choice rqid (Some f) is v none b =
+with_choice_in : (r : Record) (e : Entry) (choice : List ℕ) (rqid : Option ℕ) (fo : Option Fight) → e.cmd ≡ Choose choice rqid → verdict r e ≡ None → round_of r e ≡ None → r.battle ≡ fo → after r e ≡ with_choice r e choice rqid
+with_choice_in r e choice rqid None is v none b = chat_choice_after r e choice rqid is v b
+with_choice_in r e choice rqid (Some f) is v none b =
     let allowed : refusal_by_battle (Some f) (sender_of r e) (Choose choice rqid) ≡ None = ap (λ (fo : Option Fight). refusal_by_battle fo (sender_of r e) (Choose choice rqid)) (sym b) ∙ ap (refusal_by_battle r.battle (sender_of r e)) (sym is) ∙ battle_allows r e v in
     waits_by r e choice rqid f is v none b (choice_does f (side_of_member f.cast (sender_of r e)) choice rqid (side_below f.cast (sender_of r e)) allowed)
 
 pub undone_leaves_nothing : UndoneLeavesNothing
 undone_leaves_nothing r e u choice rqid chooses undoes same v none w =
-    let waits : after r e ≡ held r e choice rqid = held_in r e choice rqid r.battle chooses v none refl in
+    let waits : after r e ≡ with_choice r e choice rqid = with_choice_in r e choice rqid r.battle chooses v none refl in
     ap (λ (x : Record). after x u) waits
     ∙ undone_in r e u choice rqid r.battle chooses undoes same v (sym (ap (λ (x : Record). verdict x u) waits) ∙ w) refl

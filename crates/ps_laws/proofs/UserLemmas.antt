@@ -1,16 +1,14 @@
 -- Who plays a side of which a connection's users know: it is an own side exactly where the player is one of them.
 use Rattle.std.proofs.Common.{◌≡◌, ℕ, zero, suc, ◌<◌, Bool, true, false, cond, List, Option, Some, None, refl, ap, ◌∙◌, sym, arith}
-use Rattle.std.specs.List.{list_any}
-use Rattle.std.specs.Str.{bytes_eq}
 use Rattle.std.proofs.lemmas.Slice.Eq.{bytes_eq-Decides}
 use Rattle.ps_base.specs.Ids.{id_of}
 use Rattle.ps_view.specs.declared.names.Names.{Names}
 use Rattle.ps_view.specs.Roles.{is_player}
 use Rattle.ps_event.specs.declared.side.Side.TheVariants.{P1, P2}
 use Rattle.ps_hits.specs.Told.{side_name}
-use Rattle.ps_bout.specs.Casts.{plays, side_with_id, player_or_spectator}
-use Rattle.ps_bout.specs.Fights.{Fight}
-use Rattle.ps_chat.specs.Looks.{member}
+use Rattle.battle_rounds.specs.Casts.{plays, side_with_id, player_or_spectator}
+use Rattle.battle_rounds.specs.Fights.{Fight}
+use Rattle.ps_chat.specs.Lookups.{member}
 use Rattle.ps_chat.specs.declared.present.Present.{Present}
 use Rattle.ps_room.specs.declared.entry.Entry.{Entry}
 use Rattle.ps_room.specs.Records.{Record, presents_of, cast_in}
@@ -18,10 +16,7 @@ use Rattle.ps_room.specs.Roles.{side_of_member, role_of}
 use Rattle.ps_room.specs.Rooms.{sender_of, role, role_in}
 use Rattle.ps_laws.specs.Users.{badge_of, user_of, is_own_side}
 use Rattle.ps_laws.proofs.PartLemmas.{side_below}
-
--- whether an id is one of the users
-abbrev pub is_user : List (List ℕ) → List ℕ → Bool
-is_user ids id = list_any (bytes_eq id) ids
+use Rattle.ps_laws.specs.HallLow.{is_user}
 
 -- which sides are own
 abbrev pub OwnsOf : List (List ℕ) → (ℕ → Bool) → Option Fight → Type 0

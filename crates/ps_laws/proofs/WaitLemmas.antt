@@ -11,16 +11,16 @@ use Rattle.ps_mon.specs.declared.choice.Choice.{Choice}
 use Rattle.ps_mon.specs.declared.choice.ChoiceFault.{ChoiceFault}
 use Rattle.ps_mon.specs.Choices.{is_asked, IsChoiceOf, fault_of}
 use Rattle.ps_mon.specs.Reading.{side_of}
-use Rattle.ps_dex.specs.declared.row.Tables.{Tables}
+use Rattle.ps_dex.specs.declared.item.Tables.{Tables}
 use Rattle.ps_dex.specs.Figures.{figures_of}
 use Rattle.ps_choice.specs.Resolved.{meant, judged}
 use Rattle.ps_choice.specs.Wants.{Want, want_in}
-use Rattle.ps_bout.specs.declared.bout.Bout.{Bout}
-use Rattle.ps_bout.specs.Bouts.{CanWait, with_waiting, waiting}
-use Rattle.ps_bout.specs.Refusals.{chosen, choice_in, is_stale, with_why}
-use Rattle.ps_bout.specs.Rounds.{is_ready, choice_or_pass, committed, completed, gave_up}
-use Rattle.ps_bout.specs.Fights.{Fight, outcome_in, chose_by}
-use Rattle.ps_bout.proofs.RoundLemmas.{ready_choices}
+use Rattle.battle_rounds.specs.declared.bout.Bout.{Bout}
+use Rattle.battle_rounds.specs.Bouts.{CanWait, with_waiting, waiting}
+use Rattle.battle_rounds.specs.Refusals.{chosen, choice_in, is_stale, with_why}
+use Rattle.battle_rounds.specs.Rounds.{is_ready, choice_or_pass, committed, completed, gave_up}
+use Rattle.battle_rounds.specs.Fights.{Fight, outcome_in, chose_by}
+use Rattle.battle_rounds.proofs.RoundLemmas.{ready_choices}
 use Rattle.ps_chat.specs.declared.present.Present.{Present}
 use Rattle.ps_room.specs.declared.entry.Entry.{Entry}
 use Rattle.ps_room.specs.Records.{Record}

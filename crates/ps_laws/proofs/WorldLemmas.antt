@@ -2,16 +2,17 @@
 use Rattle.std.proofs.Common.{◌≡◌, ℕ, Bool, List, [], ◌∷◌, ◌++◌, Option, Some, None, refl, ap, ◌∙◌, sym, subst}
 use Rattle.std.specs.Prelude.{◌==◌}
 use Rattle.ps_base.specs.declared.why.Why.{Why}
+use Rattle.ps_base.specs.Messages.{sent}
 use Rattle.ps_lines.specs.declared.command.Command.{Command}
 use Rattle.ps_lines.specs.declared.command.Command.TheVariants.{Choose}
 use Rattle.ps_mon.specs.declared.choice.Choice.{Choice}
-use Rattle.ps_bout.specs.Fights.{Fight}
-use Rattle.ps_alike.specs.Places.{Hidden}
+use Rattle.battle_rounds.specs.Fights.{Fight}
+use Rattle.battle_secrecy.specs.Places.{Hidden}
 use Rattle.ps_chat.specs.declared.present.Present.{Present}
 use Rattle.ps_chat.specs.Records.{Record as ChatRecord, Opening as ChatOpening}
 use Rattle.ps_room.specs.declared.entry.Entry.{Entry}
 use Rattle.ps_room.specs.Records.{Record}
-use Rattle.ps_room.specs.Rooms.{sender_of, verdict, sent}
+use Rattle.ps_room.specs.Rooms.{sender_of, verdict}
 use Rattle.ps_laws.specs.Alike.{AreAlike}
 use Rattle.ps_laws.specs.Low.{Item, whole, commit}
 use Rattle.ps_laws.proofs.ItemLemmas.{item_after, item_message, items_view, whole_after, commit_after, waiting_fight}
@@ -21,7 +22,8 @@ use Rattle.ps_laws.proofs.FineLemmas.{AreFine, fine_is_good}
 use Rattle.ps_laws.proofs.TwinSideLemmas.{IsOpen}
 use Rattle.ps_laws.proofs.TwinLemmas.{item_alike}
 use Rattle.ps_laws.proofs.ChatLemmas.{chat_next, chat_user, items_users, whole_chat, whole_opening, commit_chat, commit_opening, chat_after_is}
-use Rattle.ps_laws.proofs.HistoryLemmas.{AreUsers, users_split, battle_owns}
+use Rattle.ps_laws.proofs.HistoryLemmas.{users_split, battle_owns}
+use Rattle.ps_laws.proofs.UserLists.{AreUsers}
 
 -- ---- what an item keeps
 

@@ -1,14 +1,15 @@
 -- Alike: how the records of two worlds that are the same to a connection stand to each other.
 use Rattle.std.specs.Prelude.{◌≡◌, ℕ, Bool, true, false, Option, Some, None, All}
 use Rattle.ps_event.specs.declared.event.Who.{Who}
+use Rattle.ps_event.specs.Sides.{side_number}
 use Rattle.ps_mon.specs.declared.choice.Choice.{Choice}
 use Rattle.ps_view.specs.declared.names.Names.{Names}
 use Rattle.ps_view.specs.Named.{nick_of}
-use Rattle.ps_bout.specs.declared.bout.Bout.{Bout}
-use Rattle.ps_bout.specs.Fights.{Fight}
-use Rattle.ps_alike.specs.Places.{Hidden}
-use Rattle.ps_alike.specs.Alike.{AreAlike as AreBattlesAlike}
-use Rattle.ps_alike.specs.Showing.{side_number, whos}
+use Rattle.battle_rounds.specs.declared.bout.Bout.{Bout}
+use Rattle.battle_rounds.specs.Fights.{Fight}
+use Rattle.battle_secrecy.specs.Places.{Hidden}
+use Rattle.battle_secrecy.specs.Alike.{AreAlike as AreBattlesAlike}
+use Rattle.battle_secrecy.specs.Showing.{whos}
 use Rattle.ps_room.specs.Tolds as logs
 use Rattle.ps_room.specs.Tolds.{Logged}
 use Rattle.ps_room.specs.Records.{Record}

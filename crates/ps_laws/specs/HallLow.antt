@@ -8,13 +8,13 @@ use Rattle.ps_base.specs.declared.badge.Badge.{Badge}
 use Rattle.ps_base.specs.declared.hall_why.HallWhy.{HallWhy}
 use Rattle.ps_lines.specs.declared.command.HallCmd.{HallCmd}
 use Rattle.ps_lines.specs.declared.command.HallCmd.TheVariants.{Open, Quit, Bad, Name, Team, Search, CancelSearch, Challenge, CancelChallenge, Reject, Accept, Whisper, Block, Unblock, Rank, Report}
-use Rattle.ps_valid.specs.declared.start.Start.{Start}
+use Rattle.rules_start.specs.declared.start.Start.{Start}
 use Rattle.ps_users.specs.Refusals.{read_of}
-use Rattle.ps_pms.specs.Looks.{asked_by}
+use Rattle.ps_pms.specs.Lookups.{asked_by}
 use Rattle.ps_pms.specs.declared.asked.Asked.{Asked}
 use Rattle.ps_hall.specs.declared.entry.HallEntry.{HallEntry}
 use Rattle.ps_hall.specs.Records.{Record}
-use Rattle.ps_hall.specs.Looks.{badge_of, challenge_from}
+use Rattle.ps_hall.specs.Lookups.{badge_of, challenge_from}
 use Rattle.ps_hall.specs.Starts.{start_of_accept}
 use Rattle.ps_hall.specs.Halls.{verdict, out_of, after}
 use Rattle.ps_laws.specs.HallStories.{HallStory, hall_opened}

@@ -1,8 +1,8 @@
 -- A world of the hall: what it was opened with, and its history.
 use Rattle.std.specs.Prelude.{ℕ, List}
-use Rattle.ps_dex.specs.declared.row.Tables.{Tables}
-use Rattle.ps_valid.specs.declared.row.Settings.{Settings}
-use Rattle.ps_roster.specs.ById.{ById}
+use Rattle.ps_dex.specs.declared.item.Tables.{Tables}
+use Rattle.rules_config.specs.declared.settings.Settings.{Settings}
+use Rattle.ps_base.specs.ById.{ById}
 use Rattle.ps_hall.specs.declared.entry.HallEntry.{HallEntry}
 use Rattle.ps_hall.specs.Records.{Record, opened}
 use Rattle.ps_hall.specs.Halls.{view}

@@ -4,15 +4,15 @@ use Rattle.std.specs.List.{list_any}
 use Rattle.ps_mon.specs.declared.choice.Choice.{Choice}
 use Rattle.ps_mon.specs.declared.choice.Choice.TheVariants as choices
 use Rattle.ps_mon.specs.declared.team.Member.{Member}
-use Rattle.ps_mon.specs.Reading.{side_of, place_of, slot_of, no_member}
-use Rattle.ps_valid.specs.declared.row.Settings.{Settings}
-use Rattle.ps_valid.specs.declared.start.Start.{Start}
-use Rattle.ps_start.specs.Fits.{legal_of}
-use Rattle.ps_alike.specs.Places.{Hidden}
-use Rattle.ps_alike.specs.Showing.{shows_one}
-use Rattle.ps_alike.specs.Laws.{forms}
+use Rattle.ps_mon.specs.Reading.{side_of, active_index, slot_of, no_member}
+use Rattle.rules_config.specs.declared.settings.Settings.{Settings}
+use Rattle.rules_start.specs.declared.start.Start.{Start}
+use Rattle.rules_start.specs.Fits.{legal_of}
+use Rattle.battle_secrecy.specs.Places.{Hidden}
+use Rattle.battle_secrecy.specs.Showing.{shows_one}
+use Rattle.battle_secrecy.specs.Laws.{forms}
 use Rattle.ps_room.specs.Openings.{names_of}
-use Rattle.ps_laws.specs.Stories.{Story}
+use Rattle.ps_room.specs.Stories.{Story}
 use Rattle.ps_laws.specs.Users.{users, is_own_side}
 use Rattle.ps_laws.specs.Rounds.{Round, choice_of, rounds}
 
@@ -24,7 +24,7 @@ member_in st s k = slice_index_or (legal_of st.teams s).team.members k no_member
 
 -- whether a member ever stood at position 1: the first one does at the opening
 abbrev pub has_stood : List Round → ℕ → ℕ → Bool
-has_stood rs s k = k == 0 || list_any (λ r. place_of (side_of r.after s) == k) rs
+has_stood rs s k = k == 0 || list_any (λ r. active_index (side_of r.after s) == k) rs
 
 -- a member is hidden where its side isn't the connection's own and it never stood at position 1
 abbrev pub is_member_hidden : Bool → Start → List Round → ℕ → ℕ → Bool
@@ -39,12 +39,12 @@ names_slot j other = false
 
 -- whether a slot's number was in the choice of a round while its member was active
 abbrev pub is_chosen : ℕ → ℕ → ℕ → Round → Bool
-is_chosen s k j r = place_of (side_of r.before s) == k && names_slot j (choice_of r s)
+is_chosen s k j r = active_index (side_of r.before s) == k && names_slot j (choice_of r s)
 
 -- whether an event of a round shows the slot: its move was used by its member or named by an event of its member, or Mimic or
 -- Transform copied it
 abbrev pub is_told : Start → ℕ → ℕ → ℕ → Round → Bool
-is_told st s k j r = shows_one s k (place_of (side_of r.after s) == k) (slot_of (member_in st s k) j).mv (forms r.before r.first r.second s k) r.told
+is_told st s k j r = shows_one s k (active_index (side_of r.after s) == k) (slot_of (member_in st s k) j).mv (forms r.before r.first r.second s k) r.told
 
 abbrev pub is_slot_shown : Start → ℕ → ℕ → ℕ → Round → Bool
 is_slot_shown st s k j r = is_chosen s k j r || is_told st s k j r

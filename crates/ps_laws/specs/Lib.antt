@@ -1,4 +1,3 @@
-pub mod Stories
 pub mod Users
 pub mod Rounds
 pub mod Hidden

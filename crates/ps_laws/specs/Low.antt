@@ -10,7 +10,7 @@ use Rattle.ps_room.specs.declared.entry.Entry.{Entry}
 use Rattle.ps_room.specs.Records.{Record}
 use Rattle.ps_room.specs.Rooms.{verdict, after}
 use Rattle.ps_room.specs.Unseen.{sees_notes}
-use Rattle.ps_laws.specs.Stories.{Story, begun}
+use Rattle.ps_room.specs.Stories.{Story, begun}
 use Rattle.ps_laws.specs.Users.{user_of, users}
 use Rattle.ps_laws.specs.Rounds.{Round, round_of}
 

@@ -6,21 +6,22 @@ use Rattle.ps_lines.specs.declared.command.Command.TheVariants.{Choose}
 use Rattle.ps_mon.specs.declared.record.Battle.{Battle}
 use Rattle.ps_mon.specs.declared.choice.Choice.{Choice}
 use Rattle.ps_mon.specs.Facts.{Figures}
-use Rattle.ps_dex.specs.declared.row.Tables.{Tables}
+use Rattle.ps_dex.specs.declared.item.Tables.{Tables}
 use Rattle.ps_dex.specs.Figures.{figures_of}
 use Rattle.ps_event.specs.declared.event.Event.{Event}
 use Rattle.ps_battle.specs.Turns.{turn}
-use Rattle.ps_bout.specs.declared.bout.Bout.{Bout}
-use Rattle.ps_bout.specs.Bouts.{with_waiting}
-use Rattle.ps_bout.specs.Refusals.{chosen}
-use Rattle.ps_bout.specs.Rounds.{untold, is_ready, choice_or_pass}
-use Rattle.ps_bout.specs.Fights.{Fight}
+use Rattle.battle_rounds.specs.declared.bout.Bout.{Bout}
+use Rattle.battle_rounds.specs.Bouts.{with_waiting}
+use Rattle.battle_rounds.specs.Refusals.{chosen}
+use Rattle.battle_rounds.specs.Rounds.{is_ready, choice_or_pass}
+use Rattle.battle_rounds.specs.Fights.{Fight}
 use Rattle.ps_chat.specs.declared.present.Present.{Present}
 use Rattle.ps_room.specs.declared.entry.Entry.{Entry}
 use Rattle.ps_room.specs.Records.{Record}
 use Rattle.ps_room.specs.Roles.{side_of_member}
 use Rattle.ps_room.specs.Rooms.{sender_of, verdict, after}
-use Rattle.ps_laws.specs.Stories.{Story, begun}
+use Rattle.ps_room.specs.Stories.{Story, begun}
+use Rattle.ps_hits.specs.Courses.{untold}
 
 -- a round: the battle before it, the choices of player 1 and player 2, the battle after it, and what was told
 pub record Round : Type 0 where

@@ -3,15 +3,15 @@ use Rattle.std.specs.Prelude.{◌≡◌, ℕ, ◌<◌, ◌≤◌, Bool, true, fa
 use Rattle.ps_mon.specs.declared.team.Member.{Member}
 use Rattle.ps_mon.specs.declared.team.MoveSlot.{MoveSlot}
 use Rattle.ps_mon.specs.Reading.{slot_of}
-use Rattle.ps_valid.specs.declared.start.Start.{Start}
-use Rattle.ps_start.specs.Fits.{legal_of}
-use Rattle.ps_alike.specs.Places.{Hidden}
-use Rattle.ps_alike.specs.Alike.{front_of}
+use Rattle.rules_start.specs.declared.start.Start.{Start}
+use Rattle.rules_start.specs.Fits.{legal_of}
+use Rattle.battle_secrecy.specs.Places.{Hidden}
+use Rattle.battle_secrecy.specs.Alike.{front_of}
 use Rattle.ps_room.specs.declared.entry.Entry.{Entry}
 use Rattle.ps_room.specs.Openings.{Opening, IsFitOpening}
 use Rattle.ps_room.specs.Records.{Record, opened}
 use Rattle.ps_room.specs.Rooms.{verdict, after, run_record}
-use Rattle.ps_laws.specs.Stories.{Story, story}
+use Rattle.ps_room.specs.Stories.{Story, story}
 use Rattle.ps_laws.specs.Users.{users}
 use Rattle.ps_laws.specs.Hidden.{hidden_in_both, member_in}
 use Rattle.ps_laws.specs.Rounds.{round_of}

@@ -5,13 +5,13 @@ use Rattle.ps_base.specs.Ids.{id_of}
 use Rattle.ps_base.specs.declared.badge.Badge.{Badge}
 use Rattle.ps_view.specs.declared.names.Names.{Names}
 use Rattle.ps_hits.specs.Told.{side_name}
-use Rattle.ps_bout.specs.Casts.{plays}
-use Rattle.ps_chat.specs.Looks.{member}
+use Rattle.battle_rounds.specs.Casts.{plays}
+use Rattle.ps_chat.specs.Lookups.{member}
 use Rattle.ps_chat.specs.declared.present.Present.{Present}
 use Rattle.ps_room.specs.declared.entry.Entry.{Entry}
 use Rattle.ps_room.specs.Records.{Record, presents_of}
 use Rattle.ps_room.specs.Rooms.{after}
-use Rattle.ps_laws.specs.Stories.{Story, begun}
+use Rattle.ps_room.specs.Stories.{Story, begun}
 
 -- by the badge of its Join while it is a member, and by the badge that it brings otherwise
 abbrev pub badge_of : Option Present → Badge → Badge

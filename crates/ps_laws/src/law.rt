@@ -1,6 +1,6 @@
 //! Laws over the definitions.
 ghost use Rattle.std.specs.Prelude.{◌≡◌};
-ghost use Rattle.ps_laws.specs.Stories.{Story, view_of};
+ghost use Rattle.ps_room.specs.Stories.{Story, view_of};
 ghost use Rattle.ps_laws.specs.Same.{AreSame, UnshownMayBeMissing, IdleMayBeMissing, UndoneLeavesNothing};
 ghost use Rattle.ps_laws.specs.HallSame.{HallViewsAreEqual, HallUnshownMayBeMissing, HallAcceptsStart};
 

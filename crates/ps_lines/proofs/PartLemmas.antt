@@ -1,39 +1,33 @@
 -- The parts of a text round the first and the last of a byte.
-use Rattle.std.proofs.Common.{◌≡◌, ◌≢◌, ℕ, suc, ◌<◌, ◌==◌, true, false, List, [], ◌∷◌, ◌++◌, length, get_or, drop, Option, Some, None, MatchOption, refl, sym, ap, ◌∙◌, arith, inl, inr}
+use Rattle.std.proofs.Common.{◌≡◌, ◌≢◌, ℕ, suc, ◌<◌, List, [], ◌∷◌, ◌++◌, length, get_or, drop, Option, Some, None, MatchOption, refl, sym, ap, ◌∙◌, arith}
 use Rattle.std.specs.Option.{option_map}
 use Rattle.std.specs.Str.Pattern.{RFindsChar, SplitsAroundMatch}
-use Rattle.std.proofs.lemmas.Bool.Decides.{eqb_tells}
 use Rattle.std.proofs.lemmas.List.{take-append-drop}
 use Rattle.std.proofs.lemmas.Str.Pattern.{IsSplitOnceResult, split_parts, drop_at_char, NoCharPasses-char}
+use Rattle.std.proofs.lemmas.Bool.{ne_eqb, eq-eqb}
 use denote.Ref.{Bor}
 use Rattle.ps_lines.specs.Parts.{at_first, at_last}
 
 abbrev pub Lacks : ℕ → List ℕ → Type 0
 Lacks c text = (i : ℕ) → i < length text → get_or text i 0 ≢ c
 
-same_byte : (c : ℕ) → (c == c) ≡ true
-same_byte c = elim (eqb_tells c c) [ inl h ↦ h.0 | inr h ↦ absurd (h.1 refl) ]
-
-other_byte : (b c : ℕ) → b ≢ c → (b == c) ≡ false
-other_byte b c h = elim (eqb_tells b c) [ inl e ↦ absurd (h e.1) | inr e ↦ e.0 ]
-
 tail_lacks : (c b : ℕ) (text : List ℕ) → Lacks c (b ∷ text) → Lacks c text
 tail_lacks c b text h = λ i l. h (suc i) (omega arith)
 
 at_first-append : (c : ℕ) (front back : List ℕ) → Lacks c front → at_first c (front ++ c ∷ back) ≡ Some (front, back)
-at_first-append c [] back h = rw (same_byte c) refl
-at_first-append c (b ∷ front) back h = rw (other_byte b c (h 0 (omega arith)), at_first-append c front back (tail_lacks c b front h)) refl
+at_first-append c [] back h = rw (eq-eqb c c refl) refl
+at_first-append c (b ∷ front) back h = rw (ne_eqb b c (h 0 (omega arith)), at_first-append c front back (tail_lacks c b front h)) refl
 
 at_first_none : (c : ℕ) (text : List ℕ) → Lacks c text → at_first c text ≡ None
 at_first_none c [] h = refl
-at_first_none c (b ∷ text) h = rw (other_byte b c (h 0 (omega arith)), at_first_none c text (tail_lacks c b text h)) refl
+at_first_none c (b ∷ text) h = rw (ne_eqb b c (h 0 (omega arith)), at_first_none c text (tail_lacks c b text h)) refl
 
 at_last_none : (c : ℕ) (text : List ℕ) → Lacks c text → at_last c text ≡ None
 at_last_none c [] h = refl
-at_last_none c (b ∷ text) h = rw (at_last_none c text (tail_lacks c b text h), other_byte b c (h 0 (omega arith))) refl
+at_last_none c (b ∷ text) h = rw (at_last_none c text (tail_lacks c b text h), ne_eqb b c (h 0 (omega arith))) refl
 
 at_last-append : (c : ℕ) (front back : List ℕ) → Lacks c back → at_last c (front ++ c ∷ back) ≡ Some (front, back)
-at_last-append c [] back h = rw (at_last_none c back h, same_byte c) refl
+at_last-append c [] back h = rw (at_last_none c back h, eq-eqb c c refl) refl
 at_last-append c (b ∷ front) back h = rw (at_last-append c front back h) refl
 
 abbrev pub pair_of : Option (Bor (List ℕ) × Bor (List ℕ)) → Option (List ℕ × List ℕ)

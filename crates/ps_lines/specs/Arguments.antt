@@ -2,6 +2,7 @@
 use Rattle.std.specs.Prelude.{ℕ, List, [], ◌∷◌, Option, Some, None, Result, Ok, Err, ⊤}
 use Rattle.std.specs.Str.{chars}
 use Rattle.ps_base.specs.Ids.{id_of}
+use Rattle.ps_lines.specs.Faults.{◌>>=◌}
 use Rattle.ps_lines.specs.Parts.{at_first, after_space}
 use Rattle.ps_lines.specs.declared.command.CommandFault.{CommandFault}
 use Rattle.ps_lines.specs.declared.command.CommandFault.TheVariants.{BadArgs}
@@ -48,3 +49,25 @@ two text = parted text (at_first 44 text)
 abbrev pub second : Option (List ℕ) → Result (List ℕ) CommandFault
 second None = Err (BadArgs 2)
 second (Some text) = Ok text
+
+-- USER or FORMAT as the one argument
+abbrev pub one_id : Option (List ℕ) → Result (List ℕ) CommandFault
+one_id rest = do
+  text ← argument rest
+  id_at 1 text
+
+-- USER, REASON: the reason may be missing with its comma
+abbrev pub user_and_reason : Option (List ℕ) → Result (List ℕ × Option (List ℕ)) CommandFault
+user_and_reason rest = do
+  text ← argument rest
+  user ← id_at 1 (two text).0
+  Ok (user, (two text).1)
+
+-- USER, FORMAT
+abbrev pub user_and_format : Option (List ℕ) → Result (List ℕ × List ℕ) CommandFault
+user_and_format rest = do
+  text ← argument rest
+  user ← id_at 1 (two text).0
+  named ← second (two text).1
+  format ← id_at 2 named
+  Ok (user, format)

@@ -2,6 +2,7 @@
 use Rattle.std.specs.Prelude.{ℕ, List, length, Option, Some, None, Result, Ok, Err, nat_lt, if◌then◌else◌}
 use Rattle.std.specs.Str.{is_utf8}
 use Rattle.ps_base.specs.Numbers.{counted}
+use Rattle.ps_base.specs.Limits.{most_text}
 use Rattle.ps_lines.specs.Parts.{at_first}
 use Rattle.ps_lines.specs.declared.client.ClientFault.{ClientFault}
 use Rattle.ps_lines.specs.declared.client.ClientFault.TheVariants.{Long, NotUtf8, NoBar}
@@ -22,4 +23,4 @@ readable (Some text) = barred (at_first 124 text)
 
 -- the room and the text: at most 8,192 bytes of UTF-8, parted at the first bar
 unfoldable pub client : List ℕ → Result (List ℕ × List ℕ) ClientFault
-client bytes = if nat_lt 8192 (length bytes) then Err (Long (counted (length bytes))) else readable (text_of bytes)
+client bytes = if nat_lt most_text (length bytes) then Err (Long (counted (length bytes))) else readable (text_of bytes)

@@ -1,4 +1,4 @@
--- Reading a part of a command: what it stands for, or the fault that is told.
+-- Reading a part of a command: what it stands for, or the fault that is reported.
 use Rattle.std.specs.Prelude.{◌≡◌, ℕ, List, Result, Ok, Err}
 use denote.Ref.{Bor}
 use Rattle.ps_lines.specs.declared.command.CommandFault.{CommandFault}

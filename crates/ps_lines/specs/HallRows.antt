@@ -4,7 +4,7 @@ use Rattle.std.specs.Prelude.{ℕ, List, codes, Option, Some, None, Result, Ok, 
 use Rattle.std.specs.Str.{bytes_eq}
 use Rattle.ps_lines.specs.Parts.{at_first}
 use Rattle.ps_lines.specs.Faults.{◌>>=◌}
-use Rattle.ps_lines.specs.Arguments.{nothing, argument, id_at, two, second}
+use Rattle.ps_lines.specs.Arguments.{nothing, argument, id_at, two, second, one_id, user_and_format}
 use Rattle.ps_lines.specs.declared.command.CommandFault.{CommandFault}
 use Rattle.ps_lines.specs.declared.command.CommandFault.TheVariants.{BadArgs}
 use Rattle.ps_lines.specs.declared.command.Parsed.{Parsed}
@@ -32,8 +32,7 @@ utm (Some text) = if bytes_eq text (codes "null") then Ok (Hall (Team None)) els
 -- `/search FORMAT`
 abbrev pub search_for : Option (List ℕ) → Result Parsed CommandFault
 search_for rest = do
-  text ← argument rest
-  format ← id_at 1 text
+  format ← one_id rest
   Ok (Hall (Search format))
 
 -- `/cancelsearch`
@@ -45,11 +44,8 @@ cancel_search rest = do
 -- `/challenge USER, FORMAT`
 abbrev pub challenge : Option (List ℕ) → Result Parsed CommandFault
 challenge rest = do
-  text ← argument rest
-  user ← id_at 1 (two text).0
-  named ← second (two text).1
-  format ← id_at 2 named
-  Ok (Hall (Challenge user format))
+  named ← user_and_format rest
+  Ok (Hall (Challenge named.0 named.1))
 
 -- `/cancelchallenge`
 abbrev pub cancel_challenge : Option (List ℕ) → Result Parsed CommandFault
@@ -60,15 +56,13 @@ cancel_challenge rest = do
 -- `/reject USER`
 abbrev pub reject : Option (List ℕ) → Result Parsed CommandFault
 reject rest = do
-  text ← argument rest
-  user ← id_at 1 text
+  user ← one_id rest
   Ok (Hall (Reject user))
 
 -- `/accept USER`
 abbrev pub accept : Option (List ℕ) → Result Parsed CommandFault
 accept rest = do
-  text ← argument rest
-  user ← id_at 1 text
+  user ← one_id rest
   Ok (Hall (Accept user))
 
 -- `/pm USER, TEXT`
@@ -82,22 +76,17 @@ whisper rest = do
 -- `/block USER`
 abbrev pub block : Option (List ℕ) → Result Parsed CommandFault
 block rest = do
-  text ← argument rest
-  user ← id_at 1 text
+  user ← one_id rest
   Ok (Hall (Block user))
 
 -- `/unblock USER`
 abbrev pub unblock : Option (List ℕ) → Result Parsed CommandFault
 unblock rest = do
-  text ← argument rest
-  user ← id_at 1 text
+  user ← one_id rest
   Ok (Hall (Unblock user))
 
 -- `/rank USER, FORMAT`
 abbrev pub rank : Option (List ℕ) → Result Parsed CommandFault
 rank rest = do
-  text ← argument rest
-  user ← id_at 1 (two text).0
-  named ← second (two text).1
-  format ← id_at 2 named
-  Ok (Hall (Rank user format))
+  named ← user_and_format rest
+  Ok (Hall (Rank named.0 named.1))

@@ -5,4 +5,5 @@ pub mod Faults
 pub mod HallRows
 pub mod Parts
 pub mod RoomRows
+pub mod SentTexts
 pub mod Words

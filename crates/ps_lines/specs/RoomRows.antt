@@ -4,7 +4,7 @@ use Rattle.std.specs.Str.{bytes_eq}
 use Rattle.ps_base.specs.Numbers.{number_in}
 use Rattle.ps_lines.specs.Parts.{at_last}
 use Rattle.ps_lines.specs.Faults.{◌>>=◌}
-use Rattle.ps_lines.specs.Arguments.{nothing, argument, id_at, symbol_at, two, second}
+use Rattle.ps_lines.specs.Arguments.{nothing, argument, id_at, symbol_at, two, second, one_id, user_and_reason}
 use Rattle.ps_lines.specs.declared.command.CommandFault.{CommandFault}
 use Rattle.ps_lines.specs.declared.command.CommandFault.TheVariants.{BadArgs}
 use Rattle.ps_lines.specs.declared.command.Parsed.{Parsed}
@@ -42,36 +42,31 @@ modnote rest = do
 -- `/warn USER, REASON`
 abbrev pub warn : Option (List ℕ) → Result Parsed CommandFault
 warn rest = do
-  text ← argument rest
-  user ← id_at 1 (two text).0
-  Ok (Room (Warn user (two text).1))
+  named ← user_and_reason rest
+  Ok (Room (Warn named.0 named.1))
 
 -- `/mute USER, REASON`
 abbrev pub mute : Option (List ℕ) → Result Parsed CommandFault
 mute rest = do
-  text ← argument rest
-  user ← id_at 1 (two text).0
-  Ok (Room (Mute user (two text).1))
+  named ← user_and_reason rest
+  Ok (Room (Mute named.0 named.1))
 
 -- `/unmute USER`
 abbrev pub unmute : Option (List ℕ) → Result Parsed CommandFault
 unmute rest = do
-  text ← argument rest
-  user ← id_at 1 text
+  user ← one_id rest
   Ok (Room (Unmute user))
 
 -- `/ban USER, REASON`
 abbrev pub ban : Option (List ℕ) → Result Parsed CommandFault
 ban rest = do
-  text ← argument rest
-  user ← id_at 1 (two text).0
-  Ok (Room (Ban user (two text).1))
+  named ← user_and_reason rest
+  Ok (Room (Ban named.0 named.1))
 
 -- `/unban USER`
 abbrev pub unban : Option (List ℕ) → Result Parsed CommandFault
 unban rest = do
-  text ← argument rest
-  user ← id_at 1 text
+  user ← one_id rest
   Ok (Room (Unban user))
 
 -- `/roompromote USER, SYMBOL`

@@ -4,11 +4,9 @@ ghost use Rattle.std.specs.Option.{option_copied};
 ghost use Rattle.ps_lines.specs.Clients.{text_of, client};
 
 use crate::parts;
+use ps_base::limit::MOST_TEXT;
 use ps_base::number::counted;
 use thiserror::Error;
-
-/// The most bytes that a client's text has.
-pub const CLIENT_LIMIT: usize = 8192;
 
 /// A client's message, `ROOMID|TEXT` of PROTOCOL.md.
 #[derive(Clone, Copy, Debug, PartialEq, Eq)]
@@ -19,7 +17,7 @@ pub struct ClientMsg<'a> {
     pub text: &'a str,
 }
 
-/// Why bytes aren't a client's message, in the order in which it is told.
+/// Why bytes aren't a client's message, in the order in which it is reported.
 #[derive(Clone, Copy, Debug, PartialEq, Eq, Error)]
 pub enum ClientFault {
     /// More than 8,192 bytes: so many. (`u32::MAX` where it is more.)
@@ -45,14 +43,14 @@ fn text_of(bytes: &[u8]) -> Option<&str>
 
 /// Parts what a client sent at its first `|`: before it stands the room's id, behind it the text.
 ///
-/// The faults, in the order in which they are told: `Long` for more than 8,192 bytes, `NotUtf8`
+/// The faults, in the order in which they are reported: `Long` for more than 8,192 bytes, `NotUtf8`
 /// where the bytes aren't UTF-8, `NoBar` where no `|` is there. Takes no memory.
 #[tactic(auto, unfolding(crate::specs::Clients::client))]
 pub fn read_client(bytes: &[u8]) -> Result<ClientMsg<'_>, ClientFault>
     ensures message { IfOk result (λ m. client bytes.now ≡ Ok (m.room.now, m.text.now)) }
     ensures fault { IfErr result (λ f. client bytes.now ≡ Err f) }
 {
-    if bytes.len() > CLIENT_LIMIT {
+    if bytes.len() > MOST_TEXT {
         return Err(ClientFault::Long {
             bytes: counted(bytes.len()),
         });

@@ -44,7 +44,7 @@ pub enum Command {
     Forfeit,
 }
 
-/// Why a text of a client is no command of its connection, in the order in which it is told.
+/// Why a text of a client is no command of its connection, in the order in which it is reported.
 #[derive(Clone, Copy, Debug, PartialEq, Eq)]
 pub enum BadWhy {
     /// No bar ends the room.

@@ -3,7 +3,7 @@ ghost use Rattle.std.specs.Option.{option_copied};
 ghost use Rattle.ps_lines.specs.Faults.{Gives};
 ghost use Rattle.ps_lines.specs.HallRows.{trn, utm, search_for, cancel_search, challenge, cancel_challenge, reject, accept, whisper, block, unblock, rank};
 
-use crate::argument::{argument, id_at, nothing, second, two};
+use crate::argument::{argument, id_at, nothing, one_id, second, two, user_and_format};
 use crate::command::{CommandFault, HallCmd, Parsed};
 use crate::parts;
 use ps_base::text::Text;
@@ -49,7 +49,7 @@ pub fn utm(alloc: Global, rest: Option<&str>) -> Result<Parsed, CommandFault>
 pub fn search_for(alloc: Global, rest: Option<&str>) -> Result<Parsed, CommandFault>
     ensures { Gives result (search_for (option_copied rest.entry)) }
 {
-    let format = id_at(alloc, 1, argument(rest)?)?;
+    let format = one_id(alloc, rest)?;
     Ok(Parsed::Hall(HallCmd::Search { format }))
 }
 
@@ -65,9 +65,7 @@ pub fn cancel_search(rest: Option<&str>) -> Result<Parsed, CommandFault>
 pub fn challenge(alloc: Global, rest: Option<&str>) -> Result<Parsed, CommandFault>
     ensures { Gives result (challenge (option_copied rest.entry)) }
 {
-    let (user, format) = two(argument(rest)?);
-    let user = id_at(alloc, 1, user)?;
-    let format = id_at(alloc, 2, second(format)?)?;
+    let (user, format) = user_and_format(alloc, rest)?;
     Ok(Parsed::Hall(HallCmd::Challenge { user, format }))
 }
 
@@ -83,7 +81,7 @@ pub fn cancel_challenge(rest: Option<&str>) -> Result<Parsed, CommandFault>
 pub fn reject(alloc: Global, rest: Option<&str>) -> Result<Parsed, CommandFault>
     ensures { Gives result (reject (option_copied rest.entry)) }
 {
-    let user = id_at(alloc, 1, argument(rest)?)?;
+    let user = one_id(alloc, rest)?;
     Ok(Parsed::Hall(HallCmd::Reject { user }))
 }
 
@@ -91,7 +89,7 @@ pub fn reject(alloc: Global, rest: Option<&str>) -> Result<Parsed, CommandFault>
 pub fn accept(alloc: Global, rest: Option<&str>) -> Result<Parsed, CommandFault>
     ensures { Gives result (accept (option_copied rest.entry)) }
 {
-    let user = id_at(alloc, 1, argument(rest)?)?;
+    let user = one_id(alloc, rest)?;
     Ok(Parsed::Hall(HallCmd::Accept { user }))
 }
 
@@ -109,7 +107,7 @@ pub fn whisper(alloc: Global, rest: Option<&str>) -> Result<Parsed, CommandFault
 pub fn block(alloc: Global, rest: Option<&str>) -> Result<Parsed, CommandFault>
     ensures { Gives result (block (option_copied rest.entry)) }
 {
-    let user = id_at(alloc, 1, argument(rest)?)?;
+    let user = one_id(alloc, rest)?;
     Ok(Parsed::Hall(HallCmd::Block { user }))
 }
 
@@ -117,7 +115,7 @@ pub fn block(alloc: Global, rest: Option<&str>) -> Result<Parsed, CommandFault>
 pub fn unblock(alloc: Global, rest: Option<&str>) -> Result<Parsed, CommandFault>
     ensures { Gives result (unblock (option_copied rest.entry)) }
 {
-    let user = id_at(alloc, 1, argument(rest)?)?;
+    let user = one_id(alloc, rest)?;
     Ok(Parsed::Hall(HallCmd::Unblock { user }))
 }
 
@@ -125,8 +123,6 @@ pub fn unblock(alloc: Global, rest: Option<&str>) -> Result<Parsed, CommandFault
 pub fn rank(alloc: Global, rest: Option<&str>) -> Result<Parsed, CommandFault>
     ensures { Gives result (rank (option_copied rest.entry)) }
 {
-    let (user, format) = two(argument(rest)?);
-    let user = id_at(alloc, 1, user)?;
-    let format = id_at(alloc, 2, second(format)?)?;
+    let (user, format) = user_and_format(alloc, rest)?;
     Ok(Parsed::Hall(HallCmd::Rank { user, format }))
 }

@@ -9,4 +9,5 @@ pub mod order;
 mod parts;
 pub mod read;
 mod room_rows;
+pub mod sent_text;
 mod word;

@@ -88,7 +88,7 @@ fn worded(
 /// SYMBOL is one character, which may be the space. RQID follows the last bar and is as `read_u32`
 /// reads it. No text stands for Open, Quit, Bad and Report.
 ///
-/// The faults, in the order in which they are told: `UnknownCommand` where the text begins with `/`
+/// The faults, in the order in which they are reported: `UnknownCommand` where the text begins with `/`
 /// and its word, up to the first space or the end, is none of the commands'; `BadArgs` with `which`
 /// 0 where a character below U+0020 stands in the text; `BadArgs` with the lowest `which` whose
 /// argument isn't of its form. `NoMemory` may come at any text.

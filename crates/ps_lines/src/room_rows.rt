@@ -2,24 +2,13 @@
 ghost use Rattle.std.specs.Option.{option_copied};
 ghost use Rattle.ps_lines.specs.Faults.{Gives};
 ghost use Rattle.ps_lines.specs.RoomRows.{join, leave, say, announce, modnote, warn, mute, unmute, ban, unban, level, promote, modchat, choose, undo, forfeit};
-ghost use Rattle.std.specs.Prelude.{◌≡◌, IfOk};
 
-use crate::argument::{argument, id_at, nothing, second, symbol_at, two};
+use crate::argument::{argument, id_at, nothing, one_id, second, symbol_at, two, user_and_reason};
 use crate::command::{Command, CommandFault, Parsed};
 use crate::parts;
 use ps_base::decimal::read_u32;
 use ps_base::text::Text;
-use std::alloc::{AllocError, Global};
-
-/// A text with a copy of these bytes, if there are some.
-fn copy_of(alloc: Global, text: Option<&str>) -> Result<Option<Text>, AllocError>
-    ensures { IfOk result (λ copy. copy ≡ option_copied text.entry) }
-{
-    match text {
-        None => Ok(None),
-        Some(text) => Ok(Some(Text::copy_of(alloc, text)?)),
-    }
-}
+use std::alloc::Global;
 
 /// `/join ROOM`
 pub fn join(alloc: Global, rest: Option<&str>) -> Result<Parsed, CommandFault>
@@ -65,9 +54,7 @@ pub fn modnote(alloc: Global, rest: Option<&str>) -> Result<Parsed, CommandFault
 pub fn warn(alloc: Global, rest: Option<&str>) -> Result<Parsed, CommandFault>
     ensures { Gives result (warn (option_copied rest.entry)) }
 {
-    let (user, reason) = two(argument(rest)?);
-    let user = id_at(alloc, 1, user)?;
-    let reason = copy_of(alloc, reason)?;
+    let (user, reason) = user_and_reason(alloc, rest)?;
     Ok(Parsed::Room(Command::Warn { user, reason }))
 }
 
@@ -75,9 +62,7 @@ pub fn warn(alloc: Global, rest: Option<&str>) -> Result<Parsed, CommandFault>
 pub fn mute(alloc: Global, rest: Option<&str>) -> Result<Parsed, CommandFault>
     ensures { Gives result (mute (option_copied rest.entry)) }
 {
-    let (user, reason) = two(argument(rest)?);
-    let user = id_at(alloc, 1, user)?;
-    let reason = copy_of(alloc, reason)?;
+    let (user, reason) = user_and_reason(alloc, rest)?;
     Ok(Parsed::Room(Command::Mute { user, reason }))
 }
 
@@ -85,7 +70,7 @@ pub fn mute(alloc: Global, rest: Option<&str>) -> Result<Parsed, CommandFault>
 pub fn unmute(alloc: Global, rest: Option<&str>) -> Result<Parsed, CommandFault>
     ensures { Gives result (unmute (option_copied rest.entry)) }
 {
-    let user = id_at(alloc, 1, argument(rest)?)?;
+    let user = one_id(alloc, rest)?;
     Ok(Parsed::Room(Command::Unmute { user }))
 }
 
@@ -93,9 +78,7 @@ pub fn unmute(alloc: Global, rest: Option<&str>) -> Result<Parsed, CommandFault>
 pub fn ban(alloc: Global, rest: Option<&str>) -> Result<Parsed, CommandFault>
     ensures { Gives result (ban (option_copied rest.entry)) }
 {
-    let (user, reason) = two(argument(rest)?);
-    let user = id_at(alloc, 1, user)?;
-    let reason = copy_of(alloc, reason)?;
+    let (user, reason) = user_and_reason(alloc, rest)?;
     Ok(Parsed::Room(Command::Ban { user, reason }))
 }
 
@@ -103,7 +86,7 @@ pub fn ban(alloc: Global, rest: Option<&str>) -> Result<Parsed, CommandFault>
 pub fn unban(alloc: Global, rest: Option<&str>) -> Result<Parsed, CommandFault>
     ensures { Gives result (unban (option_copied rest.entry)) }
 {
-    let user = id_at(alloc, 1, argument(rest)?)?;
+    let user = one_id(alloc, rest)?;
     Ok(Parsed::Room(Command::Unban { user }))
 }
 

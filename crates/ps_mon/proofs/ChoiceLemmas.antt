@@ -1,6 +1,7 @@
 -- What a legal choice is.
 use Rattle.std.proofs.Common.{◌≡◌, ℕ, ◌≤◌, Bool, true, false, Option, None, not, nat_lt, ◌==◌, ◌||◌, arith, refl}
 use Rattle.std.proofs.lemmas.Bool.Decides.{nat_tests}
+use Rattle.std.proofs.lemmas.Bool.{true≢false}
 use Rattle.ps_mon.specs.declared.record.SideState.{SideState}
 use Rattle.ps_mon.specs.declared.record.Phase.{Phase}
 use Rattle.ps_mon.specs.declared.record.Phase.TheVariants as phases
@@ -50,16 +51,13 @@ there-is phase s side choices.Continue legal = tt
 there-is phase s side (choices.Switch position) legal = within position _ legal.member
 there-is phase s side choices.Pass legal = tt
 
-above : (n : ℕ) → (n == 0) ≡ false → 1 ≤ n
+pub above : (n : ℕ) → (n == 0) ≡ false → 1 ≤ n
 above n e = grind (arith, nat_tests)
-
-differ : true ≡ false → ⊥
-differ e = cc
 
 -- where a member must come in, a legal choice brings one that stands
 pub replaced-stands : (p1 p2 : Bool) (s : ℕ) (side : SideState) (choice : Choice) → IsLegal (phases.Replace p1 p2) s side choice → 1 ≤ (incoming side choice).hp
-replaced-stands p1 p2 s side (choices.Move n) legal = absurd (differ legal.phase_fits)
-replaced-stands p1 p2 s side choices.Struggle legal = absurd (differ legal.phase_fits)
-replaced-stands p1 p2 s side choices.Continue legal = absurd (differ legal.phase_fits)
+replaced-stands p1 p2 s side (choices.Move n) legal = absurd (true≢false legal.phase_fits)
+replaced-stands p1 p2 s side choices.Struggle legal = absurd (true≢false legal.phase_fits)
+replaced-stands p1 p2 s side choices.Continue legal = absurd (true≢false legal.phase_fits)
 replaced-stands p1 p2 s side (choices.Switch position) legal = above _ legal.stands
-replaced-stands p1 p2 s side choices.Pass legal = absurd (differ legal.phase_fits)
+replaced-stands p1 p2 s side choices.Pass legal = absurd (true≢false legal.phase_fits)

@@ -5,4 +5,4 @@ pub mod SwitchLemmas
 pub mod OpeningLemmas
 pub mod KeepLemmas
 pub mod ChoiceLemmas
-pub mod FreshLemmas
+pub mod SideLemmas

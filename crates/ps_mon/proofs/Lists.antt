@@ -28,7 +28,7 @@ which_of zero (suc s) h k = inr (omega arith)
 which_of (suc u) zero h k = inr (omega arith)
 which_of (suc u) (suc s) h k = inl (omega arith)
 
--- what holds of both new elements, each at its place, holds of each
+-- what holds of both new elements, each at its index, holds of each
 pub at_both : {A : Type 0} (P : ℕ → A → Type 0) (xs : List A) (u : ℕ) (a b d : A) → u < 2 → length xs ≡ 2 → P u a → P (1 - u) b → (s : ℕ) → s < 2 → P s (get_or (set (set xs u a) (1 - u) b) s d)
 at_both {A} P xs u a b d h l pa pb s k =
     elim (which_of u s h k) [

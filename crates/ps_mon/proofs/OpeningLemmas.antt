@@ -1,7 +1,7 @@
 -- A side at the opening.
 use Rattle.std.proofs.Common.{◌≡◌, ℕ, zero, suc, ◌<◌, ◌≤◌, true, [], ◌∷◌, nat_lt, take, length, get_or, arith, refl, ◌∙◌, sym, length-take, get_or-take}
-use Rattle.std.proofs.lemmas.Bool.Decides.{nat_tests}
 use Rattle.std.proofs.lemmas.List.Folds.{list_any_at}
+use Rattle.std.proofs.lemmas.Bool.{lt-ltb}
 use Rattle.ps_mon.specs.declared.team.BattleTeam.{BattleTeam}
 use Rattle.ps_mon.specs.Reading.{active_of, no_member}
 use Rattle.ps_mon.specs.Valid.{IsSide, has_standing}
@@ -9,7 +9,7 @@ use Rattle.ps_mon.specs.Known.{IsSideKnown}
 use Rattle.ps_mon.specs.Teams.{IsFresh, IsTeamKnown, opened}
 use Rattle.ps_mon.proofs.SwitchLemmas.{calm-fit, calm-named}
 
-at-six : (k : ℕ) → k < 6 → get_or (0 ∷ 1 ∷ 2 ∷ 3 ∷ 4 ∷ 5 ∷ []) k 0 ≡ k
+pub at-six : (k : ℕ) → k < 6 → get_or (0 ∷ 1 ∷ 2 ∷ 3 ∷ 4 ∷ 5 ∷ []) k 0 ≡ k
 at-six zero h = refl
 at-six (suc zero) h = refl
 at-six (suc (suc zero)) h = refl
@@ -37,16 +37,13 @@ open-active t fresh =
     let first = fresh.members 0 (omega (arith, fresh.count)) in
     rw first.full first.ranges.max
 
-stands : (n : ℕ) → 1 ≤ n → nat_lt 0 n ≡ true
-stands n h = grind (arith, nat_tests)
-
 pub open-standing : (t : BattleTeam) → length t.members ≡ 6 → IsFresh t → has_standing (opened t) ≡ true
 unfolding has_standing
 open-standing t six fresh =
     let in-take : 0 < length (take t.count t.members) = simp length-take (omega (arith, six, fresh.count)) in
     let low : 0 < t.count = omega (arith, fresh.count) in
     list_any_at (λ m. nat_lt 0 m.hp) (take t.count t.members) 0 no_member in-take
-    (rw get_or-take (stands _ (open-active t fresh)))
+    (rw get_or-take (lt-ltb 0 _ (open-active t fresh)))
 
 pub open-known : (moves : ℕ) (t : BattleTeam) → IsTeamKnown moves t → IsSideKnown moves (opened t)
 open-known moves t known = record { members = known; vol = calm-named moves }

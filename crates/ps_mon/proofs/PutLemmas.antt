@@ -7,7 +7,7 @@ use Rattle.ps_mon.specs.declared.record.CopiedSlots.{CopiedSlots}
 use Rattle.ps_mon.specs.declared.team.Member.{Member}
 use Rattle.ps_mon.specs.declared.duel.Duel.{Duel}
 use Rattle.ps_mon.specs.declared.duel.Fighter.{Fighter}
-use Rattle.ps_mon.specs.Reading.{side_of, place_of, active_of, no_side, no_member}
+use Rattle.ps_mon.specs.Reading.{side_of, active_index, active_of, no_side, no_member}
 use Rattle.ps_mon.specs.Slots.{slot_count_now, count_in_force, slot_now, slot_in_force}
 use Rattle.ps_mon.specs.Valid.{IsSound, IsValid, IsSide, IsShaped, IsMember, has_standing}
 use Rattle.ps_mon.specs.Known.{AreKnown, IsSideKnown, AreOwnKnown, AreNamed}
@@ -16,12 +16,12 @@ use Rattle.ps_mon.specs.declared.team.MoveSlot.{MoveSlot}
 use Rattle.ps_mon.specs.Duels.{IsFit, IsFighter, IsDuelKnown, with_fighter, with_duel, worn}
 use Rattle.ps_mon.proofs.Lists.{at_one, at_user, at_foe, which_of, at_both, any-set}
 
-pub place-inside : (a : SideState) → IsShaped a → place_of a < length a.members
-place-inside a shape = omega (arith, shape.order 0 shape.count, shape.six, shape.count_high)
+pub index-inside : (a : SideState) → IsShaped a → active_index a < length a.members
+index-inside a shape = omega (arith, shape.order 0 shape.count, shape.six, shape.count_high)
 
-pub put-place : (a : SideState) (f : Fighter) → IsShaped a → active_of (with_fighter a f) ≡ worn (active_of a) f
+pub put-index : (a : SideState) (f : Fighter) → IsShaped a → active_of (with_fighter a f) ≡ worn (active_of a) f
 unfolding with_fighter
-put-place a f shape = let lt = place-inside a shape in rw get_or-set_same
+put-index a f shape = let lt = index-inside a shape in rw get_or-set_same
 
 put-shaped : (a : SideState) (f : Fighter) → IsShaped a → IsShaped (with_fighter a f)
 unfolding with_fighter
@@ -30,12 +30,12 @@ put-shaped a f shape = record { six = simp length-set shape.six; six_order = sha
 put-side : (a : SideState) (f : Fighter) → IsFighter f → IsSide a → IsSide (with_fighter a f)
 unfolding with_fighter
 put-side a f fit v =
-    let old = v.members (place_of a) (v.shape.order 0 v.shape.count) in
+    let old = v.members (active_index a) (v.shape.order 0 v.shape.count) in
     let new : IsMember (worn (active_of a) f) = record { level = fit.level; level_high = fit.level_high; types = fit.types; stats = fit.stats; hp = fit.hp; max = fit.max; max_high = fit.max_high; counter = fit.counter; four = old.four; slot_count = old.slot_count; slot_count_high = old.slot_count_high; pp = old.pp } in
     let vol = fit.vol in
     record {
       shape = put-shaped a f v.shape;
-      members = λ k lt. at_one (λ i (m : Member). i < a.count → IsMember m) a.members (place_of a) (worn (active_of a) f) no_member (place-inside a v.shape) (λ _. new) k (λ _. v.members k) lt;
+      members = λ k lt. at_one (λ i (m : Member). i < a.count → IsMember m) a.members (active_index a) (worn (active_of a) f) no_member (index-inside a v.shape) (λ _. new) k (λ _. v.members k) lt;
       vol = record { stages = vol.stages; confusion = vol.confusion; substitute = vol.substitute; lock = vol.lock; disabled = vol.disabled; types = vol.types; stats = vol.stats; slots = v.vol.slots; toxic = vol.toxic; taken = vol.taken };
     }
 
@@ -51,7 +51,7 @@ put-sound b u d lt fit v = record {
 put-side-known : (moves : ℕ) (a : SideState) (f : Fighter) → IsShaped a → AreNamed moves f.vol → IsSideKnown moves a → IsSideKnown moves (with_fighter a f)
 unfolding with_fighter
 put-side-known moves a f shape named known = record {
-  members = λ k lt. at_one (λ i (m : Member). i < a.count → AreOwnKnown moves m) a.members (place_of a) (worn (active_of a) f) no_member (place-inside a shape) (λ i. known.members (place_of a) i) k (λ _. known.members k) lt;
+  members = λ k lt. at_one (λ i (m : Member). i < a.count → AreOwnKnown moves m) a.members (active_index a) (worn (active_of a) f) no_member (index-inside a shape) (λ i. known.members (active_index a) i) k (λ _. known.members k) lt;
   vol = record { slots = known.vol.slots; lock = named.lock; last = named.last; taken = named.taken };
 }
 
@@ -72,9 +72,9 @@ stands-again old new {f} e keeps h = grind (arith, nat_tests)
 put-standing : (a : SideState) (f : Fighter) → IsShaped a → (1 ≤ (active_of a).hp → 1 ≤ (active_of (with_fighter a f)).hp) → has_standing a ≡ true → has_standing (with_fighter a f) ≡ true
 unfolding with_fighter has_standing
 put-standing a f shape keeps h =
-    let is : active_of (with_fighter a f) ≡ worn (active_of a) f = put-place a f shape in
+    let is : active_of (with_fighter a f) ≡ worn (active_of a) f = put-index a f shape in
     let hp : (active_of (with_fighter a f)).hp ≡ f.hp = ap (λ (m : Member). m.hp) is in
-    any-set (λ m. nat_lt 0 m.hp) a.members a.count (place_of a) (worn (active_of a) f) no_member (λ e. stands-again _ _ hp keeps e) h
+    any-set (λ m. nat_lt 0 m.hp) a.members a.count (active_index a) (worn (active_of a) f) no_member (λ e. stands-again _ _ hp keeps e) h
 
 pub put-whole : (b : Battle) (u : ℕ) (d : Duel) → u < 2 → IsValid b → StillStands b (with_duel b u d) → IsSound (with_duel b u d) → IsValid (with_duel b u d)
 unfolding with_duel
@@ -98,7 +98,7 @@ worn-count (Some c) m f = refl
 
 put-count : (a : SideState) (f : Fighter) → IsShaped a → slot_count_now (with_fighter a f) ≡ slot_count_now a
 unfolding slot_count_now with_fighter
-put-count a f shape = ap (count_in_force a.vol.slots.copied) (put-place a f shape) ∙ worn-count a.vol.slots.copied (active_of a) f
+put-count a f shape = ap (count_in_force a.vol.slots.copied) (put-index a f shape) ∙ worn-count a.vol.slots.copied (active_of a) f
 
 worn-slot : (copied : Option CopiedSlots) (mimic : Option ℕ) (m : Member) (f : Fighter) (j : ℕ) → slot_in_force copied mimic (worn m f) j ≡ slot_in_force copied mimic m j
 worn-slot None None m f j = refl
@@ -109,7 +109,7 @@ put-slot : (a : SideState) (f : Fighter) (j : ℕ) → IsShaped a → slot_now (
 unfolding slot_now with_fighter
 put-slot a f j shape =
     let mimic : Option ℕ = get_or a.vol.slots.mimic j None in
-    ap (λ m. slot_in_force a.vol.slots.copied mimic m j) (put-place a f shape) ∙ worn-slot a.vol.slots.copied mimic (active_of a) f j
+    ap (λ m. slot_in_force a.vol.slots.copied mimic m j) (put-index a f shape) ∙ worn-slot a.vol.slots.copied mimic (active_of a) f j
 
 put-order : (a : SideState) (f : Fighter) → ((with_fighter a f).count ≡ a.count) × ((with_fighter a f).order ≡ a.order)
 unfolding with_fighter

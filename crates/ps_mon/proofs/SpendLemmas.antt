@@ -5,14 +5,14 @@ use Rattle.ps_mon.specs.declared.record.SideState.{SideState}
 use Rattle.ps_mon.specs.declared.record.CopiedSlots.{CopiedSlots}
 use Rattle.ps_mon.specs.declared.team.Member.{Member}
 use Rattle.ps_mon.specs.declared.team.MoveSlot.{MoveSlot}
-use Rattle.ps_mon.specs.Reading.{side_of, place_of, active_of, slot_of, no_side, no_member, no_slot}
+use Rattle.ps_mon.specs.Reading.{side_of, active_index, active_of, slot_of, no_side, no_member, no_slot}
 use Rattle.ps_mon.specs.Slots.{slot_count_now, slot_now, mimicked}
 use Rattle.ps_mon.specs.Keeping.{KeepsTeam, Keeps}
 use Rattle.ps_mon.specs.Valid.{IsSound, IsSide, IsShaped, IsMember, IsCopied}
 use Rattle.ps_mon.specs.Known.{AreKnown, IsSideKnown, AreOwnKnown, AreCopiedKnown}
 use Rattle.ps_mon.specs.Spending.{spent, with_use, copied_after_use, use_in_force, side_after_use, after_use}
 use Rattle.ps_mon.proofs.Lists.{at_one}
-use Rattle.ps_mon.proofs.PutLemmas.{place-inside}
+use Rattle.ps_mon.proofs.PutLemmas.{index-inside}
 
 spent-pp : (slots : List MoveSlot) (j n : ℕ) → j < length slots → ((k : ℕ) → k < n → (get_or slots k no_slot).pp ≤ (get_or slots k no_slot).max_pp) → (j < n → (get_or slots j no_slot).pp ≤ (get_or slots j no_slot).max_pp) → (k : ℕ) → k < n → (get_or (set slots j (spent (get_or slots j no_slot))) k no_slot).pp ≤ (get_or (set slots j (spent (get_or slots j no_slot))) k no_slot).max_pp
 spent-pp slots j n lt old here k h =
@@ -49,8 +49,8 @@ use-copied c j lt v = record {
 use-in-force : (o : Option CopiedSlots) (a : SideState) (j : ℕ) → o ≡ a.vol.slots.copied → j < 4 → IsSide a → IsSide (use_in_force o a j)
 use-in-force None a j e lt v = record {
   shape = record { six = simp length-set v.shape.six; six_order = v.shape.six_order; count = v.shape.count; count_high = v.shape.count_high; order = v.shape.order; once = v.shape.once };
-  members = λ k h. at_one (λ i (m : Member). i < a.count → IsMember m) a.members (place_of a) (with_use (active_of a) j) no_member (place-inside a v.shape)
-      (λ i. use-member (active_of a) j lt (v.members (place_of a) i)) k (λ _. v.members k) h;
+  members = λ k h. at_one (λ i (m : Member). i < a.count → IsMember m) a.members (active_index a) (with_use (active_of a) j) no_member (index-inside a v.shape)
+      (λ i. use-member (active_of a) j lt (v.members (active_index a) i)) k (λ _. v.members k) h;
   vol = v.vol;
 }
 use-in-force (Some c) a j e lt v =
@@ -76,8 +76,8 @@ use-sound b u j lt inside v = record {
 
 use-known-in-force : (moves : ℕ) (o : Option CopiedSlots) (a : SideState) (j : ℕ) → o ≡ a.vol.slots.copied → j < 4 → IsSide a → IsSideKnown moves a → IsSideKnown moves (use_in_force o a j)
 use-known-in-force moves None a j e lt v known = record {
-  members = λ k h. at_one (λ x (m : Member). x < a.count → AreOwnKnown moves m) a.members (place_of a) (with_use (active_of a) j) no_member (place-inside a v.shape)
-      (λ x i inside. rw (spent-mv (active_of a).slots j (omega (arith, (v.members (place_of a) x).four)) i) (known.members (place_of a) x i inside)) k (λ _. known.members k) h;
+  members = λ k h. at_one (λ x (m : Member). x < a.count → AreOwnKnown moves m) a.members (active_index a) (with_use (active_of a) j) no_member (index-inside a v.shape)
+      (λ x i inside. rw (spent-mv (active_of a).slots j (omega (arith, (v.members (active_index a) x).four)) i) (known.members (active_index a) x i inside)) k (λ _. known.members k) h;
   vol = known.vol;
 }
 use-known-in-force moves (Some c) a j e lt v known =
@@ -105,8 +105,8 @@ use-known moves b u j lt inside v known = record {
 use-count-in-force : (o : Option CopiedSlots) (a : SideState) (j : ℕ) → o ≡ a.vol.slots.copied → IsShaped a → slot_count_now (use_in_force o a j) ≡ slot_count_now a
 unfolding slot_count_now
 use-count-in-force None a j e shape =
-    let lt = place-inside a shape in
-    let count : (active_of (use_in_force None a j)).slot_count ≡ (active_of a).slot_count = ap (λ (m : Member). m.slot_count) (get_or-set_same a.members (place_of a) (with_use (active_of a) j) no_member lt) in
+    let lt = index-inside a shape in
+    let count : (active_of (use_in_force None a j)).slot_count ≡ (active_of a).slot_count = ap (λ (m : Member). m.slot_count) (get_or-set_same a.members (active_index a) (with_use (active_of a) j) no_member lt) in
     rw (← e) count
 use-count-in-force (Some c) a j e shape = rw (← e) refl
 
@@ -121,9 +121,9 @@ mimicked-mv (Some mv) x y e = refl
 use-mv : (o : Option CopiedSlots) (a : SideState) (j i : ℕ) → o ≡ a.vol.slots.copied → j < 4 → IsSide a → (slot_now (use_in_force o a j) i).mv ≡ (slot_now a i).mv
 unfolding slot_now
 use-mv None a j i e lt v =
-    let at = place-inside a v.shape in
-    let four : length (active_of a).slots ≡ 4 = (v.members (place_of a) (v.shape.order 0 v.shape.count)).four in
-    let is : slot_of (active_of (use_in_force None a j)) i ≡ slot_of (with_use (active_of a) j) i = ap (λ m. slot_of m i) (get_or-set_same a.members (place_of a) (with_use (active_of a) j) no_member at) in
+    let at = index-inside a v.shape in
+    let four : length (active_of a).slots ≡ 4 = (v.members (active_index a) (v.shape.order 0 v.shape.count)).four in
+    let is : slot_of (active_of (use_in_force None a j)) i ≡ slot_of (with_use (active_of a) j) i = ap (λ m. slot_of m i) (get_or-set_same a.members (active_index a) (with_use (active_of a) j) no_member at) in
     let same : (slot_of (active_of (use_in_force None a j)) i).mv ≡ (slot_of (active_of a) i).mv = ap (λ (s : MoveSlot). s.mv) is ∙ spent-mv (active_of a).slots j (omega (arith, four)) i in
     rw (← e) (mimicked-mv (get_or a.vol.slots.mimic i None) _ _ same)
 use-mv (Some c) a j i e lt v =

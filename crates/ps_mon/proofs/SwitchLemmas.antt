@@ -7,7 +7,7 @@ use Rattle.ps_mon.specs.declared.record.Lock.{Lock}
 use Rattle.ps_mon.specs.declared.record.LockKind.{LockKind}
 use Rattle.ps_mon.specs.declared.record.LockKind.TheVariants.{Charge, Trap, Thrash, Bide, Rage}
 use Rattle.ps_mon.specs.declared.team.Member.{Member}
-use Rattle.ps_mon.specs.Reading.{side_of, place_of, member_of, member_at, active_of, no_side, no_member}
+use Rattle.ps_mon.specs.Reading.{side_of, active_index, member_of, member_at, active_of, no_side, no_member}
 use Rattle.ps_mon.specs.Valid.{IsSound, IsSide, IsShaped, IsMember, IsLock, AreVolatiles, has_standing}
 use Rattle.ps_mon.specs.Known.{AreKnown, IsSideKnown, AreOwnKnown, AreNamed}
 use Rattle.ps_mon.specs.Keeping.{KeepsTeam, Keeps}
@@ -15,7 +15,7 @@ use Rattle.ps_mon.specs.Slots.{slot_count_now, slot_now}
 use Rattle.ps_mon.specs.Teams.{calm}
 use Rattle.ps_mon.specs.Switching.{left, came_in, let_go, without_trap, released, with_switch}
 use Rattle.ps_mon.proofs.Lists.{at_one, at_user, at_foe, at_both, any-set, swap-below, swap-first, swap-once}
-use Rattle.ps_mon.proofs.PutLemmas.{place-inside}
+use Rattle.ps_mon.proofs.PutLemmas.{index-inside}
 
 no-mimic : (P : Option ℕ → Type 0) → P None → (j : ℕ) → P (get_or (None ∷ None ∷ None ∷ None ∷ []) j None)
 no-mimic P none zero = none
@@ -56,29 +56,29 @@ came-side : (a : SideState) (p : ℕ) → 1 ≤ p → p ≤ a.count → IsSide a
 unfolding came_in
 came-side a p low high v = record {
   shape = came-shaped a p low high v.shape;
-  members = λ k h. at_one (λ i (m : Member). i < a.count → IsMember m) a.members (place_of a) (left (active_of a)) no_member (place-inside a v.shape)
-      (λ i. left-member (active_of a) (v.members (place_of a) i)) k (λ _. v.members k) h;
+  members = λ k h. at_one (λ i (m : Member). i < a.count → IsMember m) a.members (active_index a) (left (active_of a)) no_member (index-inside a v.shape)
+      (λ i. left-member (active_of a) (v.members (active_index a) i)) k (λ _. v.members k) h;
   vol = calm-fit;
 }
 
 came-known : (moves : ℕ) (a : SideState) (p : ℕ) → IsShaped a → IsSideKnown moves a → IsSideKnown moves (came_in a p)
 unfolding came_in
 came-known moves a p shape known = record {
-  members = λ k h. at_one (λ i (m : Member). i < a.count → AreOwnKnown moves m) a.members (place_of a) (left (active_of a)) no_member (place-inside a shape)
-      (λ i. known.members (place_of a) i) k (λ _. known.members k) h;
+  members = λ k h. at_one (λ i (m : Member). i < a.count → AreOwnKnown moves m) a.members (active_index a) (left (active_of a)) no_member (index-inside a shape)
+      (λ i. known.members (active_index a) i) k (λ _. known.members k) h;
   vol = calm-named moves;
 }
 
 came-standing : (a : SideState) (p : ℕ) → has_standing a ≡ true → has_standing (came_in a p) ≡ true
 unfolding came_in has_standing
-came-standing a p h = any-set (λ m. nat_lt 0 m.hp) a.members a.count (place_of a) (left (active_of a)) no_member (λ e. e) h
+came-standing a p h = any-set (λ m. nat_lt 0 m.hp) a.members a.count (active_index a) (left (active_of a)) no_member (λ e. e) h
 
 came-hp : (a : SideState) (p : ℕ) → 1 ≤ p → p ≤ a.count → IsShaped a → (active_of (came_in a p)).hp ≡ (member_at a p).hp
 unfolding came_in
 came-hp a p low high shape =
-    let first : place_of (came_in a p) ≡ get_or a.order (p - 1) 0 = swap-first a.order (p - 1) (omega (arith, shape.six_order, shape.count_high)) in
-    let hp : (k : ℕ) → (member_of (came_in a p) k).hp ≡ (member_of a k).hp = λ k. at_one (λ i (m : Member). m.hp ≡ (member_of a i).hp) a.members (place_of a) (left (active_of a)) no_member (place-inside a shape) refl k (λ _. refl) in
-    hp (place_of (came_in a p)) ∙ ap (λ i. (member_of a i).hp) first
+    let first : active_index (came_in a p) ≡ get_or a.order (p - 1) 0 = swap-first a.order (p - 1) (omega (arith, shape.six_order, shape.count_high)) in
+    let hp : (k : ℕ) → (member_of (came_in a p) k).hp ≡ (member_of a k).hp = λ k. at_one (λ i (m : Member). m.hp ≡ (member_of a i).hp) a.members (active_index a) (left (active_of a)) no_member (index-inside a shape) refl k (λ _. refl) in
+    hp (active_index (came_in a p)) ∙ ap (λ i. (member_of a i).hp) first
 
 let-go-fit : (P : Lock → Type 0) (kind : LockKind) (lock : Lock) → P lock → IfSome (let_go kind lock) P
 let-go-fit P (Charge away) lock h = h

@@ -1,4 +1,4 @@
--- Which choices are legal: the table of faults, a row each, the first that holds told.
+-- Which choices are legal: the table of faults, a row each, the first that holds reported.
 use Rattle.std.specs.Prelude.{◌≤◌, ◌≡◌, ℕ, Bool, true, false, Option, Some, None, is_some, ◌-◌, ◌||◌, ◌==◌, not, nat_lt}
 use Rattle.ps_mon.specs.declared.record.Battle.{Battle}
 use Rattle.ps_mon.specs.declared.record.SideState.{SideState}
@@ -27,14 +27,14 @@ wrong_phase (phases.Replace p1 p2) choice = true
 wrong_phase phase choice = false
 
 -- whether a member must go on with a long move, or recharge
-abbrev pub is_held : SideState → Bool
-is_held side = is_some side.vol.lock || side.vol.recharge
+abbrev pub is_locked : SideState → Bool
+is_locked side = is_some side.vol.lock || side.vol.recharge
 
--- in a turn, who is held doesn't go on, or who isn't does
+-- in a turn, who is locked into a move doesn't go on, or who isn't does
 abbrev pub locked : Phase → SideState → Choice → Bool
 locked (phases.Replace p1 p2) side choice = false
-locked phase side choices.Continue = not (is_held side)
-locked phase side choice = is_held side
+locked phase side choices.Continue = not (is_locked side)
+locked phase side choice = is_locked side
 
 -- there is no such slot, or Struggle is chosen while a slot is usable
 abbrev pub no_such_move : SideState → Choice → Bool

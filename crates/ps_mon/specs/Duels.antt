@@ -8,7 +8,7 @@ use Rattle.ps_mon.specs.declared.status.Status.{Status}
 use Rattle.ps_mon.specs.declared.status.Status.TheVariants.{Slp, Frz}
 use Rattle.ps_mon.specs.declared.duel.Fighter.{Fighter}
 use Rattle.ps_mon.specs.declared.duel.Duel.{Duel}
-use Rattle.ps_mon.specs.Reading.{side_of, place_of, member_of, active_of}
+use Rattle.ps_mon.specs.Reading.{side_of, active_index, member_of, active_of}
 use Rattle.ps_mon.specs.Slots.{is_ready, slot_count_now}
 use Rattle.ps_mon.specs.Valid.{AreStats, AreTypes, AreVolatiles}
 use Rattle.ps_mon.specs.Known.{AreNamed}
@@ -41,7 +41,7 @@ ready_of side = is_ready side 0 ∷ is_ready side 1 ∷ is_ready side 2 ∷ is_r
 unfoldable pub fighter_of : ℕ → SideState → Fighter
 fighter_of s side =
     let m = active_of side in
-    record { side = s; member = place_of side; level = m.level; types = m.types; stats = m.stats; base_speed = m.base_speed; hp = m.hp; max = m.max; status = m.status; counter = m.counter; rested = m.rested; vol = side.vol }
+    record { side = s; member = active_index side; level = m.level; types = m.types; stats = m.stats; base_speed = m.base_speed; hp = m.hp; max = m.max; status = m.status; counter = m.counter; rested = m.rested; vol = side.vol }
 
 -- a member with a fighter's numbers
 abbrev pub worn : Member → Fighter → Member
@@ -50,7 +50,7 @@ worn m f = record m { level = f.level; types = f.types; stats = f.stats; base_sp
 -- the side with its active member as in the duel; its slots, and what changed them, stay
 unfoldable pub with_fighter : SideState → Fighter → SideState
 with_fighter side f =
-    record side { members = slice_set side.members (place_of side) (worn (active_of side) f); vol = record f.vol { slots = side.vol.slots } }
+    record side { members = slice_set side.members (active_index side) (worn (active_of side) f); vol = record f.vol { slots = side.vol.slots } }
 
 -- the duel of side s against the other
 unfoldable pub duel_of : Battle → ℕ → Duel

@@ -10,3 +10,4 @@ pub mod Keeping
 pub mod Duels
 pub mod Spending
 pub mod Switching
+pub mod Clauses

@@ -3,11 +3,11 @@ use Rattle.std.specs.Prelude.{◌≡◌, ◌⊎◌, ℕ, ◌<◌, ◌==◌, List
 use Rattle.ps_mon.specs.declared.facts.MoveData.{MoveData}
 use Rattle.ps_mon.specs.Facts.{Figures, factor_at}
 
--- Struggle's number, past the place of every move of a dex
+-- Struggle's number, past the index of every move of a dex
 abbrev pub struggle_number : ℕ
 struggle_number = 1024
 
--- the move of that number; past the places of the dex stands Struggle
+-- the move of that number; past the indices of the dex stands Struggle
 abbrev pub move_of : Figures → ℕ → MoveData
 move_of facts mv = slice_index_or facts.moves mv facts.struggle
 

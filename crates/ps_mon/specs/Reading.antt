@@ -32,16 +32,16 @@ no_side = record { members = []; count = 0; order = []; vol = no_volatiles }
 abbrev pub side_of : Battle → ℕ → SideState
 side_of b s = slice_index_or b.sides s no_side
 
--- a member by its place in the team
+-- a member by its index in the team
 abbrev pub member_of : SideState → ℕ → Member
 member_of side k = slice_index_or side.members k no_member
 
--- the active member's place: the first in the order
-abbrev pub place_of : SideState → ℕ
-place_of side = slice_index side.order 0
+-- the active member's index: the first in the order
+abbrev pub active_index : SideState → ℕ
+active_index side = slice_index side.order 0
 
 abbrev pub active_of : SideState → Member
-active_of side = member_of side (place_of side)
+active_of side = member_of side (active_index side)
 
 -- the member at a position, which counts from 1
 abbrev pub member_at : SideState → ℕ → Member

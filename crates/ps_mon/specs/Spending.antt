@@ -5,7 +5,7 @@ use Rattle.ps_mon.specs.declared.record.SideState.{SideState}
 use Rattle.ps_mon.specs.declared.record.CopiedSlots.{CopiedSlots}
 use Rattle.ps_mon.specs.declared.team.Member.{Member}
 use Rattle.ps_mon.specs.declared.team.MoveSlot.{MoveSlot}
-use Rattle.ps_mon.specs.Reading.{side_of, place_of, active_of, slot_of, no_slot}
+use Rattle.ps_mon.specs.Reading.{side_of, active_index, active_of, slot_of, no_slot}
 
 abbrev pub spent : MoveSlot → MoveSlot
 spent slot = record slot { pp = slot.pp - 1 }
@@ -19,7 +19,7 @@ copied_after_use copied j = record copied { slots = slice_set copied.slots j (sp
 -- PP falls in the copied slots alone where there are such, else in the member's own
 abbrev pub use_in_force : Option CopiedSlots → SideState → ℕ → SideState
 use_in_force None side j =
-    record side { members = slice_set side.members (place_of side) (with_use (active_of side) j) }
+    record side { members = slice_set side.members (active_index side) (with_use (active_of side) j) }
 use_in_force (Some copied) side j =
     record side { vol = record side.vol { slots = record side.vol.slots { copied = Some (copied_after_use copied j) } } }
 

@@ -9,21 +9,21 @@ use Rattle.ps_mon.specs.declared.record.LockKind.TheVariants.{Trap}
 use Rattle.ps_mon.specs.declared.team.Member.{Member}
 use Rattle.ps_mon.specs.declared.status.Status.{Status}
 use Rattle.ps_mon.specs.declared.status.Status.TheVariants.{Psn, Tox}
-use Rattle.ps_mon.specs.Reading.{side_of, place_of, active_of}
+use Rattle.ps_mon.specs.Reading.{side_of, active_index, active_of}
 use Rattle.ps_mon.specs.Teams.{calm}
 
 -- bad poison becomes a plain one
-abbrev pub after_leaving : Status → Status
-after_leaving Tox = Psn
-after_leaving status = status
+abbrev pub milder : Status → Status
+milder Tox = Psn
+milder status = status
 
 abbrev pub left : Member → Member
-left m = record m { status = after_leaving m.status }
+left m = record m { status = milder m.status }
 
 -- the member at a position, which counts from 1, comes in
 unfoldable pub came_in : SideState → ℕ → SideState
 came_in side position =
-    record side { order = swap side.order 0 (position - 1); members = slice_set side.members (place_of side) (left (active_of side)); vol = calm }
+    record side { order = swap side.order 0 (position - 1); members = slice_set side.members (active_index side) (left (active_of side)); vol = calm }
 
 -- a trap's lock ends, no other
 abbrev pub let_go : LockKind → Lock → Option Lock
@@ -37,7 +37,7 @@ without_trap (Some lock) = let_go lock.kind lock
 unfoldable pub released : SideState → SideState
 released side = record side { vol = record side.vol { lock = without_trap side.vol.lock } }
 
--- side s has sent in the member at a position, which the foe's trap held no more
+-- side s has sent in the member at a position, which the foe's trap kept in no more
 unfoldable pub with_switch : Battle → ℕ → ℕ → Battle
 with_switch b s position =
     record b { sides = slice_set (slice_set b.sides s (came_in (side_of b s) position)) (1 - s) (released (side_of b (1 - s))) }

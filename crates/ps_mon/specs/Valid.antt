@@ -79,7 +79,7 @@ pub record IsMember (m : Member) : Type 0 where
   pub slot_count_high : m.slot_count ≤ 4
   pub pp : (j : ℕ) → j < m.slot_count → (slot_of m j).pp ≤ (slot_of m j).max_pp
 
--- a side's places: 1 to 6 members, and an order that has each of them once
+-- a side's order: 1 to 6 members, and an order that has each of them once
 pub record IsShaped (side : SideState) : Type 0 where
   pub six : length side.members ≡ 6
   pub six_order : length side.order ≡ 6

@@ -15,7 +15,7 @@ use crate::status::Status;
 pub struct Fighter {
     /// Its side: 0 is P1's, 1 is P2's.
     pub side: u8,
-    /// Its place in the team, from 0.
+    /// Its index in the team, from 0.
     pub member: u8,
     /// 1 to 100.
     pub level: u8,
@@ -94,8 +94,8 @@ fn put_fighter(side: &mut SideState, f: &Fighter)
     requires side { IsSide side.old }
     ensures value { side.new ≡ with_fighter side.old f.now }
 {
-    let place = side.order[0] as usize;
-    let m = &mut side.members[place];
+    let index = side.order[0] as usize;
+    let m = &mut side.members[index];
     m.level = f.level;
     let types = f.types;
     m.types = types;
@@ -112,19 +112,19 @@ fn put_fighter(side: &mut SideState, f: &Fighter)
     side.vol.slots = slots;
 }
 
-fn sleeps_at(side: &SideState, place: u8) -> bool
-    ensures { result ≡ sleeps (member_of side.now place) }
+fn sleeps_at(side: &SideState, index: u8) -> bool
+    ensures { result ≡ sleeps (member_of side.now index) }
 {
-    match side.members.get(place as usize) {
+    match side.members.get(index as usize) {
         None => false,
         Some(m) => m.status == Status::Slp && m.hp > 0 && !m.rested,
     }
 }
 
-fn freezes_at(side: &SideState, place: u8) -> bool
-    ensures { result ≡ freezes (member_of side.now place) }
+fn freezes_at(side: &SideState, index: u8) -> bool
+    ensures { result ≡ freezes (member_of side.now index) }
 {
-    match side.members.get(place as usize) {
+    match side.members.get(index as usize) {
         None => false,
         Some(m) => m.status == Status::Frz && m.hp > 0,
     }
@@ -135,7 +135,7 @@ fn bench_sleeps(side: &SideState) -> bool
     ensures { result ≡ bench_has sleeps side.now }
 {
     let bench = &side.order[1..side.count as usize];
-    bench.iter().any(|place| sleeps_at(side, *place))
+    bench.iter().any(|index| sleeps_at(side, *index))
 }
 
 fn bench_freezes(side: &SideState) -> bool
@@ -143,7 +143,7 @@ fn bench_freezes(side: &SideState) -> bool
     ensures { result ≡ bench_has freezes side.now }
 {
     let bench = &side.order[1..side.count as usize];
-    bench.iter().any(|place| freezes_at(side, *place))
+    bench.iter().any(|index| freezes_at(side, *index))
 }
 
 impl Battle {

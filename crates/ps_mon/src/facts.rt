@@ -4,7 +4,7 @@ ghost use Rattle.ps_mon.specs.Facts.{struggle};
 
 use crate::effect::Effect;
 
-/// The number of Struggle, past the place of every move of a dex.
+/// The number of Struggle, past the index of every move of a dex.
 pub const STRUGGLE: u16 = 1_024;
 
 /// The numbers of a move.
@@ -30,13 +30,13 @@ pub struct MoveData {
     pub effect: Effect,
 }
 
-/// The factor of an attacking type (first place) on a defending one, in tenths: 0, 5, 10 or 20.
+/// The factor of an attacking type (first index) on a defending one, in tenths: 0, 5, 10 or 20.
 pub type Factors = [[u8; 32]; 32];
 
 /// What is known of moves and types.
 #[derive(Clone, Copy, Debug)]
 pub struct Facts<'a> {
-    /// The moves of the dex, by their places: at most 1,024.
+    /// The moves of the dex, by their indices: at most 1,024.
     pub moves: &'a [MoveData],
     /// The factors of all types.
     pub factors: &'a Factors,

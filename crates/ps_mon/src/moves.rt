@@ -5,7 +5,7 @@ ghost use Rattle.ps_mon.specs.Moves.{move_of, factors_on, move_factors};
 
 use crate::facts::{Facts, MoveData, STRUGGLE};
 
-/// The numbers of a move; Struggle's past the places of the dex.
+/// The numbers of a move; Struggle's past the indices of the dex.
 #[tactic(auto, unfolding(crate::specs::Facts::figures))]
 pub fn move_data(facts: Facts<'_>, mv: u16) -> MoveData
     requires { AreFair (figures facts) }
@@ -28,17 +28,17 @@ fn type_factors(facts: Facts<'_>, kind: u8, types: [u8; 2]) -> [u8; 2]
     ensures first { slice_index result 0 ≤ 20 }
     ensures second { slice_index result 1 ≤ 20 }
 {
-    let row = facts.factors[kind as usize];
-    let one = row[types[0] as usize];
+    let tenths = facts.factors[kind as usize];
+    let one = tenths[types[0] as usize];
     let two = if types[0] == types[1] {
         10
     } else {
-        row[types[1] as usize]
+        tenths[types[1] as usize]
     };
     [one, two]
 }
 
-/// What a move's type does to each of two types, in tenths: 0, 5, 10 or 20. Who has one type has it at both places, and the
+/// What a move's type does to each of two types, in tenths: 0, 5, 10 or 20. Who has one type has it twice, and the
 /// second factor is then 10. Struggle does 10 to every type.
 #[tactic(auto, unfolding(crate::specs::Moves::move_factors))]
 pub fn factors(facts: Facts<'_>, mv: u16, types: [u8; 2]) -> [u8; 2]

@@ -39,7 +39,7 @@ pub enum LockKind {
 pub struct Lock {
     /// Which kind of move it is.
     pub kind: LockKind,
-    /// The move: a place in the dex.
+    /// The move: an index in the dex.
     pub mv: u16,
     /// How many acts are left, at most 4; 0 for one without end.
     pub turns: u8,
@@ -63,7 +63,7 @@ pub struct Disabled {
 pub struct Taken {
     /// The health that it lost, at most 713.
     pub damage: u16,
-    /// The move that did it: a place in the dex, or Struggle's number.
+    /// The move that did it: an index in the dex, or Struggle's number.
     pub mv: u16,
 }
 
@@ -120,7 +120,7 @@ pub struct Volatiles {
     pub slots: ChangedSlots,
     /// How often bad poison has hurt it, at most 15.
     pub toxic: u8,
-    /// The move that it used last: a place in the dex, or Struggle's number.
+    /// The move that it used last: an index in the dex, or Struggle's number.
     pub last: Option<u16>,
     /// The last damage that it took in this turn.
     pub taken: Option<Taken>,
@@ -133,7 +133,7 @@ pub struct SideState {
     pub members: [Member; 6],
     /// How many members there are, 1 to 6.
     pub count: u8,
-    /// The places of the members in their order now. The first, position 1, is active; those from `count` on mean nothing.
+    /// The indices of the members in their order now. The first, position 1, is active; those from `count` on mean nothing.
     pub order: [u8; 6],
     /// What a switch of the active member ends.
     pub vol: Volatiles,

@@ -4,14 +4,14 @@ ghost use Rattle.ps_mon.specs.Valid.{IsSound, IsSide, has_standing};
 ghost use Rattle.ps_mon.specs.Known.{AreKnown};
 ghost use Rattle.ps_mon.specs.Reading.{side_of, active_of, member_at};
 ghost use Rattle.ps_mon.specs.Keeping.{Keeps};
-ghost use Rattle.ps_mon.specs.Switching.{after_leaving, came_in, without_trap, released, with_switch};
+ghost use Rattle.ps_mon.specs.Switching.{milder, came_in, without_trap, released, with_switch};
 
 use crate::opening::CALM;
 use crate::record::{Battle, Lock, LockKind, SideState};
 use crate::status::Status;
 
 fn status_after_leaving(status: Status) -> Status
-    ensures { result ≡ after_leaving status }
+    ensures { result ≡ milder status }
 {
     match status {
         Status::Tox => Status::Psn,
@@ -26,8 +26,8 @@ fn come_in(side: &mut SideState, position: u8)
     requires high { position ≤ side.old.count }
     ensures { side.new ≡ came_in side.old position }
 {
-    let place = side.order[0] as usize;
-    side.members[place].status = status_after_leaving(side.members[place].status);
+    let index = side.order[0] as usize;
+    side.members[index].status = status_after_leaving(side.members[index].status);
     side.order.swap(0, position as usize - 1);
     side.vol = CALM;
 }

@@ -4,7 +4,7 @@ use crate::status::Status;
 /// A move that a member knows.
 #[derive(Clone, Copy, Debug, PartialEq, Eq)]
 pub struct MoveSlot {
-    /// The move's number: its place in the dex.
+    /// The move's number: its index in the dex.
     pub mv: u16,
     /// How often it can still be used.
     pub pp: u8,
@@ -15,11 +15,11 @@ pub struct MoveSlot {
 /// A member of a team.
 #[derive(Clone, Copy, Debug, PartialEq, Eq)]
 pub struct Member {
-    /// The species' number: its place in the dex.
+    /// The species' number: its index in the dex.
     pub species: u16,
     /// 1 to 100.
     pub level: u8,
-    /// Its types' numbers, below 32. A member of one type has it at both places.
+    /// Its types' numbers, below 32. A member of one type has it twice.
     pub types: [u8; 2],
     /// Attack, Defense, Special and Speed, each 1 to 999.
     pub stats: [u16; 4],

@@ -10,7 +10,7 @@ use Rattle.ps_mon.specs.declared.record.LockKind.{LockKind}
 use Rattle.ps_mon.specs.declared.record.LockKind.TheVariants.{Charge}
 use Rattle.ps_hits.specs.declared.strike.Struck.{Struck}
 use Rattle.ps_hits.specs.declared.strike.Struck.TheVariants.{NoEffect, Missed, Hit}
-use Rattle.ps_hits.specs.Scenes.{Play, ◌>>=◌, ◌>>◌, give, look, tell, change, choose}
+use Rattle.ps_hits.specs.Scenes.{Play, ◌>>=◌, ◌>>◌, give, duel_now, tell, change, choose}
 use Rattle.ps_hits.specs.Told.{who_of}
 use Rattle.ps_hits.specs.Strikes.{strike_with}
 
@@ -34,7 +34,7 @@ has_prepared (Some lock) = is_charge lock.kind
 -- the act before the strike
 unfoldable pub prepare : Bool → ℕ → Play (Unit {0})
 prepare away mv = do
-  d ← look
+  d ← duel_now
   tell (events.Prepare (who_of d.user) mv)
   lock_user (Some (new_lock (Charge away) mv 1 0))
 
@@ -47,7 +47,7 @@ charged_strike facts mv = do
 -- charge: first Prepare and a lock, out of reach if the move says so; then the strike, and the lock ends
 unfoldable pub charge_row : Bool → Figures → ℕ → Play (Unit {0})
 charge_row away facts mv = do
-  d ← look
+  d ← duel_now
   choose (has_prepared d.user.vol.lock) (charged_strike facts mv) (prepare away mv)
 
 -- what the call does for a move of that kind; for another kind nothing
@@ -65,12 +65,12 @@ wears_out (Hit dealt) d = nat_lt 0 d.foe.hp && not dealt.ended
 unfoldable pub tire : Play (Unit {0})
 tire = do
   change (λ d. record d { user = record d.user { vol = record d.user.vol { recharge = true } } })
-  d ← look
+  d ← duel_now
   tell (events.MustRecharge (who_of d.user))
 
 -- recharge: a strike; the user must recharge where it hit, the foe stands and no substitute ended
 unfoldable pub recharge_row : Figures → ℕ → Play (Unit {0})
 recharge_row facts mv = do
   struck ← strike_with facts mv false
-  d ← look
+  d ← duel_now
   choose (wears_out struck d) tire (give tt)

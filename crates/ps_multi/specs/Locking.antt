@@ -9,7 +9,7 @@ use Rattle.ps_mon.specs.declared.record.LockKind.TheVariants.{Trap, Thrash, Bide
 use Rattle.ps_hits.specs.declared.strike.Dealt.{Dealt}
 use Rattle.ps_hits.specs.declared.strike.Struck.{Struck}
 use Rattle.ps_hits.specs.declared.strike.Struck.TheVariants.{NoEffect, Missed, Hit}
-use Rattle.ps_hits.specs.Scenes.{Play, ◌>>=◌, ◌>>◌, give, look, tell, change, choose, draw}
+use Rattle.ps_hits.specs.Scenes.{Play, ◌>>=◌, ◌>>◌, give, duel_now, tell, change, choose, draw}
 use Rattle.ps_hits.specs.Told.{who_of}
 use Rattle.ps_hits.specs.Strikes.{deal, strike_with}
 use Rattle.ps_hits.specs.Amounts.{deal_alone}
@@ -55,7 +55,7 @@ unfoldable pub trap_after : ℕ → Struck → Play (Unit {0})
 trap_after mv NoEffect = give tt
 trap_after mv Missed = give tt
 trap_after mv (Hit dealt) = do
-  d ← look
+  d ← duel_now
   choose (d.foe.hp == 0) (give tt) (trap_foe mv dealt)
 
 -- a trap begins: a strike, and the foe is trapped
@@ -67,7 +67,7 @@ trap_begins facts mv = do
 -- a trap ends with its last act, and where the foe has fainted
 unfoldable pub trap_wears_off : Lock → Play (Unit {0})
 trap_wears_off lock = do
-  d ← look
+  d ← duel_now
   choose (lock.turns == 0 || d.foe.hp == 0) (lock_user None) (lock_user (Some lock))
 
 -- a trap goes on: the damage of its strike is dealt again
@@ -83,13 +83,13 @@ trap_by (Some lock) facts mv = trap_goes_on mv lock
 -- trap: a strike that traps the foe; then its damage again in each act, without a test
 unfoldable pub trap_row : Figures → ℕ → Play (Unit {0})
 trap_row facts mv = do
-  d ← look
+  d ← duel_now
   trap_by (own_lock is_trap d.user.vol.lock) facts mv
 
 -- the user is confused for 2 to 5 acts, where it can be
 unfoldable pub grow_dizzy : Play (Unit {0})
 grow_dizzy = do
-  d ← look
+  d ← duel_now
   choose (stays_sane d.user) (give tt) do
     n ← draw 4
     change (λ d. record d { user = confused (2 + n) d.user })
@@ -104,7 +104,7 @@ thrash_wears_off lock = choose (lock.turns == 0) (do
 -- thrash: a strike in each of 3 or 4 acts, of which this may be the first; it goes on though the strike misses
 unfoldable pub thrash_row : Figures → ℕ → Play (Unit {0})
 thrash_row facts mv = do
-  d ← look
+  d ← duel_now
   lock ← lock_or_new Thrash 3 mv (own_lock is_thrash d.user.vol.lock)
   struck ← strike_with facts mv false
   thrash_wears_off (one_act_less lock)
@@ -113,21 +113,21 @@ thrash_row facts mv = do
 unfoldable pub bide_on : Lock → Play (Unit {0})
 bide_on lock = do
   lock_user (Some (one_act_less lock))
-  d ← look
+  d ← duel_now
   tell (events.Activate (who_of d.user) effect_bide None)
 
 -- the act after the last: the lock ends, and twice of what it has stored is dealt, without a test; Fail where that is nothing
 unfoldable pub bide_ends : ℕ → Lock → Play (Unit {0})
 bide_ends mv lock = do
   lock_user None
-  d ← look
+  d ← duel_now
   tell (events.VolEnd (who_of d.user) effect_bide)
   choose (lock.stored == 0) (tell (events.Fail (who_of d.user))) (deal_alone mv (2 * lock.stored))
 
 -- bide: 2 or 3 acts, of which this may be the first, and then the release
 unfoldable pub bide_row : ℕ → Play (Unit {0})
 bide_row mv = do
-  d ← look
+  d ← duel_now
   lock ← lock_or_new Bide 2 mv (own_lock is_bide d.user.vol.lock)
   choose (lock.turns == 0) (bide_ends mv lock) (bide_on lock)
 

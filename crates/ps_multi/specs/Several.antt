@@ -10,7 +10,7 @@ use Rattle.ps_mon.specs.Moves.{move_of}
 use Rattle.ps_hits.specs.declared.strike.Dealt.{Dealt}
 use Rattle.ps_hits.specs.declared.strike.Struck.{Struck}
 use Rattle.ps_hits.specs.declared.strike.Struck.TheVariants.{NoEffect, Missed, Hit}
-use Rattle.ps_hits.specs.Scenes.{Play, ◌>>=◌, ◌>>◌, give, look, tell, choose, draw}
+use Rattle.ps_hits.specs.Scenes.{Play, ◌>>=◌, ◌>>◌, give, duel_now, tell, choose, draw}
 use Rattle.ps_hits.specs.Told.{who_of}
 use Rattle.ps_hits.specs.Strikes.{deal, strike_with}
 use Rattle.ps_status.specs.Seconds.{second}
@@ -28,7 +28,7 @@ is_last dealt d = dealt.ended || d.foe.hp == 0
 unfoldable pub further_hits : ℕ → ℕ → Dealt → Play ℕ
 further_hits zero mv dealt = give 0
 further_hits (suc n) mv dealt = do
-  d ← look
+  d ← duel_now
   choose (is_last dealt d) (give 0) do
     again ← deal mv dealt.damage
     more ← further_hits n mv again
@@ -38,7 +38,7 @@ further_hits (suc n) mv dealt = do
 unfoldable pub hits_in_all : ℕ → ℕ → Dealt → Play (Unit {0})
 hits_in_all n mv first = do
   more ← further_hits (n - 1) mv first
-  d ← look
+  d ← duel_now
   tell (events.HitCount (who_of d.foe) (1 + more))
 
 unfoldable pub multi_after : ℕ → Struck → Play (Unit {0})

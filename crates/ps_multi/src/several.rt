@@ -21,7 +21,7 @@ use ps_mon::moves::move_data;
 use ps_mon::record::Battle;
 use ps_mon::status::Status;
 use ps_status::afflicting::try_second;
-use ps_status::seconds::hurts;
+use ps_status::seconds::comes;
 
 pub(crate) fn hit_number(drawn: u32) -> u8
     requires { drawn < 8 }
@@ -163,10 +163,7 @@ fn double_duel(
 {
     let struck = strike_foe_with(duel, facts, mv, false, out);
     hit_twice(duel, mv, struck, out);
-    if !hurts(struck, duel) {
-        return;
-    }
-    if draw(duel, 256) >= u32::from(chance) {
+    if !comes(duel, struck, chance) {
         return;
     }
     try_second(duel, status, &move_data(facts, mv), out);

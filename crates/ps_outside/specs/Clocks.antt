@@ -19,12 +19,12 @@ after_calls hours (suc n) = after_calls (later hours) n
 abbrev pub moment_at : ℕ × List ℕ → ℕ → ℕ
 moment_at hours n = now_of (after_calls hours n)
 
--- where the moments are told, the first of them
+-- where the moments are known, the first of them
 abbrev pub IsNow : Option (ℕ × List ℕ) → ℕ → Type 0
 IsNow None moment = Unit {0}
 IsNow (Some hours) moment = moment ≡ now_of hours
 
--- what a call leaves, where the moments are told
+-- what a call leaves, where the moments are known
 abbrev pub after_now : Option (ℕ × List ℕ) → Option (ℕ × List ℕ)
 after_now None = None
 after_now (Some hours) = Some (later hours)

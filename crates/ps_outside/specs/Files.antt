@@ -17,22 +17,22 @@ abbrev pub no_counts : FileCounts
 no_counts = record { missing = 0; long = 0; faults = 0 }
 
 -- the bytes of the first file of this name
-abbrev pub look_up : List NamedFile → List ℕ → Option (List ℕ)
-look_up [] name = None
-look_up (f ∷ fs) name = if bytes_eq f.name name then Some f.bytes else look_up fs name
+abbrev pub lookup : List NamedFile → List ℕ → Option (List ℕ)
+lookup [] name = None
+lookup (f ∷ fs) name = if bytes_eq f.name name then Some f.bytes else lookup fs name
 
 -- the file of this name has these bytes, within the limit
-pub record IsFile (name : List ℕ) (limit : ℕ) (bytes : List ℕ) (look : List ℕ → Option (List ℕ)) : Type 0 where
-  pub there : look name ≡ Some bytes
+pub record IsFile (name : List ℕ) (limit : ℕ) (bytes : List ℕ) (lookup : List ℕ → Option (List ℕ)) : Type 0 where
+  pub there : lookup name ≡ Some bytes
   pub within : length bytes ≤ limit
 
--- where what is held is told: Missing only where there is no such file, TooLong only where it has too many bytes
+-- where the contents are known: Missing only where there is no such file, TooLong only where it has too many bytes
 abbrev pub IsFileEnd : {T : Type 0} → Option (List ℕ → Option (List ℕ)) → List ℕ → ℕ → Result T FileEnd → Type 0
-IsFileEnd held name limit (Ok bytes) = Unit {0}
-IsFileEnd held name limit (Err Missing) = IfSome held (λ look. look name ≡ None)
-IsFileEnd held name limit (Err TooLong) = IfSome held (λ look. IsSomeAnd (look name) (λ bytes. limit < length bytes))
-IsFileEnd held name limit (Err Failed) = Unit {0}
-IsFileEnd held name limit (Err NoMemory) = Unit {0}
+IsFileEnd contents name limit (Ok bytes) = Unit {0}
+IsFileEnd contents name limit (Err Missing) = IfSome contents (λ lookup. lookup name ≡ None)
+IsFileEnd contents name limit (Err TooLong) = IfSome contents (λ lookup. IsSomeAnd (lookup name) (λ bytes. limit < length bytes))
+IsFileEnd contents name limit (Err Failed) = Unit {0}
+IsFileEnd contents name limit (Err NoMemory) = Unit {0}
 
 -- a count rose, and the other two stayed
 pub record OnlyRose (old new other_old other_new third_old third_new : ℕ) : Type 0 where

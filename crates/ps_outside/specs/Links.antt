@@ -32,7 +32,7 @@ IsAnswer inbox End = inbox ≡ []
 IsAnswer inbox Failed = Unit {0}
 IsAnswer inbox NoMemory = Unit {0}
 
--- the same, where the talk is told
+-- the same, where the talk is known
 abbrev pub IsNext : Option Talk → Next → Type 0
 IsNext None next = Unit {0}
 IsNext (Some talk) next = IsAnswer talk.inbox next
@@ -45,7 +45,7 @@ talk_after End talk = talk
 talk_after Failed talk = talk
 talk_after NoMemory talk = talk
 
--- the same, where the talk is told
+-- the same, where the talk is known
 abbrev pub after_next : Next → Option Talk → Option Talk
 after_next next None = None
 after_next next (Some talk) = Some (talk_after next talk)
@@ -54,7 +54,7 @@ after_next next (Some talk) = Some (talk_after next talk)
 abbrev pub with_text : List ℕ → Talk → Talk
 with_text text talk = record talk { sent = talk.sent ++ record { text = text; after = talk.answers } ∷ [] }
 
--- what was sent is kept, where the talk is told
+-- what was sent is kept, where the talk is known
 abbrev pub after_text : List ℕ → Option Talk → Option Talk
 after_text text None = None
 after_text text (Some talk) = Some (with_text text talk)

@@ -3,7 +3,7 @@ ghost use Rattle.std.specs.Prelude.{◌≡◌, ◌≤◌, None, length, IfOk, If
 ghost use Rattle.ps_outside.specs.Files.{FileCounts, no_counts};
 ghost use Rattle.ps_outside.specs.HostReads.{IsReadEnd};
 
-use crate::files::{FileEnd, Files};
+use crate::files::{FileEnd, Files, Tally};
 use std::alloc::Global;
 use std::io::{ErrorKind, Read};
 use std::marker::Model;
@@ -57,15 +57,13 @@ fn read_file<R: rt::Files>(
     }
 }
 
-/// The files of the host by their paths. It tells nothing of what they hold. Missing is the host's
+/// The files of the host by their paths. Nothing of their contents is known. Missing is the host's
 /// answer that there is no such file; every other failure to open or to read is a fault, also of a
 /// folder and of a name below what is no folder.
 #[derive(Drop)]
 pub struct HostFiles<'a, R: rt::Files> {
     host: &'a R,
-    missing: u64,
-    long: u64,
-    faults: u64,
+    tally: Tally,
 }
 
 impl<'a, R: rt::Files> Model for HostFiles<'a, R> {
@@ -73,7 +71,7 @@ impl<'a, R: rt::Files> Model for HostFiles<'a, R> {
 
     ghost Value = { FileCounts };
 
-    ghost view = { λ f. record { missing = f.missing; long = f.long; faults = f.faults } };
+    ghost view = { λ f. f.tally };
 }
 
 impl<'a, R: rt::Files> HostFiles<'a, R> {
@@ -83,34 +81,19 @@ impl<'a, R: rt::Files> HostFiles<'a, R> {
     {
         HostFiles {
             host,
-            missing: 0,
-            long: 0,
-            faults: 0,
+            tally: Tally::new(),
         }
     }
 }
 
 impl<R: rt::Files> Files for HostFiles<'_, R> {
-    ghost held = { λ _. None };
+    ghost contents = { λ _. None };
 
     ghost counts = { λ f. f };
 
     fn read(&mut self, alloc: Global, name: &str, limit: u32) -> Result<Vec<u8>, FileEnd> {
-        match read_file(self.host, alloc, name, limit) {
-            Ok(bytes) => Ok(bytes),
-            Err(FileEnd::Missing) => {
-                self.missing = self.missing.saturating_add(1);
-                Err(FileEnd::Missing)
-            }
-            Err(FileEnd::TooLong) => {
-                self.long = self.long.saturating_add(1);
-                Err(FileEnd::TooLong)
-            }
-            Err(FileEnd::Failed) => {
-                self.faults = self.faults.saturating_add(1);
-                Err(FileEnd::Failed)
-            }
-            Err(FileEnd::NoMemory) => Err(FileEnd::NoMemory),
-        }
+        let read = read_file(self.host, alloc, name, limit);
+        self.tally.count(&read);
+        read
     }
 }

@@ -1,8 +1,8 @@
 //! What psd needs of the outside, as traits, with versions in memory and over std.
 //!
 //! Each trait has a count of faults, which never falls, and answers `Failed` only where that count
-//! rose in the call. What an object holds is told or not: the versions in memory tell it, and the
-//! adapters to the real outside tell nothing that std doesn't.
+//! rose in the call. What an object holds is known to contracts or not: the versions in memory make it known, and the
+//! adapters to the real outside make nothing known that std doesn't.
 #![tactic(auto)]
 
 pub mod clock;

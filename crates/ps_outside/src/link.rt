@@ -53,14 +53,14 @@ pub struct SentText {
 /// One connection.
 pub trait Link {
     /// The inbox that is left, how many Texts and Quiets were answered, and the texts that were
-    /// sent, each with that number before it, where the link tells them.
+    /// sent, each with that number before it, where the link makes them known.
     ghost talk: { Self → Option Talk };
 
     /// How often it has failed, was quiet, and was at its end. Each count stands still at the last
     /// value of a `u64`.
     ghost counts: { Self → LinkCounts };
 
-    /// What comes next. Where the talk is told, Text and Quiet are the first item of the inbox,
+    /// What comes next. Where the talk is known, Text and Quiet are the first item of the inbox,
     /// which leaves it, and End is answered only at an empty one. Quiet, End and Failed come only
     /// where the count of each rose.
     fn next(&mut self) -> Next

@@ -12,7 +12,7 @@ use std::marker::Model;
 
 /// A stream of bytes that is written once, from its front.
 pub trait Sink {
-    /// The bytes that were written, where the sink tells them.
+    /// The bytes that were written, where the sink makes them known.
     ghost written: { Self → Option (List ℕ) };
 
     /// How often it has failed. The count stands still at the last value of a `u64`.

@@ -11,7 +11,7 @@ use std::marker::Model;
 
 /// A stream of bytes that is read once, from its front to its end.
 pub trait Source {
-    /// The bytes that are left, where the source tells them.
+    /// The bytes that are left, where the source makes them known.
     ghost left: { Self → Option (List ℕ) };
 
     /// How often it has failed. The count stands still at the last value of a `u64`.

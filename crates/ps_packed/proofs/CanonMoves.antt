@@ -1,15 +1,15 @@
 -- The canonical text of moves.
 use Rattle.std.proofs.Common.{◌≡◌, ◌≢◌, ℕ, suc, ◌<◌, ◌≤◌, ◌==◌, ◌&&◌, Bool, true, false, not, cond, leb, List, [], ◌∷◌, length, map, filter, refl, sym, ap, ◌∙◌, inl, inr, ◌⊎◌, arith}
 use Rattle.std.specs.List.{list_all, list_any, AllByRecursion, join_with_byte}
-use Rattle.std.proofs.lemmas.Bool.{leb-true, le-leb, ne_eqb, lt-leb, lt-ltb}
+use Rattle.std.proofs.lemmas.Bool.{leb-true, le-leb, ne_eqb, lt-leb, lt-ltb, and_parts, or_cases, and_from}
 use Rattle.std.proofs.lemmas.List.Folds.{list_all-append}
 use Rattle.std.proofs.lemmas.List.Splits.{join_with_byte-slice_split}
 use Rattle.std.proofs.Math.Bool.{and-false}
 use Rattle.ps_base.specs.Ids.{lower, is_id_byte, id_of}
+use Rattle.ps_base.proofs.IdLemmas.{length-id_of}
 use Rattle.ps_packed.specs.Forms.{is_field_char, moves, parts, is_id_letter, has_id, are_short, id_count, ids_of, in_form}
 use Rattle.ps_packed.specs.Packed.{bytes_of}
 use Rattle.ps_packed.specs.Canon.{moves_text}
-use Rattle.ps_packed.proofs.Truths.{and_true, or_true, both}
 use Rattle.ps_packed.proofs.Laws.{is_low}
 use Rattle.ps_packed.proofs.MoveLaws.{IsMoves, moves_facts, moves_made}
 use Rattle.ps_packed.proofs.Unique.{Lacks, split_join}
@@ -28,15 +28,15 @@ record IdByte (b : ℕ) : Type 0 where
   pub no_comma : not (b == 44) ≡ true
 
 range_of : (b : ℕ) → is_id_byte b ≡ true → ((97 ≤ b) × (b ≤ 122)) ⊎ ((48 ≤ b) × (b ≤ 57))
-range_of b e = elim (or_true (leb 97 b && leb b 122) (leb 48 b && leb b 57) e) [
-  | inl h ↦ (let a = and_true (leb 97 b) (leb b 122) h in inl (leb-true _ _ a.0, leb-true _ _ a.1))
-  | inr h ↦ (let a = and_true (leb 48 b) (leb b 57) h in inr (leb-true _ _ a.0, leb-true _ _ a.1))
+range_of b e = elim (or_cases (leb 97 b && leb b 122) (leb 48 b && leb b 57) e) [
+  | inl h ↦ (let a = and_parts (leb 97 b) (leb b 122) h in inl (leb-true _ _ a.0, leb-true _ _ a.1))
+  | inr h ↦ (let a = and_parts (leb 48 b) (leb b 57) h in inr (leb-true _ _ a.0, leb-true _ _ a.1))
 ]
 
 made_byte : (b : ℕ) → 48 ≤ b → b ≤ 122 → b ≢ 93 → (leb 65 b && leb b 90) ≡ false → IdByte b
 made_byte b le most ne small = record {
   stays = rw small refl;
-  field = both _ _ (both _ _ (le-leb _ _ (omega (arith, le))) (ap not (ne_eqb b 124 (λ z. omega (arith, z, most))))) (ap not (ne_eqb b 93 ne));
+  field = and_from _ _ (and_from _ _ (le-leb _ _ (omega (arith, le))) (ap not (ne_eqb b 124 (λ z. omega (arith, z, most))))) (ap not (ne_eqb b 93 ne));
   no_comma = ap not (ne_eqb b 44 (λ z. omega (arith, z, le)));
 }
 
@@ -48,35 +48,27 @@ id_byte b e = elim (range_of b e) [
 
 ids_field : (p : List ℕ) → list_all is_id_byte p ≡ true → list_all is_field_char p ≡ true
 ids_field [] e = refl
-ids_field (b ∷ p) e = let a = and_true (is_id_byte b) (list_all is_id_byte p) e in both _ _ (id_byte b a.0).field (ids_field p a.1)
+ids_field (b ∷ p) e = let a = and_parts (is_id_byte b) (list_all is_id_byte p) e in and_from _ _ (id_byte b a.0).field (ids_field p a.1)
 
 ids_lack : (p : List ℕ) → list_all is_id_byte p ≡ true → Lacks 44 p
 ids_lack [] e = refl
-ids_lack (b ∷ p) e = let a = and_true (is_id_byte b) (list_all is_id_byte p) e in both _ _ (id_byte b a.0).no_comma (ids_lack p a.1)
+ids_lack (b ∷ p) e = let a = and_parts (is_id_byte b) (list_all is_id_byte p) e in and_from _ _ (id_byte b a.0).no_comma (ids_lack p a.1)
 
 -- an id is its own id
 ids_stay : (p : List ℕ) → list_all is_id_byte p ≡ true → id_of p ≡ p
 ids_stay [] e = refl
 ids_stay (b ∷ p) e =
-    let a = and_true (is_id_byte b) (list_all is_id_byte p) e in
+    let a = and_parts (is_id_byte b) (list_all is_id_byte p) e in
     rw ((id_byte b a.0).stays, a.0) (ap (λ (u : List ℕ). b ∷ u) (ids_stay p a.1))
 
 -- the id of a part
 kept_bytes : (b : Bool) (x : ℕ) (xs : List ℕ) → (b ≡ true → is_id_byte x ≡ true) → list_all is_id_byte xs ≡ true → list_all is_id_byte (cond b (x ∷ xs) xs) ≡ true
-kept_bytes true x xs f h = both _ _ (f refl) h
+kept_bytes true x xs f h = and_from _ _ (f refl) h
 kept_bytes false x xs f h = h
 
 id_bytes : (p : List ℕ) → list_all is_id_byte (id_of p) ≡ true
 id_bytes [] = refl
 id_bytes (b ∷ p) = kept_bytes (is_id_byte (lower b)) (lower b) (id_of p) (λ e. e) (id_bytes p)
-
-kept_short : (b : Bool) (x n : ℕ) (xs : List ℕ) → length xs ≤ n → length (cond b (x ∷ xs) xs) ≤ suc n
-kept_short true x n xs h = omega (arith, h)
-kept_short false x n xs h = omega (arith, h)
-
-id_short : (p : List ℕ) → length (id_of p) ≤ length p
-id_short [] = omega arith
-id_short (b ∷ p) = kept_short (is_id_byte (lower b)) (lower b) (length p) (id_of p) (id_short p)
 
 -- what has an id letter keeps one
 first_kept : (b : Bool) (x : ℕ) (p xs : List ℕ) → (b ≡ true → is_id_letter x ≡ true) → (b ≡ false → list_any is_id_letter xs ≡ true) → list_any is_id_letter (cond b (x ∷ xs) xs) ≡ true
@@ -90,7 +82,7 @@ some_id : (p : List ℕ) → has_id p ≡ true → has_id (id_of p) ≡ true
 unfolding has_id
 some_id [] e = absurd cc
 some_id (b ∷ p) e = first_kept (is_id_byte (lower b)) (lower b) p (id_of p) (λ h. letter_stays (lower b) h)
-    (λ h. (elim (or_true (is_id_letter b) (list_any is_id_letter p) e) [
+    (λ h. (elim (or_cases (is_id_letter b) (list_any is_id_letter p) e) [
       | inl k ↦ absurd (let wrong : false ≡ true = sym h ∙ k in cc)
       | inr k ↦ some_id p k
     ]))
@@ -98,9 +90,9 @@ some_id (b ∷ p) e = first_kept (is_id_byte (lower b)) (lower b) p (id_of p) (�
 ids_made : (ps : List (List ℕ)) → list_all (λ p. leb (length p) 32) ps ≡ true → AllByRecursion IsIdPart (map id_of (filter has_id ps))
 ids_made [] e = tt
 ids_made (p ∷ ps) e =
-    let a = and_true (leb (length p) 32) (list_all (λ p. leb (length p) 32) ps) e in
+    let a = and_parts (leb (length p) 32) (list_all (λ p. leb (length p) 32) ps) e in
     elim (has_id p) as (λ b. (has_id p ≡ b → AllByRecursion IsIdPart (map id_of (cond b (p ∷ filter has_id ps) (filter has_id ps))))) [
-      | true ↦ λ h. (record { bytes = id_bytes p; some = some_id p h; short = (let le : length p ≤ 32 = leb-true _ _ a.0 in omega (arith, id_short p, le)) }, ids_made ps a.1)
+      | true ↦ λ h. (record { bytes = id_bytes p; some = some_id p h; short = (let le : length p ≤ 32 = leb-true _ _ a.0 in omega (arith, length-id_of p, le)) }, ids_made ps a.1)
       | false ↦ λ h. ids_made ps a.1
     ] refl
 
@@ -130,7 +122,7 @@ ids_back ids h = ap (map id_of) (kept_joined ids h) ∙ same_all ids h
 
 short_all : (ids : List (List ℕ)) → AllByRecursion IsIdPart ids → list_all (λ p. leb (length p) 32) ids ≡ true
 short_all [] h = refl
-short_all (i ∷ ids) h = both _ _ (le-leb _ _ h.0.short) (short_all ids h.1)
+short_all (i ∷ ids) h = and_from _ _ (le-leb _ _ h.0.short) (short_all ids h.1)
 
 parts_short : (ids : List (List ℕ)) → AllByRecursion IsIdPart ids → are_short (join_with_byte 44 ids) ≡ true
 unfolding are_short
@@ -140,7 +132,7 @@ parts_short (i ∷ ids) h = ap (list_all (λ p. leb (length p) 32)) (split_join 
 joined_field : (ids : List (List ℕ)) → AllByRecursion IsIdPart ids → list_all is_field_char (join_with_byte 44 ids) ≡ true
 joined_field [] h = refl
 joined_field (i ∷ []) h = ids_field i h.0.bytes
-joined_field (i ∷ j ∷ ids) h = list_all-append is_field_char i (44 ∷ join_with_byte 44 (j ∷ ids)) ∙ both _ _ (ids_field i h.0.bytes) (joined_field (j ∷ ids) h.1)
+joined_field (i ∷ j ∷ ids) h = list_all-append is_field_char i (44 ∷ join_with_byte 44 (j ∷ ids)) ∙ and_from _ _ (ids_field i h.0.bytes) (joined_field (j ∷ ids) h.1)
 
 joined_moves : (ids : List (List ℕ)) → AllByRecursion IsIdPart ids → length ids ≤ 4 → in_form moves (join_with_byte 44 ids) ≡ true
 unfolding id_count
@@ -149,18 +141,18 @@ joined_moves ids h few = moves_made (join_with_byte 44 ids) (record { chars = jo
 ids_low : (p : List ℕ) → list_all is_id_byte p ≡ true → list_all is_low p ≡ true
 ids_low [] e = refl
 ids_low (b ∷ p) e =
-    let a = and_true (is_id_byte b) (list_all is_id_byte p) e in
+    let a = and_parts (is_id_byte b) (list_all is_id_byte p) e in
     let low : b < 128 = elim (range_of b a.0) [ inl h ↦ omega (arith, h.1) | inr h ↦ omega (arith, h.1) ] in
-    both _ _ (lt-ltb b 128 low) (ids_low p a.1)
+    and_from _ _ (lt-ltb b 128 low) (ids_low p a.1)
 
 joined_low : (ids : List (List ℕ)) → AllByRecursion IsIdPart ids → list_all is_low (join_with_byte 44 ids) ≡ true
 joined_low [] h = refl
 joined_low (i ∷ []) h = ids_low i h.0.bytes
-joined_low (i ∷ j ∷ ids) h = list_all-append is_low i (44 ∷ join_with_byte 44 (j ∷ ids)) ∙ both _ _ (ids_low i h.0.bytes) (both _ _ refl (joined_low (j ∷ ids) h.1))
+joined_low (i ∷ j ∷ ids) h = list_all-append is_low i (44 ∷ join_with_byte 44 (j ∷ ids)) ∙ and_from _ _ (ids_low i h.0.bytes) (and_from _ _ refl (joined_low (j ∷ ids) h.1))
 
 -- an id has no more bytes than its part
 id_bytes_few : (p : List ℕ) → bytes_of (id_of p) ≤ bytes_of p
-id_bytes_few p = omega (arith, id_short p, low_bytes (id_of p) (ids_low (id_of p) (id_bytes p)), length_bytes p)
+id_bytes_few p = omega (arith, length-id_of p, low_bytes (id_of p) (ids_low (id_of p) (id_bytes p)), length_bytes p)
 
 kept_total : (b : Bool) (p : List ℕ) (ps qs : List (List ℕ)) → total (map id_of qs) ≤ total ps → total (map id_of (cond b (p ∷ qs) qs)) ≤ total (p ∷ ps)
 kept_total true p ps qs le = omega (arith, le, id_bytes_few p)

@@ -9,7 +9,7 @@ use Rattle.ps_packed.specs.Packed.{is_nil, or_other, bytes_of}
 use Rattle.ps_packed.specs.Canon.{nick_text, species_text}
 use Rattle.ps_packed.proofs.WordLaws.{words_facts, words_made}
 
--- the canonical texts in characters, from those that a row has
+-- the canonical texts in characters, from those of a set's fields
 pub record AreNames (n s : List ℕ) : Type 0 where
   pub nick : List ℕ
   pub species : List ℕ

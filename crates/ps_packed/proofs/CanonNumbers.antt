@@ -1,7 +1,7 @@
 -- The canonical texts of EVs, IVs and levels.
 use Rattle.std.proofs.Common.{◌≡◌, ◌≢◌, ℕ, zero, suc, ◌+◌, ◌/◌, ◌%◌, ◌^◌, ◌<◌, ◌≤◌, ◌&&◌, Bool, true, false, not, cond, eqb, leb, eq-eqb, List, [], ◌∷◌, ◌++◌, length, map, replicate, decimal, refl, sym, ap, ◌∙◌, inl, inr, arith}
 use Rattle.std.specs.List.{list_all, AllByRecursion, join_with_byte}
-use Rattle.std.proofs.lemmas.Bool.{leb-true, le-leb, eqb-true, ne_eqb, lt-ltb, cases_eq}
+use Rattle.std.proofs.lemmas.Bool.{leb-true, le-leb, eqb-true, ne_eqb, lt-ltb, cases_eq, and_parts, or_cases, and_from, or_left, or_right}
 use Rattle.std.proofs.lemmas.Fmt.{decimal_by_steps, length-decimal-le, decimal_nonempty}
 use Rattle.std.proofs.lemmas.List.{length-map}
 use Rattle.std.proofs.lemmas.List.Folds.{list_all-append}
@@ -9,10 +9,9 @@ use Rattle.std.proofs.lemmas.List.Splits.{join_with_byte-slice_split}
 use Rattle.ps_packed.specs.Forms.{Form, are_digits, number_after, number_of, is_number, parts, is_spread_char, are_numbers, is_zero, is_spread, is_level, evs, ivs, level, in_form}
 use Rattle.ps_packed.specs.Packed.{six, evs_of, iv_of, ivs_of, level_of, bytes_of}
 use Rattle.ps_packed.specs.Canon.{are_all, ev_text, evs_text, iv_text, ivs_text, level_text}
-use Rattle.ps_packed.proofs.Truths.{and_true, or_true, both, either_left, either_right}
 use Rattle.ps_packed.proofs.Laws.{is_low}
 use Rattle.ps_packed.proofs.LevelLaws.{IsNumber, number_facts, number_made, number_append, level_facts, level_made}
-use Rattle.ps_packed.proofs.SpreadLaws.{spread_cases, numbers_facts, numbers_made, zero_is}
+use Rattle.ps_packed.proofs.SpreadLaws.{spread_cases, numbers_facts, numbers_made, zero_is, empty_number}
 use Rattle.ps_packed.proofs.Bytes.{low_bytes, length_bytes}
 use Rattle.ps_packed.proofs.Unique.{Lacks, split_join}
 use Rattle.ps_packed.proofs.Joins.{total, joined_shorter}
@@ -24,14 +23,14 @@ pub record IsDecimal (n : ℕ) (w : List ℕ) : Type 0 where
   pub value : number_of w ≡ n
 
 digit_ok : (d : ℕ) → d < 10 → are_digits ((48 + d) ∷ []) ≡ true
-digit_ok d lt = both _ _ (both _ _ (le-leb 48 (48 + d) (omega arith)) (le-leb (48 + d) 57 (omega (arith, lt)))) refl
+digit_ok d lt = and_from _ _ (and_from _ _ (le-leb 48 (48 + d) (omega arith)) (le-leb (48 + d) 57 (omega (arith, lt)))) refl
 
 one_digit : (n : ℕ) → n < 10 → IsDecimal n ((48 + n) ∷ [])
 one_digit n lt = record { digits = digit_ok n lt; value = omega arith }
 
 more_digits : (n : ℕ) (ds : List ℕ) → 10 ≤ n → IsDecimal (n / 10) ds → IsDecimal n (ds ++ (48 + n % 10) ∷ [])
 more_digits n ds le f = record {
-  digits = list_all-append (λ c. leb 48 c && leb c 57) ds ((48 + n % 10) ∷ []) ∙ both _ _ f.digits (digit_ok (n % 10) (omega arith));
+  digits = list_all-append (λ c. leb 48 c && leb c 57) ds ((48 + n % 10) ∷ []) ∙ and_from _ _ f.digits (digit_ok (n % 10) (omega arith));
   value = number_append 0 ds ((48 + n % 10) ∷ []) ∙ ap (λ k. number_after k ((48 + n % 10) ∷ [])) f.value ∙ omega arith;
 }
 
@@ -40,12 +39,12 @@ is_decimal n lt = decimal_by_steps IsDecimal one_digit more_digits n lt
 
 digit_small : (c : ℕ) (w : List ℕ) → are_digits (c ∷ w) ≡ true → c ≤ 57
 digit_small c w e =
-    let a = and_true (leb 48 c && leb c 57) (are_digits w) e in
-    let b = and_true (leb 48 c) (leb c 57) a.0 in
+    let a = and_parts (leb 48 c && leb c 57) (are_digits w) e in
+    let b = and_parts (leb 48 c) (leb c 57) a.0 in
     leb-true _ _ b.1
 
 rest_digits : (c : ℕ) (w : List ℕ) → are_digits (c ∷ w) ≡ true → are_digits w ≡ true
-rest_digits c w e = (and_true (leb 48 c && leb c 57) (are_digits w) e).1
+rest_digits c w e = (and_parts (leb 48 c && leb c 57) (are_digits w) e).1
 
 digits_bound : (w : List ℕ) → are_digits w ≡ true → length w ≤ 3 → number_of w < 10 ^ length w
 digits_bound [] e le = omega arith
@@ -56,7 +55,7 @@ digits_bound (a ∷ b ∷ c ∷ d ∷ w) e le = absurd (omega (arith, le))
 
 digits_low : (w : List ℕ) → are_digits w ≡ true → list_all is_low w ≡ true
 digits_low [] e = refl
-digits_low (c ∷ w) e = both _ _ (lt-ltb c 128 (omega (arith, digit_small c w e))) (digits_low w (rest_digits c w e))
+digits_low (c ∷ w) e = and_from _ _ (lt-ltb c 128 (omega (arith, digit_small c w e))) (digits_low w (rest_digits c w e))
 
 -- the decimal of a number that some text spells isn't longer than that text
 decimal_short : (most : ℕ) (p : List ℕ) → IsNumber most p → 0 < length p → number_of p < 2 ^ 64 → length (decimal (number_of p)) ≤ length p
@@ -87,11 +86,8 @@ some_of : (p : List ℕ) → number_of p ≢ 0 → 0 < length p
 some_of [] ne = absurd (ne refl)
 some_of (c ∷ p) ne = omega arith
 
-no_number : (most : ℕ) → is_number most [] ≡ true
-no_number most = number_made most [] (record { digits = refl; short = omega arith; small = omega arith })
-
 spelled_none : (most : ℕ) (of : List ℕ → ℕ) (text : ℕ → List ℕ) (p : List ℕ) → text (of p) ≡ [] → of [] ≡ of p → IsSpelled most of text p
-spelled_none most of text p e h = record { fits = ap (is_number most) e ∙ no_number most; back = ap of e ∙ h; short = omega (arith, ap bytes_of e) }
+spelled_none most of text p e h = record { fits = ap (is_number most) e ∙ empty_number most; back = ap of e ∙ h; short = omega (arith, ap bytes_of e) }
 
 pub ev_spelled : (p : List ℕ) → is_number 255 p ≡ true → IsSpelled 255 number_of ev_text p
 unfolding ev_text
@@ -130,11 +126,11 @@ record AreSpelled (most : ℕ) (of : List ℕ → ℕ) (text : ℕ → List ℕ)
 all_spelled : (most : ℕ) (of : List ℕ → ℕ) (text : ℕ → List ℕ) → ((p : List ℕ) → is_number most p ≡ true → IsSpelled most of text p) → (ps : List (List ℕ)) → list_all (is_number most) ps ≡ true → AreSpelled most of text ps
 all_spelled most of text each [] e = record { fits = refl; back = refl; short = omega arith; count = refl }
 all_spelled most of text each (p ∷ ps) e =
-    let a = and_true (is_number most p) (list_all (is_number most) ps) e in
+    let a = and_parts (is_number most p) (list_all (is_number most) ps) e in
     let s = each p a.0 in
     let later = all_spelled most of text each ps a.1 in
     record {
-      fits = both _ _ s.fits later.fits;
+      fits = and_from _ _ s.fits later.fits;
       back = ap (λ (n : ℕ). n ∷ map of (map text (map of ps))) s.back ∙ ap (λ (ns : List ℕ). of p ∷ ns) later.back;
       short = omega (arith, s.short, later.short);
       count = ap suc later.count;
@@ -143,25 +139,25 @@ all_spelled most of text each (p ∷ ps) e =
 digit_lacks : (w : List ℕ) → are_digits w ≡ true → Lacks 44 w
 digit_lacks [] e = refl
 digit_lacks (c ∷ w) e =
-    let a = and_true (leb 48 c && leb c 57) (are_digits w) e in
-    let b = and_true (leb 48 c) (leb c 57) a.0 in
+    let a = and_parts (leb 48 c && leb c 57) (are_digits w) e in
+    let b = and_parts (leb 48 c) (leb c 57) a.0 in
     let le : 48 ≤ c = leb-true _ _ b.0 in
-    both _ _ (ap not (ne_eqb c 44 (λ z. omega (arith, z, le)))) (digit_lacks w a.1)
+    and_from _ _ (ap not (ne_eqb c 44 (λ z. omega (arith, z, le)))) (digit_lacks w a.1)
 
 all_lack : (most : ℕ) (ps : List (List ℕ)) → list_all (is_number most) ps ≡ true → AllByRecursion (Lacks 44) ps
 all_lack most [] e = tt
-all_lack most (p ∷ ps) e = let a = and_true (is_number most p) (list_all (is_number most) ps) e in (digit_lacks p (number_facts most p a.0).digits, all_lack most ps a.1)
+all_lack most (p ∷ ps) e = let a = and_parts (is_number most p) (list_all (is_number most) ps) e in (digit_lacks p (number_facts most p a.0).digits, all_lack most ps a.1)
 
 digit_spread : (w : List ℕ) → are_digits w ≡ true → list_all is_spread_char w ≡ true
 digit_spread [] e = refl
-digit_spread (c ∷ w) e = let a = and_true (leb 48 c && leb c 57) (are_digits w) e in both _ _ (either_left _ _ a.0) (digit_spread w a.1)
+digit_spread (c ∷ w) e = let a = and_parts (leb 48 c && leb c 57) (are_digits w) e in and_from _ _ (or_left _ _ a.0) (digit_spread w a.1)
 
 spread_joined : (most : ℕ) (ps : List (List ℕ)) → list_all (is_number most) ps ≡ true → list_all is_spread_char (join_with_byte 44 ps) ≡ true
 spread_joined most [] e = refl
-spread_joined most (p ∷ []) e = let a = and_true (is_number most p) true e in digit_spread p (number_facts most p a.0).digits
+spread_joined most (p ∷ []) e = let a = and_parts (is_number most p) true e in digit_spread p (number_facts most p a.0).digits
 spread_joined most (p ∷ q ∷ ps) e =
-    let a = and_true (is_number most p) (list_all (is_number most) (q ∷ ps)) e in
-    list_all-append is_spread_char p (44 ∷ join_with_byte 44 (q ∷ ps)) ∙ both _ _ (digit_spread p (number_facts most p a.0).digits) (both _ _ refl (spread_joined most (q ∷ ps) a.1))
+    let a = and_parts (is_number most p) (list_all (is_number most) (q ∷ ps)) e in
+    list_all-append is_spread_char p (44 ∷ join_with_byte 44 (q ∷ ps)) ∙ and_from _ _ (digit_spread p (number_facts most p a.0).digits) (and_from _ _ refl (spread_joined most (q ∷ ps) a.1))
 
 -- six texts joined
 record IsJoined (most : ℕ) (qs : List (List ℕ)) : Type 0 where
@@ -176,7 +172,7 @@ joined most (q ∷ qs) six e =
 
 six_fit : (zero_alone : Bool) (most : ℕ) (w : List ℕ) → are_numbers most w ≡ true → length (parts w) ≡ 6 → is_spread zero_alone most w ≡ true
 six_fit zero_alone most [] e six = refl
-six_fit zero_alone most (c ∷ w) e six = either_right (zero_alone && is_zero (c ∷ w)) _ (both _ _ e (eq-eqb _ _ six))
+six_fit zero_alone most (c ∷ w) e six = or_right (zero_alone && is_zero (c ∷ w)) _ (and_from _ _ e (eq-eqb _ _ six))
 
 not_zero : (w : List ℕ) → length (parts w) ≡ 6 → is_zero w ≡ false
 not_zero w six = elim (is_zero w) as (λ b. (is_zero w ≡ b → b ≡ false)) [
@@ -198,18 +194,18 @@ not_nil w six e = omega (arith, six, ap (λ (u : List ℕ). length (parts u)) e)
 spread_low : (w : List ℕ) → list_all is_spread_char w ≡ true → list_all is_low w ≡ true
 spread_low [] e = refl
 spread_low (c ∷ w) e =
-    let a = and_true (is_spread_char c) (list_all is_spread_char w) e in
-    let low : c < 128 = elim (or_true (leb 48 c && leb c 57) (eqb c 44) a.0) [
-      | inl h ↦ (let b = and_true (leb 48 c) (leb c 57) h in let le : c ≤ 57 = leb-true _ _ b.1 in omega (arith, le))
+    let a = and_parts (is_spread_char c) (list_all is_spread_char w) e in
+    let low : c < 128 = elim (or_cases (leb 48 c && leb c 57) (eqb c 44) a.0) [
+      | inl h ↦ (let b = and_parts (leb 48 c) (leb c 57) h in let le : c ≤ 57 = leb-true _ _ b.1 in omega (arith, le))
       | inr h ↦ (let k : c ≡ 44 = eqb-true _ _ h in omega (arith, k))
     ] in
-    both _ _ (lt-ltb c 128 low) (spread_low w a.1)
+    and_from _ _ (lt-ltb c 128 low) (spread_low w a.1)
 
 all_same : (n k : ℕ) (ns : List ℕ) → length ns ≡ k → are_all n ns ≡ true → ns ≡ replicate k n
 all_same n zero [] e h = refl
 all_same n zero (m ∷ ns) e h = absurd (omega (arith, e))
 all_same n (suc k) [] e h = absurd (omega (arith, e))
-all_same n (suc k) (m ∷ ns) e h = let a = and_true (eqb m n) (are_all n ns) h in ap (λ (x : ℕ). x ∷ ns) (eqb-true _ _ a.0) ∙ ap (λ (u : List ℕ). n ∷ u) (all_same n k ns (omega (arith, e)) a.1)
+all_same n (suc k) (m ∷ ns) e h = let a = and_parts (eqb m n) (are_all n ns) h in ap (λ (x : ℕ). x ∷ ns) (eqb-true _ _ a.0) ∙ ap (λ (u : List ℕ). n ∷ u) (all_same n k ns (omega (arith, e)) a.1)
 
 all_six : (n : ℕ) (ns : List ℕ) → length ns ≡ 6 → are_all n ns ≡ true → ns ≡ six n
 all_six n ns count e = all_same n 6 ns count e

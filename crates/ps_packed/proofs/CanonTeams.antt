@@ -6,11 +6,11 @@ use Rattle.std.specs.Str.{all_scalars}
 use Rattle.std.proofs.lemmas.Bool.Decides.{nat_tests}
 use Rattle.std.proofs.lemmas.List.{append-nil}
 use Rattle.std.proofs.lemmas.Str.{chars-encodes}
+use Rattle.std.proofs.lemmas.Bool.{and_parts, and_from}
 use Rattle.ps_packed.specs.declared.set.Set.{Set}
 use Rattle.ps_packed.specs.Forms.{evs, ivs, gender, shiny, ids_of, in_form, form_of}
-use Rattle.ps_packed.specs.Packed.{is_nil, is_nameless, field, evs_of, gender_of, ivs_of, level_of, set_of, bytes_of, IsRow, team_text, IsTeamOf, IsTeam, HasText}
+use Rattle.ps_packed.specs.Packed.{is_nil, is_nameless, field, evs_of, gender_of, ivs_of, level_of, set_of, bytes_of, AreFieldTexts, team_text, IsTeamOf, IsTeam, HasText}
 use Rattle.ps_packed.specs.Canon.{moves_text, evs_text, gender_text, ivs_text, shiny_text, level_text, set_fields, canon}
-use Rattle.ps_packed.proofs.Truths.{and_true, both}
 use Rattle.ps_packed.proofs.Bytes.{low_encodes, low_scalars}
 use Rattle.ps_packed.proofs.Joins.{total, joined_shorter, join_encodes, scalars_joined, scalars_each}
 use Rattle.ps_packed.proofs.Unique.{fields_long}
@@ -19,16 +19,16 @@ use Rattle.ps_packed.proofs.CanonNumbers.{IsCanon, evs_canon, ivs_canon, IsLevel
 use Rattle.ps_packed.proofs.CanonMoves.{IsMovesText, moves_canon}
 use Rattle.ps_packed.proofs.CanonNames.{AreNames, names_canon}
 
--- ---- a row
+-- ---- the fields of a set
 
--- the row that the canonical text has, and what it keeps of the row
-record IsCanonRow (ws : List (List ℕ)) : Type 0 where
-  row : List (List ℕ)
-  fit : IsRow row
-  back : set_of row ≡ set_of ws
-  short : total row ≤ total ws
-  scalars : list_all all_scalars row ≡ true
-  text : map encode_utf8_all row ≡ set_fields (set_of ws)
+-- the fields that the canonical text has, and what it keeps of those read
+record AreCanonFieldTexts (ws : List (List ℕ)) : Type 0 where
+  field_texts : List (List ℕ)
+  fit : AreFieldTexts field_texts
+  back : set_of field_texts ≡ set_of ws
+  short : total field_texts ≤ total ws
+  scalars : list_all all_scalars field_texts ≡ true
+  text : map encode_utf8_all field_texts ≡ set_fields (set_of ws)
 
 gender_is : (g : List ℕ) → in_form gender g ≡ true → encode_utf8_all g ≡ gender_text (gender_of g)
 unfolding in_form
@@ -45,7 +45,7 @@ shiny_is [] e = refl
 shiny_is (c ∷ []) e = ap (λ (d : ℕ). encode_utf8_all (d ∷ [])) (shiny_letter c e) ∙ low_encodes (83 ∷ []) refl
 shiny_is (c ∷ d ∷ h) e = absurd cc
 
--- the row's fields
+-- a set's fields
 record AreForms (n s i a m t e g v h l x : List ℕ) : Type 0 where
   item : in_form (form_of 2) i ≡ true
   ability : in_form (form_of 3) a ≡ true
@@ -87,7 +87,7 @@ set_with n s m e v l i a t g h x = record {
 same_set : (n s : List ℕ) (m : List (List ℕ)) (e v : List ℕ) (l : ℕ) (n' s' : List ℕ) (m' : List (List ℕ)) (e' v' : List ℕ) (l' : ℕ) (i a t g h x : List ℕ) → n ≡ n' → s ≡ s' → m ≡ m' → e ≡ e' → v ≡ v' → l ≡ l' → set_with n s m e v l i a t g h x ≡ set_with n' s' m' e' v' l' i a t g h x
 same_set n s m e v l n' s' m' e' v' l' i a t g h x e1 e2 e3 e4 e5 e6 = rw (e1, e2, e3, e4, e5, e6) refl
 
-forms_canon : (n s i a m t e g v h l x : List ℕ) → AreForms n s i a m t e g v h l x → IsCanonRow (n ∷ s ∷ i ∷ a ∷ m ∷ t ∷ e ∷ g ∷ v ∷ h ∷ l ∷ x ∷ [])
+forms_canon : (n s i a m t e g v h l x : List ℕ) → AreForms n s i a m t e g v h l x → AreCanonFieldTexts (n ∷ s ∷ i ∷ a ∷ m ∷ t ∷ e ∷ g ∷ v ∷ h ∷ l ∷ x ∷ [])
 forms_canon n s i a m t e g v h l x f =
     let k = f.names in
     let mt : List ℕ = moves_text (ids_of m) in
@@ -95,15 +95,15 @@ forms_canon n s i a m t e g v h l x f =
     let vt : List ℕ = ivs_text (ivs_of v) in
     let lt : List ℕ = level_text (level_of l) in
     record {
-      row = k.nick ∷ k.species ∷ i ∷ a ∷ mt ∷ t ∷ et ∷ g ∷ vt ∷ h ∷ lt ∷ x ∷ [];
+      field_texts = k.nick ∷ k.species ∷ i ∷ a ∷ mt ∷ t ∷ et ∷ g ∷ vt ∷ h ∷ lt ∷ x ∷ [];
       fit = ((k.nick_fits, omega arith, (k.species_fits, omega arith, (f.item, omega arith, (f.ability, omega arith, (f.moves_are.fits, omega arith, (f.nature, omega arith, (f.evs_are.fits, omega arith, (f.gender_fits, omega arith, (f.ivs_are.fits, omega arith, (f.shiny_fits, omega arith, (f.level_is.fits, omega arith, (f.misc, refl)))))))))))), k.named);
       back = same_set _ _ _ _ _ _ _ _ _ _ _ _ i a t g h x k.nick_back k.species_back f.moves_are.back f.evs_are.back f.ivs_are.back f.level_is.back;
       short = omega (arith, k.short, f.moves_are.short, f.evs_are.short, f.ivs_are.short, f.level_is.short);
-      scalars = both _ _ k.nick_scalars (both _ _ k.species_scalars (both _ _ f.item_scalars (both _ _ f.ability_scalars (both _ _ (low_scalars mt f.moves_are.low) (both _ _ f.nature_scalars (both _ _ (low_scalars et f.evs_are.low) (both _ _ f.gender_scalars (both _ _ (low_scalars vt f.ivs_are.low) (both _ _ f.shiny_scalars (both _ _ (low_scalars lt f.level_is.low) (both _ _ f.misc_scalars refl)))))))))));
+      scalars = and_from _ _ k.nick_scalars (and_from _ _ k.species_scalars (and_from _ _ f.item_scalars (and_from _ _ f.ability_scalars (and_from _ _ (low_scalars mt f.moves_are.low) (and_from _ _ f.nature_scalars (and_from _ _ (low_scalars et f.evs_are.low) (and_from _ _ f.gender_scalars (and_from _ _ (low_scalars vt f.ivs_are.low) (and_from _ _ f.shiny_scalars (and_from _ _ (low_scalars lt f.level_is.low) (and_from _ _ f.misc_scalars refl)))))))))));
       text = twelve _ _ _ _ _ _ _ _ _ _ _ _ _ _ _ _ _ _ _ _ _ _ _ _ k.nick_is k.species_is refl refl (low_encodes mt f.moves_are.low) refl (low_encodes et f.evs_are.low) (gender_is g f.gender_fits) (low_encodes vt f.ivs_are.low) (shiny_is h f.shiny_fits) (low_encodes lt f.level_is.low) refl;
     }
 
--- a row has twelve fields
+-- a set has twelve fields
 record IsTwelve (ws : List (List ℕ)) : Type 0 where
   are : ws ≡ field ws 0 ∷ field ws 1 ∷ field ws 2 ∷ field ws 3 ∷ field ws 4 ∷ field ws 5 ∷ field ws 6 ∷ field ws 7 ∷ field ws 8 ∷ field ws 9 ∷ field ws 10 ∷ field ws 11 ∷ []
 
@@ -126,20 +126,20 @@ is_twelve (n ∷ s ∷ i ∷ a ∷ m ∷ t ∷ f ∷ g ∷ v ∷ h ∷ l ∷ x �
 scalars_at : (ws : List (List ℕ)) (k : ℕ) → list_all all_scalars ws ≡ true → all_scalars (field ws k) ≡ true
 scalars_at [] zero e = refl
 scalars_at [] (suc k) e = refl
-scalars_at (w ∷ ws) zero e = (and_true (all_scalars w) (list_all all_scalars ws) e).0
-scalars_at (w ∷ ws) (suc k) e = scalars_at ws k (and_true (all_scalars w) (list_all all_scalars ws) e).1
+scalars_at (w ∷ ws) zero e = (and_parts (all_scalars w) (list_all all_scalars ws) e).0
+scalars_at (w ∷ ws) (suc k) e = scalars_at ws k (and_parts (all_scalars w) (list_all all_scalars ws) e).1
 
 named_at : (ws : List (List ℕ)) → is_nameless ws ≡ false → (is_nil (field ws 0) && is_nil (field ws 1)) ≡ false
 named_at [] e = absurd cc
 named_at (n ∷ []) e = ap (λ (b : Bool). b && true) e
 named_at (n ∷ s ∷ ws) e = e
 
-row_canon : (ws : List (List ℕ)) → IsRow ws → list_all all_scalars ws ≡ true → IsCanonRow ws
-row_canon ws r letters =
+field_texts_canon : (ws : List (List ℕ)) → AreFieldTexts ws → list_all all_scalars ws ≡ true → AreCanonFieldTexts ws
+field_texts_canon ws r letters =
     let long : length ws ≡ 12 = omega (arith, fields_long 0 ws r.0) in
     let fits : (k : ℕ) → k < 12 → in_form (form_of k) (field ws k) ≡ true = λ k lt. from_field 0 ws k k r.0 (omega (arith, long, lt)) (omega arith) in
     let sc : (k : ℕ) → all_scalars (field ws k) ≡ true = λ k. scalars_at ws k letters in
-    subst IsCanonRow (sym (is_twelve ws long).are) (forms_canon (field ws 0) (field ws 1) (field ws 2) (field ws 3) (field ws 4) (field ws 5) (field ws 6) (field ws 7) (field ws 8) (field ws 9) (field ws 10) (field ws 11) (record {
+    subst AreCanonFieldTexts (sym (is_twelve ws long).are) (forms_canon (field ws 0) (field ws 1) (field ws 2) (field ws 3) (field ws 4) (field ws 5) (field ws 6) (field ws 7) (field ws 8) (field ws 9) (field ws 10) (field ws 11) (record {
       item = fits 2 (omega arith);
       ability = fits 3 (omega arith);
       nature = fits 5 (omega arith);
@@ -161,49 +161,49 @@ row_canon ws r letters =
 
 -- ---- teams
 
-record AreCanonRows (rows : List (List (List ℕ))) : Type 0 where
+record AreCanonTeamTexts (team_texts : List (List (List ℕ))) : Type 0 where
   canons : List (List (List ℕ))
-  fit : AllByRecursion IsRow canons
-  back : map set_of canons ≡ map set_of rows
-  short : total (map (join_with_byte 124) canons) ≤ total (map (join_with_byte 124) rows)
+  fit : AllByRecursion AreFieldTexts canons
+  back : map set_of canons ≡ map set_of team_texts
+  short : total (map (join_with_byte 124) canons) ≤ total (map (join_with_byte 124) team_texts)
   scalars : list_all all_scalars (map (join_with_byte 124) canons) ≡ true
-  count : length canons ≡ length rows
-  text : map encode_utf8_all (map (join_with_byte 124) canons) ≡ map (join_with_byte 124) (map set_fields (map set_of rows))
+  count : length canons ≡ length team_texts
+  text : map encode_utf8_all (map (join_with_byte 124) canons) ≡ map (join_with_byte 124) (map set_fields (map set_of team_texts))
 
-rows_canon : (rows : List (List (List ℕ))) → AllByRecursion IsRow rows → list_all all_scalars (map (join_with_byte 124) rows) ≡ true → AreCanonRows rows
-rows_canon [] h e = record { canons = []; fit = tt; back = refl; short = omega arith; scalars = refl; count = refl; text = refl }
-rows_canon (r ∷ rows) h e =
-    let a = and_true (all_scalars (join_with_byte 124 r)) (list_all all_scalars (map (join_with_byte 124) rows)) e in
-    let one = row_canon r h.0 (scalars_each 124 r a.0) in
-    let later = rows_canon rows h.1 a.1 in
+team_texts_canon : (team_texts : List (List (List ℕ))) → AllByRecursion AreFieldTexts team_texts → list_all all_scalars (map (join_with_byte 124) team_texts) ≡ true → AreCanonTeamTexts team_texts
+team_texts_canon [] h e = record { canons = []; fit = tt; back = refl; short = omega arith; scalars = refl; count = refl; text = refl }
+team_texts_canon (r ∷ team_texts) h e =
+    let a = and_parts (all_scalars (join_with_byte 124 r)) (list_all all_scalars (map (join_with_byte 124) team_texts)) e in
+    let one = field_texts_canon r h.0 (scalars_each 124 r a.0) in
+    let later = team_texts_canon team_texts h.1 a.1 in
     record {
-      canons = one.row ∷ later.canons;
+      canons = one.field_texts ∷ later.canons;
       fit = (one.fit, later.fit);
       back = ap (λ (s : Set). s ∷ map set_of later.canons) one.back ∙ ap (λ (ss : List Set). set_of r ∷ ss) later.back;
-      short = omega (arith, joined_shorter 124 one.row r (omega arith) one.short, later.short);
-      scalars = both _ _ (scalars_joined 124 one.row (omega arith) one.scalars) later.scalars;
+      short = omega (arith, joined_shorter 124 one.field_texts r (omega arith) one.short, later.short);
+      scalars = and_from _ _ (scalars_joined 124 one.field_texts (omega arith) one.scalars) later.scalars;
       count = ap suc later.count;
-      text = ap (λ (u : List ℕ). u ∷ map encode_utf8_all (map (join_with_byte 124) later.canons)) (join_encodes 124 one.row (omega arith) ∙ ap (join_with_byte 124) one.text) ∙ ap (λ (us : List (List ℕ)). join_with_byte 124 (set_fields (set_of r)) ∷ us) later.text;
+      text = ap (λ (u : List ℕ). u ∷ map encode_utf8_all (map (join_with_byte 124) later.canons)) (join_encodes 124 one.field_texts (omega arith) ∙ ap (join_with_byte 124) one.text) ∙ ap (λ (us : List (List ℕ)). join_with_byte 124 (set_fields (set_of r)) ∷ us) later.text;
     }
 
-canon_of_rows : (rows : List (List (List ℕ))) (text : List ℕ) (team : List Set) → IsTeamOf rows text team → IsTeam (chars (canon team)) team
-canon_of_rows rows text team is =
-    let letters : all_scalars (team_text rows) ≡ true = ap all_scalars (sym is.free.parts) ∙ is.free.letters in
-    let c = rows_canon rows is.free.fit (scalars_each 93 (map (join_with_byte 124) rows) letters) in
+canon_of_team_texts : (team_texts : List (List (List ℕ))) (text : List ℕ) (team : List Set) → IsTeamOf team_texts text team → IsTeam (chars (canon team)) team
+canon_of_team_texts team_texts text team is =
+    let letters : all_scalars (team_text team_texts) ≡ true = ap all_scalars (sym is.free.parts) ∙ is.free.letters in
+    let c = team_texts_canon team_texts is.free.fit (scalars_each 93 (map (join_with_byte 124) team_texts) letters) in
     let whole : List ℕ = team_text c.canons in
     let good : all_scalars whole ≡ true = scalars_joined 93 (map (join_with_byte 124) c.canons) (omega arith) c.scalars in
-    let bytes : encode_utf8_all whole ≡ canon (map set_of rows) = join_encodes 93 (map (join_with_byte 124) c.canons) (omega arith) ∙ ap (join_with_byte 93) c.text in
-    let told : chars (canon team) ≡ whole = ap (λ (t : List Set). chars (canon t)) is.sets ∙ ap chars (sym bytes) ∙ chars-encodes whole good in (
+    let bytes : encode_utf8_all whole ≡ canon (map set_of team_texts) = join_encodes 93 (map (join_with_byte 124) c.canons) (omega arith) ∙ ap (join_with_byte 93) c.text in
+    let reported : chars (canon team) ≡ whole = ap (λ (t : List Set). chars (canon t)) is.sets ∙ ap chars (sym bytes) ∙ chars-encodes whole good in (
       c.canons,
       record {
-        free = record { letters = ap all_scalars told ∙ good; parts = told; fit = c.fit; some = omega (arith, c.count, is.free.some); few = omega (arith, c.count, is.free.few) };
-        short = omega (arith, ap bytes_of told, joined_shorter 93 (map (join_with_byte 124) c.canons) (map (join_with_byte 124) rows) (omega arith) c.short, ap bytes_of is.free.parts, is.short);
+        free = record { letters = ap all_scalars reported ∙ good; parts = reported; fit = c.fit; some = omega (arith, c.count, is.free.some); few = omega (arith, c.count, is.free.few) };
+        short = omega (arith, ap bytes_of reported, joined_shorter 93 (map (join_with_byte 124) c.canons) (map (join_with_byte 124) team_texts) (omega arith) c.short, ap bytes_of is.free.parts, is.short);
         sets = is.sets ∙ sym c.back;
       },
     )
 
 pub canon_is : (team : List Set) → HasText team → IsTeam (chars (canon team)) team
-canon_is team (text, is) = canon_of_rows is.0 text team is.1
+canon_is team (text, is) = canon_of_team_texts is.0 text team is.1
 
 pub canon_again : {E : Type 0} (r : Result (List ℕ) E) (sets team : List Set) → IfOk r (λ t. t ≡ canon sets) → sets ≡ team → HasText team → IfOk r (λ t. IsTeam (chars t) team)
 canon_again (Ok t) sets team e same has = subst (λ (u : List ℕ). IsTeam (chars u) team) (sym (e ∙ ap canon same)) (canon_is team has)

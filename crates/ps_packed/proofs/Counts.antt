@@ -4,13 +4,14 @@ use Rattle.std.specs.List.{list_all, list_any, onto_first}
 use Rattle.std.proofs.lemmas.List.{length-append}
 use Rattle.std.proofs.lemmas.List.Elements.{filter-append}
 use Rattle.std.proofs.lemmas.List.Folds.{list_all-append}
+use Rattle.std.proofs.lemmas.Bool.{and_parts}
+use Rattle.std.proofs.Math.Bool.{or-false}
 use Rattle.ps_packed.specs.Forms.{is_field_char, moves, parts, is_id_letter, has_id, are_short, id_count, in_form}
 use Rattle.ps_packed.specs.Packed.{end_of}
 use Rattle.ps_packed.specs.Scan.{prefix_ok, last_part, CountsOf, gives_id}
-use Rattle.ps_packed.proofs.Truths.{and_true}
 use Rattle.ps_packed.proofs.MoveLaws.{moves_facts}
 use Rattle.ps_packed.proofs.Splits.{grown, some_piece, split_snoc, grown_end}
-use Rattle.ps_packed.proofs.Places.{end_snoc}
+use Rattle.ps_packed.proofs.Positions.{end_snoc}
 
 -- the parts, the last by itself
 record Parts (w : List ℕ) : Type 0 where
@@ -45,16 +46,12 @@ no_id : has_id [] ≡ false
 unfolding has_id
 no_id = refl
 
-last_any : (b : Bool) → (b || false) ≡ b
-last_any true = refl
-last_any false = refl
-
 either_any : (x y z t : Bool) → z ≡ cond y true t → (x || z) ≡ cond (x || y) true t
 either_any true y z t e = refl
 either_any false y z t e = e
 
 any_snoc : (test : ℕ → Bool) (w : List ℕ) (c : ℕ) → list_any test (w ++ c ∷ []) ≡ cond (list_any test w) true (test c)
-any_snoc test [] c = last_any (test c)
+any_snoc test [] c = or-false (test c)
 any_snoc test (b ∷ w) c = either_any (test b) (list_any test w) (list_any test (w ++ c ∷ [])) (test c) (any_snoc test w c)
 
 id_snoc : (w : List ℕ) (c : ℕ) → has_id (w ++ c ∷ []) ≡ cond (has_id w) true (is_id_letter c)
@@ -138,7 +135,7 @@ short_snoc ps q e = list_all-append (λ p. leb (length p) 32) ps (q ∷ []) ∙ 
     last_one false = refl
 
 short_front : (ps : List (List ℕ)) (q : List ℕ) → list_all (λ p. leb (length p) 32) (ps ++ q ∷ []) ≡ true → list_all (λ p. leb (length p) 32) ps ≡ true
-short_front ps q e = (and_true (list_all (λ p. leb (length p) 32) ps) (list_all (λ p. leb (length p) 32) (q ∷ [])) (sym (list_all-append (λ p. leb (length p) 32) ps (q ∷ [])) ∙ e)).0
+short_front ps q e = (and_parts (list_all (λ p. leb (length p) 32) ps) (list_all (λ p. leb (length p) 32) (q ∷ [])) (sym (list_all-append (λ p. leb (length p) 32) ps (q ∷ [])) ∙ e)).0
 
 short_next : (b : Bool) (w : List ℕ) (c : ℕ) → eqb c 44 ≡ b → are_short w ≡ true → are_short (w ++ c ∷ []) ≡ leb (length (last_part (w ++ c ∷ []))) 32
 unfolding are_short

@@ -3,14 +3,15 @@ use Rattle.std.proofs.Common.{◌≡◌, ℕ, zero, suc, ◌+◌, ◌-◌, ◌<�
 use Rattle.std.specs.List.{list_all}
 use Rattle.std.proofs.lemmas.List.{length-append, nil_from_length}
 use Rattle.std.proofs.lemmas.List.Folds.{list_all-append}
-use Rattle.std.proofs.lemmas.Bool.{cases_lt}
+use Rattle.std.proofs.lemmas.Bool.{cases_lt, and_from, not-true}
+use Rattle.std.proofs.Math.Bool.{and-false}
 use Rattle.ps_packed.specs.Forms.{in_form, form_of, last}
 use Rattle.ps_packed.specs.Packed.{is_nil}
 use Rattle.ps_packed.specs.Scan.{prefix_ok, need, State, start, step, run, accepts, need_of, nameless_at, bar_named}
-use Rattle.ps_packed.proofs.Truths.{both, not_false}
 use Rattle.ps_packed.proofs.Laws.{is_low}
 use Rattle.ps_packed.proofs.FormLaws.{laws_of, empty_ok, nothing_ok}
 use Rattle.ps_packed.proofs.Runs.{at, step_bar, step_inner, run_step, run_then, word_runs, accepts_last, last_of, some_is, some_step, by_bar, by_bracket, by_inner, stepped}
+use Rattle.ps_packed.proofs.Truths.{at_most_one}
 
 -- ---- what is needed to end
 
@@ -39,20 +40,16 @@ same_and false = omega arith
 
 bar_need : (c : Bool) (k : ℕ) (w : List ℕ) → bar_named c k w ≡ true → cond (nameless_at c k w) 1 0 ≤ cond (nameless_at (nameless_at c k w) (suc k) []) 1 0
 bar_need c zero w e = same_and (is_nil w)
-bar_need c (suc zero) w e = rw (not_false (c && is_nil w) e) (omega arith)
+bar_need c (suc zero) w e = rw (not-true (c && is_nil w) e) (omega arith)
 bar_need c (suc (suc k)) w e = omega arith
 
 last_named : (c : Bool) (k : ℕ) (w : List ℕ) → k ≡ last → cond {A = ℕ} (nameless_at c k w) 1 0 ≡ 0
 last_named c k w e = ap (λ j. cond {A = ℕ} (nameless_at c j w) 1 0) e
 
-one_most : (x : Bool) → cond x 1 0 ≤ 1
-one_most true = omega arith
-one_most false = omega arith
-
 inner_need : (c : Bool) (k : ℕ) (w : List ℕ) (b : ℕ) → prefix_ok (form_of k) (w ++ b ∷ []) ≡ true → need (form_of k) w + cond (nameless_at c k w) 1 0 ≤ need (form_of k) (w ++ b ∷ []) + 1
 unfolding need
-inner_need c zero w b ok = omega (arith, one_most (is_nil w))
-inner_need c (suc zero) w b ok = omega (arith, one_most (c && is_nil w))
+inner_need c zero w b ok = omega (arith, at_most_one (is_nil w))
+inner_need c (suc zero) w b ok = omega (arith, at_most_one (c && is_nil w))
 inner_need c (suc (suc k)) w b ok = omega (arith, (laws_of (suc (suc k))).slow w b ok)
 
 pub step_need : (s : State) (b : ℕ) (t : State) → step s b ≡ Some t → need_of s ≤ need_of t + 1
@@ -98,10 +95,6 @@ and_last : (c : Bool) → (c && false) ≡ true → ⊥
 and_last true e = cc
 and_last false e = cc
 
-and_no : (c : Bool) → (c && false) ≡ false
-and_no true = refl
-and_no false = refl
-
 and_same : (x : Bool) → cond {A = ℕ} (x && true) 1 0 ≡ cond x 1 0
 and_same true = refl
 and_same false = refl
@@ -111,7 +104,7 @@ species_run : (d : Bool) (w : List ℕ) (c : Bool) (n : ℕ) → (c && is_nil w)
 species_run false w c n e fit = named_run w c n fit e
 species_run true (b ∷ w) c n e fit = absurd (and_last c e)
 species_run true [] c n e fit =
-    let later = named_run (97 ∷ []) c n letter_fits (and_no c) in
+    let later = named_run (97 ∷ []) c n letter_fits (and-false c) in
     (97 ∷ later.0, later.1, run_step (at [] c 1 n) (at (97 ∷ []) c 1 n) 97 later.0 (step_inner [] c 1 n 97 (λ z. omega (arith, z)) (λ z. omega (arith, z)) ((laws_of 1).closed (97 ∷ []) [] letter_fits)) ∙ later.2, later.3, ap suc later.4, later.5)
 
 end_from : (k : ℕ) (w : List ℕ) (c : Bool) (n : ℕ) → k ≤ last → prefix_ok (form_of k) w ≡ true → CanEnd (at w c k n) (need_of (at w c k n))
@@ -125,7 +118,7 @@ end_from (suc zero) w c n le ok =
 end_from (suc (suc k)) w c n le ok =
     let f = (laws_of (suc (suc k))).completes w ok in
     let later = tail_run (last - suc (suc k)) (w ++ f.0) c k n (omega (arith, le)) f.1 in
-    (f.0 ++ later.0, later.1, run_then (at w c (suc (suc k)) n) (at (w ++ f.0) c (suc (suc k)) n) f.0 later.0 (word_runs w f.0 c (suc (suc k)) n f.1) ∙ later.2, later.3, omega (arith, length-append f.0 later.0, later.4, f.2), list_all-append is_low f.0 later.0 ∙ both _ _ f.3 later.5)
+    (f.0 ++ later.0, later.1, run_then (at w c (suc (suc k)) n) (at (w ++ f.0) c (suc (suc k)) n) f.0 later.0 (word_runs w f.0 c (suc (suc k)) n f.1) ∙ later.2, later.3, omega (arith, length-append f.0 later.0, later.4, f.2), list_all-append is_low f.0 later.0 ∙ and_from _ _ f.3 later.5)
 
 pub can_end : (s : State) → Valid s → CanEnd s (need_of s)
 can_end s v = end_from s.field s.word s.bare s.sets v.in_set v.front

@@ -4,10 +4,9 @@ use Rattle.std.specs.Char.{encode_utf8}
 use Rattle.std.specs.Str.{encode_utf8_all, all_scalars}
 use Rattle.std.specs.List.{list_all, join_with_byte}
 use Rattle.std.proofs.lemmas.List.{take_more}
-use Rattle.std.proofs.lemmas.Bool.{lt-ltb}
+use Rattle.std.proofs.lemmas.Bool.{lt-ltb, and_parts, and_from}
 use Rattle.std.proofs.lemmas.Str.{encodes-append, encode_ascii}
 use Rattle.ps_packed.specs.Packed.{bytes_of}
-use Rattle.ps_packed.proofs.Truths.{and_true, both}
 use Rattle.ps_packed.proofs.Bytes.{bytes_append, low_bytes, low_scalars, scalars_append, scalars_front, scalars_back}
 
 join_more : (c : ℕ) (p : List ℕ) (ps : List (List ℕ)) (q : List ℕ) → join_with_byte c (p ∷ (ps ++ q ∷ [])) ≡ join_with_byte c (p ∷ ps) ++ c ∷ q
@@ -29,7 +28,7 @@ total (p ∷ ps) = suc (bytes_of p) + total ps
 
 one_byte : (c : ℕ) (u : List ℕ) → c < 128 → bytes_of (c ∷ u) ≡ suc (bytes_of u)
 one_byte c u low =
-    let one : bytes_of (c ∷ []) ≡ 1 = low_bytes (c ∷ []) (both _ _ (lt-ltb c 128 low) refl) in
+    let one : bytes_of (c ∷ []) ≡ 1 = low_bytes (c ∷ []) (and_from _ _ (lt-ltb c 128 low) refl) in
     omega (arith, bytes_append (c ∷ []) u, one)
 
 pub join_bytes : (c : ℕ) (p : List ℕ) (ps : List (List ℕ)) → c < 128 → suc (bytes_of (join_with_byte c (p ∷ ps))) ≡ total (p ∷ ps)
@@ -51,14 +50,14 @@ join_encodes c (p ∷ q ∷ ps) low =
 -- the characters of joined texts
 pub scalars_joined : (c : ℕ) (ps : List (List ℕ)) → c < 128 → list_all all_scalars ps ≡ true → all_scalars (join_with_byte c ps) ≡ true
 scalars_joined c [] low e = refl
-scalars_joined c (p ∷ []) low e = (and_true (all_scalars p) true e).0
+scalars_joined c (p ∷ []) low e = (and_parts (all_scalars p) true e).0
 scalars_joined c (p ∷ q ∷ ps) low e =
-    let a = and_true (all_scalars p) (list_all all_scalars (q ∷ ps)) e in
-    let between : all_scalars (c ∷ []) ≡ true = low_scalars (c ∷ []) (both _ _ (lt-ltb c 128 low) refl) in
+    let a = and_parts (all_scalars p) (list_all all_scalars (q ∷ ps)) e in
+    let between : all_scalars (c ∷ []) ≡ true = low_scalars (c ∷ []) (and_from _ _ (lt-ltb c 128 low) refl) in
     scalars_append p (c ∷ join_with_byte c (q ∷ ps)) a.0 (scalars_append (c ∷ []) (join_with_byte c (q ∷ ps)) between (scalars_joined c (q ∷ ps) low a.1))
 
 pub scalars_each : (c : ℕ) (ps : List (List ℕ)) → all_scalars (join_with_byte c ps) ≡ true → list_all all_scalars ps ≡ true
 scalars_each c [] e = refl
-scalars_each c (p ∷ []) e = both _ _ e refl
+scalars_each c (p ∷ []) e = and_from _ _ e refl
 scalars_each c (p ∷ q ∷ ps) e =
-    both _ _ (scalars_front p (c ∷ join_with_byte c (q ∷ ps)) e) (scalars_each c (q ∷ ps) (scalars_back (c ∷ []) (join_with_byte c (q ∷ ps)) (scalars_back p (c ∷ join_with_byte c (q ∷ ps)) e)))
+    and_from _ _ (scalars_front p (c ∷ join_with_byte c (q ∷ ps)) e) (scalars_each c (q ∷ ps) (scalars_back (c ∷ []) (join_with_byte c (q ∷ ps)) (scalars_back p (c ∷ join_with_byte c (q ∷ ps)) e)))

@@ -2,9 +2,9 @@
 use Rattle.std.proofs.Common.{◌≡◌, ℕ, ◌+◌, ◌≤◌, ◌==◌, ◌&&◌, Bool, true, not, leb, List, [], ◌∷◌, ◌++◌, length, refl}
 use Rattle.std.specs.List.{list_all}
 use Rattle.std.specs.Prelude.{nat_lt}
+use Rattle.std.proofs.lemmas.Bool.{and_parts, and_from}
 use Rattle.ps_packed.specs.Forms.{Form, is_field_char, in_form}
 use Rattle.ps_packed.specs.Scan.{prefix_ok, need}
-use Rattle.ps_packed.proofs.Truths.{and_true, both}
 
 -- a character of a field is no bar and no bracket
 abbrev pub is_inner : ℕ → Bool
@@ -26,7 +26,7 @@ pub record Laws (f : Form) : Type 0 where
 pub field_inner : (w : List ℕ) → list_all is_field_char w ≡ true → list_all is_inner w ≡ true
 field_inner [] e = refl
 field_inner (c ∷ cs) e =
-    let a = and_true (is_field_char c) (list_all is_field_char cs) e in
-    let h = and_true (leb 32 c && not (c == 124)) (not (c == 93)) a.0 in
-    let d = and_true (leb 32 c) (not (c == 124)) h.0 in
-    both _ _ (both _ _ d.1 h.1) (field_inner cs a.1)
+    let a = and_parts (is_field_char c) (list_all is_field_char cs) e in
+    let h = and_parts (leb 32 c && not (c == 124)) (not (c == 93)) a.0 in
+    let d = and_parts (leb 32 c) (not (c == 124)) h.0 in
+    and_from _ _ (and_from _ _ d.1 h.1) (field_inner cs a.1)

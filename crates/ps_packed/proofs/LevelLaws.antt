@@ -1,12 +1,12 @@
 -- The laws of levels.
-use Rattle.std.proofs.Common.{◌≡◌, ℕ, ◌+◌, ◌-◌, ◌*◌, ◌<◌, ◌≤◌, ◌&&◌, ◌||◌, Bool, true, false, not, cond, eqb, ltb, leb, List, [], ◌∷◌, ◌++◌, length, refl, sym, ap, ◌∙◌, inl, inr, ◌⊎◌, arith}
+use Rattle.std.proofs.Common.{◌≡◌, ℕ, ◌+◌, ◌-◌, ◌*◌, ◌<◌, ◌≤◌, ◌&&◌, ◌||◌, true, false, not, eqb, ltb, leb, List, [], ◌∷◌, ◌++◌, length, refl, sym, ap, ◌∙◌, inl, inr, ◌⊎◌, arith}
 use Rattle.std.specs.List.{list_all}
-use Rattle.std.proofs.lemmas.Bool.{ltb-true, lt-ltb, leb-true, le-leb, cases_lt, ne_eqb}
-use Rattle.std.proofs.lemmas.List.{length-append, append-nil}
+use Rattle.std.proofs.lemmas.Bool.{ltb-true, lt-ltb, leb-true, le-leb, cases_lt, ne_eqb, and_parts, or_cases, and_from, or_left, or_right}
+use Rattle.std.proofs.lemmas.List.{length-append, append-nil, nil_from_length}
 use Rattle.std.proofs.lemmas.List.Folds.{list_all-append}
 use Rattle.ps_packed.specs.Forms.{are_digits, number_after, number_of, is_number, is_level, level, in_form}
 use Rattle.ps_packed.specs.Scan.{prefix_ok, need, level_need}
-use Rattle.ps_packed.proofs.Truths.{and_true, or_true, both, either_left, either_right, all_front, nil_of}
+use Rattle.ps_packed.proofs.Truths.{all_front, at_most_one}
 use Rattle.ps_packed.proofs.Laws.{Laws, is_inner}
 
 -- ---- numbers
@@ -26,12 +26,12 @@ pub record IsNumber (most : ℕ) (p : List ℕ) : Type 0 where
 
 pub number_facts : (most : ℕ) (p : List ℕ) → is_number most p ≡ true → IsNumber most p
 number_facts most p e =
-    let a = and_true (are_digits p && leb (length p) 3) (leb (number_of p) most) e in
-    let b = and_true (are_digits p) (leb (length p) 3) a.0 in
+    let a = and_parts (are_digits p && leb (length p) 3) (leb (number_of p) most) e in
+    let b = and_parts (are_digits p) (leb (length p) 3) a.0 in
     record { digits = b.0; short = leb-true _ _ b.1; small = leb-true _ _ a.1 }
 
 pub number_made : (most : ℕ) (p : List ℕ) → IsNumber most p → is_number most p ≡ true
-number_made most p f = both _ _ (both _ _ f.digits (le-leb _ _ f.short)) (le-leb _ _ f.small)
+number_made most p f = and_from _ _ (and_from _ _ f.digits (le-leb _ _ f.short)) (le-leb _ _ f.small)
 
 pub number_front : (most : ℕ) (p r : List ℕ) → is_number most (p ++ r) ≡ true → is_number most p ≡ true
 number_front most p r e =
@@ -46,12 +46,12 @@ number_front most p r e =
 pub digits_inner : (w : List ℕ) → are_digits w ≡ true → list_all is_inner w ≡ true
 digits_inner [] e = refl
 digits_inner (c ∷ cs) e =
-    let a = and_true (leb 48 c && leb c 57) (are_digits cs) e in
-    let h = and_true (leb 48 c) (leb c 57) a.0 in
+    let a = and_parts (leb 48 c && leb c 57) (are_digits cs) e in
+    let h = and_parts (leb 48 c) (leb c 57) a.0 in
     let le : c ≤ 57 = leb-true _ _ h.1 in
     let x : eqb c 124 ≡ false = ne_eqb _ _ (λ z. omega (arith, z, le)) in
     let y : eqb c 93 ≡ false = ne_eqb _ _ (λ z. omega (arith, z, le)) in
-    both _ _ (both _ _ (ap not x) (ap not y)) (digits_inner cs a.1)
+    and_from _ _ (and_from _ _ (ap not x) (ap not y)) (digits_inner cs a.1)
 
 -- ---- levels
 
@@ -60,11 +60,11 @@ pub record IsLevel (w : List ℕ) : Type 0 where
   pub some : 1 ≤ number_of w
 
 pub level_facts : (c : ℕ) (w : List ℕ) → is_level (c ∷ w) ≡ true → IsLevel (c ∷ w)
-level_facts c w e = let a = and_true (is_number 100 (c ∷ w)) (leb 1 (number_of (c ∷ w))) e in record { number = number_facts 100 (c ∷ w) a.0; some = leb-true _ _ a.1 }
+level_facts c w e = let a = and_parts (is_number 100 (c ∷ w)) (leb 1 (number_of (c ∷ w))) e in record { number = number_facts 100 (c ∷ w) a.0; some = leb-true _ _ a.1 }
 
 pub level_made : (w : List ℕ) → IsLevel w → is_level w ≡ true
 level_made [] f = refl
-level_made (c ∷ w) f = both _ _ (number_made 100 (c ∷ w) f.number) (le-leb _ _ f.some)
+level_made (c ∷ w) f = and_from _ _ (number_made 100 (c ∷ w) f.number) (le-leb _ _ f.some)
 
 record IsFront (w : List ℕ) : Type 0 where
   number : IsNumber 100 w
@@ -73,17 +73,17 @@ record IsFront (w : List ℕ) : Type 0 where
 front_facts : (w : List ℕ) → prefix_ok level w ≡ true → IsFront w
 unfolding prefix_ok
 front_facts w e =
-    let a = and_true (is_number 100 w) (ltb (length w) 3 || leb 1 (number_of w)) e in
+    let a = and_parts (is_number 100 w) (ltb (length w) 3 || leb 1 (number_of w)) e in
     record {
       number = number_facts 100 w a.0;
-      goes_on = elim (or_true (ltb (length w) 3) (leb 1 (number_of w)) a.1) [ inl h ↦ inl (ltb-true _ _ h) | inr h ↦ inr (leb-true _ _ h) ];
+      goes_on = elim (or_cases (ltb (length w) 3) (leb 1 (number_of w)) a.1) [ inl h ↦ inl (ltb-true _ _ h) | inr h ↦ inr (leb-true _ _ h) ];
     }
 
 front_made : (w : List ℕ) → is_number 100 w ≡ true → (length w < 3) ⊎ (1 ≤ number_of w) → prefix_ok level w ≡ true
 unfolding prefix_ok
-front_made w e g = both _ _ e (elim g [
-  | inl h ↦ either_left _ _ (lt-ltb _ _ h)
-  | inr h ↦ either_right (ltb (length w) 3) _ (le-leb _ _ h)
+front_made w e g = and_from _ _ e (elim g [
+  | inl h ↦ or_left _ _ (lt-ltb _ _ h)
+  | inr h ↦ or_right (ltb (length w) 3) _ (le-leb _ _ h)
 ])
 
 -- a front as long as the text is the text
@@ -91,7 +91,7 @@ closed_some : (w r : List ℕ) → IsLevel (w ++ r) → prefix_ok level w ≡ tr
 closed_some w r f =
     front_made w (number_front 100 w r (number_made 100 (w ++ r) f.number)) (elim (cases_lt (length w) 3) [
       | inl h ↦ inl h
-      | inr h ↦ (let nil : r ≡ [] = nil_of r (omega (arith, f.number.short, length-append w r, h)) in
+      | inr h ↦ (let nil : r ≡ [] = nil_from_length r (omega (arith, f.number.short, length-append w r, h)) in
           let same : w ++ r ≡ w = ap (λ (u : List ℕ). w ++ u) nil ∙ append-nil w in
           inr (omega (arith, f.some, ap number_of same)))
     ])
@@ -107,7 +107,7 @@ level_one w f zeros =
     let len = length-append w (49 ∷ []) in
     record {
       number = record {
-        digits = list_all-append (λ c. leb 48 c && leb c 57) w (49 ∷ []) ∙ both _ _ f.number.digits refl;
+        digits = list_all-append (λ c. leb 48 c && leb c 57) w (49 ∷ []) ∙ and_from _ _ f.number.digits refl;
         short = elim f.goes_on [ inl h ↦ omega (arith, h, len) | inr h ↦ absurd (omega (arith, h, zeros)) ];
         small = omega (arith, n);
       };
@@ -125,13 +125,9 @@ level_completes (c ∷ w) e =
           ([], ap is_level (append-nil (c ∷ w)) ∙ level_made (c ∷ w) (record { number = f.number; some = h }), sym (rw some refl), refl))
     ]
 
-at_most : (a : Bool) → cond a 1 0 ≤ 1
-at_most true = omega arith
-at_most false = omega arith
-
 need_small : (w : List ℕ) → level_need w ≤ 1
 need_small [] = omega arith
-need_small (c ∷ w) = at_most (eqb (number_of (c ∷ w)) 0)
+need_small (c ∷ w) = at_most_one (eqb (number_of (c ∷ w)) 0)
 
 level_full : (w : List ℕ) → is_level w ≡ true → level_need w ≡ 0
 level_full [] e = refl

@@ -9,7 +9,7 @@ pub mod FormLaws
 pub mod Bytes
 pub mod Runs
 pub mod Ends
-pub mod Places
+pub mod Positions
 pub mod Longest
 pub mod Unique
 pub mod Ids

@@ -8,12 +8,12 @@ use Rattle.std.proofs.Math.Seq.{take-add, take-length, drop-cons}
 use Rattle.ps_base.specs.declared.pack_kind.PackKind.{PackKind}
 use Rattle.ps_base.specs.declared.pack_kind.PackKind.TheVariants.{Long}
 use Rattle.ps_packed.specs.declared.set.Set.{Set}
-use Rattle.ps_packed.specs.Packed.{set_of, bytes_of, IsFreeTeam, IsTeam, IsPrefix, IsFreePrefix, IsLongest, IsLong, IsKind, kind_of, kind_at, is_nameless, sets_done, row_at_end, field_at_end, word_at_end}
+use Rattle.ps_packed.specs.Packed.{set_of, bytes_of, IsFreeTeam, IsTeam, IsPrefix, IsFreePrefix, IsLongest, IsLong, IsKind, kind_of, kind_at, is_nameless, sets_done, field_texts_at_end, field_at_end, word_at_end}
 use Rattle.ps_packed.specs.Scan.{State, start, step, run, accepts, need, need_of, nameless_at}
 use Rattle.ps_packed.proofs.Bytes.{bytes_append, length_bytes, low_bytes, low_scalars, scalars_append, scalars_take}
 use Rattle.ps_packed.proofs.Runs.{run_then, run_step, some_is, some_step, team_runs, free_team}
 use Rattle.ps_packed.proofs.Ends.{Valid, start_valid, step_valid, run_need, no_need, can_end, unfinished}
-use Rattle.ps_packed.proofs.Places.{Placed, start_placed, placed_next, told}
+use Rattle.ps_packed.proofs.Positions.{Placed, start_placed, placed_next, reported}
 
 -- after so many characters the text can still become a team's
 pub record IsAlive (text : List ℕ) (i : ℕ) (s : State) : Type 0 where
@@ -24,7 +24,7 @@ pub record IsAlive (text : List ℕ) (i : ℕ) (s : State) : Type 0 where
   pub room : bytes_of (take i text) + need_of s ≤ 4096
 
 -- the shortest end of a front
-pub free_front : (front : List ℕ) (s : State) → all_scalars front ≡ true → run start front ≡ Some s → Valid s → (rest : List ℕ) × (rows : List (List (List ℕ))) × IsFreeTeam rows (front ++ rest) × (bytes_of (front ++ rest) ≡ bytes_of front + need_of s)
+pub free_front : (front : List ℕ) (s : State) → all_scalars front ≡ true → run start front ≡ Some s → Valid s → (rest : List ℕ) × (team_texts : List (List (List ℕ))) × IsFreeTeam team_texts (front ++ rest) × (bytes_of (front ++ rest) ≡ bytes_of front + need_of s)
 free_front front s letters runs v =
     let c = can_end s v in
     let whole : run start (front ++ c.0) ≡ Some c.1 = run_then start s front c.0 runs ∙ c.2 in
@@ -56,11 +56,11 @@ record Follows (text : List ℕ) (i : ℕ) (s : State) (whole : List ℕ) : Type
   runs : run next after ≡ Some end
   ends : accepts end ≡ true
 
-follows : (text : List ℕ) (i : ℕ) (s : State) (n : ℕ) (rest : List ℕ) (rows : List (List (List ℕ))) → IsAlive text i s → i < n → n ≤ length text → IsFreeTeam rows (take n text ++ rest) → Follows text i s (take n text ++ rest)
-follows text i s n rest rows a lt le is =
+follows : (text : List ℕ) (i : ℕ) (s : State) (n : ℕ) (rest : List ℕ) (team_texts : List (List (List ℕ))) → IsAlive text i s → i < n → n ≤ length text → IsFreeTeam team_texts (take n text ++ rest) → Follows text i s (take n text ++ rest)
+follows text i s n rest team_texts a lt le is =
     let more : List ℕ = take (n - (i + 1)) (drop (i + 1) text) in
     let c = get_or text i 0 in
-    let r = team_runs rows (take n text ++ rest) is in
+    let r = team_runs team_texts (take n text ++ rest) is in
     let parts : take n text ++ rest ≡ take i text ++ c ∷ (more ++ rest) = ap (λ (u : List ℕ). u ++ rest) (take_parts text i n lt le) ∙ append_assoc (take i text) (c ∷ more) rest in
     let whole : run s (c ∷ (more ++ rest)) ≡ Some r.0 = sym (run_then start s (take i text) (c ∷ (more ++ rest)) a.run_is) ∙ ap (run start) (sym parts) ∙ r.1 in
     let u = some_step (step s c) (more ++ rest) r.0 whole in
@@ -155,15 +155,15 @@ long_room text i s u letters a lt e = inl (inr (i + 1, omega arith, omega arith,
 abbrev pub kind_in : State → Option ℕ → PackKind
 kind_in s next = kind_of (nameless_at s.bare s.field s.word) s.sets s.field s.word next
 
-told_kind : (text : List ℕ) (i : ℕ) (s : State) (next : Option ℕ) (k : PackKind) → IsAlive text i s → slice_get text i ≡ next → k ≡ kind_in s next → k ≡ kind_at text i
-told_kind text i s next k a e is =
-    let t = told (take i text) s a.placed in
+reported_kind : (text : List ℕ) (i : ℕ) (s : State) (next : Option ℕ) (k : PackKind) → IsAlive text i s → slice_get text i ≡ next → k ≡ kind_in s next → k ≡ kind_at text i
+reported_kind text i s next k a e is =
+    let t = reported (take i text) s a.placed in
     let front = take i text in
     is ∙ ap (λ (b : Bool). kind_of b s.sets s.field s.word next) (sym t.names)
-    ∙ ap (λ n. kind_of (is_nameless (row_at_end front)) n s.field s.word next) (sym t.sets)
-    ∙ ap (λ n. kind_of (is_nameless (row_at_end front)) (sets_done front) n s.word next) (sym t.field)
-    ∙ ap (λ (w : List ℕ). kind_of (is_nameless (row_at_end front)) (sets_done front) (field_at_end front) w next) (sym t.word)
-    ∙ ap (λ (o : Option ℕ). kind_of (is_nameless (row_at_end front)) (sets_done front) (field_at_end front) (word_at_end front) o) (sym e)
+    ∙ ap (λ n. kind_of (is_nameless (field_texts_at_end front)) n s.field s.word next) (sym t.sets)
+    ∙ ap (λ n. kind_of (is_nameless (field_texts_at_end front)) (sets_done front) n s.word next) (sym t.field)
+    ∙ ap (λ (w : List ℕ). kind_of (is_nameless (field_texts_at_end front)) (sets_done front) (field_at_end front) w next) (sym t.word)
+    ∙ ap (λ (o : Option ℕ). kind_of (is_nameless (field_texts_at_end front)) (sets_done front) (field_at_end front) (word_at_end front) o) (sym e)
 
 not_long_here : (text : List ℕ) (i : ℕ) (s : State) → IsAlive text i s → bytes_of (take i text) < 4096 → step s (get_or text i 0) ≡ None → ¬ (IsLong text i)
 not_long_here text i s a small none = λ long. (elim long [
@@ -172,7 +172,7 @@ not_long_here text i s a small none = λ long. (elim long [
 ])
 
 pub kind_here : (text : List ℕ) (i : ℕ) (s : State) (k : PackKind) → IsAlive text i s → i < length text → bytes_of (take i text) < 4096 → step s (get_or text i 0) ≡ None → k ≡ kind_in s (Some (get_or text i 0)) → IsKind text i k
-kind_here text i s k a lt small none is = inr (not_long_here text i s a small none, told_kind text i s (Some (get_or text i 0)) k a (slice_get-get_or text i 0 lt) is)
+kind_here text i s k a lt small none is = inr (not_long_here text i s a small none, reported_kind text i s (Some (get_or text i 0)) k a (slice_get-get_or text i 0 lt) is)
 
 pub kind_end : (text : List ℕ) (s : State) (k : PackKind) → IsAlive text (length text) s → accepts s ≡ false → k ≡ kind_in s None → IsKind text (length text) k
 kind_end text s k a refused is = inr (
@@ -180,7 +180,7 @@ kind_end text s k a refused is = inr (
     | inl e ↦ omega (arith, e, a.room, unfinished s a.valid refused)
     | inr (n, more, le, p) ↦ omega (arith, more, le)
   ]),
-  told_kind text (length text) s None k a (slice_get_past text (length text) (omega arith)) is,
+  reported_kind text (length text) s None k a (slice_get_past text (length text) (omega arith)) is,
 )
 
 -- a place of a text has the same character whatever stands past its end
@@ -190,4 +190,4 @@ read_at (c ∷ text) zero x lt e = e
 read_at (c ∷ text) (suc i) x lt e = read_at text i x (omega (arith, lt)) e
 
 pub next_at : (text : List ℕ) (i x at more : ℕ) → i < length text → x ≡ get_or text i 0 → at ≡ bytes_of (take i text) → more ≡ bytes_of (x ∷ []) → bytes_of (take (i + 1) text) ≡ at + more
-next_at text i x at more lt is place bytes = omega (arith, next_bytes text i lt, place, bytes, ap (λ (y : ℕ). bytes_of (y ∷ [])) is)
+next_at text i x at more lt is offset bytes = omega (arith, next_bytes text i lt, offset, bytes, ap (λ (y : ℕ). bytes_of (y ∷ [])) is)

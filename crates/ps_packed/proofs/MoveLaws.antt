@@ -1,11 +1,11 @@
 -- The laws of moves.
 use Rattle.std.proofs.Common.{◌≡◌, ℕ, ◌≤◌, ◌&&◌, Bool, true, false, cond, eqb, leb, List, [], ◌∷◌, ◌++◌, length, filter, refl, ap, ◌∙◌, inl, inr, arith}
 use Rattle.std.specs.List.{list_all, list_any, onto_first}
-use Rattle.std.proofs.lemmas.Bool.{leb-true, le-leb}
+use Rattle.std.proofs.lemmas.Bool.{leb-true, le-leb, and_parts, or_cases, and_from, or_left, or_right}
 use Rattle.std.proofs.lemmas.List.{length-append, append-nil}
 use Rattle.ps_packed.specs.Forms.{is_field_char, moves, parts, is_id_letter, has_id, are_short, id_count, in_form}
 use Rattle.ps_packed.specs.Scan.{prefix_ok, need}
-use Rattle.ps_packed.proofs.Truths.{and_true, or_true, both, either_left, either_right, all_front}
+use Rattle.ps_packed.proofs.Truths.{all_front}
 use Rattle.ps_packed.proofs.Laws.{Laws, field_inner}
 
 -- each part is the front of the part in its place
@@ -38,13 +38,13 @@ short_below : (ps qs : List (List ℕ)) → Below ps qs → list_all (λ p. leb 
 short_below [] qs h e = refl
 short_below (p ∷ ps) [] h e = absurd h
 short_below (p ∷ ps) (q ∷ qs) h e =
-    let a = and_true (leb (length q) 32) (list_all (λ p. leb (length p) 32) qs) e in
+    let a = and_parts (leb (length q) 32) (list_all (λ p. leb (length p) 32) qs) e in
     let le : length q ≤ 32 = leb-true _ _ a.0 in
-    both _ _ (le-leb _ _ (omega (arith, le, ap length h.1, length-append p h.0))) (short_below ps qs h.2 a.1)
+    and_from _ _ (le-leb _ _ (omega (arith, le, ap length h.1, length-append p h.0))) (short_below ps qs h.2 a.1)
 
 any_stays : (test : ℕ → Bool) (p r : List ℕ) → list_any test p ≡ true → list_any test (p ++ r) ≡ true
 any_stays test [] r e = absurd cc
-any_stays test (b ∷ p) r e = elim (or_true (test b) (list_any test p) e) [ inl h ↦ either_left _ _ h | inr h ↦ either_right (test b) _ (any_stays test p r h) ]
+any_stays test (b ∷ p) r e = elim (or_cases (test b) (list_any test p) e) [ inl h ↦ or_left _ _ h | inr h ↦ or_right (test b) _ (any_stays test p r h) ]
 
 id_stays : (p r : List ℕ) → has_id p ≡ true → has_id (p ++ r) ≡ true
 unfolding has_id
@@ -68,13 +68,13 @@ pub record IsMoves (w : List ℕ) : Type 0 where
 pub moves_facts : (w : List ℕ) → in_form moves w ≡ true → IsMoves w
 unfolding in_form
 moves_facts w e =
-    let a = and_true (list_all is_field_char w && are_short w) (leb (id_count w) 4) e in
-    let b = and_true (list_all is_field_char w) (are_short w) a.0 in
+    let a = and_parts (list_all is_field_char w && are_short w) (leb (id_count w) 4) e in
+    let b = and_parts (list_all is_field_char w) (are_short w) a.0 in
     record { chars = b.0; are = b.1; few = leb-true _ _ a.1 }
 
 pub moves_made : (w : List ℕ) → IsMoves w → in_form moves w ≡ true
 unfolding in_form
-moves_made w f = both _ _ (both _ _ f.chars f.are) (le-leb _ _ f.few)
+moves_made w f = and_from _ _ (and_from _ _ f.chars f.are) (le-leb _ _ f.few)
 
 moves_closed : (w r : List ℕ) → in_form moves (w ++ r) ≡ true → prefix_ok moves w ≡ true
 unfolding prefix_ok are_short id_count

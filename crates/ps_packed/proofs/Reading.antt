@@ -3,12 +3,11 @@ use Rattle.std.proofs.Common.{◌≡◌, ◌≢◌, ℕ, zero, suc, ◌+◌, ◌
 use Rattle.std.specs.Char.{encode_utf8}
 use Rattle.std.specs.Str.{encode_utf8_all}
 use Rattle.std.specs.List.{AllByRecursion, list_all}
-use Rattle.std.proofs.lemmas.Bool.{ne_eqb}
-use Rattle.std.proofs.lemmas.List.{append-nil, take_more}
+use Rattle.std.proofs.lemmas.Bool.{ne_eqb, and_parts}
+use Rattle.std.proofs.lemmas.List.{append-nil, take_more, length-map}
 use Rattle.std.proofs.lemmas.Str.{encodes-append}
 use Rattle.ps_packed.specs.Forms.{is_number, number_of, parts, is_zero, is_spread, evs, ivs, level, in_form, form_of}
-use Rattle.ps_packed.specs.Packed.{is_nil, or_other, AreFields, IsRow, field, set_of}
-use Rattle.ps_packed.proofs.Truths.{and_true}
+use Rattle.ps_packed.specs.Packed.{is_nil, or_other, AreFields, AreFieldTexts, field, set_of}
 use Rattle.ps_packed.proofs.Unique.{pieces_long}
 use Rattle.ps_packed.proofs.LevelLaws.{level_facts}
 use Rattle.ps_packed.proofs.SpreadLaws.{spread_cases, numbers_facts}
@@ -20,7 +19,7 @@ text_grows word i x old new lt is before more =
 
 each_number : (most : ℕ) (ps : List (List ℕ)) → list_all (is_number most) ps ≡ true → AllByRecursion (λ p. is_number most p ≡ true) ps
 each_number most [] e = tt
-each_number most (p ∷ ps) e = let a = and_true (is_number most p) (list_all (is_number most) ps) e in (a.0, each_number most ps a.1)
+each_number most (p ∷ ps) e = let a = and_parts (is_number most p) (list_all (is_number most) ps) e in (a.0, each_number most ps a.1)
 
 -- six numbers
 pub record AreSix (most : ℕ) (ps : List (Bor (List ℕ))) : Type 0 where
@@ -62,22 +61,18 @@ pub not_empty : (w : List ℕ) → eqb (length w) 0 ≡ false → length w ≢ 0
 not_empty [] e h = cc
 not_empty (c ∷ w) e h = omega (arith, h)
 
--- the pieces of a row are its fields
+-- the pieces of a set's text are its fields
 pub mapped_at : (fs : List (Bor (List ℕ))) (i : ℕ) (d : Bor (List ℕ)) → i < length fs → (get_or fs i d).now ≡ field (map (λ x. x.now) fs) i
 mapped_at [] i d lt = absurd (omega (arith, lt))
 mapped_at (f ∷ fs) zero d lt = refl
 mapped_at (f ∷ fs) (suc i) d lt = mapped_at fs i d (omega (arith, lt))
 
-mapped_long : (fs : List (Bor (List ℕ))) → length (map (λ x. x.now) fs) ≡ length fs
-mapped_long [] = refl
-mapped_long (f ∷ fs) = ap suc (mapped_long fs)
+pub piece_fits : (fs : List (Bor (List ℕ))) (i : ℕ) (d : Bor (List ℕ)) → AreFieldTexts (map (λ x. x.now) fs) → i < length fs → in_form (form_of i) (get_or fs i d).now ≡ true
+piece_fits fs i d h lt = rw (mapped_at fs i d lt) (from_field 0 (map (λ x. x.now) fs) i i h.0 (rw (length-map fs (λ (x : Bor (List ℕ)). x.now)) lt) (omega arith))
 
-pub piece_fits : (fs : List (Bor (List ℕ))) (i : ℕ) (d : Bor (List ℕ)) → IsRow (map (λ x. x.now) fs) → i < length fs → in_form (form_of i) (get_or fs i d).now ≡ true
-piece_fits fs i d h lt = rw (mapped_at fs i d lt) (from_field 0 (map (λ x. x.now) fs) i i h.0 (rw (mapped_long fs) lt) (omega arith))
-
-pub nil_tells : (w : List ℕ) → eqb (length w) 0 ≡ is_nil w
-nil_tells [] = refl
-nil_tells (c ∷ w) = ne_eqb _ _ (λ z. omega (arith, z))
+pub nil_shows : (w : List ℕ) → eqb (length w) 0 ≡ is_nil w
+nil_shows [] = refl
+nil_shows (c ∷ w) = ne_eqb _ _ (λ z. omega (arith, z))
 
 pub set_is : (ws : List (List ℕ)) (n s i a : List ℕ) (m : List (List ℕ)) (t e : List ℕ) (g : Option ℕ) (v : List ℕ) (h : Bool) (l : ℕ) (x : List ℕ) →
     n ≡ (set_of ws).nick → s ≡ (set_of ws).species → i ≡ (set_of ws).item → a ≡ (set_of ws).ability → m ≡ (set_of ws).moves → t ≡ (set_of ws).nature →

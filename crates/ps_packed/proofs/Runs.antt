@@ -3,13 +3,13 @@ use Rattle.std.proofs.Common.{◌≡◌, ℕ, zero, suc, ◌+◌, ◌<◌, ◌�
 use Rattle.std.specs.Prelude.{option_and_then}
 use Rattle.std.specs.List.{list_all, AllByRecursion, join_with_byte}
 use Rattle.std.specs.Str.{all_scalars}
-use Rattle.std.proofs.lemmas.Bool.{ltb-true, lt-ltb, eqb-true, ne_eqb}
+use Rattle.std.proofs.lemmas.Bool.{ltb-true, lt-ltb, eqb-true, ne_eqb, and_parts, and_from, not-true}
 use Rattle.std.proofs.lemmas.List.{append-nil}
 use Rattle.std.proofs.lemmas.List.Folds.{list_all-append}
 use Rattle.ps_packed.specs.Forms.{in_form, form_of, last}
-use Rattle.ps_packed.specs.Packed.{is_nil, is_nameless, AreFields, IsRow, team_text, IsFreeTeam}
+use Rattle.ps_packed.specs.Packed.{is_nil, is_nameless, AreFields, AreFieldTexts, team_text, IsFreeTeam}
 use Rattle.ps_packed.specs.Scan.{prefix_ok, State, start, step, run, accepts, nameless_at, bar_named}
-use Rattle.ps_packed.proofs.Truths.{and_true, both, not_false, is_not}
+use Rattle.ps_packed.proofs.Truths.{is_not}
 use Rattle.ps_packed.proofs.Laws.{is_inner}
 use Rattle.ps_packed.proofs.FormLaws.{laws_of}
 
@@ -32,7 +32,7 @@ named_bar c (suc (suc k)) w x ws e = (refl, tt)
 
 bar_back : (c : Bool) (k : ℕ) (w x : List ℕ) (ws : List (List ℕ)) → bar_named c k w ≡ true → NamedFrom (nameless_at c k w) (suc k) (x ∷ ws) → NamedFrom c k (w ∷ x ∷ ws)
 bar_back c zero w x ws e h = h
-bar_back c (suc zero) w x ws e h = not_false (c && is_nil w) e
+bar_back c (suc zero) w x ws e h = not-true (c && is_nil w) e
 bar_back c (suc (suc k)) w x ws e h = tt
 
 named_last : (c : Bool) (k : ℕ) (ws : List (List ℕ)) → k ≡ last → NamedFrom c k ws
@@ -71,9 +71,9 @@ Ends s text n = (t : State) × (run s text ≡ Some t) × (accepts t ≡ true) �
 inner_of : (k : ℕ) (w : List ℕ) (b : ℕ) (v : List ℕ) → in_form (form_of k) (w ++ b ∷ v) ≡ true → (b ≢ 124) × (b ≢ 93)
 inner_of k w b v e =
     let p : list_all is_inner (w ++ b ∷ v) ≡ true = (laws_of k).plain (w ++ b ∷ v) e in
-    let q = and_true (list_all is_inner w) (list_all is_inner (b ∷ v)) (sym (list_all-append is_inner w (b ∷ v)) ∙ p) in
-    let r = and_true (not (b == 124) && not (b == 93)) (list_all is_inner v) q.1 in
-    let h = and_true (not (b == 124)) (not (b == 93)) r.0 in
+    let q = and_parts (list_all is_inner w) (list_all is_inner (b ∷ v)) (sym (list_all-append is_inner w (b ∷ v)) ∙ p) in
+    let r = and_parts (not (b == 124) && not (b == 93)) (list_all is_inner v) q.1 in
+    let h = and_parts (not (b == 124)) (not (b == 93)) r.0 in
     (is_not b 124 h.0, is_not b 93 h.1)
 
 pub word_runs : (w v : List ℕ) (c : Bool) (k n : ℕ) → in_form (form_of k) (w ++ v) ≡ true → run (at w c k n) v ≡ Some (at (w ++ v) c k n)
@@ -87,7 +87,7 @@ word_runs w (b ∷ v) c k n e =
 
 pub accepts_last : (w : List ℕ) (c : Bool) (k n : ℕ) → k ≡ last → in_form (form_of k) w ≡ true → accepts (at w c k n) ≡ true
 unfolding accepts
-accepts_last w c k n e fit = both _ _ (eq-eqb k last e) fit
+accepts_last w c k n e fit = and_from _ _ (eq-eqb k last e) fit
 
 fields_run : (c : Bool) (k : ℕ) (ws : List (List ℕ)) (n : ℕ) → AreFields k ws → NamedFrom c k ws → Ends (at [] c k n) (join_with_byte 124 ws) n
 fields_run c k [] n fit name = absurd fit
@@ -103,17 +103,17 @@ fields_run c k (w ∷ x ∷ ws) n fit name =
 -- what accepts, stands in the last field
 pub last_of : (t : State) → accepts t ≡ true → (t.field ≡ last) × (in_form (form_of t.field) t.word ≡ true)
 unfolding accepts
-last_of t e = let a = and_true (eqb t.field last) (in_form (form_of t.field) t.word) e in (eqb-true _ _ a.0, a.1)
+last_of t e = let a = and_parts (eqb t.field last) (in_form (form_of t.field) t.word) e in (eqb-true _ _ a.0, a.1)
 
-rows_run : (rows : List (List (List ℕ))) (n : ℕ) → AllByRecursion IsRow rows → 0 < length rows → n + length rows ≤ 6 → (t : State) × (run (at [] true 0 n) (team_text rows) ≡ Some t) × (accepts t ≡ true)
-rows_run [] n fit some few = absurd (omega (arith, some))
-rows_run (r ∷ []) n fit some few = let one = fields_run true 0 r n fit.0.0 fit.0.1 in (one.0, one.1, one.2)
-rows_run (r ∷ q ∷ rows) n fit some few =
+team_texts_run : (team_texts : List (List (List ℕ))) (n : ℕ) → AllByRecursion AreFieldTexts team_texts → 0 < length team_texts → n + length team_texts ≤ 6 → (t : State) × (run (at [] true 0 n) (team_text team_texts) ≡ Some t) × (accepts t ≡ true)
+team_texts_run [] n fit some few = absurd (omega (arith, some))
+team_texts_run (r ∷ []) n fit some few = let one = fields_run true 0 r n fit.0.0 fit.0.1 in (one.0, one.1, one.2)
+team_texts_run (r ∷ q ∷ team_texts) n fit some few =
     let one = fields_run true 0 r n fit.0.0 fit.0.1 in
     let end = last_of one.0 one.2 in
     let lt : n < 5 = omega (arith, few) in
-    let later = rows_run (q ∷ rows) (n + 1) fit.1 (omega arith) (omega (arith, few)) in
-    let first : run (at [] true 0 n) (join_with_byte 124 r ++ 93 ∷ team_text (q ∷ rows)) ≡ run one.0 (93 ∷ team_text (q ∷ rows)) = run_then (at [] true 0 n) one.0 (join_with_byte 124 r) _ one.1 in
+    let later = team_texts_run (q ∷ team_texts) (n + 1) fit.1 (omega arith) (omega (arith, few)) in
+    let first : run (at [] true 0 n) (join_with_byte 124 r ++ 93 ∷ team_text (q ∷ team_texts)) ≡ run one.0 (93 ∷ team_text (q ∷ team_texts)) = run_then (at [] true 0 n) one.0 (join_with_byte 124 r) _ one.1 in
     let next : step one.0 93 ≡ Some (at [] true 0 (n + 1)) = step_bracket one.0.word one.0.bare one.0.field one.0.sets end.0 end.1 (rw one.3 lt) ∙ ap (λ j. Some (at [] true 0 (j + 1))) one.3 in
     (later.0, first ∙ run_step one.0 (at [] true 0 (n + 1)) 93 _ next ∙ later.1, later.2)
 
@@ -146,13 +146,13 @@ stepped s b t e =
     let in_word = cond (prefix_ok (form_of s.field) (s.word ++ b ∷ [])) (Some inner) None in
     elim (chosen (eqb b 124) in_bar (cond (eqb b 93) in_bracket in_word) (Some t) e) [
       | inl h ↦ (let g = guarded (ltb s.field last && in_form (form_of s.field) s.word && bar_named s.bare s.field s.word) bar t h.1 in
-          let a = and_true (ltb s.field last && in_form (form_of s.field) s.word) (bar_named s.bare s.field s.word) g.0 in
-          let c = and_true (ltb s.field last) (in_form (form_of s.field) s.word) a.0 in
+          let a = and_parts (ltb s.field last && in_form (form_of s.field) s.word) (bar_named s.bare s.field s.word) g.0 in
+          let c = and_parts (ltb s.field last) (in_form (form_of s.field) s.word) a.0 in
           by_bar (eqb-true _ _ h.0) (ltb-true _ _ c.0) c.1 a.1 g.1)
       | inr k ↦ elim (chosen (eqb b 93) in_bracket in_word (Some t) k.1) [
         | inl h ↦ (let g = guarded (eqb s.field last && in_form (form_of s.field) s.word && ltb s.sets 5) bracket t h.1 in
-            let a = and_true (eqb s.field last && in_form (form_of s.field) s.word) (ltb s.sets 5) g.0 in
-            let c = and_true (eqb s.field last) (in_form (form_of s.field) s.word) a.0 in
+            let a = and_parts (eqb s.field last && in_form (form_of s.field) s.word) (ltb s.sets 5) g.0 in
+            let c = and_parts (eqb s.field last) (in_form (form_of s.field) s.word) a.0 in
             by_bracket (eqb-true _ _ h.0) (eqb-true _ _ c.0) c.1 (ltb-true _ _ a.1) g.1)
         | inr h ↦ (let g = guarded (prefix_ok (form_of s.field) (s.word ++ b ∷ [])) inner t h.1 in by_inner k.0 h.0 g.0 g.1)
       ]
@@ -162,55 +162,55 @@ stepped s b t e =
 
 -- The text goes on with the rest of a field, with fields and with sets.
 pub record GoesOn (w : List ℕ) (c : Bool) (k n : ℕ) (b : List ℕ) : Type 0 where
-  pub row : List (List ℕ)
-  pub rows : List (List (List ℕ))
+  pub field_texts : List (List ℕ)
+  pub team_texts : List (List (List ℕ))
   pub first : List ℕ
-  pub row_is : AreFields k ((w ++ first) ∷ row)
-  pub named : NamedFrom c k ((w ++ first) ∷ row)
-  pub rows_are : AllByRecursion IsRow rows
-  pub few : n + length rows ≤ 5
-  pub parts : team_text (((w ++ first) ∷ row) ∷ rows) ≡ w ++ b
+  pub field_texts_are : AreFields k ((w ++ first) ∷ field_texts)
+  pub named : NamedFrom c k ((w ++ first) ∷ field_texts)
+  pub team_texts_are : AllByRecursion AreFieldTexts team_texts
+  pub few : n + length team_texts ≤ 5
+  pub parts : team_text (((w ++ first) ∷ field_texts) ∷ team_texts) ≡ w ++ b
 
-bar_parts : (w x : List ℕ) (xs : List (List ℕ)) (rows : List (List (List ℕ))) → team_text ((w ∷ x ∷ xs) ∷ rows) ≡ w ++ 124 ∷ team_text ((x ∷ xs) ∷ rows)
+bar_parts : (w x : List ℕ) (xs : List (List ℕ)) (team_texts : List (List (List ℕ))) → team_text ((w ∷ x ∷ xs) ∷ team_texts) ≡ w ++ 124 ∷ team_text ((x ∷ xs) ∷ team_texts)
 bar_parts w x xs [] = refl
-bar_parts w x xs (q ∷ rows) = append_assoc w (124 ∷ join_with_byte 124 (x ∷ xs)) (93 ∷ team_text (q ∷ rows))
+bar_parts w x xs (q ∷ team_texts) = append_assoc w (124 ∷ join_with_byte 124 (x ∷ xs)) (93 ∷ team_text (q ∷ team_texts))
 
 after_bar : (s : State) (bs : List ℕ) → s.field < last → in_form (form_of s.field) s.word ≡ true → bar_named s.bare s.field s.word ≡ true → GoesOn [] (nameless_at s.bare s.field s.word) (s.field + 1) s.sets bs → GoesOn s.word s.bare s.field s.sets (124 ∷ bs)
 after_bar s bs lt fit name g = record {
-  named = subst (λ (u : List ℕ). NamedFrom s.bare s.field (u ∷ g.first ∷ g.row)) (sym (append-nil s.word)) (bar_back s.bare s.field s.word g.first g.row name (subst (λ k. NamedFrom (nameless_at s.bare s.field s.word) k (g.first ∷ g.row)) (add-one s.field) g.named));
-  row = g.first ∷ g.row;
-  rows = g.rows;
+  named = subst (λ (u : List ℕ). NamedFrom s.bare s.field (u ∷ g.first ∷ g.field_texts)) (sym (append-nil s.word)) (bar_back s.bare s.field s.word g.first g.field_texts name (subst (λ k. NamedFrom (nameless_at s.bare s.field s.word) k (g.first ∷ g.field_texts)) (add-one s.field) g.named));
+  field_texts = g.first ∷ g.field_texts;
+  team_texts = g.team_texts;
   first = [];
-  row_is = (rw append-nil fit, lt, subst (λ k. AreFields k (g.first ∷ g.row)) (add-one s.field) g.row_is);
-  rows_are = g.rows_are;
+  field_texts_are = (rw append-nil fit, lt, subst (λ k. AreFields k (g.first ∷ g.field_texts)) (add-one s.field) g.field_texts_are);
+  team_texts_are = g.team_texts_are;
   few = g.few;
-  parts = ap (λ (u : List ℕ). team_text ((u ∷ g.first ∷ g.row) ∷ g.rows)) (append-nil s.word) ∙ bar_parts s.word g.first g.row g.rows ∙ ap (λ (u : List ℕ). s.word ++ 124 ∷ u) g.parts;
+  parts = ap (λ (u : List ℕ). team_text ((u ∷ g.first ∷ g.field_texts) ∷ g.team_texts)) (append-nil s.word) ∙ bar_parts s.word g.first g.field_texts g.team_texts ∙ ap (λ (u : List ℕ). s.word ++ 124 ∷ u) g.parts;
 }
 
 after_bracket : (s : State) (bs : List ℕ) → s.field ≡ last → in_form (form_of s.field) s.word ≡ true → GoesOn [] true 0 (s.sets + 1) bs → GoesOn s.word s.bare s.field s.sets (93 ∷ bs)
 after_bracket s bs e fit g = record {
   named = named_last s.bare s.field ((s.word ++ []) ∷ []) e;
-  row = [];
-  rows = (g.first ∷ g.row) ∷ g.rows;
+  field_texts = [];
+  team_texts = (g.first ∷ g.field_texts) ∷ g.team_texts;
   first = [];
-  row_is = (rw append-nil fit, e);
-  rows_are = ((g.row_is, g.named), g.rows_are);
+  field_texts_are = (rw append-nil fit, e);
+  team_texts_are = ((g.field_texts_are, g.named), g.team_texts_are);
   few = omega (arith, g.few);
-  parts = ap (λ (u : List ℕ). u ++ 93 ∷ team_text ((g.first ∷ g.row) ∷ g.rows)) (append-nil s.word) ∙ ap (λ (u : List ℕ). s.word ++ 93 ∷ u) g.parts;
+  parts = ap (λ (u : List ℕ). u ++ 93 ∷ team_text ((g.first ∷ g.field_texts) ∷ g.team_texts)) (append-nil s.word) ∙ ap (λ (u : List ℕ). s.word ++ 93 ∷ u) g.parts;
 }
 
 after_inner : (s : State) (b : ℕ) (bs : List ℕ) → GoesOn (s.word ++ b ∷ []) s.bare s.field s.sets bs → GoesOn s.word s.bare s.field s.sets (b ∷ bs)
 after_inner s b bs g =
     let same : (s.word ++ b ∷ []) ++ g.first ≡ s.word ++ b ∷ g.first = append_assoc s.word (b ∷ []) g.first in
     record {
-      row = g.row;
-      rows = g.rows;
+      field_texts = g.field_texts;
+      team_texts = g.team_texts;
       first = b ∷ g.first;
-      row_is = subst (λ (u : List ℕ). AreFields s.field (u ∷ g.row)) same g.row_is;
-      named = subst (λ (u : List ℕ). NamedFrom s.bare s.field (u ∷ g.row)) same g.named;
-      rows_are = g.rows_are;
+      field_texts_are = subst (λ (u : List ℕ). AreFields s.field (u ∷ g.field_texts)) same g.field_texts_are;
+      named = subst (λ (u : List ℕ). NamedFrom s.bare s.field (u ∷ g.field_texts)) same g.named;
+      team_texts_are = g.team_texts_are;
       few = g.few;
-      parts = ap (λ (u : List ℕ). team_text ((u ∷ g.row) ∷ g.rows)) (sym same) ∙ g.parts ∙ append_assoc s.word (b ∷ []) bs;
+      parts = ap (λ (u : List ℕ). team_text ((u ∷ g.field_texts) ∷ g.team_texts)) (sym same) ∙ g.parts ∙ append_assoc s.word (b ∷ []) bs;
     }
 
 pub some_step : (o : Option State) (bs : List ℕ) (t : State) → option_and_then (λ u. run u bs) o ≡ Some t → (u : State) × (o ≡ Some u) × (run u bs ≡ Some t)
@@ -221,7 +221,7 @@ pub goes_on : (s : State) (b : List ℕ) (t : State) → s.sets ≤ 5 → run s 
 goes_on s [] t le e ok =
     let same : t ≡ s = some_is s t e in
     let l = subst (λ (u : State). (u.field ≡ last) × (in_form (form_of u.field) u.word ≡ true)) same (last_of t ok) in
-    record { row = []; rows = []; first = []; row_is = (rw append-nil l.1, l.0); named = named_last s.bare s.field ((s.word ++ []) ∷ []) l.0; rows_are = tt; few = omega (arith, le); parts = refl }
+    record { field_texts = []; team_texts = []; first = []; field_texts_are = (rw append-nil l.1, l.0); named = named_last s.bare s.field ((s.word ++ []) ∷ []) l.0; team_texts_are = tt; few = omega (arith, le); parts = refl }
 goes_on s (b ∷ bs) t le e ok =
     let u = some_step (step s b) bs t e in
     elim (stepped s b u.0 u.1) [
@@ -235,11 +235,11 @@ goes_on s (b ∷ bs) t le e ok =
 
 -- ---- teams without the limit of bytes
 
-pub team_runs : (rows : List (List (List ℕ))) (text : List ℕ) → IsFreeTeam rows text → (t : State) × (run start text ≡ Some t) × (accepts t ≡ true)
-team_runs rows text is = let r = rows_run rows 0 is.fit is.some (omega (arith, is.few)) in (r.0, ap (run start) is.parts ∙ r.1, r.2)
+pub team_runs : (team_texts : List (List (List ℕ))) (text : List ℕ) → IsFreeTeam team_texts text → (t : State) × (run start text ≡ Some t) × (accepts t ≡ true)
+team_runs team_texts text is = let r = team_texts_run team_texts 0 is.fit is.some (omega (arith, is.few)) in (r.0, ap (run start) is.parts ∙ r.1, r.2)
 
--- what is gone through to its end is the text of these rows
-pub free_team : (text : List ℕ) (t : State) → run start text ≡ Some t → accepts t ≡ true → all_scalars text ≡ true → (rows : List (List (List ℕ))) × IsFreeTeam rows text
+-- what is gone through to its end is the text of these fields
+pub free_team : (text : List ℕ) (t : State) → run start text ≡ Some t → accepts t ≡ true → all_scalars text ≡ true → (team_texts : List (List (List ℕ))) × IsFreeTeam team_texts text
 free_team text t e ok letters =
     let g = goes_on start text t (omega arith) e ok in
-    ((g.first ∷ g.row) ∷ g.rows, record { letters = letters; parts = sym g.parts; fit = ((g.row_is, g.named), g.rows_are); some = omega arith; few = omega (arith, g.few) })
+    ((g.first ∷ g.field_texts) ∷ g.team_texts, record { letters = letters; parts = sym g.parts; fit = ((g.field_texts_are, g.named), g.team_texts_are); some = omega arith; few = omega (arith, g.few) })

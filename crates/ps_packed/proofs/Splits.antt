@@ -68,9 +68,6 @@ grown_long false x p (q ∷ ps) = omega (arith, grown_long false x q ps)
 pub pieces_grow : (c x : ℕ) (xs : List ℕ) → length (slice_split (λ b. b == c) (xs ++ x ∷ [])) ≤ suc (length (slice_split (λ b. b == c) xs))
 pieces_grow c x xs = let s = some_piece c xs in rw (split_snoc c x xs, s.2) (grown_long (eqb x c) x s.0 s.1)
 
-onto_long : (x : ℕ) (p : List ℕ) (ps : List (List ℕ)) → length (onto_first x (p ∷ ps)) ≡ length (p ∷ ps)
-onto_long x p ps = refl
-
 more_pieces : (b : Bool) (x : ℕ) (p : List ℕ) (ps : List (List ℕ)) → length (cond b ([] ∷ p ∷ ps) (onto_first x (p ∷ ps))) ≡ length (p ∷ ps) + cond b 1 0
 more_pieces true x p ps = omega arith
 more_pieces false x p ps = omega arith

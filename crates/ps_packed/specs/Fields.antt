@@ -3,16 +3,16 @@ use Rattle.std.specs.Prelude.{ℕ}
 use Rattle.ps_packed.specs.declared.field.Field.{Field}
 use Rattle.ps_packed.specs.declared.field.Field.TheVariants.{Nick, Species, Item, Ability, Moves, Nature, Evs, Gender, Ivs, Shiny, Level, Misc}
 
-abbrev pub place : Field → ℕ
-place Nick = 0
-place Species = 1
-place Item = 2
-place Ability = 3
-place Moves = 4
-place Nature = 5
-place Evs = 6
-place Gender = 7
-place Ivs = 8
-place Shiny = 9
-place Level = 10
-place Misc = 11
+abbrev pub field_index : Field → ℕ
+field_index Nick = 0
+field_index Species = 1
+field_index Item = 2
+field_index Ability = 3
+field_index Moves = 4
+field_index Nature = 5
+field_index Evs = 6
+field_index Gender = 7
+field_index Ivs = 8
+field_index Shiny = 9
+field_index Level = 10
+field_index Misc = 11

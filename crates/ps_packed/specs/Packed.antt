@@ -80,32 +80,32 @@ is_nameless (n ∷ []) = is_nil n
 is_nameless (n ∷ s ∷ ws) = is_nil n && is_nil s
 
 -- the texts are the twelve fields of a set
-abbrev pub IsRow : List (List ℕ) → Type 0
-IsRow ws = AreFields 0 ws × (is_nameless ws ≡ false)
+abbrev pub AreFieldTexts : List (List ℕ) → Type 0
+AreFieldTexts ws = AreFields 0 ws × (is_nameless ws ≡ false)
 
 abbrev pub team_text : List (List (List ℕ)) → List ℕ
-team_text rows = join_with_byte 93 (map (join_with_byte 124) rows)
+team_text team_texts = join_with_byte 93 (map (join_with_byte 124) team_texts)
 
 -- how many bytes the characters have
 abbrev pub bytes_of : List ℕ → ℕ
 bytes_of text = length (encode_utf8_all text)
 
--- the rows are the fields of 1 to 6 sets, and the text is theirs
-pub record IsFreeTeam (rows : List (List (List ℕ))) (text : List ℕ) : Type 0 where
+-- these are the fields of 1 to 6 sets, and the text is theirs
+pub record IsFreeTeam (team_texts : List (List (List ℕ))) (text : List ℕ) : Type 0 where
   pub letters : all_scalars text ≡ true
-  pub parts : text ≡ team_text rows
-  pub fit : AllByRecursion IsRow rows
-  pub some : 0 < length rows
-  pub few : length rows ≤ 6
+  pub parts : text ≡ team_text team_texts
+  pub fit : AllByRecursion AreFieldTexts team_texts
+  pub some : 0 < length team_texts
+  pub few : length team_texts ≤ 6
 
--- that, in at most 4,096 bytes, and the team is what the rows stand for
-pub record IsTeamOf (rows : List (List (List ℕ))) (text : List ℕ) (team : List Set) : Type 0 where
-  pub free : IsFreeTeam rows text
+-- that, in at most 4,096 bytes, and the team is what the fields stand for
+pub record IsTeamOf (team_texts : List (List (List ℕ))) (text : List ℕ) (team : List Set) : Type 0 where
+  pub free : IsFreeTeam team_texts text
   pub short : bytes_of text ≤ 4096
-  pub sets : team ≡ map set_of rows
+  pub sets : team ≡ map set_of team_texts
 
 abbrev pub IsTeam : List ℕ → List Set → Type 0
-IsTeam text team = (rows : List (List (List ℕ))) × IsTeamOf rows text team
+IsTeam text team = (team_texts : List (List (List ℕ))) × IsTeamOf team_texts text team
 
 -- some packed text has the team
 abbrev pub HasText : List Set → Type 0
@@ -119,7 +119,7 @@ IsPrefix front = (rest : List ℕ) × (team : List Set) × IsTeam (front ++ rest
 
 -- some packed text would begin so if the bytes weren't limited
 abbrev pub IsFreePrefix : List ℕ → Type 0
-IsFreePrefix front = (rest : List ℕ) × (rows : List (List (List ℕ))) × IsFreeTeam rows (front ++ rest)
+IsFreePrefix front = (rest : List ℕ) × (team_texts : List (List (List ℕ))) × IsFreeTeam team_texts (front ++ rest)
 
 -- the longest part of the text that some packed text begins with has so many characters
 pub record IsLongest (text : List ℕ) (count : ℕ) : Type 0 where
@@ -132,8 +132,8 @@ abbrev pub IsLong : List ℕ → ℕ → Type 0
 IsLong text count = (bytes_of (take count text) ≡ 4096) ⊎ ((n : ℕ) × (count < n) × (n ≤ length text) × IsFreePrefix (take n text))
 
 -- the fields of each set of a front, the last as far as it goes
-abbrev pub rows_of : List ℕ → List (List (List ℕ))
-rows_of text = map (slice_split (λ c. c == 124)) (slice_split (λ c. c == 93) text)
+abbrev pub team_texts_of : List ℕ → List (List (List ℕ))
+team_texts_of text = map (slice_split (λ c. c == 124)) (slice_split (λ c. c == 93) text)
 
 abbrev pub end_of : {A : Type 0} → A → List A → A
 end_of d [] = d
@@ -141,16 +141,16 @@ end_of d (x ∷ xs) = end_of x xs
 
 -- the sets before the one that a front ends in, that one's fields so far, the number of the last of these and its text so far
 abbrev pub sets_done : List ℕ → ℕ
-sets_done front = length (rows_of front) - 1
+sets_done front = length (team_texts_of front) - 1
 
-abbrev pub row_at_end : List ℕ → List (List ℕ)
-row_at_end front = end_of [] (rows_of front)
+abbrev pub field_texts_at_end : List ℕ → List (List ℕ)
+field_texts_at_end front = end_of [] (team_texts_of front)
 
 abbrev pub field_at_end : List ℕ → ℕ
-field_at_end front = length (row_at_end front) - 1
+field_at_end front = length (field_texts_at_end front) - 1
 
 abbrev pub word_at_end : List ℕ → List ℕ
-word_at_end front = end_of [] (row_at_end front)
+word_at_end front = end_of [] (field_texts_at_end front)
 
 -- the character or the end stands out of place
 abbrev pub is_out : ℕ → Option ℕ → Bool
@@ -182,7 +182,7 @@ kind_of nameless sets k word next =
 abbrev pub kind_at : List ℕ → ℕ → PackKind
 kind_at text count =
     let front = take count text in
-    kind_of (is_nameless (row_at_end front)) (sets_done front) (field_at_end front) (word_at_end front) (slice_get text count)
+    kind_of (is_nameless (field_texts_at_end front)) (sets_done front) (field_at_end front) (word_at_end front) (slice_get text count)
 
 abbrev pub IsKind : List ℕ → ℕ → PackKind → Type 0
 IsKind text count kind = (IsLong text count × (kind ≡ Long)) ⊎ (¬ (IsLong text count) × (kind ≡ kind_at text count))
@@ -191,7 +191,7 @@ IsKind text count kind = (IsLong text count × (kind ≡ Long)) ⊎ (¬ (IsLong 
 pub record IsFault (text : List ℕ) (at : ℕ) (kind : PackKind) : Type 0 where
   pub count : ℕ
   pub longest : IsLongest text count
-  pub place : at ≡ bytes_of (take count text)
+  pub offset : at ≡ bytes_of (take count text)
   pub kind_is : IsKind text count kind
 
 -- there is no team, and this is why

@@ -3,7 +3,7 @@ use Rattle.std.specs.Prelude.{◌≡◌, ℕ, zero, suc, ◌+◌, ◌-◌, ◌==
 use Rattle.ps_packed.specs.declared.set.Set.{Set}
 use Rattle.ps_packed.specs.declared.fault.PackFault.{PackFault}
 use Rattle.ps_packed.specs.Forms.{Form, words, moves, spread, letter, level, number_of, is_number, parts, is_id_letter, has_id, id_count, are_numbers, is_zero, in_form, form_of, last}
-use Rattle.ps_packed.specs.Packed.{is_nil, IsTeam, rows_of, end_of, set_of, Refuses}
+use Rattle.ps_packed.specs.Packed.{is_nil, IsTeam, team_texts_of, end_of, set_of, Refuses}
 
 -- some text of the form begins so
 unfoldable pub prefix_ok : Form → List ℕ → Bool
@@ -98,4 +98,4 @@ Scans text (Err e) = Refuses text e
 
 -- what the sets of a text stand for
 abbrev pub team_of : List ℕ → List Set
-team_of text = map set_of (rows_of text)
+team_of text = map set_of (team_texts_of text)

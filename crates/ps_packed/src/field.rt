@@ -2,7 +2,7 @@
 ghost use Rattle.std.specs.Prelude.{◌≡◌, ◌+◌, ◌-◌, ◌<◌, ◌==◌, nat_lt, true, false, if◌then◌else◌};
 ghost use Rattle.ps_packed.specs.Forms.{last, form_of};
 ghost use Rattle.ps_packed.specs.Packed.{is_numeric};
-ghost use Rattle.ps_packed.specs.Fields.{place};
+ghost use Rattle.ps_packed.specs.Fields.{field_index};
 
 /// The fields of a set, in the order of its text.
 #[derive(Clone, Copy, Debug, PartialEq, Eq)]
@@ -24,8 +24,8 @@ pub enum Field {
 impl Field {
     /// Whether no field comes after this one.
     pub fn is_last(self) -> bool
-        ensures last { result ≡ (place self == last) }
-        ensures before { (if result then false else true) ≡ nat_lt (place self) last }
+        ensures last { result ≡ (field_index self == last) }
+        ensures before { (if result then false else true) ≡ nat_lt (field_index self) last }
     {
         match self {
             Field::Misc => true,
@@ -35,8 +35,8 @@ impl Field {
 
     /// The field after this one.
     pub fn next(self) -> Field
-        requires { place self < last }
-        ensures { place result ≡ place self + 1 }
+        requires { field_index self < last }
+        ensures { field_index result ≡ field_index self + 1 }
     {
         match self {
             Field::Nick => Field::Species,
@@ -56,7 +56,7 @@ impl Field {
 
     /// How many fields come after this one.
     pub fn left(self) -> usize
-        ensures value { result ≡ last - place self }
+        ensures value { result ≡ last - field_index self }
         ensures few { result < 12 }
     {
         match self {
@@ -77,7 +77,7 @@ impl Field {
 
     /// Whether a fault in the field's text is one of numbers.
     pub fn is_numeric(self) -> bool
-        ensures { result ≡ is_numeric (form_of (place self)) }
+        ensures { result ≡ is_numeric (form_of (field_index self)) }
     {
         match self {
             Field::Evs => true,

@@ -1,7 +1,7 @@
 //! What the fields of a set may say.
 ghost use Rattle.std.specs.Prelude.{◌≡◌, ◌==◌, ◌≤◌, ◌-◌, ◌&&◌, true, length, map, filter, nat_le, IfOk};
 ghost use Rattle.std.specs.List.{list_all, slice_split};
-ghost use Rattle.ps_packed.specs.Fields.{place};
+ghost use Rattle.ps_packed.specs.Fields.{field_index};
 ghost use Rattle.ps_packed.specs.Forms.{is_field_char, are_digits, number_of, is_number, parts, is_id_letter, has_id, id_count, is_spread_char, are_numbers, is_zero, spread, letter, words, moves, level, in_form, form_of};
 ghost use Rattle.ps_packed.specs.Scan.{prefix_ok, need};
 
@@ -214,7 +214,7 @@ fn is_level(word: &[char]) -> bool
 
 /// Whether a text is one that the field may have.
 pub fn is_field(alloc: Global, field: Field, word: &[char]) -> Result<bool, AllocError>
-    ensures { IfOk result (λ b. b ≡ in_form (form_of (place field)) word.now) }
+    ensures { IfOk result (λ b. b ≡ in_form (form_of (field_index field)) word.now) }
 {
     match field {
         Field::Nick => Ok(is_words(18, word)),
@@ -252,24 +252,17 @@ fn begins_level(word: &[char]) -> bool
     is_number(100, word) && (word.len() < 3 || 1 <= number(word))
 }
 
-/// Whether a text that the field may have begins with this one.
+/// Whether a text that the field may have begins with this one: where the field isn't six numbers or a level, such a text is one
+/// itself.
 #[tactic(auto, unfolding(crate::specs::Scan::prefix_ok))]
 pub fn begins_field(alloc: Global, field: Field, word: &[char]) -> Result<bool, AllocError>
-    ensures { IfOk result (λ b. b ≡ prefix_ok (form_of (place field)) word.now) }
+    ensures { IfOk result (λ b. b ≡ prefix_ok (form_of (field_index field)) word.now) }
 {
     match field {
-        Field::Nick => Ok(is_words(18, word)),
-        Field::Species => Ok(is_words(32, word)),
-        Field::Item => Ok(is_words(32, word)),
-        Field::Ability => Ok(is_words(32, word)),
-        Field::Moves => is_moves(alloc, word),
-        Field::Nature => Ok(is_words(32, word)),
         Field::Evs => begins_spread(alloc, true, 255, word),
-        Field::Gender => Ok(is_gender(word)),
         Field::Ivs => begins_spread(alloc, false, 31, word),
-        Field::Shiny => Ok(is_shiny(word)),
         Field::Level => Ok(begins_level(word)),
-        Field::Misc => Ok(is_words(64, word)),
+        _ => is_field(alloc, field, word),
     }
 }
 
@@ -301,8 +294,8 @@ fn level_need(word: &[char]) -> usize
 /// of this one.
 #[tactic(auto, unfolding(crate::specs::Scan::need))]
 pub fn field_need(field: Field, word: &[char]) -> usize
-    requires { prefix_ok (form_of (place field)) word.now ≡ true }
-    ensures value { result ≡ need (form_of (place field)) word.now }
+    requires { prefix_ok (form_of (field_index field)) word.now ≡ true }
+    ensures value { result ≡ need (form_of (field_index field)) word.now }
     ensures small { result ≤ 6 }
 {
     match field {

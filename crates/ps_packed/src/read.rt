@@ -4,7 +4,7 @@ ghost use Rattle.std.specs.List.{slice_split, AllByRecursion};
 ghost use Rattle.std.specs.Str.{chars, encode_utf8_all};
 ghost use Rattle.ps_base.specs.Ids.{id_of};
 ghost use Rattle.ps_packed.specs.Forms.{has_id, ids_of, is_number, number_of, in_form, evs, ivs, level};
-ghost use Rattle.ps_packed.specs.Packed.{or_other, evs_of, iv_of, ivs_of, gender_of, level_of, is_nil, IsRow, set_of, rows_of};
+ghost use Rattle.ps_packed.specs.Packed.{or_other, evs_of, iv_of, ivs_of, gender_of, level_of, is_nil, AreFieldTexts, set_of, team_texts_of};
 ghost use Rattle.ps_packed.specs.Scan.{team_of};
 
 use crate::forms::{has_id, is_zero, number, pieces};
@@ -145,7 +145,7 @@ fn level(word: &[char]) -> u8
 }
 
 fn set_from(alloc: Global, fields: &[&[char]]) -> Result<Set, AllocError>
-    requires { IsRow (map (λ x. x.now) fields.now) }
+    requires { AreFieldTexts (map (λ x. x.now) fields.now) }
     ensures { IfOk result (λ s. s ≡ set_of (map (λ x. x.now) fields.now)) }
 {
     match fields {
@@ -191,30 +191,30 @@ fn set_from(alloc: Global, fields: &[&[char]]) -> Result<Set, AllocError>
     }
 }
 
-fn one_set(alloc: Global, row: &[char]) -> Result<Set, AllocError>
-    requires { IsRow (slice_split (λ c. c == 124) row.now) }
-    ensures { IfOk result (λ s. s ≡ set_of (slice_split (λ c. c == 124) row.now)) }
+fn one_set(alloc: Global, field_texts: &[char]) -> Result<Set, AllocError>
+    requires { AreFieldTexts (slice_split (λ c. c == 124) field_texts.now) }
+    ensures { IfOk result (λ s. s ≡ set_of (slice_split (λ c. c == 124) field_texts.now)) }
 {
-    let fields = pieces(alloc, row, '|')?;
+    let fields = pieces(alloc, field_texts, '|')?;
     set_from(alloc, &fields)
 }
 
-fn sets(alloc: Global, rows: &[&[char]]) -> Result<Vec<Set>, AllocError>
-    requires { AllByRecursion IsRow (map (slice_split (λ c. c == 124)) (map (λ x. x.now) rows.now)) }
-    ensures { IfOk result (λ v. v.items ≡ map set_of (map (slice_split (λ c. c == 124)) (map (λ x. x.now) rows.now))) }
+fn sets(alloc: Global, team_texts: &[&[char]]) -> Result<Vec<Set>, AllocError>
+    requires { AllByRecursion AreFieldTexts (map (slice_split (λ c. c == 124)) (map (λ x. x.now) team_texts.now)) }
+    ensures { IfOk result (λ v. v.items ≡ map set_of (map (slice_split (λ c. c == 124)) (map (λ x. x.now) team_texts.now))) }
 {
     let mut sets = Vec::new(alloc);
-    for row in rows {
-        sets.push(one_set(alloc, row)?)?;
+    for field_texts in team_texts {
+        sets.push(one_set(alloc, field_texts)?)?;
     }
     Ok(sets)
 }
 
 /// The sets of a text that is a team's.
 pub fn sets_of(alloc: Global, text: &[char]) -> Result<List<Set>, AllocError>
-    requires { AllByRecursion IsRow (rows_of text.now) }
+    requires { AllByRecursion AreFieldTexts (team_texts_of text.now) }
     ensures { IfOk result (λ t. t ≡ team_of text.now) }
 {
-    let rows = pieces(alloc, text, ']')?;
-    Ok(List::from_vec(sets(alloc, &rows)?))
+    let team_texts = pieces(alloc, text, ']')?;
+    Ok(List::from_vec(sets(alloc, &team_texts)?))
 }

@@ -2,7 +2,7 @@
 ghost use Rattle.std.specs.Prelude.{◌≡◌, ◌≤◌, ◌==◌, [], ◌∷◌, ◌++◌, true, IfOk};
 ghost use Rattle.std.specs.Str.{all_scalars};
 ghost use Rattle.ps_packed.specs.declared.fault.PackFault.TheVariants.{Fault};
-ghost use Rattle.ps_packed.specs.Fields.{place};
+ghost use Rattle.ps_packed.specs.Fields.{field_index};
 ghost use Rattle.ps_packed.specs.Forms.{form_of, last};
 ghost use Rattle.ps_packed.specs.Packed.{is_out, is_too_many, kind_of, bytes_of};
 ghost use Rattle.ps_packed.specs.Scan.{start, step, accepts, need_of, nameless_at, bar_named, prefix_ok, Steps, Scans};
@@ -29,17 +29,17 @@ struct Scan {
 }
 
 impl Model for Scan {
-    ghost use Rattle.ps_packed.specs.Fields.{place};
+    ghost use Rattle.ps_packed.specs.Fields.{field_index};
     ghost use Rattle.ps_packed.specs.Scan.{State};
 
     ghost Value = { State };
 
-    ghost view = { λ s. record { word = s.word; bare = s.bare; field = place s.field; sets = s.sets } };
+    ghost view = { λ s. record { word = s.word; bare = s.bare; field = field_index s.field; sets = s.sets } };
 }
 
 /// Whether the set has no name so far.
 fn is_nameless(bare: bool, field: Field, word: &[char]) -> bool
-    ensures { result ≡ nameless_at bare (place field) word.now }
+    ensures { result ≡ nameless_at bare (field_index field) word.now }
 {
     match field {
         Field::Nick => word.is_empty(),
@@ -51,7 +51,7 @@ fn is_nameless(bare: bool, field: Field, word: &[char]) -> bool
 /// Whether the field may end with a bar, as far as the names go: the species may not be empty where
 /// the nickname is.
 fn may_end(bare: bool, field: Field, word: &[char]) -> bool
-    ensures { result ≡ bar_named bare (place field) word.now }
+    ensures { result ≡ bar_named bare (field_index field) word.now }
 {
     match field {
         Field::Species => !(bare && word.is_empty()),
@@ -61,7 +61,7 @@ fn may_end(bare: bool, field: Field, word: &[char]) -> bool
 
 /// Whether what comes next stands out of place.
 fn is_out(field: Field, next: Option<char>) -> bool
-    ensures { result ≡ is_out (place field) next }
+    ensures { result ≡ is_out (field_index field) next }
 {
     match next {
         None => true,
@@ -78,7 +78,7 @@ fn with_char(alloc: Global, word: &[char], c: char) -> Result<Vec<char>, AllocEr
 }
 
 fn is_moves_field(field: Field) -> bool
-    ensures { result ≡ (place field == 4) }
+    ensures { result ≡ (field_index field == 4) }
 {
     match field {
         Field::Moves => true,
@@ -94,7 +94,7 @@ fn is_too_many(
     word: &[char],
     next: Option<char>,
 ) -> Result<bool, AllocError>
-    ensures { IfOk result (λ b. b ≡ is_too_many sets (place field) word.now next) }
+    ensures { IfOk result (λ b. b ≡ is_too_many sets (field_index field) word.now next) }
 {
     match next {
         None => Ok(false),

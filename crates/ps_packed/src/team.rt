@@ -10,8 +10,9 @@ use crate::fault::PackFault;
 use crate::read::sets_of;
 use crate::scan::scan_text;
 use crate::set::Set;
+use ps_base::characters::characters;
 use ps_base::list::List;
-use std::alloc::{AllocError, Global};
+use std::alloc::Global;
 use std::marker::Model;
 
 /// A team of 1 to 6 sets that some packed text has.
@@ -48,12 +49,6 @@ impl Team {
     {
         self.sets.as_slice()
     }
-}
-
-fn characters(alloc: Global, text: &str) -> Result<Vec<char>, AllocError>
-    ensures { IfOk result (λ v. v.items ≡ chars text.now) }
-{
-    text.chars().collect(alloc)
 }
 
 /// Reads a packed team (TEAMS.md of the simulator): 1 to 6 sets joined by `]`, in at most 4,096 bytes,

@@ -1,6 +1,6 @@
 //! The text of a field, as far as it was gone through.
 ghost use Rattle.std.specs.Prelude.{◌≡◌, ◌==◌, ◌+◌, ◌<◌, ◌≤◌, ◌^◌, ◌&&◌, [], ◌∷◌, ◌++◌, not, true, List, ℕ, length, drop, nat_le, IfOk, if◌then◌else◌};
-ghost use Rattle.ps_packed.specs.Fields.{place};
+ghost use Rattle.ps_packed.specs.Fields.{field_index};
 ghost use Rattle.ps_packed.specs.Forms.{is_field_char, form_of, is_id_letter, has_id};
 ghost use Rattle.ps_packed.specs.Scan.{prefix_ok, CountsOf, gives_id, Grows};
 
@@ -56,14 +56,14 @@ fn part_after(part: usize, len: usize, c: char) -> usize
     if c == ',' { len } else { part }
 }
 
-/// Whether moves go on with this character, of which their last part and their ids are told.
+/// Whether moves go on with this character, of which their last part and their ids are given.
 fn moves_go_on(part: &[char], ids: usize, c: char) -> bool
     ensures { result ≡ (is_field_char c && nat_le (length part.now) 32 && nat_le ids 4) }
 {
     is_field_char(c) && part.len() <= 32 && ids <= 4
 }
 
-/// Whether a text of the field begins with this one, whose last character is told. Without that
+/// Whether a text of the field begins with this one, whose last character is given. Without that
 /// character one does.
 fn begins_so(
     alloc: Global,
@@ -74,8 +74,8 @@ fn begins_so(
     c: char,
 ) -> Result<bool, AllocError>
     requires counts { CountsOf word.now part ids }
-    requires grown { (w : List ℕ) × (word.now ≡ w ++ c ∷ []) × (prefix_ok (form_of (place field)) w ≡ true) }
-    ensures { IfOk result (λ b. b ≡ prefix_ok (form_of (place field)) word.now) }
+    requires grown { (w : List ℕ) × (word.now ≡ w ++ c ∷ []) × (prefix_ok (form_of (field_index field)) w ≡ true) }
+    ensures { IfOk result (λ b. b ≡ prefix_ok (form_of (field_index field)) word.now) }
 {
     match field {
         Field::Moves => Ok(moves_go_on(tail(word, part), ids, c)),
@@ -110,8 +110,8 @@ impl Word {
 
     /// Takes a character where a text that the field may have begins so, and else stays as it is.
     pub fn try_push(&mut self, alloc: Global, field: Field, c: char) -> Result<bool, AllocError>
-        requires { prefix_ok (form_of (place field)) self.old ≡ true }
-        ensures { IfOk result (λ went. Grows went (prefix_ok (form_of (place field)) (self.old ++ c ∷ [])) self.old c self.new) }
+        requires { prefix_ok (form_of (field_index field)) self.old ≡ true }
+        ensures { IfOk result (λ went. Grows went (prefix_ok (form_of (field_index field)) (self.old ++ c ∷ [])) self.old c self.new) }
     {
         let part = self.part;
         let ids = self.ids;

@@ -5,9 +5,9 @@ use Rattle.std.specs.Cmp.{Equal-is}
 use Rattle.std.specs.Cmp.Lexicographic.{slice_cmp, nat_list_cmp_total}
 use Rattle.std.specs.FinMap.{get, remove, empty, get-empty, get-insert, get-remove, get_tied}
 use Rattle.std.proofs.lemmas.Map.Text.{is_eq-slice_cmp}
-use Rattle.ps_roster.specs.ById.{ById}
+use Rattle.ps_base.specs.ById.{ById}
 use Rattle.ps_pms.specs.Records.{Record}
-use Rattle.ps_pms.specs.Looks.{has_target, blocks}
+use Rattle.ps_pms.specs.Lookups.{has_target, blocks}
 use Rattle.ps_pms.specs.Changes.{with_target, without_target, after_block, after_unblock}
 
 abbrev at : List ℕ → List ℕ → Bool

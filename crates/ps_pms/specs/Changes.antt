@@ -4,9 +4,9 @@ use Rattle.std.specs.List.{filter}
 use Rattle.std.specs.FinMap.{get, insert, remove, empty}
 use Rattle.ps_lines.specs.declared.command.HallCmd.{HallCmd}
 use Rattle.ps_lines.specs.declared.command.HallCmd.TheVariants.{Quit, Challenge, CancelChallenge, Reject, Accept, Block, Unblock}
-use Rattle.ps_roster.specs.ById.{ById}
+use Rattle.ps_base.specs.ById.{ById}
 use Rattle.ps_pms.specs.Records.{Record}
-use Rattle.ps_pms.specs.Looks.{is_by, is_of, is_with}
+use Rattle.ps_pms.specs.Lookups.{is_by, is_of, is_with}
 
 -- ---- blocks
 

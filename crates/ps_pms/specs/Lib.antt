@@ -1,4 +1,4 @@
 pub mod Records
-pub mod Looks
+pub mod Lookups
 pub mod Refusals
 pub mod Changes

@@ -1,7 +1,7 @@
 -- Blocks and open challenges.
 use Rattle.std.specs.Prelude.{List, []}
 use Rattle.std.specs.FinMap.{empty}
-use Rattle.ps_roster.specs.ById.{ById}
+use Rattle.ps_base.specs.ById.{ById}
 use Rattle.ps_pms.specs.declared.asked.Asked.{Asked}
 
 -- by who blocks, the ids that it blocks; and the open challenges in the order in which they were made

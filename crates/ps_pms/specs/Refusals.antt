@@ -6,7 +6,7 @@ use Rattle.ps_base.specs.declared.hall_why.HallWhy.TheVariants as why
 use Rattle.ps_lines.specs.declared.command.HallCmd.{HallCmd}
 use Rattle.ps_lines.specs.declared.command.HallCmd.TheVariants.{Challenge, CancelChallenge, Reject, Accept, Whisper, Block, Unblock}
 use Rattle.ps_pms.specs.Records.{Record}
-use Rattle.ps_pms.specs.Looks.{blocks, asked_by, asked_of}
+use Rattle.ps_pms.specs.Lookups.{blocks, asked_by, asked_of}
 
 -- a reason where the test holds, else what comes next
 abbrev pub when : Bool → HallWhy → Option HallWhy → Option HallWhy

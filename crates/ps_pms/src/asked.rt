@@ -1,6 +1,6 @@
 //! Open challenges.
 ghost use Rattle.std.specs.Prelude.{◌≡◌, IfOk};
-ghost use Rattle.ps_pms.specs.Looks.{is_by, is_to, is_of, is_with, partner};
+ghost use Rattle.ps_pms.specs.Lookups.{is_by, is_to, is_of, is_with, partner};
 ghost use Rattle.std.specs.Option.{option_copied};
 
 use ps_base::id::Id;

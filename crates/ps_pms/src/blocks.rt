@@ -1,10 +1,10 @@
 //! Who blocks whom.
 ghost use Rattle.std.specs.Prelude.{◌≡◌, true, is_some, OnOk, OnErr};
 ghost use Rattle.std.specs.FinMap.{get, insert, empty};
-ghost use Rattle.ps_pms.specs.Looks.{has_target};
+ghost use Rattle.ps_pms.specs.Lookups.{has_target};
 ghost use Rattle.ps_pms.specs.Changes.{with_block, without_block};
 
-use ps_roster::id_map::IdMap;
+use ps_base::id_map::IdMap;
 use std::alloc::{AllocError, Global};
 
 /// By who blocks, the ids that it blocks.

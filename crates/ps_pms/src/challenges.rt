@@ -2,7 +2,7 @@
 ghost use Rattle.std.specs.Prelude.{◌≡◌, ◌++◌, ◌∷◌, [], not, find, IfOk, OnOk, OnErr};
 ghost use Rattle.std.specs.List.{filter};
 ghost use Rattle.std.specs.Option.{option_copied};
-ghost use Rattle.ps_pms.specs.Looks.{is_by, is_to, is_of, is_with, has_id, with_new, partners_of};
+ghost use Rattle.ps_pms.specs.Lookups.{is_by, is_to, is_of, is_with, has_id, with_new, partners_of};
 
 use crate::asked::Asked;
 use ps_base::id::Id;

@@ -2,7 +2,7 @@
 ghost use Rattle.std.specs.Prelude.{◌≡◌, IfOk, OnOk, OnErr};
 ghost use Rattle.std.specs.Option.{option_copied};
 ghost use Rattle.ps_pms.specs.Records.{nothing};
-ghost use Rattle.ps_pms.specs.Looks.{blocks, asked_by, asked_of, asked_to, partners};
+ghost use Rattle.ps_pms.specs.Lookups.{blocks, asked_by, asked_of, asked_to, partners};
 ghost use Rattle.ps_pms.specs.Refusals.{refusal_of_asking, refusal_of_challenge, refusal_of_cancel, refusal_of_answer, refusal_of_whisper, refusal_of_block, refusal_of_unblock, refusal};
 ghost use Rattle.ps_pms.specs.Changes.{after};
 
@@ -11,9 +11,9 @@ use crate::blocks::{Blocks, add_block, end_block, has_block};
 use crate::challenges;
 use ps_base::hall_why::HallWhy;
 use ps_base::id::Id;
+use ps_base::id_map::IdMap;
 use ps_base::list::List;
 use ps_lines::command::HallCmd;
-use ps_roster::id_map::IdMap;
 use std::alloc::{AllocError, Global};
 use std::marker::Model;
 
@@ -27,7 +27,7 @@ pub struct Pms {
 impl Model for Pms {
     ghost use Rattle.std.specs.Coded.{codes};
     ghost use base.Stored.{coded_unit};
-    ghost use Rattle.ps_roster.specs.ById.{by_id_code};
+    ghost use Rattle.ps_base.specs.ById.{by_id_code};
     ghost use Rattle.ps_pms.specs.Records.{Record};
 
     ghost Value = { Record };

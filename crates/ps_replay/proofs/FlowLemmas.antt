@@ -4,8 +4,8 @@ use Rattle.std.specs.Io.KnownBytes.{Appends}
 use Rattle.std.proofs.KnownBytes.{Appends-trans, Appends-nil}
 use Rattle.std.proofs.lemmas.List.{append-nil}
 use Rattle.ps_outside.specs.Sinks.{AppendsFront}
-use Rattle.ps_script.specs.declared.item.Item.{Item}
-use Rattle.ps_world.specs.Tables.{Desk, item_text, item_after, text_from}
+use Rattle.replay_script.specs.declared.item.Item.{Item}
+use Rattle.replay_state.specs.Tables.{Desk, item_text, item_after, text_from}
 use Rattle.ps_replay.specs.Flow.{MovesFront}
 
 pub record Came (old new : Option (List ℕ)) (all pending : List ℕ) (s : Desk) (rest : List Item) : Type 0 where

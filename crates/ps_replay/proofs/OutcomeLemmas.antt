@@ -2,8 +2,8 @@
 use Rattle.std.proofs.Common.{◌≡◌, ℕ, List, Option, Some, None, IfSome, Result, Ok, sym, subst, ◌∙◌}
 use Rattle.std.specs.Option.{IsSomeAnd}
 use Rattle.ps_group.specs.declared.group.Group.{Group}
-use Rattle.ps_script.specs.Limits.{long_of}
-use Rattle.ps_setup.specs.Words.{Options, Asked, Replays, IfReplay}
+use Rattle.replay_script.specs.Limits.{long_of}
+use Rattle.program_commands.specs.Words.{Options, Asked, Replays, IfReplay}
 use Rattle.ps_replay.specs.Outcomes.{IsReadable}
 
 -- an input within its limits isn't too long

@@ -1,35 +1,35 @@
--- How far the run of a drill has come, and what is told of it.
+-- How far the run of a drill has come, and its summary.
 use Rattle.std.proofs.Common.{◌≡◌, ◌≢◌, ◌≤◌, ℕ, List, [], ◌∷◌, ◌++◌, length, Result, Ok, Err, IfOk, refl, sym, ap, ◌∙◌, subst, arith, append_assoc}
 use Rattle.std.specs.Str.Lines.{lines}
 use Rattle.std.proofs.lemmas.List.{append-nil}
 use Rattle.sha2.specs.Sha256.{sha256}
-use Rattle.ps_script.specs.declared.item.Item.{Item}
-use Rattle.ps_dex.specs.declared.row.Tables.{Tables}
-use Rattle.ps_valid.specs.declared.row.Settings.{Settings}
-use Rattle.ps_script.specs.declared.script.ScriptEnd.{ScriptEnd}
-use Rattle.ps_script.specs.declared.script.ScriptEnd.TheVariants.{Bad}
-use Rattle.ps_script.specs.declared.script.ScriptKind.{ScriptKind}
-use Rattle.ps_script.specs.Ends.{IsNoScript}
-use Rattle.ps_script.specs.Scripts.{Seen, IsScript, AreItems, start, next}
-use Rattle.ps_world.specs.declared.transcript.Counts.{Counts as EntryCounts}
-use Rattle.ps_world.specs.Setup.{Setup}
-use Rattle.ps_world.specs.Entries.{entries}
-use Rattle.ps_world.specs.Counts.{refused}
-use Rattle.ps_world.specs.Transcript.{output}
-use Rattle.ps_world.specs.Tables.{Desk, fresh, item_text, item_after, text_from, no_counts, item_counts, counts_from}
-use Rattle.ps_world.proofs.TextLemmas.{output_is}
-use Rattle.ps_world.proofs.EntryCounts.{counts_is}
-use Rattle.ps_drill.specs.declared.tally.Tally.{Tally}
-use Rattle.ps_drill.specs.declared.counter.Counter.{Counter}
-use Rattle.ps_drill.specs.Messages.{messages_in}
-use Rattle.ps_drill.specs.Plain.{HasPlainNames, HasPlainFormats}
-use Rattle.ps_drill.specs.Drills.{drill_text}
-use Rattle.ps_drill.proofs.GrammarLemmas.{drill_is_script}
-use Rattle.ps_drill.specs.Tallies.{Tallies, Counts}
+use Rattle.replay_script.specs.declared.item.Item.{Item}
+use Rattle.ps_dex.specs.declared.item.Tables.{Tables}
+use Rattle.rules_config.specs.declared.settings.Settings.{Settings}
+use Rattle.replay_script.specs.declared.script.ScriptEnd.{ScriptEnd}
+use Rattle.replay_script.specs.declared.script.ScriptEnd.TheVariants.{Bad}
+use Rattle.replay_script.specs.declared.script.ScriptKind.{ScriptKind}
+use Rattle.replay_script.specs.Ends.{IsNoScript}
+use Rattle.replay_script.specs.Scripts.{Seen, IsScript, AreItems, start, next}
+use Rattle.replay_state.specs.declared.transcript.Counts.{Counts as EntryCounts}
+use Rattle.replay_state.specs.Setup.{Setup}
+use Rattle.replay_state.specs.Entries.{entries}
+use Rattle.replay_state.specs.Counts.{refused}
+use Rattle.replay_state.specs.Transcript.{output}
+use Rattle.replay_state.specs.Tables.{Desk, fresh, item_text, item_after, text_from, no_counts, item_counts, counts_from}
+use Rattle.replay_state.proofs.TextLemmas.{output_is}
+use Rattle.replay_state.proofs.EntryCounts.{counts_is}
+use Rattle.replay_drill.specs.declared.tally.Tally.{Tally}
+use Rattle.replay_drill.specs.declared.counter.Counter.{Counter}
+use Rattle.replay_drill.specs.Messages.{messages_in}
+use Rattle.replay_drill.specs.Plain.{HasPlainNames, HasPlainFormats}
+use Rattle.replay_drill.specs.Drills.{drill_text}
+use Rattle.replay_drill.proofs.GrammarLemmas.{drill_is_script}
+use Rattle.replay_drill.specs.Tallies.{Tallies, Counts}
 use Rattle.ps_replay.specs.declared.drill.Run.{Run}
 use Rattle.ps_replay.specs.Outcomes.{symbols_of}
 use Rattle.ps_replay.specs.Drills.{summary_lines, summary_of}
-use Rattle.ps_replay.specs.Runs.{TellsRun, HasRun}
+use Rattle.ps_replay.specs.Runs.{SummarizesRun, HasRun}
 
 -- ---- line by line
 
@@ -47,7 +47,7 @@ Ran-more old mid new counter after whole s i rest r tally count = record {
   parts = r.parts ∙ sym (append_assoc r.front (item_text s i) (text_from (item_after s i) rest));
 }
 
-pub Ran-all : (old new : Tally) (counter : Counter) (counts : EntryCounts) (s end : Desk) (items : List Item) → Ran old new counter (text_from s items) end [] → counts ≡ counts_from s items no_counts → TellsRun old s items (record { tally = new; counter = counter; counts = counts })
+pub Ran-all : (old new : Tally) (counter : Counter) (counts : EntryCounts) (s end : Desk) (items : List Item) → Ran old new counter (text_from s items) end [] → counts ≡ counts_from s items no_counts → SummarizesRun old s items (record { tally = new; counter = counter; counts = counts })
 Ran-all old new counter counts s end items r is =
     let whole : r.front ≡ text_from s items = sym (r.parts ∙ append-nil r.front) in
     record {
@@ -67,20 +67,20 @@ items_of_lines s [] (i ∷ is) a = absurd a
 items_of_lines s (l ∷ ls) [] a = absurd a
 items_of_lines s (l ∷ ls) (i ∷ is) a = omega (arith, items_of_lines (next s i) ls is a.2)
 
--- ---- what is told of the run of a script's lines
+-- ---- what is summarized of the run of a script's lines
 
-pub told_of : (symbols script : List ℕ) (setup : Setup) (items : List Item) (tally : Tally) (run : Run) (told : List ℕ) → IsScript symbols script items → Tallies tally script → TellsRun tally (fresh setup) items run → HasRun run (length items) told → told ≡ summary_of script setup items
-told_of symbols script setup items tally run told is_script tallied ran has =
+pub summary_by : (symbols script : List ℕ) (setup : Setup) (items : List Item) (tally : Tally) (run : Run) (summary : List ℕ) → IsScript symbols script items → Tallies tally script → SummarizesRun tally (fresh setup) items run → HasRun run (length items) summary → summary ≡ summary_of script setup items
+summary_by symbols script setup items tally run summary is_script tallied ran has =
     let whole : text_from (fresh setup) items ≡ output setup items = output_is setup items in
     let all : length items ≡ length (lines script) = sym (items_of_lines (start symbols) (lines script) items is_script) in
     let made : run.counts ≡ record { entries = length (entries setup items); refused = refused setup items } = ran.counts ∙ counts_is setup items in
-    has.told_is script (output setup items) (subst (λ (x : List ℕ). Tallies run.tally (script ++ x)) whole (ran.tallies script tallied)) (subst (Counts run.counter) whole ran.counter)
+    has.summary_is script (output setup items) (subst (λ (x : List ℕ). Tallies run.tally (script ++ x)) whole (ran.tallies script tallied)) (subst (Counts run.counter) whole ran.counter)
     ∙ ap (λ (c : EntryCounts). summary_lines (length items) c.entries c.refused (messages_in (output setup items)) (length (script ++ output setup items)) (sha256 (script ++ output setup items))) made
     ∙ ap (λ (n : ℕ). summary_lines n (length (entries setup items)) (refused setup items) (messages_in (output setup items)) (length (script ++ output setup items)) (sha256 (script ++ output setup items))) all
 
-pub if_told : {T E : Type 0} (bytes : T → List ℕ) (symbols script : List ℕ) (setup : Setup) (items : List Item) (tally : Tally) (run : Run) (told : Result T E) → IsScript symbols script items → Tallies tally script → TellsRun tally (fresh setup) items run → IfOk told (λ t. HasRun run (length items) (bytes t)) → IfOk told (λ t. bytes t ≡ summary_of script setup items)
-if_told bytes symbols script setup items tally run (Ok text) is_script tallied ran has = told_of symbols script setup items tally run (bytes text) is_script tallied ran has
-if_told bytes symbols script setup items tally run (Err end) is_script tallied ran has = tt
+pub if_known : {T E : Type 0} (bytes : T → List ℕ) (symbols script : List ℕ) (setup : Setup) (items : List Item) (tally : Tally) (run : Run) (summary : Result T E) → IsScript symbols script items → Tallies tally script → SummarizesRun tally (fresh setup) items run → IfOk summary (λ t. HasRun run (length items) (bytes t)) → IfOk summary (λ t. bytes t ≡ summary_of script setup items)
+if_known bytes symbols script setup items tally run (Ok text) is_script tallied ran has = summary_by symbols script setup items tally run (bytes text) is_script tallied ran has
+if_known bytes symbols script setup items tally run (Err end) is_script tallied ran has = tt
 
 -- ---- a drill's text is a script, so that it has no fault
 

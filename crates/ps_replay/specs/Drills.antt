@@ -8,21 +8,21 @@ use Rattle.sha2.specs.Sha256.{sha256}
 use Rattle.ps_outside.specs.Causes.{Rose}
 use Rattle.ps_outside.specs.Files.{FileCounts}
 use Rattle.ps_outside.specs.Sinks.{AppendsFront}
-use Rattle.ps_dex.specs.declared.row.Tables.{Tables}
-use Rattle.ps_valid.specs.declared.row.Settings.{Settings}
-use Rattle.ps_script.specs.declared.item.Item.{Item}
-use Rattle.ps_script.specs.Scripts.{IsScript}
-use Rattle.ps_world.specs.Setup.{Setup, setup_of}
-use Rattle.ps_world.specs.Entries.{entries}
-use Rattle.ps_world.specs.Counts.{refused}
-use Rattle.ps_world.specs.Transcript.{output}
-use Rattle.ps_drill.specs.Drills.{drill_text}
-use Rattle.ps_drill.specs.Messages.{messages_in}
-use Rattle.ps_setup.specs.declared.status.Status.{Status}
-use Rattle.ps_setup.specs.declared.status.Status.TheVariants.{Done, Usage, FileMissing, FileFault, FileLong, BadDex, BadConfig, BadScript, ScriptLong, ReadFault, WriteFault, BadTeam, NoMemory, DoorFault, UnknownFormat, BadPack}
-use Rattle.ps_setup.specs.Words.{Options, Drilled}
-use Rattle.ps_setup.specs.Steps.{IsFaultOf, dex_in, config_in}
-use Rattle.ps_setup.specs.Setups.{HasSetup, IsOption, AreGood, IsSettled, Then}
+use Rattle.ps_dex.specs.declared.item.Tables.{Tables}
+use Rattle.rules_config.specs.declared.settings.Settings.{Settings}
+use Rattle.replay_script.specs.declared.item.Item.{Item}
+use Rattle.replay_script.specs.Scripts.{IsScript}
+use Rattle.replay_state.specs.Setup.{Setup, setup_of}
+use Rattle.replay_state.specs.Entries.{entries}
+use Rattle.replay_state.specs.Counts.{refused}
+use Rattle.replay_state.specs.Transcript.{output}
+use Rattle.replay_drill.specs.Drills.{drill_text}
+use Rattle.replay_drill.specs.Messages.{messages_in}
+use Rattle.program_commands.specs.declared.status.Status.{Status}
+use Rattle.program_commands.specs.declared.status.Status.TheVariants.{Done, Usage, FileMissing, FileFault, FileLong, BadDex, BadConfig, BadScript, ScriptLong, ReadFault, WriteFault, BadTeam, NoMemory, DoorFault, UnknownFormat, BadPack}
+use Rattle.program_commands.specs.Words.{Options, Drilled}
+use Rattle.program_commands.specs.Steps.{IsFaultOf, dex_in, config_in}
+use Rattle.program_commands.specs.Setups.{HasSetup, IsOption, AreGood, IsSettled, Then}
 use Rattle.ps_replay.specs.Outcomes.{symbols_of}
 
 -- ---- the summary
@@ -50,46 +50,46 @@ abbrev pub summary_of : List ℕ → Setup → List Item → List ℕ
 summary_of text s items = summary_lines (length (lines text)) (length (entries s items)) (refused s items) (messages_in (output s items)) (length (text ++ output s items)) (sha256 (text ++ output s items))
 
 -- what a drill of so many steps tells: the one script that its text is, is run
-pub record IsSummary (config : Settings) (dex : Tables) (steps : ℕ) (told : List ℕ) : Type 0 where
+pub record IsSummary (config : Settings) (dex : Tables) (steps : ℕ) (summary : List ℕ) : Type 0 where
   pub items : List Item
   pub script : IsScript (symbols_of config.groups) (drill_text config dex steps) items
-  pub told_is : told ≡ summary_of (drill_text config dex steps) (setup_of config dex items) items
+  pub summary_is : summary ≡ summary_of (drill_text config dex steps) (setup_of config dex items) items
 
 -- ---- what was written
 
 -- the summary, and nothing else
 pub record WritesSummary (config : Settings) (dex : Tables) (steps : ℕ) (old new : Option (List ℕ)) : Type 0 where
-  pub told : List ℕ
-  pub told_is : IsSummary config dex steps told
-  pub wrote : Appends old new told
+  pub summary : List ℕ
+  pub summary_is : IsSummary config dex steps summary
+  pub wrote : Appends old new summary
 
 -- a front of it
 pub record WritesFrontOfSummary (config : Settings) (dex : Tables) (steps : ℕ) (old new : Option (List ℕ)) : Type 0 where
-  pub told : List ℕ
-  pub told_is : IsSummary config dex steps told
-  pub front : AppendsFront old new told
+  pub summary : List ℕ
+  pub summary_is : IsSummary config dex steps summary
+  pub front : AppendsFront old new summary
 
 -- At a status other than Done: a front of the summary where the sink failed, and else nothing, since all of it is known before
 -- its first byte is written.
 abbrev pub WritesDrill : Option (List ℕ → Option (List ℕ)) → Drilled → Option (List ℕ) → Option (List ℕ) → Status → Type 0
-WritesDrill held words old new Done = Unit {0}
-WritesDrill held words old new WriteFault = HasSetup held words.options (λ config dex. WritesFrontOfSummary config dex words.steps old new)
-WritesDrill held words old new (Usage word) = Keeps old new
-WritesDrill held words old new (FileMissing name) = Keeps old new
-WritesDrill held words old new (FileFault name) = Keeps old new
-WritesDrill held words old new (FileLong name) = Keeps old new
-WritesDrill held words old new (BadDex path kind) = Keeps old new
-WritesDrill held words old new (BadConfig path kind) = Keeps old new
-WritesDrill held words old new (BadScript line kind) = Keeps old new
-WritesDrill held words old new (ScriptLong count) = Keeps old new
-WritesDrill held words old new ReadFault = Keeps old new
-WritesDrill held words old new (BadTeam set rule subject) = Keeps old new
-WritesDrill held words old new NoMemory = Keeps old new
-WritesDrill held words old new DoorFault = Keeps old new
-WritesDrill held words old new (UnknownFormat id) = Keeps old new
-WritesDrill held words old new (BadPack at kind) = Keeps old new
+WritesDrill contents words old new Done = Unit {0}
+WritesDrill contents words old new WriteFault = HasSetup contents words.options (λ config dex. WritesFrontOfSummary config dex words.steps old new)
+WritesDrill contents words old new (Usage word) = Keeps old new
+WritesDrill contents words old new (FileMissing name) = Keeps old new
+WritesDrill contents words old new (FileFault name) = Keeps old new
+WritesDrill contents words old new (FileLong name) = Keeps old new
+WritesDrill contents words old new (BadDex path kind) = Keeps old new
+WritesDrill contents words old new (BadConfig path kind) = Keeps old new
+WritesDrill contents words old new (BadScript line kind) = Keeps old new
+WritesDrill contents words old new (ScriptLong count) = Keeps old new
+WritesDrill contents words old new ReadFault = Keeps old new
+WritesDrill contents words old new (BadTeam set rule subject) = Keeps old new
+WritesDrill contents words old new NoMemory = Keeps old new
+WritesDrill contents words old new DoorFault = Keeps old new
+WritesDrill contents words old new (UnknownFormat id) = Keeps old new
+WritesDrill contents words old new (BadPack at kind) = Keeps old new
 
--- ---- How a drill may end, where the files are told. A file that is there may still fail.
+-- ---- How a drill may end, where the files are known. A file that is there may still fail.
 
 -- under a configuration and a dex: its text is a script whatever they say, so that nothing is at fault
 abbrev pub RunEnds : Status → Type 0
@@ -115,11 +115,11 @@ SetUpEnds config status = RunEnds status
 
 -- from the configuration on
 abbrev pub ConfigEnds : (List ℕ → Option (List ℕ)) → Options → Tables → Status → Type 0
-ConfigEnds look options dex status = IsFaultOf options.config status ⊎ Then (config_in look dex options.config) SetUpEnds status
+ConfigEnds lookup options dex status = IsFaultOf options.config status ⊎ Then (config_in lookup dex options.config) SetUpEnds status
 
 -- from the dex on, which is all
 abbrev pub DrillEnds : (List ℕ → Option (List ℕ)) → Options → Status → Type 0
-DrillEnds look options status = IsFaultOf options.dex status ⊎ Then (dex_in look options.dex) (ConfigEnds look options) status
+DrillEnds lookup options status = IsFaultOf options.dex status ⊎ Then (dex_in lookup options.dex) (ConfigEnds lookup options) status
 
 -- The statuses of a drill, and what has shown each. A status of a file names one of the words' files, and its count rose.
 abbrev pub DrillCause : Options → FileCounts → FileCounts → Status → Type 0
@@ -141,8 +141,8 @@ DrillCause options old new (UnknownFormat id) = ⊥
 DrillCause options old new (BadPack at kind) = ⊥
 
 -- good files, with no fault of the files or the sink, settle a drill
-pub record SettlesDrill (held : Option (List ℕ → Option (List ℕ))) (file_fault write_fault : Type 0) (options : Options) (status : Status) : Type 0 where
-  pub settled : AreGood held options → (file_fault → ⊥) → (write_fault → ⊥) → IsSettled status
+pub record SettlesDrill (contents : Option (List ℕ → Option (List ℕ))) (file_fault write_fault : Type 0) (options : Options) (status : Status) : Type 0 where
+  pub settled : AreGood contents options → (file_fault → ⊥) → (write_fault → ⊥) → IsSettled status
 
 -- ---- for the code alone: a status that the words and the files have no part in, and what was written at it
 

@@ -6,22 +6,22 @@ use Rattle.ps_group.specs.declared.group.Group.{Group}
 use Rattle.ps_outside.specs.Causes.{Rose}
 use Rattle.ps_outside.specs.Files.{FileCounts}
 use Rattle.ps_outside.specs.Sinks.{AppendsFront}
-use Rattle.ps_dex.specs.declared.row.Tables.{Tables}
-use Rattle.ps_valid.specs.declared.row.Settings.{Settings}
-use Rattle.ps_script.specs.declared.item.Item.{Item}
-use Rattle.ps_script.specs.declared.script.ScriptKind.{ScriptKind}
-use Rattle.ps_script.specs.Scripts.{IsScript, IsFirstFault}
-use Rattle.ps_script.specs.Limits.{long_of}
-use Rattle.ps_world.specs.Setup.{setup_of}
-use Rattle.ps_world.specs.Worlds.{Place, world_view}
-use Rattle.ps_world.specs.Entries.{world_of}
-use Rattle.ps_world.specs.Transcript.{messages, output, block}
-use Rattle.ps_world.specs.OneEntry.{HasOneEntryEach, AreHistories}
-use Rattle.ps_world.specs.TwoWorlds.{HasEqualBlocks}
-use Rattle.ps_setup.specs.declared.status.Status.{Status}
-use Rattle.ps_setup.specs.declared.status.Status.TheVariants.{Done, Usage, FileMissing, FileFault, FileLong, BadDex, BadConfig, BadScript, ScriptLong, ReadFault, WriteFault, BadTeam, NoMemory, DoorFault, UnknownFormat, BadPack}
-use Rattle.ps_setup.specs.Words.{Options}
-use Rattle.ps_setup.specs.Setups.{HasSetup, IsGood, Stops, IsOption, IsSettled, AreGood}
+use Rattle.ps_dex.specs.declared.item.Tables.{Tables}
+use Rattle.rules_config.specs.declared.settings.Settings.{Settings}
+use Rattle.replay_script.specs.declared.item.Item.{Item}
+use Rattle.replay_script.specs.declared.script.ScriptKind.{ScriptKind}
+use Rattle.replay_script.specs.Scripts.{IsScript, IsFirstFault}
+use Rattle.replay_script.specs.Limits.{long_of}
+use Rattle.replay_state.specs.Setup.{setup_of}
+use Rattle.replay_state.specs.Worlds.{Place, world_view}
+use Rattle.replay_state.specs.Entries.{world_of}
+use Rattle.replay_state.specs.Transcript.{messages, output, block}
+use Rattle.replay_state.specs.OneEntry.{HasOneEntryEach, AreHistories}
+use Rattle.replay_state.specs.TwoWorlds.{HasEqualBlocks}
+use Rattle.program_commands.specs.declared.status.Status.{Status}
+use Rattle.program_commands.specs.declared.status.Status.TheVariants.{Done, Usage, FileMissing, FileFault, FileLong, BadDex, BadConfig, BadScript, ScriptLong, ReadFault, WriteFault, BadTeam, NoMemory, DoorFault, UnknownFormat, BadPack}
+use Rattle.program_commands.specs.Words.{Options}
+use Rattle.program_commands.specs.Setups.{HasSetup, IsGood, Stops, IsOption, IsSettled, AreGood}
 
 -- ---- the input
 
@@ -89,60 +89,60 @@ pub record WritesFront (config : Settings) (dex : Tables) (old new : Option (Lis
   pub script : IsScript (symbols_of config.groups) bytes items
   pub front : AppendsFront old new (output (setup_of config dex items) items)
 
--- what was written at a status other than Done, where the input is told: nothing before the whole script was read,
+-- what was written at a status other than Done, where the input is known: nothing before the whole script was read,
 -- and then a front
 abbrev pub FrontOf : Settings → Tables → Option (List ℕ) → Option (List ℕ) → Option (List ℕ) → Type 0
 FrontOf config dex left old new = IfSome left (WritesFront config dex old new)
 
 abbrev pub WritesPrefix : Option (List ℕ → Option (List ℕ)) → Options → Option (List ℕ) → Option (List ℕ) → Option (List ℕ) → Status → Type 0
-WritesPrefix held o left old new Done = Unit {0}
-WritesPrefix held o left old new (Usage word) = Keeps old new
-WritesPrefix held o left old new (FileMissing name) = Keeps old new
-WritesPrefix held o left old new (FileFault name) = Keeps old new
-WritesPrefix held o left old new (FileLong name) = Keeps old new
-WritesPrefix held o left old new (BadDex path kind) = Keeps old new
-WritesPrefix held o left old new (BadConfig path kind) = Keeps old new
-WritesPrefix held o left old new (BadScript line kind) = Keeps old new
-WritesPrefix held o left old new (ScriptLong count) = Keeps old new
-WritesPrefix held o left old new ReadFault = Keeps old new
-WritesPrefix held o left old new WriteFault = HasSetup held o (λ config dex. FrontOf config dex left old new)
-WritesPrefix held o left old new (BadTeam set rule subject) = Keeps old new
-WritesPrefix held o left old new NoMemory = Keeps old new ⊎ HasSetup held o (λ config dex. FrontOf config dex left old new)
-WritesPrefix held o left old new DoorFault = Keeps old new
-WritesPrefix held o left old new (UnknownFormat id) = Keeps old new
-WritesPrefix held o left old new (BadPack at kind) = Keeps old new
+WritesPrefix contents o left old new Done = Unit {0}
+WritesPrefix contents o left old new (Usage word) = Keeps old new
+WritesPrefix contents o left old new (FileMissing name) = Keeps old new
+WritesPrefix contents o left old new (FileFault name) = Keeps old new
+WritesPrefix contents o left old new (FileLong name) = Keeps old new
+WritesPrefix contents o left old new (BadDex path kind) = Keeps old new
+WritesPrefix contents o left old new (BadConfig path kind) = Keeps old new
+WritesPrefix contents o left old new (BadScript line kind) = Keeps old new
+WritesPrefix contents o left old new (ScriptLong count) = Keeps old new
+WritesPrefix contents o left old new ReadFault = Keeps old new
+WritesPrefix contents o left old new WriteFault = HasSetup contents o (λ config dex. FrontOf config dex left old new)
+WritesPrefix contents o left old new (BadTeam set rule subject) = Keeps old new
+WritesPrefix contents o left old new NoMemory = Keeps old new ⊎ HasSetup contents o (λ config dex. FrontOf config dex left old new)
+WritesPrefix contents o left old new DoorFault = Keeps old new
+WritesPrefix contents o left old new (UnknownFormat id) = Keeps old new
+WritesPrefix contents o left old new (BadPack at kind) = Keeps old new
 
 -- ---- the cause of a status of a replay
 
 -- what has shown each. A status of a file names one of the files of the words, and its count rose.
 abbrev pub ReplayCause : Option (List ℕ → Option (List ℕ)) → Options → Option (List ℕ) → FileCounts → FileCounts → Status → Type 0
-ReplayCause held o left old new Done = HasSetup held o IsGood
-ReplayCause held o left old new (Usage word) = ⊥
-ReplayCause held o left old new (FileMissing name) = Stops held o (FileMissing name) × IsOption o name × Rose old.missing new.missing
-ReplayCause held o left old new (FileFault name) = Stops held o (FileFault name) × IsOption o name × Rose old.faults new.faults
-ReplayCause held o left old new (FileLong name) = Stops held o (FileLong name) × IsOption o name × Rose old.long new.long
-ReplayCause held o left old new (BadDex path kind) = Stops held o (BadDex path kind)
-ReplayCause held o left old new (BadConfig path kind) = Stops held o (BadConfig path kind)
-ReplayCause held o left old new (BadScript line kind) = HasSetup held o (λ config dex. IfSome left (IsBadScript config.groups line kind))
-ReplayCause held o left old new (ScriptLong count) = HasSetup held o IsGood × IfSome left (λ bytes. long_of bytes ≡ Some count)
-ReplayCause held o left old new ReadFault = HasSetup held o IsGood
-ReplayCause held o left old new WriteFault = HasSetup held o IsGood
-ReplayCause held o left old new (BadTeam set rule subject) = ⊥
-ReplayCause held o left old new NoMemory = Unit {0}
-ReplayCause held o left old new DoorFault = ⊥
-ReplayCause held o left old new (UnknownFormat id) = ⊥
-ReplayCause held o left old new (BadPack at kind) = ⊥
+ReplayCause contents o left old new Done = HasSetup contents o IsGood
+ReplayCause contents o left old new (Usage word) = ⊥
+ReplayCause contents o left old new (FileMissing name) = Stops contents o (FileMissing name) × IsOption o name × Rose old.missing new.missing
+ReplayCause contents o left old new (FileFault name) = Stops contents o (FileFault name) × IsOption o name × Rose old.faults new.faults
+ReplayCause contents o left old new (FileLong name) = Stops contents o (FileLong name) × IsOption o name × Rose old.long new.long
+ReplayCause contents o left old new (BadDex path kind) = Stops contents o (BadDex path kind)
+ReplayCause contents o left old new (BadConfig path kind) = Stops contents o (BadConfig path kind)
+ReplayCause contents o left old new (BadScript line kind) = HasSetup contents o (λ config dex. IfSome left (IsBadScript config.groups line kind))
+ReplayCause contents o left old new (ScriptLong count) = HasSetup contents o IsGood × IfSome left (λ bytes. long_of bytes ≡ Some count)
+ReplayCause contents o left old new ReadFault = HasSetup contents o IsGood
+ReplayCause contents o left old new WriteFault = HasSetup contents o IsGood
+ReplayCause contents o left old new (BadTeam set rule subject) = ⊥
+ReplayCause contents o left old new NoMemory = Unit {0}
+ReplayCause contents o left old new DoorFault = ⊥
+ReplayCause contents o left old new (UnknownFormat id) = ⊥
+ReplayCause contents o left old new (BadPack at kind) = ⊥
 
 -- ---- completeness
 
--- they are, and the input is told, within its limits and a script
-pub record IsReadied (held : Option (List ℕ → Option (List ℕ))) (options : Options) (left : Option (List ℕ)) : Type 0 where
-  pub files : AreGood held options
+-- they are, and the input is known, within its limits and a script
+pub record IsReadied (contents : Option (List ℕ → Option (List ℕ))) (options : Options) (left : Option (List ℕ)) : Type 0 where
+  pub files : AreGood contents options
   pub script : IsSomeAnd left (IsReadable files.config.groups)
 
 -- that, with no fault of the files, the source or the sink, settles a run
 abbrev pub Settles : Option (List ℕ → Option (List ℕ)) → Options → Option (List ℕ) → Type 0 → Type 0 → Type 0 → Status → Type 0
-Settles held options left file_fault read_fault write_fault status = IsReadied held options left → (file_fault → ⊥) → (read_fault → ⊥) → (write_fault → ⊥) → IsSettled status
+Settles contents options left file_fault read_fault write_fault status = IsReadied contents options left → (file_fault → ⊥) → (read_fault → ⊥) → (write_fault → ⊥) → IsSettled status
 
 -- ---- for the code alone
 
@@ -165,7 +165,7 @@ IsOfInput DoorFault = ⊥
 IsOfInput (UnknownFormat id) = ⊥
 IsOfInput (BadPack at kind) = ⊥
 
--- what has shown a status of the input, where it is told
+-- what has shown a status of the input, where it is known
 abbrev pub InputCause : List Group → Option (List ℕ) → Status → Type 0
 InputCause groups left (BadScript line kind) = IfSome left (IsBadScript groups line kind)
 InputCause groups left (ScriptLong count) = IfSome left (λ bytes. long_of bytes ≡ Some count)

@@ -2,38 +2,38 @@
 ghost use Rattle.std.specs.Prelude.{◌≡◌, ◌≢◌, ◌++◌, ◌≤◌, ◌-◌, ◌^◌, ℕ, List, [], length, IfOk, OnOk, string_bytes};
 ghost use Rattle.std.specs.Arc.{arc_value};
 ghost use Rattle.ps_outside.specs.Causes.{Rose};
-ghost use Rattle.ps_script.specs.Scripts.{IsScript};
-ghost use Rattle.ps_world.specs.Setup.{setup_of};
-ghost use Rattle.ps_world.specs.Tables.{item_after, item_text, item_counts, no_counts, counts_from, text_from};
-ghost use Rattle.ps_drill.specs.Messages.{counted};
-ghost use Rattle.ps_drill.specs.Plain.{HasPlainNames, HasPlainFormats};
-ghost use Rattle.ps_drill.specs.Drills.{drill_text};
-ghost use Rattle.ps_drill.specs.Tallies as tallies;
-ghost use Rattle.ps_setup.specs.Words.{options_of, drilled_of};
-ghost use Rattle.ps_setup.specs.Steps.{dex_in};
-ghost use Rattle.ps_setup.specs.Setups.{HasSetup, Stands, Told};
+ghost use Rattle.replay_script.specs.Scripts.{IsScript};
+ghost use Rattle.replay_state.specs.Setup.{setup_of};
+ghost use Rattle.replay_state.specs.Tables.{item_after, item_text, item_counts, no_counts, counts_from, text_from};
+ghost use Rattle.replay_drill.specs.Messages.{counted};
+ghost use Rattle.replay_drill.specs.Plain.{HasPlainNames, HasPlainFormats};
+ghost use Rattle.replay_drill.specs.Drills.{drill_text};
+ghost use Rattle.replay_drill.specs.Tallies as tallies;
+ghost use Rattle.program_commands.specs.Words.{options_of, drilled_of};
+ghost use Rattle.program_commands.specs.Steps.{dex_in};
+ghost use Rattle.program_commands.specs.Setups.{HasSetup, Stands, EndsIfKnown};
 ghost use Rattle.ps_replay.specs.Outcomes.{symbols_of};
 ghost use Rattle.ps_replay.specs.Drills.{summary_of, IsSummary, WritesSummary, WritesDrill, DrillEnds, ConfigEnds, DrillCause, SettlesDrill, IsOfRun, WritesRun};
-ghost use Rattle.ps_replay.specs.Runs.{TellsRun, HasRun};
+ghost use Rattle.ps_replay.specs.Runs.{SummarizesRun, HasRun};
 
 use crate::replay::table_of;
 use crate::summary::{Figures, summary_text};
 use crate::symbols::symbols_of;
+use program_commands::config::config_or_standard;
+use program_commands::dex::dex_or_none;
+use program_commands::status::Status;
+use program_commands::words::DrillWords;
 use ps_dex::dex::Dex;
-use ps_drill::counter::Counter;
-use ps_drill::script::drill_script;
-use ps_drill::tally::Tally;
 use ps_outside::files::Files;
 use ps_outside::sink::{self, Sink};
-use ps_script::item::Item;
-use ps_script::script::{ScriptEnd, read_script};
-use ps_setup::config::config_or_standard;
-use ps_setup::dex::dex_or_none;
-use ps_setup::status::Status;
-use ps_setup::words::DrillWords;
-use ps_valid::config::Config;
-use ps_world::table::Table;
-use ps_world::transcript::{Counts, Transcript};
+use replay_drill::counter::Counter;
+use replay_drill::script::drill_script;
+use replay_drill::tally::Tally;
+use replay_script::item::Item;
+use replay_script::script::{ScriptEnd, read_script};
+use replay_state::table::Table;
+use replay_state::transcript::{Counts, Transcript};
+use rules_config::config::Config;
 use std::alloc::{AllocError, Global};
 use std::sync::Arc;
 
@@ -78,7 +78,7 @@ fn run_item(
 
 // Runs the lines from a state on, behind a text that was tallied.
 fn run_from(alloc: Global, table: Table, items: &[Item], tally: Tally) -> Result<Run, AllocError>
-    ensures { IfOk result (TellsRun tally table items.now) }
+    ensures { IfOk result (SummarizesRun tally table items.now) }
 {
     let mut table = table;
     let mut tally = tally;
@@ -113,8 +113,8 @@ fn exact(count: u64) -> Result<u64, AllocError>
 
 // ---- the summary
 
-// What is told of a run of a script of so many lines.
-fn tell(alloc: Global, lines: usize, run: Run) -> Result<String, AllocError>
+// The summary of a run of a script of so many lines.
+fn run_summary(alloc: Global, lines: usize, run: Run) -> Result<String, AllocError>
     ensures { IfOk result (λ t. HasRun run lines (string_bytes t)) }
 {
     let figures = Figures {
@@ -141,7 +141,7 @@ fn run_items(
     let mut tally = Tally::new();
     tally.take(script);
     let run = run_from(alloc, table, items, tally)?;
-    tell(alloc, items.len(), run)
+    run_summary(alloc, items.len(), run)
 }
 
 // Makes the script of a drill, runs it, and tells what came of it.
@@ -193,15 +193,15 @@ fn drill_config<F: Files, K: Sink>(
     files: &mut F,
     out: &mut K,
 ) -> Status
-    requires stands { Stands (F.held files.old) (options_of words.options).dex (λ look. dex_in look (options_of words.options).dex) dex }
+    requires stands { Stands (F.contents files.old) (options_of words.options).dex (λ lookup. dex_in lookup (options_of words.options).dex) dex }
     requires names { HasPlainNames dex }
     requires few { words.steps ≤ 4000 }
-    ensures ends { Told (F.held files.old) (λ look. ConfigEnds look (drilled_of words.entry).options dex) result }
+    ensures ends { EndsIfKnown (F.contents files.old) (λ lookup. ConfigEnds lookup (drilled_of words.entry).options dex) result }
     ensures cause { DrillCause (drilled_of words.entry).options (F.counts files.old) (F.counts files.new) result }
-    ensures summary { result ≡ Status.Done → HasSetup (F.held files.old) (drilled_of words.entry).options (λ config dex. WritesSummary config dex (drilled_of words.entry).steps (K.written out.old) (K.written out.new)) }
-    ensures wrote { WritesDrill (F.held files.old) (drilled_of words.entry) (K.written out.old) (K.written out.new) result }
+    ensures summary { result ≡ Status.Done → HasSetup (F.contents files.old) (drilled_of words.entry).options (λ config dex. WritesSummary config dex (drilled_of words.entry).steps (K.written out.old) (K.written out.new)) }
+    ensures wrote { WritesDrill (F.contents files.old) (drilled_of words.entry) (K.written out.old) (K.written out.new) result }
     ensures write_fault { result ≡ Status.WriteFault → Rose (K.faults out.old) (K.faults out.new) }
-    ensures settles { SettlesDrill (F.held files.old) (Rose (F.counts files.old).faults (F.counts files.new).faults) (Rose (K.faults out.old) (K.faults out.new)) (drilled_of words.entry).options result }
+    ensures settles { SettlesDrill (F.contents files.old) (Rose (F.counts files.old).faults (F.counts files.new).faults) (Rose (K.faults out.old) (K.faults out.new)) (drilled_of words.entry).options result }
 {
     match config_or_standard(alloc, files, &dex, words.options.config) {
         Err(status) => status,
@@ -220,12 +220,12 @@ pub fn drill<F: Files, K: Sink>(
     out: &mut K,
 ) -> Status
     requires { words.steps ≤ 4000 }
-    ensures ends { Told (F.held files.old) (λ look. DrillEnds look (drilled_of words.entry).options) result }
+    ensures ends { EndsIfKnown (F.contents files.old) (λ lookup. DrillEnds lookup (drilled_of words.entry).options) result }
     ensures cause { DrillCause (drilled_of words.entry).options (F.counts files.old) (F.counts files.new) result }
-    ensures summary { result ≡ Status.Done → HasSetup (F.held files.old) (drilled_of words.entry).options (λ config dex. WritesSummary config dex (drilled_of words.entry).steps (K.written out.old) (K.written out.new)) }
-    ensures wrote { WritesDrill (F.held files.old) (drilled_of words.entry) (K.written out.old) (K.written out.new) result }
+    ensures summary { result ≡ Status.Done → HasSetup (F.contents files.old) (drilled_of words.entry).options (λ config dex. WritesSummary config dex (drilled_of words.entry).steps (K.written out.old) (K.written out.new)) }
+    ensures wrote { WritesDrill (F.contents files.old) (drilled_of words.entry) (K.written out.old) (K.written out.new) result }
     ensures write_fault { result ≡ Status.WriteFault → Rose (K.faults out.old) (K.faults out.new) }
-    ensures settles { SettlesDrill (F.held files.old) (Rose (F.counts files.old).faults (F.counts files.new).faults) (Rose (K.faults out.old) (K.faults out.new)) (drilled_of words.entry).options result }
+    ensures settles { SettlesDrill (F.contents files.old) (Rose (F.counts files.old).faults (F.counts files.new).faults) (Rose (K.faults out.old) (K.faults out.new)) (drilled_of words.entry).options result }
 {
     match dex_or_none(alloc, files, words.options.dex) {
         Err(status) => status,

@@ -4,19 +4,19 @@ ghost use Rattle.std.specs.Io.KnownBytes.{Appends};
 ghost use Rattle.ps_outside.specs.Causes.{Rose, HasCause};
 ghost use Rattle.ps_outside.specs.Sinks.{AppendsFront};
 ghost use Rattle.std.specs.Arc.{arc_value};
-ghost use Rattle.ps_world.specs.Setup.{setup_of};
-ghost use Rattle.ps_world.specs.Transcript.{output};
-ghost use Rattle.ps_world.specs.Tables.{fresh, item_text, item_after, text_from};
+ghost use Rattle.replay_state.specs.Setup.{setup_of};
+ghost use Rattle.replay_state.specs.Transcript.{output};
+ghost use Rattle.replay_state.specs.Tables.{fresh, item_text, item_after, text_from};
 ghost use Rattle.ps_replay.specs.Flow.{MovesFront};
 
 use ps_dex::dex::Dex;
 use ps_outside::Failed;
 use ps_outside::sink::{self, Sink};
-use ps_script::item::Item;
-use ps_valid::config::Config;
-use ps_world::ranks::ranks_of;
-use ps_world::table::Table;
-use ps_world::transcript::Transcript;
+use replay_script::item::Item;
+use replay_state::ranks::ranks_of;
+use replay_state::table::Table;
+use replay_state::transcript::Transcript;
+use rules_config::config::Config;
 use std::alloc::{AllocError, Global};
 use std::sync::Arc;
 

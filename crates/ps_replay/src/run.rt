@@ -3,13 +3,13 @@ ghost use Rattle.std.specs.Prelude.{◌≡◌, ◌≤◌, ◌<◌, ◌^◌, ℕ,
 ghost use Rattle.std.specs.Arc.{arc_value};
 ghost use Rattle.std.specs.Io.KnownBytes.{Appends, IsAtEnd};
 ghost use Rattle.ps_outside.specs.Causes.{Rose};
-ghost use Rattle.ps_script.specs.Scripts.{IsScript};
-ghost use Rattle.ps_script.specs.Limits.{long_of, ReadsFew};
-ghost use Rattle.ps_script.specs.declared.item.Item.{Item};
-ghost use Rattle.ps_setup.specs.Words.{words_in, options_of, IfReplay, IfDrill, IfCheck};
-ghost use Rattle.ps_setup.specs.Steps.{dex_in};
-ghost use Rattle.ps_setup.specs.Setups.{usage_of, usage_told, HasSetup, Stands, Told};
-ghost use Rattle.ps_check.specs.Checks.{legal_line, CheckEnds, IsNamed, CheckCause, SettlesCheck};
+ghost use Rattle.replay_script.specs.Scripts.{IsScript};
+ghost use Rattle.replay_script.specs.Limits.{long_of, ReadsFew};
+ghost use Rattle.replay_script.specs.declared.item.Item.{Item};
+ghost use Rattle.program_commands.specs.Words.{words_in, options_of, IfReplay, IfDrill, IfCheck};
+ghost use Rattle.program_commands.specs.Steps.{dex_in};
+ghost use Rattle.program_commands.specs.Setups.{usage_of, usage_reported, HasSetup, Stands, EndsIfKnown};
+ghost use Rattle.program_commands.specs.Checks.{legal_line, CheckEnds, IsNamed, CheckCause, SettlesCheck};
 ghost use Rattle.ps_replay.specs.Outcomes.{symbols_of, IsOfInput, KeepsInput, IsTranscript, HasOneEntryEachText, HasHistories, HasEqualWorlds, WritesOfInput, WritesPrefix, ReplayCause, InputCause, Settles, SettlesInput};
 ghost use Rattle.ps_replay.specs.Drills.{DrillEnds, DrillCause, WritesSummary, SettlesDrill};
 ghost use Rattle.ps_replay.specs.Writes.{Writes};
@@ -17,19 +17,19 @@ ghost use Rattle.ps_replay.specs.Writes.{Writes};
 use crate::drill::drill;
 use crate::replay::{ReplayEnd, replay};
 use crate::symbols::symbols_of;
-use ps_check::check::check;
+use program_commands::check::check;
+use program_commands::config::config_or_standard;
+use program_commands::dex::dex_or_none;
+use program_commands::status::Status;
+use program_commands::words::{Command, OptionWords, read_words};
 use ps_dex::dex::Dex;
 use ps_outside::files::Files;
 use ps_outside::sink::Sink;
 use ps_outside::source::Source;
-use ps_script::input::{InputEnd, read_input};
-use ps_script::item::Item;
-use ps_script::script::{ScriptEnd, read_script};
-use ps_setup::config::config_or_standard;
-use ps_setup::dex::dex_or_none;
-use ps_setup::status::Status;
-use ps_setup::words::{Command, OptionWords, read_words};
-use ps_valid::config::Config;
+use replay_script::input::{InputEnd, read_input};
+use replay_script::item::Item;
+use replay_script::script::{ScriptEnd, read_script};
+use rules_config::config::Config;
 use std::alloc::Global;
 use std::sync::Arc;
 
@@ -45,7 +45,7 @@ fn run_items<K: Sink>(
     requires within { long_of bytes.now ≡ None }
     requires script { IsScript (symbols_of (arc_value config).groups) bytes.now items.now }
     requires one { (others : List Item) → IsScript (symbols_of (arc_value config).groups) bytes.now others → others ≡ items.now }
-    ensures usage { usage_told result ≡ None }
+    ensures usage { usage_reported result ≡ None }
     ensures of { IsOfInput result }
     ensures transcript { result ≡ Status.Done → IsTranscript (arc_value config) (arc_value dex) (K.written out.old) (K.written out.new) bytes.now }
     ensures one_entry { result ≡ Status.Done → HasOneEntryEachText (arc_value config) (arc_value dex) bytes.now }
@@ -73,7 +73,7 @@ fn run_bytes<K: Sink>(
     requires few { length (arc_value config).rooms ≤ 16 }
     requires within { long_of bytes.now ≡ None }
     requires small { length bytes.now ≤ 16777216 }
-    ensures usage { usage_told result ≡ None }
+    ensures usage { usage_reported result ≡ None }
     ensures of { IsOfInput result }
     ensures transcript { result ≡ Status.Done → IsTranscript (arc_value config) (arc_value dex) (K.written out.old) (K.written out.new) bytes.now }
     ensures one_entry { result ≡ Status.Done → HasOneEntryEachText (arc_value config) (arc_value dex) bytes.now }
@@ -104,7 +104,7 @@ fn run_input<S: Source, K: Sink>(
     out: &mut K,
 ) -> Status
     requires { length (arc_value config).rooms ≤ 16 }
-    ensures usage { usage_told result ≡ None }
+    ensures usage { usage_reported result ≡ None }
     ensures of { IsOfInput result }
     ensures whole { result ≡ Status.Done → IsAtEnd (S.left input.new) }
     ensures transcript { result ≡ Status.Done → IfSome (S.left input.old) (IsTranscript (arc_value config) (arc_value dex) (K.written out.old) (K.written out.new)) }
@@ -135,20 +135,20 @@ fn run_config<F: Files, S: Source, K: Sink>(
     input: &mut S,
     out: &mut K,
 ) -> Status
-    requires { Stands (F.held files.old) (options_of options).dex (λ look. dex_in look (options_of options).dex) dex }
-    ensures usage { usage_told result ≡ None }
-    ensures cause { ReplayCause (F.held files.old) (options_of options.entry) (S.left input.old) (F.counts files.old) (F.counts files.new) result }
+    requires { Stands (F.contents files.old) (options_of options).dex (λ lookup. dex_in lookup (options_of options).dex) dex }
+    ensures usage { usage_reported result ≡ None }
+    ensures cause { ReplayCause (F.contents files.old) (options_of options.entry) (S.left input.old) (F.counts files.old) (F.counts files.new) result }
     ensures input { KeepsInput (S.left input.old) (S.left input.new) result }
     ensures whole { result ≡ Status.Done → IsAtEnd (S.left input.new) }
-    ensures transcript { result ≡ Status.Done → HasSetup (F.held files.old) (options_of options.entry) (λ config dex. IfSome (S.left input.old) (IsTranscript config dex (K.written out.old) (K.written out.new))) }
-    ensures one_entry { result ≡ Status.Done → HasSetup (F.held files.old) (options_of options.entry) (λ config dex. IfSome (S.left input.old) (HasOneEntryEachText config dex)) }
-    ensures histories { result ≡ Status.Done → HasSetup (F.held files.old) (options_of options.entry) (λ config dex. IfSome (S.left input.old) (HasHistories config dex)) }
-    ensures two_worlds { result ≡ Status.Done → HasSetup (F.held files.old) (options_of options.entry) (λ config dex. IfSome (S.left input.old) (HasEqualWorlds config dex)) }
-    ensures prefix { WritesPrefix (F.held files.old) (options_of options.entry) (S.left input.old) (K.written out.old) (K.written out.new) result }
+    ensures transcript { result ≡ Status.Done → HasSetup (F.contents files.old) (options_of options.entry) (λ config dex. IfSome (S.left input.old) (IsTranscript config dex (K.written out.old) (K.written out.new))) }
+    ensures one_entry { result ≡ Status.Done → HasSetup (F.contents files.old) (options_of options.entry) (λ config dex. IfSome (S.left input.old) (HasOneEntryEachText config dex)) }
+    ensures histories { result ≡ Status.Done → HasSetup (F.contents files.old) (options_of options.entry) (λ config dex. IfSome (S.left input.old) (HasHistories config dex)) }
+    ensures two_worlds { result ≡ Status.Done → HasSetup (F.contents files.old) (options_of options.entry) (λ config dex. IfSome (S.left input.old) (HasEqualWorlds config dex)) }
+    ensures prefix { WritesPrefix (F.contents files.old) (options_of options.entry) (S.left input.old) (K.written out.old) (K.written out.new) result }
     ensures bounded { ReadsFew (S.left input.old) (S.left input.new) }
     ensures read_fault { result ≡ Status.ReadFault → Rose (S.faults input.old) (S.faults input.new) }
     ensures write_fault { result ≡ Status.WriteFault → Rose (K.faults out.old) (K.faults out.new) }
-    ensures complete { Settles (F.held files.old) (options_of options.entry) (S.left input.old) (Rose (F.counts files.old).faults (F.counts files.new).faults) (Rose (S.faults input.old) (S.faults input.new)) (Rose (K.faults out.old) (K.faults out.new)) result }
+    ensures complete { Settles (F.contents files.old) (options_of options.entry) (S.left input.old) (Rose (F.counts files.old).faults (F.counts files.new).faults) (Rose (S.faults input.old) (S.faults input.new)) (Rose (K.faults out.old) (K.faults out.new)) result }
 {
     let config = match config_or_standard(alloc, files, &dex, options.config) {
         Err(status) => return status,
@@ -173,19 +173,19 @@ fn run_replay<F: Files, S: Source, K: Sink>(
     input: &mut S,
     out: &mut K,
 ) -> Status
-    ensures usage { usage_told result ≡ None }
-    ensures cause { ReplayCause (F.held files.old) (options_of options.entry) (S.left input.old) (F.counts files.old) (F.counts files.new) result }
+    ensures usage { usage_reported result ≡ None }
+    ensures cause { ReplayCause (F.contents files.old) (options_of options.entry) (S.left input.old) (F.counts files.old) (F.counts files.new) result }
     ensures input { KeepsInput (S.left input.old) (S.left input.new) result }
     ensures whole { result ≡ Status.Done → IsAtEnd (S.left input.new) }
-    ensures transcript { result ≡ Status.Done → HasSetup (F.held files.old) (options_of options.entry) (λ config dex. IfSome (S.left input.old) (IsTranscript config dex (K.written out.old) (K.written out.new))) }
-    ensures one_entry { result ≡ Status.Done → HasSetup (F.held files.old) (options_of options.entry) (λ config dex. IfSome (S.left input.old) (HasOneEntryEachText config dex)) }
-    ensures histories { result ≡ Status.Done → HasSetup (F.held files.old) (options_of options.entry) (λ config dex. IfSome (S.left input.old) (HasHistories config dex)) }
-    ensures two_worlds { result ≡ Status.Done → HasSetup (F.held files.old) (options_of options.entry) (λ config dex. IfSome (S.left input.old) (HasEqualWorlds config dex)) }
-    ensures prefix { WritesPrefix (F.held files.old) (options_of options.entry) (S.left input.old) (K.written out.old) (K.written out.new) result }
+    ensures transcript { result ≡ Status.Done → HasSetup (F.contents files.old) (options_of options.entry) (λ config dex. IfSome (S.left input.old) (IsTranscript config dex (K.written out.old) (K.written out.new))) }
+    ensures one_entry { result ≡ Status.Done → HasSetup (F.contents files.old) (options_of options.entry) (λ config dex. IfSome (S.left input.old) (HasOneEntryEachText config dex)) }
+    ensures histories { result ≡ Status.Done → HasSetup (F.contents files.old) (options_of options.entry) (λ config dex. IfSome (S.left input.old) (HasHistories config dex)) }
+    ensures two_worlds { result ≡ Status.Done → HasSetup (F.contents files.old) (options_of options.entry) (λ config dex. IfSome (S.left input.old) (HasEqualWorlds config dex)) }
+    ensures prefix { WritesPrefix (F.contents files.old) (options_of options.entry) (S.left input.old) (K.written out.old) (K.written out.new) result }
     ensures bounded { ReadsFew (S.left input.old) (S.left input.new) }
     ensures read_fault { result ≡ Status.ReadFault → Rose (S.faults input.old) (S.faults input.new) }
     ensures write_fault { result ≡ Status.WriteFault → Rose (K.faults out.old) (K.faults out.new) }
-    ensures complete { Settles (F.held files.old) (options_of options.entry) (S.left input.old) (Rose (F.counts files.old).faults (F.counts files.new).faults) (Rose (S.faults input.old) (S.faults input.new)) (Rose (K.faults out.old) (K.faults out.new)) result }
+    ensures complete { Settles (F.contents files.old) (options_of options.entry) (S.left input.old) (Rose (F.counts files.old).faults (F.counts files.new).faults) (Rose (S.faults input.old) (S.faults input.new)) (Rose (K.faults out.old) (K.faults out.new)) result }
 {
     match dex_or_none(alloc, files, options.dex) {
         Err(status) => status,
@@ -205,53 +205,53 @@ pub fn run<F: Files, S: Source, K: Sink>(
     input: &mut S,
     out: &mut K,
 ) -> Status
-    // The words are at fault exactly where this is told.
-    ensures usage { usage_told result ≡ usage_of (map string_bytes words.now) }
+    // The words are at fault exactly where this is reported.
+    ensures usage { usage_reported result ≡ usage_of (map string_bytes words.now) }
 
     // A replay ends with a status that has its cause: the dex file and the configuration are read and found good before the
     // input is read.
-    ensures cause { IfReplay (words_in (map string_bytes words.now)) (λ o. ReplayCause (F.held files.old) o (S.left input.old) (F.counts files.old) (F.counts files.new) result) }
+    ensures cause { IfReplay (words_in (map string_bytes words.now)) (λ o. ReplayCause (F.contents files.old) o (S.left input.old) (F.counts files.old) (F.counts files.new) result) }
     ensures input { KeepsInput (S.left input.old) (S.left input.new) result }
 
     // At Done of a replay the input was read to its end, and the whole transcript of its one script was written.
     ensures whole { IfReplay (words_in (map string_bytes words.now)) (λ _. result ≡ Status.Done → IsAtEnd (S.left input.new)) }
-    ensures transcript { IfReplay (words_in (map string_bytes words.now)) (λ o. result ≡ Status.Done → HasSetup (F.held files.old) o (λ config dex. IfSome (S.left input.old) (IsTranscript config dex (K.written out.old) (K.written out.new)))) }
+    ensures transcript { IfReplay (words_in (map string_bytes words.now)) (λ o. result ≡ Status.Done → HasSetup (F.contents files.old) o (λ config dex. IfSome (S.left input.old) (IsTranscript config dex (K.written out.old) (K.written out.new)))) }
 
     // Each of the script's texts is one entry, and the entries are the histories of their places.
-    ensures one_entry { IfReplay (words_in (map string_bytes words.now)) (λ o. result ≡ Status.Done → HasSetup (F.held files.old) o (λ config dex. IfSome (S.left input.old) (HasOneEntryEachText config dex))) }
-    ensures histories { IfReplay (words_in (map string_bytes words.now)) (λ o. result ≡ Status.Done → HasSetup (F.held files.old) o (λ config dex. IfSome (S.left input.old) (HasHistories config dex))) }
+    ensures one_entry { IfReplay (words_in (map string_bytes words.now)) (λ o. result ≡ Status.Done → HasSetup (F.contents files.old) o (λ config dex. IfSome (S.left input.old) (HasOneEntryEachText config dex))) }
+    ensures histories { IfReplay (words_in (map string_bytes words.now)) (λ o. result ≡ Status.Done → HasSetup (F.contents files.old) o (λ config dex. IfSome (S.left input.old) (HasHistories config dex))) }
 
     // A connection's block from the hall or a room is the same for every script whose world there is the same to it.
-    ensures two_worlds { IfReplay (words_in (map string_bytes words.now)) (λ o. result ≡ Status.Done → HasSetup (F.held files.old) o (λ config dex. IfSome (S.left input.old) (HasEqualWorlds config dex))) }
+    ensures two_worlds { IfReplay (words_in (map string_bytes words.now)) (λ o. result ≡ Status.Done → HasSetup (F.contents files.old) o (λ config dex. IfSome (S.left input.old) (HasEqualWorlds config dex))) }
 
-    // A check ends as the first of its steps that tells a status, and at Done the team of the told files is legal. The input
+    // A check ends as the first of its steps that ends in a status, and at Done the team of the known files is legal. The input
     // isn't touched.
-    ensures check_ends { IfCheck (words_in (map string_bytes words.now)) (λ asked. Told (F.held files.old) (λ look. CheckEnds look asked) result) }
+    ensures check_ends { IfCheck (words_in (map string_bytes words.now)) (λ asked. EndsIfKnown (F.contents files.old) (λ lookup. CheckEnds lookup asked) result) }
     ensures check_cause { IfCheck (words_in (map string_bytes words.now)) (λ asked. CheckCause (IsNamed asked) (F.counts files.old) (F.counts files.new) result) }
     ensures check_untouched { IfCheck (words_in (map string_bytes words.now)) (λ _. S.left input.new ≡ S.left input.old) }
 
     // At Done of a check `legal` and a newline were written.
     ensures check_summary { IfCheck (words_in (map string_bytes words.now)) (λ _. result ≡ Status.Done → Appends (K.written out.old) (K.written out.new) legal_line) }
 
-    // A drill ends as the first of the dex and the configuration that tells a status, and else in Done, unless the sink or
+    // A drill ends as the first of the dex and the configuration that ends in a status, and else in Done, unless the sink or
     // memory fails: its text is a script whatever they say. The input isn't touched.
-    ensures drill_ends { IfDrill (words_in (map string_bytes words.now)) (λ asked. Told (F.held files.old) (λ look. DrillEnds look asked.options) result) }
+    ensures drill_ends { IfDrill (words_in (map string_bytes words.now)) (λ asked. EndsIfKnown (F.contents files.old) (λ lookup. DrillEnds lookup asked.options) result) }
     ensures drill_cause { IfDrill (words_in (map string_bytes words.now)) (λ asked. DrillCause asked.options (F.counts files.old) (F.counts files.new) result) }
     ensures drill_untouched { IfDrill (words_in (map string_bytes words.now)) (λ _. S.left input.new ≡ S.left input.old) }
 
     // At Done of a drill its summary was written: the numbers and the digest of its script and of the transcript of that script.
-    ensures drill_summary { IfDrill (words_in (map string_bytes words.now)) (λ asked. result ≡ Status.Done → HasSetup (F.held files.old) asked.options (λ config dex. WritesSummary config dex asked.steps (K.written out.old) (K.written out.new))) }
+    ensures drill_summary { IfDrill (words_in (map string_bytes words.now)) (λ asked. result ≡ Status.Done → HasSetup (F.contents files.old) asked.options (λ config dex. WritesSummary config dex asked.steps (K.written out.old) (K.written out.new))) }
 
     // At every other status nothing was written, but for a front of the output at WriteFault, and at NoMemory of a replay.
-    ensures prefix { Writes (words_in (map string_bytes words.now)) (F.held files.old) (S.left input.old) (K.written out.old) (K.written out.new) result }
+    ensures prefix { Writes (words_in (map string_bytes words.now)) (F.contents files.old) (S.left input.old) (K.written out.old) (K.written out.new) result }
     ensures bounded { ReadsFew (S.left input.old) (S.left input.new) }
 
     // Without a cause of another status a run settles.
     ensures read_fault { result ≡ Status.ReadFault → Rose (S.faults input.old) (S.faults input.new) }
     ensures write_fault { result ≡ Status.WriteFault → Rose (K.faults out.old) (K.faults out.new) }
-    ensures complete { IfReplay (words_in (map string_bytes words.now)) (λ o. Settles (F.held files.old) o (S.left input.old) (Rose (F.counts files.old).faults (F.counts files.new).faults) (Rose (S.faults input.old) (S.faults input.new)) (Rose (K.faults out.old) (K.faults out.new)) result) }
-    ensures complete_check { IfCheck (words_in (map string_bytes words.now)) (λ asked. SettlesCheck (F.held files.old) (Rose (F.counts files.old).faults (F.counts files.new).faults) (Rose (K.faults out.old) (K.faults out.new)) asked result) }
-    ensures complete_drill { IfDrill (words_in (map string_bytes words.now)) (λ asked. SettlesDrill (F.held files.old) (Rose (F.counts files.old).faults (F.counts files.new).faults) (Rose (K.faults out.old) (K.faults out.new)) asked.options result) }
+    ensures complete { IfReplay (words_in (map string_bytes words.now)) (λ o. Settles (F.contents files.old) o (S.left input.old) (Rose (F.counts files.old).faults (F.counts files.new).faults) (Rose (S.faults input.old) (S.faults input.new)) (Rose (K.faults out.old) (K.faults out.new)) result) }
+    ensures complete_check { IfCheck (words_in (map string_bytes words.now)) (λ asked. SettlesCheck (F.contents files.old) (Rose (F.counts files.old).faults (F.counts files.new).faults) (Rose (K.faults out.old) (K.faults out.new)) asked result) }
+    ensures complete_drill { IfDrill (words_in (map string_bytes words.now)) (λ asked. SettlesDrill (F.contents files.old) (Rose (F.counts files.old).faults (F.counts files.new).faults) (Rose (K.faults out.old) (K.faults out.new)) asked.options result) }
 {
     match read_words(words) {
         Err(word) => Status::Usage { word },

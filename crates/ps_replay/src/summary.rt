@@ -2,7 +2,7 @@
 ghost use Rattle.std.specs.Prelude.{◌≡◌, ◌++◌, IfOk, OnOk, codes, string_bytes};
 ghost use Rattle.ps_replay.specs.Drills.{number_line, digest_line, summary_lines};
 
-use ps_world::transcript::Counts;
+use replay_state::transcript::Counts;
 use std::alloc::{AllocError, Global};
 use std::fmt::Write;
 

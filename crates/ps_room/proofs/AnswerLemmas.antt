@@ -1,6 +1,6 @@
 -- Every entry gets the answer of its verdict.
-use Rattle.std.proofs.Common.{◌≡◌, ◌≢◌, ℕ, ◌==◌, true, false, [], ◌∷◌, Option, Some, None, refl, sym, ap, ◌∙◌, inl, inr}
-use Rattle.std.proofs.lemmas.Bool.Decides.{eqb_tells}
+use Rattle.std.proofs.Common.{◌≡◌, ℕ, ◌==◌, false, [], ◌∷◌, Option, Some, None, refl, sym, ap, ◌∙◌}
+use Rattle.std.proofs.lemmas.Bool.{ne_eqb, eq-eqb}
 use Rattle.ps_base.specs.declared.why.Why.{Why}
 use Rattle.ps_base.specs.Whys.{error_line}
 use Rattle.ps_room.specs.declared.entry.Entry.{Entry}
@@ -8,21 +8,14 @@ use Rattle.ps_room.specs.Records.{Record, cast_in}
 use Rattle.ps_chat.specs.Verdicts.{verdict as chat_verdict}
 use Rattle.ps_room.specs.Rooms.{verdict, sender_of, refusal_by_battle, or_else, told, after, applied, role, message}
 use Rattle.ps_room.specs.Answers.{IsAnswered}
-use Rattle.ps_bout.specs.declared.bout.Bout.{Bout}
-use Rattle.ps_room.specs.Logs.{Seen, record_in, Goes, ending_by, out_by, out_of}
+use Rattle.ps_room.specs.Logs.{ending_by, out_by, out_of}
 use Rattle.ps_room.specs.declared.outcome.RoomOut.{RoomOut}
 use Rattle.ps_room.specs.declared.outcome.Verdict.TheVariants.{Applied, Refused}
 use Rattle.ps_room.proofs.QuietLemmas.{shown_nothing}
 
-pub same_is : (a : ℕ) → (a == a) ≡ true
-same_is a = elim (eqb_tells a a) [ inl t ↦ t.0 | inr t ↦ absurd (t.1 refl) ]
-
-pub other_is : (a b : ℕ) → a ≢ b → (a == b) ≡ false
-other_is a b h = elim (eqb_tells a b) [ inl t ↦ absurd (h t.1) | inr t ↦ t.0 ]
-
 pub told_line : (r : Record) (e : Entry) (why : Why) → verdict r e ≡ Some why → message e.conn r e ≡ error_line why ∷ []
 unfolding told
-told_line r e why v = rw (v, same_is e.conn, shown_nothing (cast_in r.battle) (role e.conn r)) refl
+told_line r e why v = rw (v, eq-eqb e.conn e.conn refl, shown_nothing (cast_in r.battle) (role e.conn r)) refl
 
 pub silent_line : (r : Record) (e : Entry) (why : Why) (conn : ℕ) → verdict r e ≡ Some why → (conn == e.conn) ≡ false → message conn r e ≡ []
 unfolding told
@@ -41,7 +34,7 @@ answered r e = record {
   allowed = after_allowed r e;
   unchanged = after_refused r e;
   told = told_line r e;
-  silent = λ why conn v apart. silent_line r e why conn v (other_is conn e.conn apart);
+  silent = λ why conn v apart. silent_line r e why conn v (ne_eqb conn e.conn apart);
 }
 
 -- ---- what is allowed, the chat and the battle allow
@@ -84,10 +77,3 @@ out_refused r e why v = rw v refl
 pub out_allowed : (r : Record) (e : Entry) → verdict r e ≡ None → record { verdict = Applied; ended = ending_by r.battle (sender_of r e) e.cmd } ≡ out_of r e
 unfolding out_of
 out_allowed r e v = rw v refl
-
--- a refused entry has no rounds to go on with
-pub nowhere : (s : Seen) (e : Entry) (why : Why) (b : Option Bout) → verdict (record_in s) e ≡ Some why → Goes s e b
-nowhere s e why b v = record { after = λ a. absurd (never a); bout = λ a. absurd (never a) }
-  where
-    never : verdict (record_in s) e ≡ None → ⊥
-    never a = let wrong : Some why ≡ None = sym v ∙ a in cc

@@ -3,7 +3,7 @@ use Rattle.std.proofs.Common.{◌≡◌, Option, Some, None, refl, ap, ◌∙◌
 use Rattle.ps_base.specs.declared.why.Why.{Why}
 use Rattle.ps_lines.specs.declared.command.Command.{Command}
 use Rattle.ps_chat.specs.declared.present.Present.{Present}
-use Rattle.ps_bout.specs.Fights.{Fight}
+use Rattle.battle_rounds.specs.Fights.{Fight}
 use Rattle.ps_room.specs.declared.entry.Entry.{Entry}
 use Rattle.ps_room.specs.Records.{Record, cast_in}
 use Rattle.ps_room.specs.Rooms.{verdict, sender_of, after, battle_after}

@@ -1,19 +1,19 @@
 -- What a room keeps of an entry.
 use Rattle.std.proofs.Common.{◌≡◌, ℕ, ◌+◌, ◌<◌, List, [], ◌∷◌, ◌++◌, length, map, take, drop, get_or, set, Option, Some, None, refl, sym, ap, ◌∙◌, add-one}
 use Rattle.ps_base.specs.declared.why.Why.{Why}
-use Rattle.ps_chat.proofs.PlaceLemmas.{changed, unchanged}
+use Rattle.ps_chat.proofs.FindLemmas.{changed, unchanged}
 use Rattle.ps_chat.specs.Steps.{Seen as ChatSeen}
 use Rattle.ps_chat.specs.Changes.{record_after}
-use Rattle.ps_chat.specs.Looks.{member}
+use Rattle.ps_chat.specs.Lookups.{member}
 use Rattle.ps_chat.specs.Rooms.{presents}
 use Rattle.ps_chat.specs.declared.present.Present.{Present}
 use Rattle.ps_splitlog.specs.declared.entry.Joined.{Joined}
 use Rattle.ps_view.specs.declared.role.Role.{Role}
-use Rattle.ps_bout.specs.Casts.{Cast}
-use Rattle.ps_bout.specs.Fights.{Fight}
+use Rattle.battle_rounds.specs.Casts.{Cast}
+use Rattle.battle_rounds.specs.Fights.{Fight}
 use Rattle.ps_chat.specs.Lines.{Line}
 use Rattle.ps_splitlog.specs.Lines.{stored_of_line}
-use Rattle.ps_splitlog.specs.declared.entry.Held.{Held}
+use Rattle.ps_splitlog.specs.declared.entry.LogEntry.{LogEntry}
 use Rattle.ps_room.specs.declared.entry.Entry.{Entry}
 use Rattle.ps_room.specs.Records.{Record, presents_of, cast_in}
 use Rattle.ps_room.specs.Rooms.{verdict, sender_of, chat_lines, told, refused_line, events_by, lines_by, allowed_events, allowed_lines, is_join, applied, battle_after}
@@ -36,7 +36,7 @@ map_twice f g (x ∷ xs) = ap (λ ys. g (f x) ∷ ys) (map_twice f g xs)
 -- ---- entries
 
 -- an entry with the roles that it gives
-abbrev pub with_roles : Held → List (ℕ × Role) → Held
+abbrev pub with_roles : LogEntry → List (ℕ × Role) → LogEntry
 with_roles h roles = record h { roles = roles }
 
 plain_stored : (cast : Option Cast) (ls : List Line) → map stored_of_line ls ≡ stored_in cast [] ls
@@ -66,26 +66,26 @@ pub out_by_parts : (s : Seen) (e : Entry) (battle : Option Fight) (me : Option P
 out_by_parts s e battle me v b m = rw (b, m) (out_allowed (record_in s) e v)
 
 -- a refused entry changes nothing but the log, and no role
-pub seen_refused : (s : Seen) (e : Entry) (why : Why) (h : Held) → verdict (record_in s) e ≡ Some why → h ≡ given (record_in s) e → record s { log = s.log ++ h ∷ [] } ≡ seen_after s e
+pub seen_refused : (s : Seen) (e : Entry) (why : Why) (h : LogEntry) → verdict (record_in s) e ≡ Some why → h ≡ given (record_in s) e → record s { log = s.log ++ h ∷ [] } ≡ seen_after s e
 seen_refused s e why h v is =
-    ap (λ (x : Held). record s { log = s.log ++ x ∷ [] }) (is ∙ kept)
+    ap (λ (x : LogEntry). record s { log = s.log ++ x ∷ [] }) (is ∙ kept)
     ∙ ap (λ (x : Record). record s { opening = x.opening; chat = x.chat; battle = x.battle; log = s.log ++ kept_of (record_in s) e ∷ [] }) (sym (after_refused (record_in s) e why v))
   where
     kept : given (record_in s) e ≡ kept_of (record_in s) e
     kept = rw v refl
 
 -- a room with these parts
-abbrev pub room_with : ℕ → List ℕ → ChatSeen → Option Fight → List Held → Seen
+abbrev pub room_with : ℕ → List ℕ → ChatSeen → Option Fight → List LogEntry → Seen
 room_with number id chat battle log = record { no = number; id = id; opening = chat.opening; chat = chat.state; battle = battle; log = log }
 
 abbrev pub chat_after : ChatSeen → Entry → ChatSeen
 chat_after chat e = record chat { state = record_after chat.opening.groups chat.state e.conn e.badge e.moment e.cmd }
 
 -- an allowed one is applied, and the roles are those after it
-seen_applied : (s : Seen) (e : Entry) (h : Held) (changes : List (ℕ × Role)) → verdict (record_in s) e ≡ None → h ≡ given (record_in s) e → changes ≡ map (change_to (applied (record_in s) e)) (touched_by e.cmd (presents_of (record_in s)) e.conn)
+seen_applied : (s : Seen) (e : Entry) (h : LogEntry) (changes : List (ℕ × Role)) → verdict (record_in s) e ≡ None → h ≡ given (record_in s) e → changes ≡ map (change_to (applied (record_in s) e)) (touched_by e.cmd (presents_of (record_in s)) e.conn)
     → record { no = s.no; id = s.id; opening = (applied (record_in s) e).opening; chat = (applied (record_in s) e).chat; battle = (applied (record_in s) e).battle; log = s.log ++ with_roles h changes ∷ [] } ≡ seen_after s e
 seen_applied s e h changes v is these =
-    ap (λ (x : Held). record { no = s.no; id = s.id; opening = (applied r e).opening; chat = (applied r e).chat; battle = (applied r e).battle; log = s.log ++ x ∷ [] }) (ap (λ (x : Held). with_roles x changes) is ∙ ap (with_roles (given r e)) (these ∙ roles))
+    ap (λ (x : LogEntry). record { no = s.no; id = s.id; opening = (applied r e).opening; chat = (applied r e).chat; battle = (applied r e).battle; log = s.log ++ x ∷ [] }) (ap (λ (x : LogEntry). with_roles x changes) is ∙ ap (with_roles (given r e)) (these ∙ roles))
     ∙ ap (λ (x : Record). record { no = s.no; id = s.id; opening = x.opening; chat = x.chat; battle = x.battle; log = s.log ++ kept_of r e ∷ [] }) (sym (after_allowed r e v))
   where
     r : Record
@@ -95,7 +95,7 @@ seen_applied s e h changes v is these =
     roles = rw v (ap (λ (x : Record). map (change_to x) (touched_by e.cmd (presents_of r) e.conn)) (sym (after_allowed r e v)))
 
 -- the parts of a room after an entry that is allowed
-pub parts_applied : (number : ℕ) (id : List ℕ) (old new : ChatSeen) (battle next : Option Fight) (log : List Held) (e : Entry) (h : Held) (unset changes : List (ℕ × Role))
+pub parts_applied : (number : ℕ) (id : List ℕ) (old new : ChatSeen) (battle next : Option Fight) (log : List LogEntry) (e : Entry) (h : LogEntry) (unset changes : List (ℕ × Role))
     → verdict (record_in (room_with number id old battle log)) e ≡ None
     → h ≡ given (record_in (room_with number id old battle log)) e
     → new ≡ chat_after old e

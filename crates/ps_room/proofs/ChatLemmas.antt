@@ -4,13 +4,13 @@ use Rattle.ps_base.specs.declared.why.Why.{Why}
 use Rattle.ps_base.specs.declared.why.Why.TheVariants.{NotMember, NotBattle}
 use Rattle.ps_lines.specs.declared.command.Command.{Command}
 use Rattle.ps_lines.specs.declared.command.Command.TheVariants.{Choose, Undo}
-use Rattle.ps_chat.specs.Looks.{member}
+use Rattle.ps_chat.specs.Lookups.{member}
 use Rattle.ps_chat.specs.Records.{Opening as ChatOpening, Record as ChatRecord}
 use Rattle.ps_chat.specs.Refusals.{refusal_of_battle}
 use Rattle.ps_chat.specs.Rooms.{room_of, presents}
 use Rattle.ps_chat.specs.Verdicts.{verdict as chat_verdict}
 use Rattle.ps_chat.specs.declared.present.Present.{Present}
-use Rattle.ps_bout.specs.Fights.{Fight}
+use Rattle.battle_rounds.specs.Fights.{Fight}
 use Rattle.ps_room.specs.declared.entry.Entry.{Entry}
 use Rattle.ps_room.specs.Openings.{Opening}
 use Rattle.ps_room.specs.Records.{Record, opened}

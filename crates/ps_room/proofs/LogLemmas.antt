@@ -1,40 +1,40 @@
 -- What the log has of a history, and what who joins is shown of it.
 use Rattle.std.proofs.Common.{◌≡◌, ℕ, ◌-◌, ◌==◌, Bool, true, false, cond, List, [], ◌∷◌, ◌++◌, length, map, take, drop, Option, Some, None, refl, sym, ap, ◌∙◌, subst}
-use Rattle.std.specs.Option.{option_map}
+use Rattle.std.specs.Option.{option_map, option_to_list}
 use Rattle.std.specs.List.{filter, filter_map}
 use Rattle.std.proofs.lemmas.List.{append-nil, map-append, length-map, drop-map}
 use Rattle.std.proofs.lemmas.List.Elements.{filter-append, filter_map-append}
 use Rattle.std.proofs.lemmas.Grind.{flat_map-append}
 use Rattle.std.proofs.Math.Seq.{take-length}
 use Rattle.ps_base.specs.declared.why.Why.{Why}
-use Rattle.ps_valid.specs.declared.start.Start.{Start}
+use Rattle.rules_start.specs.declared.start.Start.{Start}
 use Rattle.ps_event.specs.declared.audience.Audience.TheVariants as audiences
 use Rattle.ps_event.specs.declared.event.Event.{Event}
 use Rattle.ps_event.specs.Table.{is_logged}
 use Rattle.ps_chat.specs.Lines.{Line}
-use Rattle.ps_chat.specs.Looks.{member}
+use Rattle.ps_chat.specs.Lookups.{member}
 use Rattle.ps_chat.specs.Rooms.{room_of}
 use Rattle.ps_chat.specs.Told.{lines, joiner}
 use Rattle.ps_chat.specs.declared.present.Present.{Present}
 use Rattle.ps_view.specs.declared.role.Role.{Role}
 use Rattle.ps_view.specs.Roles.{has_role}
-use Rattle.ps_bout.specs.Casts.{Cast, player_or_spectator, side_with_id}
-use Rattle.ps_bout.specs.Fights.{Fight, requests}
-use Rattle.ps_bout.specs.Rounds.{Outcome}
+use Rattle.battle_rounds.specs.Casts.{Cast, player_or_spectator, side_with_id}
+use Rattle.battle_rounds.specs.Fights.{Fight, requests}
+use Rattle.battle_rounds.specs.Rounds.{Outcome}
 use Rattle.ps_base.specs.Ids.{id_of}
 use Rattle.ps_splitlog.specs.declared.stored.Stored.{Stored}
 use Rattle.ps_splitlog.specs.declared.stored.Stored.TheVariants.{Same}
-use Rattle.ps_splitlog.specs.declared.entry.Held.{Held}
+use Rattle.ps_splitlog.specs.declared.entry.LogEntry.{LogEntry}
 use Rattle.ps_splitlog.specs.Lines.{stored_of_event, stored_of_line, is_logged_line, shown_if, shown_lines}
 use Rattle.ps_splitlog.specs.Entries as log
-use Rattle.ps_splitlog.specs.Entries.{logged_in, last_of, tail_texts}
+use Rattle.ps_splitlog.specs.Entries.{logged_in, last_of}
 use Rattle.ps_room.specs.declared.entry.Entry.{Entry}
 use Rattle.ps_room.specs.Openings.{Opening, cast_with, bout_with}
 use Rattle.ps_room.specs.Tolds as logs
 use Rattle.ps_room.specs.Tolds.{Logged}
 use Rattle.ps_room.specs.Records.{Record, opened, presents_of, cast_in, logged_events}
 use Rattle.ps_room.specs.Roles.{role_of_member}
-use Rattle.ps_room.specs.Rooms.{verdict, sender_of, told, after, allowed_events, allowed_lines, chat_lines, events_by, lines_by, outcome_by, refused_line, logged_lines, logged_of, is_join, joiner_of, joined, joined_if, joined_or, shown_events, shown_item, shown_items, kept_back, seen_texts, request_texts, message, role}
+use Rattle.ps_room.specs.Rooms.{verdict, sender_of, told, after, allowed_events, allowed_lines, chat_lines, events_by, lines_by, outcome_by, refused_line, logged_lines, logged_of, is_join, joiner_of, joined, joined_if, joined_or, shown_events, shown_item, shown_items, kept_back, seen_texts, message, role}
 use Rattle.ps_room.specs.Logs.{stored_in, backlog_size, join_of, kept_of, opened_log}
 use Rattle.ps_room.proofs.AnswerLemmas.{after_allowed, after_refused}
 use Rattle.ps_room.proofs.StoredLemmas.{stored_shown, stored_logged, row_logged, logs-append, requests_logged, events_logged, Logs, shown_of}
@@ -47,7 +47,7 @@ abbrev AreTexts : List Logged → Type 0
 AreTexts items = (texts : List (List ℕ)) × (items ≡ map logs.Text texts)
 
 -- The log's logged lines are what the record has logged; of a room without a battle that is texts alone.
-pub record IsLogOf (r : Record) (entries : List Held) : Type 0 where
+pub record IsLogOf (r : Record) (entries : List LogEntry) : Type 0 where
   pub lines_are : log.logged_lines entries ≡ filter_map (stored_logged (cast_in r.battle)) r.logged
   pub texts : cast_in r.battle ≡ None → AreTexts r.logged
 
@@ -117,7 +117,7 @@ texts_by r e None v none is = subst AreTexts (sym (ap (λ (x : Record). x.logged
     of_entry None none = texts_of_lines (chat_lines r e)
     of_entry (Some f) none = absurd (let wrong : Some f.cast ≡ None = none in cc)
 
-pub log_after : (r : Record) (e : Entry) (entries : List Held) → IsLogOf r entries → IsLogOf (after r e) (entries ++ kept_of r e ∷ [])
+pub log_after : (r : Record) (e : Entry) (entries : List LogEntry) → IsLogOf r entries → IsLogOf (after r e) (entries ++ kept_of r e ∷ [])
 log_after r e entries is = record {
   lines_are =
       flat_map-append logged_in entries (kept_of r e ∷ [])
@@ -184,7 +184,7 @@ last_are : (cast : Option Cast) (items : List Logged) → (cast ≡ None → Are
 last_are None items texts = hundred items (texts refl)
 last_are (Some c) items texts = refl
 
-backlog_shown : (conn : ℕ) (role : Role) (r : Record) (entries : List Held) → IsLogOf r entries → has_role audiences.All role ≡ true
+backlog_shown : (conn : ℕ) (role : Role) (r : Record) (entries : List LogEntry) → IsLogOf r entries → has_role audiences.All role ≡ true
     → shown_lines conn role (last_of (backlog_size (cast_in r.battle)) (log.logged_lines entries)) ≡ shown_items (cast_in r.battle) role (kept_back (cast_in r.battle) (take (length r.logged) r.logged))
 backlog_shown conn role r entries is inside =
     ap (λ ls. shown_lines conn role (last_of (backlog_size (cast_in r.battle)) ls)) is.lines_are
@@ -194,15 +194,10 @@ backlog_shown conn role r entries is inside =
 
 -- ---- the message of an entry
 
-tail_is : (o : Option (List ℕ)) → tail_texts o ≡ request_texts o
-tail_is None = refl
-tail_is (Some text) = refl
-
-join_shown : (conn : ℕ) (r : Record) (e : Entry) (entries : List Held) (texts : List (List ℕ)) (mine join : Bool) → IsLogOf r entries
+join_shown : (conn : ℕ) (r : Record) (e : Entry) (entries : List LogEntry) (texts : List (List ℕ)) (mine join : Bool) → IsLogOf r entries
     → log.joined_or conn (cond mine (option_map (join_of (cast_in r.battle)) (joined_if join r e)) None) (log.logged_lines entries) texts ≡ joined_or (cond mine (joined_if join r e) None) (cast_in r.battle) r.logged texts
 join_shown conn r e entries texts true true is =
-    ap (λ backlog. (joined r e).head ++ backlog ++ tail_texts (joined r e).request) (backlog_shown conn (joined r e).role r entries is (member_inside (cast_in r.battle) (joiner_of r e)))
-    ∙ ap (λ tail. (joined r e).head ++ shown_items (cast_in r.battle) (joined r e).role (kept_back (cast_in r.battle) (take (length r.logged) r.logged)) ++ tail) (tail_is (joined r e).request)
+    ap (λ backlog. (joined r e).head ++ backlog ++ option_to_list (joined r e).request) (backlog_shown conn (joined r e).role r entries is (member_inside (cast_in r.battle) (joiner_of r e)))
 join_shown conn r e entries texts true false is = refl
 join_shown conn r e entries texts false join is = refl
 
@@ -210,7 +205,7 @@ not_joined : (conn : ℕ) (cast : Option Cast) (before : List Stored) (items : L
 not_joined conn cast before items texts true = refl
 not_joined conn cast before items texts false = refl
 
-message_by : (conn : ℕ) (r : Record) (e : Entry) (entries : List Held) (v : Option Why) → verdict r e ≡ v → IsLogOf r entries → log.message_of conn (role conn r) (log.logged_lines entries) (kept_of r e) ≡ message conn r e
+message_by : (conn : ℕ) (r : Record) (e : Entry) (entries : List LogEntry) (v : Option Why) → verdict r e ≡ v → IsLogOf r entries → log.message_of conn (role conn r) (log.logged_lines entries) (kept_of r e) ≡ message conn r e
 unfolding told
 message_by conn r e entries (Some why) v is =
     rw v (ap (log.joined_or conn (cond (conn == e.conn) None None) (log.logged_lines entries)) (stored_shown conn (role conn r) (cast_in r.battle) [] (refused_line e.conn why ∷ []))
@@ -220,5 +215,5 @@ message_by conn r e entries None v is =
     ∙ join_shown conn r e entries (shown_events (cast_in r.battle) (role conn r) (allowed_events r e) ++ seen_texts conn (role conn r) (allowed_lines r e)) (conn == e.conn) (is_join e.cmd) is)
 
 -- what a connection is sent at an entry is what the log says
-pub message_is : (conn : ℕ) (r : Record) (e : Entry) (entries : List Held) → IsLogOf r entries → log.message_of conn (role conn r) (log.logged_lines entries) (kept_of r e) ≡ message conn r e
+pub message_is : (conn : ℕ) (r : Record) (e : Entry) (entries : List LogEntry) → IsLogOf r entries → log.message_of conn (role conn r) (log.logged_lines entries) (kept_of r e) ≡ message conn r e
 message_is conn r e entries is = message_by conn r e entries (verdict r e) refl is

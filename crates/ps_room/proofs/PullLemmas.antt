@@ -2,29 +2,30 @@
 use Rattle.std.proofs.Common.{◌≡◌, ℕ, suc, ◌+◌, ◌==◌, Bool, true, false, cond, List, [], ◌∷◌, ◌++◌, length, take, drop, Option, Some, None, refl, sym, ap, ◌∙◌, append_assoc, subst}
 use Rattle.std.proofs.lemmas.List.{append-nil, length-append}
 use Rattle.std.proofs.Math.Seq.{take-append_seam, drop-append_seam}
-use Rattle.ps_valid.specs.declared.start.Start.{Start}
+use Rattle.rules_start.specs.declared.start.Start.{Start}
 use Rattle.ps_event.specs.declared.event.Event.{Event}
 use Rattle.ps_view.specs.declared.role.Role.{Role}
 use Rattle.ps_view.specs.declared.role.Role.TheVariants.{Outside}
-use Rattle.ps_bout.specs.Casts.{Cast}
-use Rattle.ps_splitlog.specs.declared.entry.Held.{Held}
+use Rattle.battle_rounds.specs.Casts.{Cast}
+use Rattle.ps_splitlog.specs.declared.entry.LogEntry.{LogEntry}
 use Rattle.ps_splitlog.specs.Entries as log
 use Rattle.ps_splitlog.specs.Lines.{shown_lines}
-use Rattle.ps_splitlog.specs.Reads.{sent as sent_of, messages_of, role_past, read_past, cursor_past, first_cursor}
+use Rattle.ps_splitlog.specs.Reads.{messages_of, role_past, read_past, cursor_past, first_cursor}
 use Rattle.ps_room.specs.declared.entry.Entry.{Entry}
 use Rattle.ps_room.specs.Openings.{Opening, cast_with, bout_with}
 use Rattle.ps_room.specs.Records.{Record, opened}
-use Rattle.ps_room.specs.Rooms.{verdict, after, message, role, role_in, run_record, sent, view}
+use Rattle.ps_room.specs.Rooms.{verdict, after, message, role, role_in, run_record, view}
 use Rattle.ps_room.specs.Logs.{Seen, record_in, stored_in, opened_log, given, kept_of, run_seen, seen_after, seen_opened, cursor_at, PullsView, PullsAll, out_of, AreRoomsOfHistories}
 use Rattle.ps_room.proofs.BlankLemmas.{blank, blank_verdict, blank_out, blank_given, seen_with, seen_step}
 use Rattle.ps_room.proofs.StoredLemmas.{stored_shown}
 use Rattle.ps_room.proofs.LogLemmas.{IsLogOf, log_after, opened_is, message_is}
 use Rattle.ps_room.proofs.RoleLemmas.{role_next}
 use Rattle.ps_room.proofs.SilenceLemmas.{no_events}
+use Rattle.ps_base.specs.Messages.{sent}
 
 -- ---- what the log has of a history
 
-abbrev pub logs : Record → List Entry → List Held
+abbrev pub logs : Record → List Entry → List LogEntry
 logs r [] = []
 logs r (e ∷ es) = kept_of r e ∷ logs (after r e) es
 
@@ -40,21 +41,21 @@ length_logs : (r : Record) (es : List Entry) → length (logs r es) ≡ length e
 length_logs r [] = refl
 length_logs r (e ∷ es) = ap suc (length_logs (after r e) es)
 
-run_is : (number : ℕ) (id : List ℕ) (r : Record) (entries : List Held) (es : List Entry) → run_seen (seen_with number id r entries) es ≡ seen_with number id (run_record r es) (entries ++ logs r es)
+run_is : (number : ℕ) (id : List ℕ) (r : Record) (entries : List LogEntry) (es : List Entry) → run_seen (seen_with number id r entries) es ≡ seen_with number id (run_record r es) (entries ++ logs r es)
 run_is number id r entries [] = ap (seen_with number id r) (sym (append-nil entries))
 run_is number id r entries (e ∷ es) =
     ap (λ (s : Seen). run_seen s es) (seen_step number id r entries e)
     ∙ run_is number id (after r e) (entries ++ kept_of r e ∷ []) es
     ∙ ap (seen_with number id (run_record (after r e) es)) (append_assoc entries (kept_of r e ∷ []) (logs (after r e) es))
 
-log_run : (r : Record) (entries : List Held) (es : List Entry) → IsLogOf r entries → IsLogOf (run_record r es) (entries ++ logs r es)
+log_run : (r : Record) (entries : List LogEntry) (es : List Entry) → IsLogOf r entries → IsLogOf (run_record r es) (entries ++ logs r es)
 log_run r entries [] is = subst (IsLogOf r) (sym (append-nil entries)) is
 log_run r entries (e ∷ es) is =
     subst (IsLogOf (run_record (after r e) es)) (append_assoc entries (kept_of r e ∷ []) (logs (after r e) es))
     (log_run (after r e) (entries ++ kept_of r e ∷ []) es (log_after r e entries is))
 
 -- the log of an opening
-abbrev opening_of : Opening → List Held
+abbrev opening_of : Opening → List LogEntry
 opening_of o = opened_log o.config o.dex o.battle
 
 -- a room with a history: its record, and its log
@@ -66,15 +67,10 @@ room_log o h = log_run (opened o) (opening_of o) h (opened_is o)
 
 -- ---- what is read of it
 
-sent_is : (lines : List (List ℕ)) → sent_of lines ≡ sent lines
-sent_is [] = refl
-sent_is (line ∷ lines) = refl
-
-read_is : (conn : ℕ) (r : Record) (entries : List Held) (es : List Entry) → IsLogOf r entries → messages_of conn (role conn r) entries (logs r es) ≡ view conn r es
+read_is : (conn : ℕ) (r : Record) (entries : List LogEntry) (es : List Entry) → IsLogOf r entries → messages_of conn (role conn r) entries (logs r es) ≡ view conn r es
 read_is conn r entries [] is = refl
 read_is conn r entries (e ∷ es) is =
-    ap (λ m. sent_of m ++ messages_of conn (log.changed conn (kept_of r e).roles (role conn r)) (entries ++ kept_of r e ∷ []) (logs (after r e) es)) (message_is conn r e entries is)
-    ∙ ap (λ ms. ms ++ messages_of conn (log.changed conn (kept_of r e).roles (role conn r)) (entries ++ kept_of r e ∷ []) (logs (after r e) es)) (sent_is (message conn r e))
+    ap (λ m. sent m ++ messages_of conn (log.changed conn (kept_of r e).roles (role conn r)) (entries ++ kept_of r e ∷ []) (logs (after r e) es)) (message_is conn r e entries is)
     ∙ ap (λ (x : Role). sent (message conn r e) ++ messages_of conn x (entries ++ kept_of r e ∷ []) (logs (after r e) es)) (role_next conn r e)
     ∙ ap (λ ms. sent (message conn r e) ++ ms) (read_is conn (after r e) (entries ++ kept_of r e ∷ []) es (log_after r e entries is))
 
@@ -94,9 +90,9 @@ place_is o before = sym (length-append (opening_of o) (logs (opened o) before) �
 
 messages_past : (conn : ℕ) (o : Opening) (before later : List Entry) → read_past (cursor_at conn o before) (opening_of o ++ logs (opened o) (before ++ later)) ≡ view conn (run_record (opened o) before) later
 messages_past conn o before later =
-    let earlier : List Held = opening_of o ++ logs (opened o) before in
+    let earlier : List LogEntry = opening_of o ++ logs (opened o) before in
     let start : Record = run_record (opened o) before in
-    let more : List Held = logs start later in
+    let more : List LogEntry = logs start later in
     ap (λ n. messages_of conn (role conn start) (take n (opening_of o ++ logs (opened o) (before ++ later))) (drop n (opening_of o ++ logs (opened o) (before ++ later)))) (place_is o before)
     ∙ ap (λ hs. messages_of conn (role conn start) (take (length earlier) hs) (drop (length earlier) hs)) (parts o before later)
     ∙ ap (λ hs. messages_of conn (role conn start) hs (drop (length earlier) (earlier ++ more))) (take-append_seam earlier more)
@@ -105,7 +101,7 @@ messages_past conn o before later =
 
 role_end : (conn : ℕ) (o : Opening) (before later : List Entry) → role_past conn (role conn (run_record (opened o) before)) (drop (length (opening_of o) + length before) (opening_of o ++ logs (opened o) (before ++ later))) ≡ role conn (run_record (opened o) (before ++ later))
 role_end conn o before later =
-    let earlier : List Held = opening_of o ++ logs (opened o) before in
+    let earlier : List LogEntry = opening_of o ++ logs (opened o) before in
     let start : Record = run_record (opened o) before in
     ap (λ n. role_past conn (role conn start) (drop n (opening_of o ++ logs (opened o) (before ++ later)))) (place_is o before)
     ∙ ap (λ hs. role_past conn (role conn start) (drop (length earlier) hs)) (parts o before later)
@@ -131,18 +127,18 @@ pulls_view conn o before later = record {
 opening_shown : (conn : ℕ) (c : Cast) (told : List Event) → shown_lines conn Outside (stored_in (Some c) told []) ≡ []
 opening_shown conn c told = stored_shown conn Outside (Some c) told [] ∙ append-nil _ ∙ no_events (Some c) told
 
-first_by : (conn : ℕ) (o : Opening) (b : Option Start) (hs : List Held) → messages_of conn Outside [] (opened_log o.config o.dex b ++ hs) ≡ messages_of conn Outside (opened_log o.config o.dex b) hs
+first_by : (conn : ℕ) (o : Opening) (b : Option Start) (hs : List LogEntry) → messages_of conn Outside [] (opened_log o.config o.dex b ++ hs) ≡ messages_of conn Outside (opened_log o.config o.dex b) hs
 first_by conn o None hs = refl
 first_by conn o (Some s) hs = by (conn == 0)
   where
     none : shown_lines conn Outside (stored_in (Some (cast_with o.config o.dex s)) (bout_with o.config s).told []) ≡ []
     none = opening_shown conn (cast_with o.config o.dex s) (bout_with o.config s).told
 
-    by : (mine : Bool) → sent_of (log.joined_or conn (cond mine None None) [] (shown_lines conn Outside (stored_in (Some (cast_with o.config o.dex s)) (bout_with o.config s).told []))) ++ messages_of conn Outside (opened_log o.config o.dex (Some s)) hs ≡ messages_of conn Outside (opened_log o.config o.dex (Some s)) hs
+    by : (mine : Bool) → sent (log.joined_or conn (cond mine None None) [] (shown_lines conn Outside (stored_in (Some (cast_with o.config o.dex s)) (bout_with o.config s).told []))) ++ messages_of conn Outside (opened_log o.config o.dex (Some s)) hs ≡ messages_of conn Outside (opened_log o.config o.dex (Some s)) hs
     by true = rw none refl
     by false = rw none refl
 
-first_role_by : (conn : ℕ) (o : Opening) (b : Option Start) (hs : List Held) → role_past conn Outside (opened_log o.config o.dex b ++ hs) ≡ role_past conn Outside hs
+first_role_by : (conn : ℕ) (o : Opening) (b : Option Start) (hs : List LogEntry) → role_past conn Outside (opened_log o.config o.dex b ++ hs) ≡ role_past conn Outside hs
 first_role_by conn o None hs = refl
 first_role_by conn o (Some s) hs = refl
 
@@ -173,7 +169,7 @@ pub next_is : (conn : ℕ) (o : Opening) (h : List Entry) (e : Entry)
     → log.message_of conn (role conn (record_in (run_seen (seen_opened o) h))) (log.logged_lines (run_seen (seen_opened o) h).log) (given (record_in (run_seen (seen_opened o) h)) e) ≡ message conn (run_record (opened o) h) e
 next_is conn o h e =
     let r : Record = run_record (opened o) h in
-    let entries : List Held = opening_of o ++ logs (opened o) h in
+    let entries : List LogEntry = opening_of o ++ logs (opened o) h in
     ap (λ (s : Seen). log.message_of conn (role conn (record_in s)) (log.logged_lines s.log) (given (record_in s) e)) (room_is o h)
     ∙ ap (log.message_of conn (role conn r) (log.logged_lines entries)) (blank_given r e)
     ∙ message_is conn r e entries (room_log o h)

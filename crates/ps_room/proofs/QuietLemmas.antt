@@ -5,12 +5,12 @@ use Rattle.ps_lines.specs.declared.command.Command.{Command}
 use Rattle.ps_lines.specs.declared.command.Command.TheVariants.{Join, Leave, Quit, Say, Announce, Modnote, Warn, Mute, Unmute, Ban, Unban, Promote, Modchat, Choose, Undo, Forfeit}
 use Rattle.ps_chat.specs.Lines.{Line}
 use Rattle.ps_chat.specs.declared.present.Present.{Present}
-use Rattle.ps_dex.specs.declared.row.Tables.{Tables}
+use Rattle.ps_dex.specs.declared.item.Tables.{Tables}
 use Rattle.ps_view.specs.declared.role.Role.{Role}
-use Rattle.ps_bout.specs.declared.bout.Bout.{Bout}
-use Rattle.ps_bout.specs.Casts.{Cast}
-use Rattle.ps_bout.specs.Rounds.{Outcome}
-use Rattle.ps_bout.specs.Fights.{Fight, is_of_battle, still, outcome_in, outcome_of_side, requests}
+use Rattle.battle_rounds.specs.declared.bout.Bout.{Bout}
+use Rattle.battle_rounds.specs.Casts.{Cast}
+use Rattle.battle_rounds.specs.Rounds.{Outcome}
+use Rattle.battle_rounds.specs.Fights.{Fight, is_of_battle, still, outcome_in, outcome_of_side, requests}
 use Rattle.ps_room.specs.Roles.{side_of_member}
 use Rattle.ps_room.specs.Rooms.{shown_events, battle_after, lines_by, events_by}
 

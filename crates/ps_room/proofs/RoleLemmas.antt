@@ -6,6 +6,7 @@ use Rattle.std.specs.Cmp.Lexicographic.{nat_list_cmp_total}
 use Rattle.std.specs.FinMap.{insert, get-insert}
 use Rattle.std.proofs.lemmas.Bool.Decides.{eqb_tells}
 use Rattle.std.proofs.lemmas.Map.Text.{is_eq-slice_cmp}
+use Rattle.std.proofs.lemmas.Bool.{not-false}
 use Rattle.ps_base.specs.Ids.{id_of}
 use Rattle.ps_base.specs.declared.badge.Badge.{Badge}
 use Rattle.ps_base.specs.declared.why.Why.{Why}
@@ -13,15 +14,15 @@ use Rattle.ps_group.specs.Ranks.{rank_of}
 use Rattle.ps_group.specs.declared.group.Group.{Group}
 use Rattle.ps_lines.specs.declared.command.Command.{Command}
 use Rattle.ps_lines.specs.declared.command.Command.TheVariants.{Join, Leave, Quit, Say, Announce, Modnote, Warn, Mute, Unmute, Ban, Unban, Promote, Modchat, Choose, Undo, Forfeit}
-use Rattle.ps_roster.specs.ById.{ById}
+use Rattle.ps_base.specs.ById.{ById}
 use Rattle.ps_chat.specs.Records.{Opening as ChatOpening, Record as ChatRecord, Member}
-use Rattle.ps_chat.specs.Looks.{has_id, member, kept}
+use Rattle.ps_chat.specs.Lookups.{has_id, member, kept}
 use Rattle.ps_chat.specs.Changes.{record_after, with_rank}
 use Rattle.ps_chat.specs.Rooms.{present, presents}
 use Rattle.ps_chat.specs.declared.present.Present.{Present}
 use Rattle.ps_room.specs.declared.entry.Entry.{Entry}
 use Rattle.ps_view.specs.declared.role.Role.{Role}
-use Rattle.ps_bout.specs.Casts.{Cast}
+use Rattle.battle_rounds.specs.Casts.{Cast}
 use Rattle.ps_room.specs.Records.{Record, cast_in}
 use Rattle.ps_room.specs.Roles.{role_of}
 use Rattle.ps_room.specs.Rooms.{verdict, sender_of, after, role, role_in}
@@ -85,16 +86,12 @@ among_by : (id : List ℕ) (conn : ℕ) (p : Present) (ps : List Present) (b : B
 among_by id conn p ps true t h = let k : names conn (p.conn ∷ conns_with id ps) ≡ false = (rw t at h) in others_not_named p.conn conn (conns_with id ps) k
 among_by id conn p ps false t h = rw t at h
 
-banned_by : (b : Bool) → not b ≡ false → b ≡ true
-banned_by true e = refl
-banned_by false e = absurd cc
-
 find_banned : (groups : List Group) (ranks : ById ℕ) (id : List ℕ) (conn : ℕ) (ms : List Member) → names conn (conns_with id (map (present groups ranks) ms)) ≡ false
     → find (at conn) (map (present groups ranks) (filter (λ m. not (bytes_eq (id_of m.badge.name) id)) ms)) ≡ find (at conn) (map (present groups ranks) ms)
 find_banned groups ranks id conn [] h = refl
 find_banned groups ranks id conn (m ∷ ms) h =
     let p : Present = present groups ranks m in
-    kept_by (present groups ranks) conn (λ x. not (bytes_eq (id_of x.badge.name) id)) m ms (not (has_id id p)) refl (λ e. with_id_by id conn p (map (present groups ranks) ms) (has_id id p) refl h (banned_by (has_id id p) e))
+    kept_by (present groups ranks) conn (λ x. not (bytes_eq (id_of x.badge.name) id)) m ms (not (has_id id p)) refl (λ e. with_id_by id conn p (map (present groups ranks) ms) (has_id id p) refl h (not-false (has_id id p) e))
     (find_banned groups ranks id conn ms (among_by id conn p (map (present groups ranks) ms) (has_id id p) refl h))
 
 -- a room rank is that of its id alone

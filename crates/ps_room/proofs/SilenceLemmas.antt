@@ -1,5 +1,5 @@
 -- Who is sent nothing, and whose connections the members have.
-use Rattle.std.proofs.Common.{◌≡◌, ℕ, ◌≤◌, ◌==◌, Bool, true, false, not, List, [], ◌∷◌, ◌++◌, map, codes, Option, Some, None, refl, sym, ap, ◌∙◌, subst, arith}
+use Rattle.std.proofs.Common.{◌≡◌, ℕ, ◌≤◌, ◌==◌, Bool, true, false, not, List, [], ◌∷◌, ◌++◌, map, Option, Some, None, refl, sym, ap, ◌∙◌, subst, arith}
 use Rattle.std.specs.List.{filter, filter_map}
 use Rattle.std.proofs.lemmas.List.Elements.{filter_map-append}
 use Rattle.std.specs.Str.{bytes_eq}
@@ -11,13 +11,14 @@ use Rattle.ps_group.specs.declared.group.Group.{Group}
 use Rattle.ps_lines.specs.declared.command.Command.{Command}
 use Rattle.ps_lines.specs.declared.command.Command.TheVariants.{Join, Leave, Quit, Say, Announce, Modnote, Warn, Mute, Unmute, Ban, Unban, Promote, Modchat, Choose, Undo, Forfeit}
 use Rattle.ps_chat.specs.Records.{Member, Record as ChatRecord}
-use Rattle.ps_chat.specs.Looks.{member, user, kept}
-use Rattle.ps_chat.specs.Lines.{Line, line_of_leave, line_of_say, line_of_announce, line_of_modnote, line_to_member, line_to_id, line_of_promote, line_of_modchat}
+use Rattle.ps_chat.specs.Lookups.{member, kept}
+use Rattle.ps_chat.specs.Lines.{Line}
 use Rattle.ps_chat.specs.Rooms.{present, room_of}
 use Rattle.ps_chat.specs.Told.{lines, joiner, told as chat_told}
 use Rattle.ps_chat.specs.Changes.{record_after, with_rank}
 use Rattle.ps_chat.specs.declared.present.Present.{Present}
 use Rattle.ps_chat.specs.declared.room.Room.{Room}
+use Rattle.ps_chat.proofs.ToldLemmas.{of_told}
 use Rattle.ps_room.specs.declared.entry.Entry.{Entry}
 use Rattle.ps_event.specs.declared.audience.Audience.{Audience}
 use Rattle.ps_event.specs.declared.audience.Audience.TheVariants as audiences
@@ -27,68 +28,18 @@ use Rattle.ps_event.specs.Table.{audience_of}
 use Rattle.ps_view.specs.declared.role.Role.TheVariants.{Outside}
 use Rattle.ps_view.specs.Roles.{has_role}
 use Rattle.ps_view.specs.Lines.{is_request, line_of}
-use Rattle.ps_bout.specs.declared.bout.Bout.{Bout}
-use Rattle.ps_bout.specs.Casts.{Cast, event_text}
-use Rattle.ps_bout.specs.Fights.{Fight, requests}
-use Rattle.ps_bout.specs.Rounds.{Outcome}
+use Rattle.battle_rounds.specs.declared.bout.Bout.{Bout}
+use Rattle.battle_rounds.specs.Casts.{Cast, event_text}
+use Rattle.battle_rounds.specs.Fights.{Fight, requests}
+use Rattle.battle_rounds.specs.Rounds.{Outcome}
 use Rattle.ps_room.specs.Records.{Record, presents_of, cast_in}
 use Rattle.ps_room.specs.Rooms.{verdict, sender_of, told, after, role_in, message, shown_events, seen_text, seen_texts, events_by, lines_by, outcome_by, chat_lines}
 use Rattle.ps_room.proofs.AnswerLemmas.{after_allowed, after_refused, silent_line}
 
 -- ---- who is no member sees no line of a row
 
-module _ (conn : ℕ) (r : Room) where
-  of_leave : (me : Option Present) → seen_texts conn Outside (line_of_leave r me) ≡ []
-  of_leave None = refl
-  of_leave (Some me) = refl
-
-  of_say : (moment : ℕ) (me : Option Present) (text : List ℕ) → seen_texts conn Outside (line_of_say r moment me text) ≡ []
-  of_say moment None text = refl
-  of_say moment (Some me) text = refl
-
-  of_announce : (me : Option Present) (text : List ℕ) → seen_texts conn Outside (line_of_announce r me text) ≡ []
-  of_announce None text = refl
-  of_announce (Some me) text = refl
-
-  of_modnote : (me : Option Present) (text : List ℕ) → seen_texts conn Outside (line_of_modnote r me text) ≡ []
-  of_modnote None text = refl
-  of_modnote (Some me) text = refl
-
-  to_member : (word : List ℕ) (me target : Option Present) (reason : Option (List ℕ)) → seen_texts conn Outside (line_to_member r word me target reason) ≡ []
-  to_member word None target reason = refl
-  to_member word (Some me) None reason = refl
-  to_member word (Some me) (Some target) reason = refl
-
-  to_id : (word : List ℕ) (me : Option Present) (id : List ℕ) (reason : Option (List ℕ)) → seen_texts conn Outside (line_to_id r word me id reason) ≡ []
-  to_id word None id reason = refl
-  to_id word (Some me) id reason = refl
-
-  of_promote : (me target : Option Present) (symbol : ℕ) → seen_texts conn Outside (line_of_promote r me target symbol) ≡ []
-  of_promote None target symbol = refl
-  of_promote (Some me) None symbol = refl
-  of_promote (Some me) (Some target) symbol = refl
-
-  of_modchat : (me : Option Present) (symbol : Option ℕ) → seen_texts conn Outside (line_of_modchat r me symbol) ≡ []
-  of_modchat None symbol = refl
-  of_modchat (Some me) symbol = refl
-
-  no_row : (me : Option Present) (new : Present) (moment : ℕ) (cmd : Command) → seen_texts conn Outside (chat_told r me new moment cmd) ≡ []
-  no_row me new moment (Join room) = refl
-  no_row me new moment Leave = of_leave me
-  no_row me new moment Quit = of_leave me
-  no_row me new moment (Say text) = of_say moment me text
-  no_row me new moment (Announce text) = of_announce me text
-  no_row me new moment (Modnote text) = of_modnote me text
-  no_row me new moment (Warn id reason) = to_member (codes "Warned") me (user id r.members) reason
-  no_row me new moment (Mute id reason) = to_member (codes "Muted") me (user id r.members) reason
-  no_row me new moment (Unmute id) = to_member (codes "Unmuted") me (user id r.members) None
-  no_row me new moment (Ban id reason) = to_id (codes "Banned") me id reason
-  no_row me new moment (Unban id) = to_id (codes "Unbanned") me id None
-  no_row me new moment (Promote id symbol) = of_promote me (user id r.members) symbol
-  no_row me new moment (Modchat symbol) = of_modchat me symbol
-  no_row me new moment (Choose choice rqid) = refl
-  no_row me new moment Undo = refl
-  no_row me new moment Forfeit = refl
+no_row : (conn : ℕ) (r : Room) (me : Option Present) (new : Present) (moment : ℕ) (cmd : Command) → seen_texts conn Outside (chat_told r me new moment cmd) ≡ []
+no_row conn r = of_told (λ ls. seen_texts conn Outside ls ≡ []) refl (λ text. refl) (λ text. refl) (λ staff text. refl) r
 
 -- ---- who is no member is shown no event, and asked nothing
 

@@ -1,25 +1,24 @@
 -- What the log has of lines and events: a connection is shown the same of it, and the same of them is logged.
-use Rattle.std.proofs.Common.{◌≡◌, ℕ, Bool, true, false, List, [], ◌∷◌, ◌++◌, map, codes, Option, Some, None, refl, sym, ap, ◌∙◌}
+use Rattle.std.proofs.Common.{◌≡◌, ℕ, Bool, true, false, List, [], ◌∷◌, ◌++◌, map, Option, Some, None, refl, sym, ap, ◌∙◌}
 use Rattle.std.specs.List.{filter, filter_map}
 use Rattle.std.proofs.lemmas.List.{map-append}
 use Rattle.std.proofs.lemmas.List.Elements.{filter-append, filter_map-append}
 use Rattle.ps_lines.specs.declared.command.Command.{Command}
-use Rattle.ps_lines.specs.declared.command.Command.TheVariants.{Join, Leave, Quit, Say, Announce, Modnote, Warn, Mute, Unmute, Ban, Unban, Promote, Modchat, Choose, Undo, Forfeit}
 use Rattle.ps_event.specs.declared.audience.Audience.{Audience}
 use Rattle.ps_event.specs.declared.audience.Audience.TheVariants as audiences
 use Rattle.ps_event.specs.declared.event.Event.{Event}
 use Rattle.ps_event.specs.declared.event.Event.TheVariants as events
 use Rattle.ps_event.specs.Table.{is_logged}
-use Rattle.ps_chat.specs.Lines.{Line, line_of_leave, line_of_say, line_of_announce, line_of_modnote, line_to_member, line_to_id, line_of_promote, line_of_modchat}
-use Rattle.ps_chat.specs.Looks.{user}
+use Rattle.ps_chat.specs.Lines.{Line}
 use Rattle.ps_chat.specs.Told.{told as chat_told}
 use Rattle.ps_chat.specs.declared.present.Present.{Present}
 use Rattle.ps_chat.specs.declared.room.Room.{Room}
+use Rattle.ps_chat.proofs.ToldLemmas.{of_told}
 use Rattle.ps_view.specs.declared.role.Role.{Role}
 use Rattle.ps_view.specs.Lines.{is_request}
-use Rattle.ps_bout.specs.declared.bout.Bout.{Bout}
-use Rattle.ps_bout.specs.Casts.{Cast, event_text, event_texts}
-use Rattle.ps_bout.specs.Fights.{requests}
+use Rattle.battle_rounds.specs.declared.bout.Bout.{Bout}
+use Rattle.battle_rounds.specs.Casts.{Cast, event_text, event_texts}
+use Rattle.battle_rounds.specs.Fights.{requests}
 use Rattle.ps_splitlog.specs.declared.stored.Stored.{Stored}
 use Rattle.ps_splitlog.specs.declared.stored.Stored.TheVariants.{Same}
 use Rattle.ps_splitlog.specs.Lines as log_lines
@@ -85,58 +84,8 @@ stored_logged (Some c) (logs.Event event) = stored_of_event c.names c.dex event
 abbrev pub Logs : Option Cast → List Line → Type 0
 Logs cast ls = filter is_logged_line (map stored_of_line ls) ≡ filter_map (stored_logged cast) (logged_lines ls)
 
-module _ (cast : Option Cast) (r : Room) where
-  of_leave : (me : Option Present) → Logs cast (line_of_leave r me)
-  of_leave None = refl
-  of_leave (Some me) = refl
-
-  of_say : (moment : ℕ) (me : Option Present) (text : List ℕ) → Logs cast (line_of_say r moment me text)
-  of_say moment None text = refl
-  of_say moment (Some me) text = refl
-
-  of_announce : (me : Option Present) (text : List ℕ) → Logs cast (line_of_announce r me text)
-  of_announce None text = refl
-  of_announce (Some me) text = refl
-
-  of_modnote : (me : Option Present) (text : List ℕ) → Logs cast (line_of_modnote r me text)
-  of_modnote None text = refl
-  of_modnote (Some me) text = refl
-
-  to_member : (word : List ℕ) (me target : Option Present) (reason : Option (List ℕ)) → Logs cast (line_to_member r word me target reason)
-  to_member word None target reason = refl
-  to_member word (Some me) None reason = refl
-  to_member word (Some me) (Some target) reason = refl
-
-  to_id : (word : List ℕ) (me : Option Present) (id : List ℕ) (reason : Option (List ℕ)) → Logs cast (line_to_id r word me id reason)
-  to_id word None id reason = refl
-  to_id word (Some me) id reason = refl
-
-  of_promote : (me target : Option Present) (symbol : ℕ) → Logs cast (line_of_promote r me target symbol)
-  of_promote None target symbol = refl
-  of_promote (Some me) None symbol = refl
-  of_promote (Some me) (Some target) symbol = refl
-
-  of_modchat : (me : Option Present) (symbol : Option ℕ) → Logs cast (line_of_modchat r me symbol)
-  of_modchat None symbol = refl
-  of_modchat (Some me) symbol = refl
-
-  pub row_logged : (me : Option Present) (new : Present) (moment : ℕ) (cmd : Command) → Logs cast (chat_told r me new moment cmd)
-  row_logged me new moment (Join room) = refl
-  row_logged me new moment Leave = of_leave me
-  row_logged me new moment Quit = of_leave me
-  row_logged me new moment (Say text) = of_say moment me text
-  row_logged me new moment (Announce text) = of_announce me text
-  row_logged me new moment (Modnote text) = of_modnote me text
-  row_logged me new moment (Warn id reason) = to_member (codes "Warned") me (user id r.members) reason
-  row_logged me new moment (Mute id reason) = to_member (codes "Muted") me (user id r.members) reason
-  row_logged me new moment (Unmute id) = to_member (codes "Unmuted") me (user id r.members) None
-  row_logged me new moment (Ban id reason) = to_id (codes "Banned") me id reason
-  row_logged me new moment (Unban id) = to_id (codes "Unbanned") me id None
-  row_logged me new moment (Promote id symbol) = of_promote me (user id r.members) symbol
-  row_logged me new moment (Modchat symbol) = of_modchat me symbol
-  row_logged me new moment (Choose choice rqid) = refl
-  row_logged me new moment Undo = refl
-  row_logged me new moment Forfeit = refl
+pub row_logged : (cast : Option Cast) (r : Room) (me : Option Present) (new : Present) (moment : ℕ) (cmd : Command) → Logs cast (chat_told r me new moment cmd)
+row_logged cast r = of_told (Logs cast) refl (λ text. refl) (λ text. refl) (λ staff text. refl) r
 
 pub logs-append : (cast : Option Cast) (xs ys : List Line) → Logs cast xs → Logs cast ys → Logs cast (xs ++ ys)
 logs-append cast xs ys one two =

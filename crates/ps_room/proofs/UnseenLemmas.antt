@@ -1,10 +1,11 @@
 -- Who doesn't see a note or a choice of another is given nothing, and the record is as it was.
 use Rattle.std.proofs.Common.{◌≡◌, ℕ, ◌==◌, false, List, [], ◌++◌, Option, Some, None, refl, ◌∙◌}
 use Rattle.std.proofs.lemmas.List.{append-nil}
+use Rattle.std.proofs.lemmas.Bool.{ne_eqb}
 use Rattle.ps_lines.specs.declared.command.Command.TheVariants.{Modnote}
 use Rattle.ps_event.specs.declared.audience.Audience.TheVariants.{Rank}
 use Rattle.ps_chat.specs.Records.{Record as ChatRecord}
-use Rattle.ps_chat.specs.Looks.{member}
+use Rattle.ps_chat.specs.Lookups.{member}
 use Rattle.ps_chat.specs.Lines.{Line, line_of_modnote}
 use Rattle.ps_chat.specs.Rooms.{room_of}
 use Rattle.ps_chat.specs.Told.{lines}
@@ -13,13 +14,13 @@ use Rattle.ps_chat.specs.declared.present.Present.{Present}
 use Rattle.ps_chat.specs.declared.room.Room.{Room}
 use Rattle.ps_room.specs.declared.entry.Entry.{Entry}
 use Rattle.ps_view.specs.declared.role.Role.{Role}
-use Rattle.ps_bout.specs.Fights.{Fight, is_of_battle}
+use Rattle.battle_rounds.specs.Fights.{Fight, is_of_battle}
 use Rattle.ps_room.specs.Tolds.{Logged}
 use Rattle.ps_room.specs.Records.{Record, presents_of, cast_in}
 use Rattle.ps_room.specs.Roles.{sees}
 use Rattle.ps_room.specs.Rooms.{verdict, sender_of, told, message, role, shown_events, seen_texts, logged_lines, logged_of, battle_after, chat_lines, allowed_events, allowed_lines}
 use Rattle.ps_room.specs.Unseen.{sees_notes, IsUnseen, NotesAreUnseen}
-use Rattle.ps_room.proofs.AnswerLemmas.{after_allowed, other_is}
+use Rattle.ps_room.proofs.AnswerLemmas.{after_allowed}
 use Rattle.ps_room.proofs.QuietLemmas.{quiet_events, quiet_lines, quiet_battle, shown_nothing}
 
 -- the lines of a command, of which a connection in a role sees none and none is logged
@@ -62,4 +63,4 @@ pub note_unseen : (conn : ℕ) (r : Record) (e : Entry) (text : List ℕ) → (c
 note_unseen conn r e text other is v out = unseen conn r e other v (rw is refl) (note_lines conn r e text is out) (note_keeps r e text is)
 
 pub notes_are_unseen : NotesAreUnseen
-notes_are_unseen conn r e text apart is v out = note_unseen conn r e text (other_is conn e.conn apart) is v out
+notes_are_unseen conn r e text apart is v out = note_unseen conn r e text (ne_eqb conn e.conn apart) is v out

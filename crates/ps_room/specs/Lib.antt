@@ -7,3 +7,4 @@ pub mod Roles
 pub mod Rooms
 pub mod Tolds
 pub mod Unseen
+pub mod Stories

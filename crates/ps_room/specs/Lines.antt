@@ -3,7 +3,7 @@ use Rattle.std.specs.Prelude.{ℕ, Bool, true, false, List, ◌∷◌, ◌++◌,
 use Rattle.std.specs.List.{flat_map}
 use Rattle.std.specs.Fmt.{decimal}
 use Rattle.ps_group.specs.declared.group.Group.{Group}
-use Rattle.ps_roster.specs.ShownNames.{sname}
+use Rattle.ps_group.specs.ShownNames.{shown_name}
 use Rattle.ps_chat.specs.declared.present.Present.{Present}
 
 abbrev pub kind_line : Bool → List ℕ
@@ -15,7 +15,7 @@ title_line title = codes "|title|" ++ title
 
 -- a comma, and the symbol and name of one member
 abbrev pub users_part : List Group → Present → List ℕ
-users_part groups p = 44 ∷ sname groups p.rank p.badge.name
+users_part groups p = 44 ∷ shown_name groups p.rank p.badge.name
 
 -- how many members there are, and each of them in join order
 abbrev pub users_line : List Group → List Present → List ℕ

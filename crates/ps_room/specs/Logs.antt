@@ -6,22 +6,22 @@ use Rattle.ps_base.specs.declared.why.Why.{Why}
 use Rattle.ps_base.specs.declared.badge.Badge.{Badge}
 use Rattle.ps_lines.specs.declared.command.Command.{Command}
 use Rattle.ps_lines.specs.declared.command.Command.TheVariants.{Join, Leave, Quit, Ban, Promote}
-use Rattle.ps_dex.specs.declared.row.Tables.{Tables}
-use Rattle.ps_valid.specs.declared.row.Settings.{Settings}
-use Rattle.ps_valid.specs.declared.start.Start.{Start}
+use Rattle.ps_dex.specs.declared.item.Tables.{Tables}
+use Rattle.rules_config.specs.declared.settings.Settings.{Settings}
+use Rattle.rules_start.specs.declared.start.Start.{Start}
 use Rattle.ps_event.specs.declared.event.Event.{Event}
 use Rattle.ps_chat.specs.Lines.{Line}
 use Rattle.ps_chat.specs.Records.{Opening as ChatOpening, Record as ChatRecord, nobody}
-use Rattle.ps_chat.specs.Looks.{has_id}
+use Rattle.ps_chat.specs.Lookups.{has_id}
 use Rattle.ps_chat.specs.declared.present.Present.{Present}
 use Rattle.ps_view.specs.declared.role.Role.{Role}
-use Rattle.ps_bout.specs.declared.bout.Bout.{Bout}
-use Rattle.ps_bout.specs.Casts.{Cast}
-use Rattle.ps_bout.specs.Fights.{Fight}
-use Rattle.ps_bout.specs.Rounds.{ended}
+use Rattle.battle_rounds.specs.declared.bout.Bout.{Bout}
+use Rattle.battle_rounds.specs.Casts.{Cast}
+use Rattle.battle_rounds.specs.Fights.{Fight}
+use Rattle.battle_rounds.specs.Rounds.{ended}
 use Rattle.ps_splitlog.specs.declared.stored.Stored.{Stored}
 use Rattle.ps_splitlog.specs.declared.entry.Joined.{Joined as LogJoined}
-use Rattle.ps_splitlog.specs.declared.entry.Held.{Held}
+use Rattle.ps_splitlog.specs.declared.entry.LogEntry.{LogEntry}
 use Rattle.ps_splitlog.specs.declared.cursor.Cursor.{Cursor}
 use Rattle.ps_splitlog.specs.Lines.{stored_of, stored_of_line}
 use Rattle.ps_splitlog.specs.Entries.{all_of_them, logged_lines, message_of}
@@ -87,19 +87,19 @@ backlog_size (Some c) = all_of_them
 abbrev pub join_of : Option Cast → Joined → LogJoined
 join_of cast j = record { role = j.role; head = j.head; keep = backlog_size cast; tail = j.request }
 
-abbrev pub held_with : Option Cast → ℕ → Told → List (ℕ × Role) → Held
-held_with cast conn t roles = record { conn = conn; lines = stored_in cast t.events t.lines; join = option_map (join_of cast) t.joined; roles = roles }
+abbrev pub log_entry_with : Option Cast → ℕ → Told → List (ℕ × Role) → LogEntry
+log_entry_with cast conn t roles = record { conn = conn; lines = stored_in cast t.events t.lines; join = option_map (join_of cast) t.joined; roles = roles }
 
 abbrev pub join_if : Bool → Record → Entry → Option LogJoined
 join_if join r e = option_map (join_of (cast_in r.battle)) (joined_if join r e)
 
 -- all that an entry gives, as the log will have it, but for the roles
-abbrev pub given : Record → Entry → Held
-given r e = held_with (cast_in r.battle) e.conn (told r e) []
+abbrev pub given : Record → Entry → LogEntry
+given r e = log_entry_with (cast_in r.battle) e.conn (told r e) []
 
 -- what the log has of it: with the roles that hold from the next entry on
-abbrev pub kept_of : Record → Entry → Held
-kept_of r e = held_with (cast_in r.battle) e.conn (told r e) (map (change_to (after r e)) (touched r e))
+abbrev pub kept_of : Record → Entry → LogEntry
+kept_of r e = log_entry_with (cast_in r.battle) e.conn (told r e) (map (change_to (after r e)) (touched r e))
 
 -- ---- what a room keeps
 
@@ -111,7 +111,7 @@ pub record Seen : Type 0 where
   pub opening : ChatOpening
   pub chat : ChatRecord
   pub battle : Option Fight
-  pub log : List Held
+  pub log : List LogEntry
 
 -- Its record, but for what was logged, which the log has. Neither verdict nor role looks at that; `joined` counts it, and `join_of`
 -- leaves the count out.
@@ -119,9 +119,9 @@ abbrev pub record_in : Seen → Record
 record_in s = record { opening = s.opening; chat = s.chat; logged = []; battle = s.battle }
 
 -- the opening of a battle stands in the log before all entries, as one of a connection that nobody is
-abbrev pub opened_log : Settings → Tables → Option Start → List Held
+abbrev pub opened_log : Settings → Tables → Option Start → List LogEntry
 opened_log config dex None = []
-opened_log config dex (Some s) = held_with (Some (cast_with config dex s)) 0 (record { events = (bout_with config s).told; lines = []; joined = None }) [] ∷ []
+opened_log config dex (Some s) = log_entry_with (Some (cast_with config dex s)) 0 (record { events = (bout_with config s).told; lines = []; joined = None }) [] ∷ []
 
 abbrev pub seen_opened : Opening → Seen
 seen_opened o = record { no = o.no; id = o.id; opening = chat_opening o; chat = nobody; battle = option_map (fight_with o.config o.dex) o.battle; log = opened_log o.config o.dex o.battle }
@@ -195,3 +195,8 @@ pub record IsRoomOf (o : Opening) (h : List Entry) (s : Seen) : Type 0 where
 
 abbrev pub AreRoomsOfHistories : Type 0
 AreRoomsOfHistories = (o : Opening) (h : List Entry) → IsRoomOf o h (run_seen (seen_opened o) h)
+
+-- the end of a battle that an entry gave, where there was a room
+abbrev pub ended_in : Option RoomOut → Option Ending
+ended_in None = None
+ended_in (Some out) = out.ended

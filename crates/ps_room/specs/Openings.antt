@@ -1,17 +1,19 @@
--- What a room is opened with.
-use Rattle.std.specs.Prelude.{ℕ, List, [], map, Option, Some, None, IfSome, bit_and}
+-- What a room is opened with: the chat rooms of a configuration, and the rooms of battles that start.
+use Rattle.std.specs.Prelude.{ℕ, suc, ◌+◌, List, [], ◌∷◌, map, slice_index_or, Option, Some, None, IfSome, bit_and}
 use Rattle.ps_mon.specs.declared.team.BattleTeam.{BattleTeam}
-use Rattle.ps_dex.specs.declared.row.Tables.{Tables}
-use Rattle.ps_rules.specs.declared.row.Format.{Format}
+use Rattle.ps_dex.specs.declared.item.Tables.{Tables}
+use Rattle.ps_rules.specs.declared.table.Format.{Format}
 use Rattle.ps_rules.specs.Resolve.{format_of}
-use Rattle.ps_valid.specs.declared.row.Settings.{Settings}
-use Rattle.ps_valid.specs.declared.start.Legal.{Legal}
-use Rattle.ps_valid.specs.declared.start.Start.{Start}
+use Rattle.rules_config.specs.declared.settings.Settings.{Settings}
+use Rattle.rules_config.specs.declared.settings.ChatRoom.{ChatRoom}
+use Rattle.ps_valid.specs.declared.legal.Legal.{Legal}
+use Rattle.rules_start.specs.declared.start.Start.{Start}
 use Rattle.ps_view.specs.declared.names.Names.{Names}
-use Rattle.ps_bout.specs.Casts.{Cast}
-use Rattle.ps_bout.specs.Rounds.{Outcome, opened}
-use Rattle.ps_bout.specs.Fights.{Fight}
-use Rattle.ps_start.specs.Fits.{IsFit}
+use Rattle.battle_rounds.specs.Casts.{Cast}
+use Rattle.battle_rounds.specs.Rounds.{Outcome, opened}
+use Rattle.battle_rounds.specs.Fights.{Fight}
+use Rattle.rules_start.specs.Fits.{IsFit}
+use Rattle.rules_start.specs.Starts.{battle_id, battle_title}
 use Rattle.ps_room.specs.declared.opening.Parts.{Parts}
 use Rattle.std.specs.Arc.{arc_value}
 
@@ -66,3 +68,33 @@ IsFitOpening o = IfSome o.battle (λ s. IsFit s o.config o.dex)
 
 abbrev pub of_parts : Parts → Opening
 of_parts p = record { no = p.no; id = p.id; title = p.title; config = arc_value p.config; dex = arc_value p.dex; battle = p.battle }
+
+-- ---- the rooms of a server
+
+-- a chat room of the configuration
+abbrev pub chat_opening : Settings → Tables → ℕ → ChatRoom → Opening
+chat_opening config dex number room = record { no = number; id = room.id; title = room.title; config = config; dex = dex; battle = None }
+
+-- these rooms, of which the first has this number
+abbrev pub chats_from : Settings → Tables → ℕ → List ChatRoom → List Opening
+chats_from config dex number [] = []
+chats_from config dex number (room ∷ rooms) = chat_opening config dex number room ∷ chats_from config dex (suc number) rooms
+
+-- the number of the first battle's room, behind all numbers of chat rooms; of these there are sixteen at the most
+abbrev pub first_battle : ℕ
+first_battle = 16
+
+-- the number of the room of the battle with this number
+abbrev pub room_of_battle : ℕ → ℕ
+room_of_battle number = 15 + number
+
+-- the room of a battle
+abbrev pub battle_opening : Settings → Tables → Start → Opening
+battle_opening config dex start = record {
+  no = room_of_battle start.number;
+  id = battle_id start.format start.number;
+  title = battle_title (slice_index_or start.players 0 []) (slice_index_or start.players 1 []);
+  config = config;
+  dex = dex;
+  battle = Some start;
+}

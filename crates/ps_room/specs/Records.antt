@@ -6,13 +6,13 @@ use Rattle.ps_event.specs.Table.{is_logged}
 use Rattle.ps_chat.specs.Records.{Opening as ChatOpening, Record as ChatRecord, nobody}
 use Rattle.ps_chat.specs.Rooms.{presents}
 use Rattle.ps_chat.specs.declared.present.Present.{Present}
-use Rattle.ps_valid.specs.declared.start.Start.{Start}
-use Rattle.ps_bout.specs.Casts.{Cast}
-use Rattle.ps_bout.specs.Fights.{Fight}
+use Rattle.rules_start.specs.declared.start.Start.{Start}
+use Rattle.battle_rounds.specs.Casts.{Cast}
+use Rattle.battle_rounds.specs.Fights.{Fight}
 use Rattle.ps_room.specs.Tolds as logs
 use Rattle.ps_room.specs.Tolds.{Logged}
 use Rattle.ps_room.specs.Openings.{Opening, bout_with, fight_with}
-use Rattle.ps_valid.specs.declared.row.Settings.{Settings}
+use Rattle.rules_config.specs.declared.settings.Settings.{Settings}
 
 -- What the chat was opened with; the members, room ranks, mutes, bans and level of the chat; what was logged; and the battle,
 -- if it is a battle's room.

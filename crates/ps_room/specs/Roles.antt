@@ -7,7 +7,7 @@ use Rattle.ps_chat.specs.declared.present.Present.{Present}
 use Rattle.ps_view.specs.declared.role.Role.{Role}
 use Rattle.ps_view.specs.declared.role.Role.TheVariants.{Outside, Spectator}
 use Rattle.ps_view.specs.Roles.{has_role}
-use Rattle.ps_bout.specs.Casts.{Cast, side_with_id, role_with}
+use Rattle.battle_rounds.specs.Casts.{Cast, side_with_id, role_with}
 
 -- what a member is: a spectator, or the player of a side where its id is that of one
 abbrev pub role_of_member : Option Cast → Present → Role

@@ -1,14 +1,16 @@
 -- What an entry does to a room, and what each connection is sent at it.
 use Rattle.std.specs.Prelude.{ℕ, ◌-◌, Bool, true, false, List, [], ◌∷◌, ◌++◌, length, take, drop, Option, Some, None, ◌==◌, if◌then◌else◌}
 use Rattle.std.specs.List.{filter_map}
+use Rattle.std.specs.Option.{option_to_list}
 use Rattle.ps_base.specs.declared.why.Why.{Why}
 use Rattle.ps_base.specs.Whys.{error_line}
+use Rattle.ps_base.specs.Messages.{sent}
 use Rattle.ps_lines.specs.declared.command.Command.{Command}
 use Rattle.ps_lines.specs.declared.command.Command.TheVariants.{Join}
 use Rattle.ps_event.specs.declared.audience.Audience.TheVariants.{One}
 use Rattle.ps_event.specs.declared.event.Event.{Event}
 use Rattle.ps_chat.specs.Lines.{Line}
-use Rattle.ps_chat.specs.Looks.{member}
+use Rattle.ps_chat.specs.Lookups.{member}
 use Rattle.ps_chat.specs.Records.{Opening as ChatOpening, Record as ChatRecord}
 use Rattle.ps_chat.specs.Rooms.{room_of, presents}
 use Rattle.ps_chat.specs.Told.{lines, joiner}
@@ -17,11 +19,11 @@ use Rattle.ps_chat.specs.Verdicts.{verdict as chat_verdict}
 use Rattle.ps_chat.specs.declared.present.Present.{Present}
 use Rattle.ps_view.specs.declared.role.Role.{Role}
 use Rattle.ps_dex.specs.Figures.{figures_of}
-use Rattle.ps_bout.specs.declared.bout.Bout.{Bout}
-use Rattle.ps_bout.specs.Bouts.{IsBout}
-use Rattle.ps_bout.specs.Rounds.{Outcome}
-use Rattle.ps_bout.specs.Casts.{Cast, event_text, event_texts}
-use Rattle.ps_bout.specs.Fights.{Fight, refusal_in, outcome_in, requests, open_request}
+use Rattle.battle_rounds.specs.declared.bout.Bout.{Bout}
+use Rattle.battle_rounds.specs.Bouts.{IsBout}
+use Rattle.battle_rounds.specs.Rounds.{Outcome}
+use Rattle.battle_rounds.specs.Casts.{Cast, event_text, event_texts}
+use Rattle.battle_rounds.specs.Fights.{Fight, refusal_in, outcome_in, requests, open_request}
 use Rattle.ps_room.specs.declared.entry.Entry.{Entry}
 use Rattle.ps_room.specs.Tolds as logs
 use Rattle.ps_room.specs.Tolds.{Logged, Joined, Told}
@@ -204,10 +206,6 @@ kept_back (Some c) items = items
 abbrev pub backlog_of : Option Cast → Joined → List Logged → List (List ℕ)
 backlog_of cast j items = shown_items cast j.role (kept_back cast (take j.logged items))
 
-abbrev pub request_texts : Option (List ℕ) → List (List ℕ)
-request_texts None = []
-request_texts (Some text) = text ∷ []
-
 -- ---- messages
 
 abbrev pub joined_for : ℕ → ℕ → Told → Option Joined
@@ -215,7 +213,7 @@ joined_for conn sender t = if conn == sender then t.joined else None
 
 abbrev pub joined_or : Option Joined → Option Cast → List Logged → List (List ℕ) → List (List ℕ)
 joined_or None cast items texts = texts
-joined_or (Some j) cast items texts = j.head ++ backlog_of cast j items ++ request_texts j.request
+joined_or (Some j) cast items texts = j.head ++ backlog_of cast j items ++ option_to_list j.request
 
 -- What a connection in this role is sent of what an entry of `sender` gives: who joins is sent the room in the place of the
 -- lines, and everybody else the lines that it sees, those of events first.
@@ -225,11 +223,6 @@ message_of conn role sender t cast items = joined_or (joined_for conn sender t) 
 -- what a connection is sent at an entry, by its role before it
 abbrev pub message : ℕ → Record → Entry → List (List ℕ)
 message conn r e = message_of conn (role conn r) e.conn (told r e) (cast_in r.battle) r.logged
-
--- a message, where it has lines
-abbrev pub sent : List (List ℕ) → List (List (List ℕ))
-sent [] = []
-sent (line ∷ lines) = (line ∷ lines) ∷ []
 
 -- all that a connection is sent over a history, message by message
 abbrev pub view : ℕ → Record → List Entry → List (List (List ℕ))

@@ -6,7 +6,7 @@ ghost use Rattle.ps_room.specs.Lines.{kind_line, title_line, users_line, users_p
 use ps_base::text::Text;
 use ps_chat::present::Present;
 use ps_group::groups::Groups;
-use ps_roster::shown_name::sname;
+use ps_group::shown_name::shown_name;
 use std::alloc::{AllocError, Global};
 
 /// `|init|chat`, or `|init|battle` in a battle's room.
@@ -35,9 +35,9 @@ fn push_user(
 ) -> Result<(), AllocError>
     ensures { OnOk result (string_bytes line.new ≡ string_bytes line.old ++ users_part groups.now member.now) }
 {
-    let sname = sname(alloc, groups, member.rank, &member.badge.name)?;
+    let shown_name = shown_name(alloc, groups, member.rank, &member.badge.name)?;
     line.push_str(",")?;
-    line.push_str(sname.as_str())
+    line.push_str(shown_name.as_str())
 }
 
 fn push_users(

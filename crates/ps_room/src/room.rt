@@ -4,15 +4,15 @@ ghost use Rattle.std.specs.Option.{option_copied};
 ghost use Rattle.ps_chat.specs.Verdicts.{verdict as chat_verdict};
 ghost use Rattle.ps_chat.specs.Changes.{record_after};
 ghost use Rattle.ps_dex.specs.Figures.{figures_of};
-ghost use Rattle.ps_bout.specs.Bouts.{IsBout};
+ghost use Rattle.battle_rounds.specs.Bouts.{IsBout};
 ghost use Rattle.ps_mon.specs.Valid.{IsSound};
-ghost use Rattle.ps_bout.specs.Rounds.{outcome, ended as bout_ended};
+ghost use Rattle.battle_rounds.specs.Rounds.{outcome, ended as bout_ended};
 ghost use Rattle.ps_splitlog.specs.Entries.{logged_lines, message_of};
 ghost use Rattle.ps_splitlog.specs.Lines.{stored_of_line};
 ghost use Rattle.ps_room.specs.Records.{presents_of, cast_in};
 ghost use Rattle.ps_room.specs.Roles.{role_of_member, side_of_member};
 ghost use Rattle.ps_room.specs.Rooms.{is_join, role_in, refused_line, refusal_by_battle, outcome_by, events_by, lines_by, with_bout, CanGoOn, battle_after, request_for};
-ghost use Rattle.ps_bout.specs.Fights.{requests as requested};
+ghost use Rattle.battle_rounds.specs.Fights.{requests as requested};
 ghost use Rattle.ps_room.specs.Logs.{conns_with, touched_by, change_in, changed_conn, backlog_size, stored_in, join_if, entry_of, ending_of, ending_by};
 ghost use Rattle.ps_room.specs.declared.outcome.Verdict.TheVariants.{Applied};
 
@@ -21,25 +21,25 @@ use crate::line;
 use crate::opening::{Opening, Parts};
 use crate::outcome::{Ending, RoomOut, Verdict};
 use crate::start::{Opened, open_battle};
+use battle_rounds::bout::Bout;
+use battle_rounds::cast::{Cast, role_with, side_with_id};
+use battle_rounds::room_battle::{RoomBattle, requests};
+use battle_rounds::rounds::ended;
 use ps_base::badge::Badge;
 use ps_base::list::List;
 use ps_base::msg::Msg;
 use ps_base::number::{ConnNo, Moment, RoomNo};
 use ps_base::text::Text;
 use ps_base::why::{Why, error_line};
-use ps_bout::bout::Bout;
-use ps_bout::cast::{Cast, role_with, side_with_id};
-use ps_bout::room_battle::{RoomBattle, requests};
-use ps_bout::rounds::ended;
 use ps_chat::chat::Chat;
 use ps_chat::line::ChatLine;
-use ps_chat::look::has_id;
+use ps_chat::lookup::has_id;
 use ps_chat::present::Present;
 use ps_event::audience::Audience;
 use ps_event::event::{Event, Events};
 use ps_lines::command::Command;
 use ps_splitlog::cursor::Cursor;
-use ps_splitlog::entry::{ALL, Entry as Heard, Held, Joined, held_of, held_of_lines};
+use ps_splitlog::entry::{ALL, Entry as Heard, Joined, LogEntry, log_entry_of, log_entry_of_lines};
 use ps_splitlog::log::SplitLog;
 use ps_view::role::Role;
 use std::alloc::{AllocError, Global};
@@ -55,7 +55,7 @@ pub struct Prepared {
     pub out: RoomOut,
     /// All that the entry gives, as the log will have it, but for the roles that hold after it; of a refused one its one line to
     /// its sender.
-    pub held: Held,
+    pub log_entry: LogEntry,
     /// The rounds of the battle after it; `None` where there is no battle, or the entry is refused.
     pub bout: Option<Bout>,
 }
@@ -75,7 +75,7 @@ impl Model for Room {
     ghost use Rattle.ps_room.specs.Logs.{Seen};
     ghost use Rattle.std.specs.Coded.{codes, coded_ℕ};
     ghost use base.Stored.{coded_unit};
-    ghost use Rattle.ps_roster.specs.ById.{by_id_code};
+    ghost use Rattle.ps_base.specs.ById.{by_id_code};
 
     ghost Value = { Seen };
 
@@ -242,7 +242,7 @@ fn request_for(
 // ---- what an entry gives
 
 // What a refused entry gives: its line, which goes to its sender alone.
-fn refused_held(alloc: Global, conn: ConnNo, why: Why) -> Result<Held, AllocError>
+fn refused_log_entry(alloc: Global, conn: ConnNo, why: Why) -> Result<LogEntry, AllocError>
     ensures { IfOk result (λ h. h ≡ record { conn = conn; lines = map stored_of_line (refused_line conn why ∷ []); join = None; roles = [] }) }
 {
     let line = ChatLine {
@@ -250,7 +250,7 @@ fn refused_held(alloc: Global, conn: ConnNo, why: Why) -> Result<Held, AllocErro
         logged: false,
         text: error_line(alloc, why)?,
     };
-    held_of_lines(alloc, conn, &[line], None)
+    log_entry_of_lines(alloc, conn, &[line], None)
 }
 
 fn backlog_size(cast: Option<&Cast>) -> u32
@@ -299,15 +299,15 @@ fn ending_with(battle: &RoomBattle, after: &Bout) -> Option<Ending>
 }
 
 // What comes of an entry that is applied.
-fn applied(held: Held, ended: Option<Ending>, bout: Option<Bout>) -> Prepared
-    ensures { result ≡ record { out = record { verdict = Applied; ended = ended }; held = held; bout = bout } }
+fn applied(log_entry: LogEntry, ended: Option<Ending>, bout: Option<Bout>) -> Prepared
+    ensures { result ≡ record { out = record { verdict = Applied; ended = ended }; log_entry = log_entry; bout = bout } }
 {
     Prepared {
         out: RoomOut {
             verdict: Verdict::Applied,
             ended,
         },
-        held,
+        log_entry,
         bout,
     }
 }
@@ -325,7 +325,7 @@ fn prepared_with(
 ) -> Result<Prepared, AllocError>
     requires { refusal_by_battle (Some battle.now) (option_copied member) cmd.now ≡ None }
     ensures out { IfOk result (λ p. p.out ≡ record { verdict = Applied; ended = ending_by (Some battle.now) (option_copied member.entry) cmd.now }) }
-    ensures held { IfOk result (λ p. p.held ≡ record { conn = conn; lines = stored_in (Some battle.now.cast) (events_by (Some battle.now) (option_copied member.entry) cmd.now) (lines_by (Some battle.now) (option_copied member.entry) cmd.now lines.items); join = join; roles = [] }) }
+    ensures log_entry { IfOk result (λ p. p.log_entry ≡ record { conn = conn; lines = stored_in (Some battle.now.cast) (events_by (Some battle.now) (option_copied member.entry) cmd.now) (lines_by (Some battle.now) (option_copied member.entry) cmd.now lines.items); join = join; roles = [] }) }
     ensures after { IfOk result (λ p. with_bout (Some battle.now) p.bout ≡ battle_after (Some battle.now) (option_copied member.entry) cmd.now) }
     ensures bout { IfOk result (λ p. CanGoOn (Some battle.now) p.bout) }
 {
@@ -339,8 +339,8 @@ fn prepared_with(
         join,
         roles: &[],
     };
-    let held = held_of(alloc, battle.cast().names(), battle.cast().dex(), heard)?;
-    Ok(applied(held, ending_with(battle, &after), Some(after)))
+    let log_entry = log_entry_of(alloc, battle.cast().names(), battle.cast().dex(), heard)?;
+    Ok(applied(log_entry, ending_with(battle, &after), Some(after)))
 }
 
 // What comes of an allowed entry.
@@ -355,14 +355,14 @@ fn prepared_by(
 ) -> Result<Prepared, AllocError>
     requires { refusal_by_battle (option_copied battle) (option_copied member) cmd.now ≡ None }
     ensures out { IfOk result (λ p. p.out ≡ record { verdict = Applied; ended = ending_by (option_copied battle.entry) (option_copied member.entry) cmd.now }) }
-    ensures held { IfOk result (λ p. p.held ≡ record { conn = conn; lines = stored_in (cast_in (option_copied battle.entry)) (events_by (option_copied battle.entry) (option_copied member.entry) cmd.now) (lines_by (option_copied battle.entry) (option_copied member.entry) cmd.now lines.items); join = join; roles = [] }) }
+    ensures log_entry { IfOk result (λ p. p.log_entry ≡ record { conn = conn; lines = stored_in (cast_in (option_copied battle.entry)) (events_by (option_copied battle.entry) (option_copied member.entry) cmd.now) (lines_by (option_copied battle.entry) (option_copied member.entry) cmd.now lines.items); join = join; roles = [] }) }
     ensures after { IfOk result (λ p. with_bout (option_copied battle.entry) p.bout ≡ battle_after (option_copied battle.entry) (option_copied member.entry) cmd.now) }
     ensures bout { IfOk result (λ p. CanGoOn (option_copied battle.entry) p.bout) }
 {
     match battle {
         None => {
-            let held = held_of_lines(alloc, conn, lines.as_slice(), join)?;
-            Ok(applied(held, None, None))
+            let log_entry = log_entry_of_lines(alloc, conn, lines.as_slice(), join)?;
+            Ok(applied(log_entry, None, None))
         }
         Some(battle) => prepared_with(alloc, conn, battle, member, cmd, lines, join),
     }
@@ -386,15 +386,15 @@ fn push_and_change(
     chat: &mut Chat,
     log: &mut SplitLog,
     entry: &Entry,
-    held: Held,
+    log_entry: LogEntry,
 ) -> Result<(), AllocError>
     requires { chat_verdict chat.old.opening chat.old.state entry.now.conn entry.now.badge entry.now.moment entry.now.cmd ≡ None }
     ensures chat { OnOk result (chat.new ≡ record chat.old { state = record_after chat.old.opening.groups chat.old.state entry.now.conn entry.now.badge entry.now.moment entry.now.cmd }) }
-    ensures log { OnOk result (log.new ≡ log.old ++ held ∷ []) }
+    ensures log { OnOk result (log.new ≡ log.old ++ log_entry ∷ []) }
     ensures err { OnErr result (chat.new ≡ chat.old) }
     ensures err_log { OnErr result (log.new ≡ log.old) }
 {
-    log.push(held)?;
+    log.push(log_entry)?;
     match chat.change(alloc, entry.conn, &entry.badge, entry.moment, &entry.cmd) {
         Ok(()) => Ok(()),
         Err(e) => {
@@ -408,7 +408,8 @@ impl Room {
     ghost use Rattle.ps_room.specs.Openings.{IsFitOpening};
     ghost use Rattle.ps_room.specs.Rooms.{verdict, role, head};
     ghost use Rattle.ps_room.specs.Logs.{record_in, given, seen_opened, seen_after, out_of, Goes};
-    ghost use Rattle.ps_splitlog.specs.Reads.{cursor_past, read_past, msg_lines};
+    ghost use Rattle.ps_splitlog.specs.Reads.{cursor_past, read_past};
+    ghost use Rattle.ps_base.specs.Messages.{msg_lines};
 
     /// Whether a room can have this opening: where it has a battle, that can start under the configuration and the dex. Takes
     /// no memory.
@@ -523,7 +524,7 @@ impl Room {
     ) -> Result<Prepared, AllocError>
         requires { verdict (record_in self.now) entry.now ≡ Some why }
         ensures out { IfOk result (λ p. p.out ≡ out_of (record_in self.now) entry.now) }
-        ensures held { IfOk result (λ p. p.held ≡ given (record_in self.now) entry.now) }
+        ensures log_entry { IfOk result (λ p. p.log_entry ≡ given (record_in self.now) entry.now) }
         ensures goes { IfOk result (λ p. Goes self.now entry.now p.bout) }
     {
         Ok(Prepared {
@@ -531,7 +532,7 @@ impl Room {
                 verdict: Verdict::Refused(why),
                 ended: None,
             },
-            held: refused_held(alloc, entry.conn, why)?,
+            log_entry: refused_log_entry(alloc, entry.conn, why)?,
             bout: None,
         })
     }
@@ -540,7 +541,7 @@ impl Room {
     fn prepare_allowed(&self, alloc: Global, entry: &Entry) -> Result<Prepared, AllocError>
         requires { verdict (record_in self.now) entry.now ≡ None }
         ensures out { IfOk result (λ p. p.out ≡ out_of (record_in self.now) entry.now) }
-        ensures held { IfOk result (λ p. p.held ≡ given (record_in self.now) entry.now) }
+        ensures log_entry { IfOk result (λ p. p.log_entry ≡ given (record_in self.now) entry.now) }
         ensures goes { IfOk result (λ p. Goes self.now entry.now p.bout) }
     {
         let lines = self
@@ -561,7 +562,7 @@ impl Room {
     /// Works out what comes of an entry that comes next, for `keep`. Fails for want of memory alone.
     pub fn prepare(&self, alloc: Global, entry: &Entry) -> Result<Prepared, AllocError>
         ensures out { IfOk result (λ p. p.out ≡ out_of (record_in self.now) entry.now) }
-        ensures held { IfOk result (λ p. p.held ≡ given (record_in self.now) entry.now) }
+        ensures log_entry { IfOk result (λ p. p.log_entry ≡ given (record_in self.now) entry.now) }
         ensures goes { IfOk result (λ p. Goes self.now entry.now p.bout) }
     {
         match self.verdict(entry) {
@@ -571,11 +572,11 @@ impl Room {
     }
 
     // Keeps what a refused entry gives.
-    fn keep_refused(&mut self, held: Held) -> Result<(), AllocError>
-        ensures ok { OnOk result (self.new ≡ record self.old { log = self.old.log ++ held ∷ [] }) }
+    fn keep_refused(&mut self, log_entry: LogEntry) -> Result<(), AllocError>
+        ensures ok { OnOk result (self.new ≡ record self.old { log = self.old.log ++ log_entry ∷ [] }) }
         ensures err { OnErr result (self.new ≡ self.old) }
     {
-        self.log.push(held)
+        self.log.push(log_entry)
     }
 
     // Applies an entry that is allowed. Where memory fails nothing changes.
@@ -583,17 +584,17 @@ impl Room {
         &mut self,
         alloc: Global,
         entry: &Entry,
-        held: Held,
+        log_entry: LogEntry,
         bout: Option<Bout>,
     ) -> Result<(), AllocError>
         requires allowed { verdict (record_in self.old) entry.now ≡ None }
-        requires given { held ≡ given (record_in self.old) entry.now }
+        requires given { log_entry ≡ given (record_in self.old) entry.now }
         requires goes { Goes self.old entry.now bout }
         ensures ok { OnOk result (self.new ≡ seen_after self.old entry.now) }
         ensures err { OnErr result (self.new ≡ self.old) }
     {
         let mut changes = touched_by(alloc, self.chat.members(), entry.conn, &entry.cmd)?;
-        push_and_change(alloc, &mut self.chat, &mut self.log, entry, held)?;
+        push_and_change(alloc, &mut self.chat, &mut self.log, entry, log_entry)?;
         set_bout(&mut self.battle, bout);
         set_all_roles(&self.chat, cast_in(self.battle.as_ref()), &mut changes);
         self.log.give_roles(List::from_vec(changes));
@@ -608,15 +609,19 @@ impl Room {
         prepared: Prepared,
     ) -> Result<(), AllocError>
         requires out { prepared.out ≡ out_of (record_in self.old) entry.now }
-        requires given { prepared.held ≡ given (record_in self.old) entry.now }
+        requires given { prepared.log_entry ≡ given (record_in self.old) entry.now }
         requires goes { Goes self.old entry.now prepared.bout }
         ensures ok { OnOk result (self.new ≡ seen_after self.old entry.now) }
         ensures err { OnErr result (self.new ≡ self.old) }
     {
-        let Prepared { out, held, bout } = prepared;
+        let Prepared {
+            out,
+            log_entry,
+            bout,
+        } = prepared;
         match out.verdict {
-            Verdict::Refused(_) => self.keep_refused(held),
-            Verdict::Applied => self.keep_applied(alloc, entry, held, bout),
+            Verdict::Refused(_) => self.keep_refused(log_entry),
+            Verdict::Applied => self.keep_applied(alloc, entry, log_entry, bout),
         }
     }
 
@@ -651,11 +656,12 @@ impl Room {
         &self,
         alloc: Global,
         conn: ConnNo,
-        held: &Held,
+        log_entry: &LogEntry,
     ) -> Result<List<Text>, AllocError>
-        ensures { IfOk result (λ v. v ≡ message_of conn (role conn (record_in self.now)) (logged_lines self.now.log) held.now) }
+        ensures { IfOk result (λ v. v ≡ message_of conn (role conn (record_in self.now)) (logged_lines self.now.log) log_entry.now) }
     {
-        self.log.message_next(alloc, conn, self.role(conn), held)
+        self.log
+            .message_next(alloc, conn, self.role(conn), log_entry)
     }
 
     /// The messages past a cursor, which moves to the end. Where memory fails the cursor stays. The cursor

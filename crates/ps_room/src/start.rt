@@ -1,23 +1,22 @@
 //! The battle of a room at its opening.
-ghost use Rattle.std.specs.Prelude.{◌≡◌, ◌++◌, ◌<◌, [], ◌∷◌, IfSome, IfOk, OnOk, Some, None, bit_and, option_map};
+ghost use Rattle.std.specs.Prelude.{◌≡◌, ◌<◌, [], ◌∷◌, IfSome, IfOk, Some, None, bit_and, option_map};
 ghost use Rattle.std.specs.Arc.{arc_value};
-ghost use Rattle.ps_start.specs.Fits.{IsFit};
+ghost use Rattle.rules_start.specs.Fits.{IsFit};
 ghost use Rattle.std.specs.Option.{option_copied};
 ghost use Rattle.ps_room.specs.Openings.{name_of_format, clauses_of_format, fight_with};
-ghost use Rattle.ps_room.specs.Logs.{held_with, opened_log};
+ghost use Rattle.ps_room.specs.Logs.{log_entry_with, opened_log};
 
-use ps_base::list::List;
+use battle_rounds::cast::Cast;
+use battle_rounds::room_battle::RoomBattle;
 use ps_base::number::ConnNo;
-use ps_base::text::Text;
-use ps_bout::cast::Cast;
-use ps_bout::room_battle::RoomBattle;
+use ps_base::text::{Text, copies};
 use ps_dex::dex::Dex;
 use ps_event::event::{Event, Events};
-use ps_rules::row::Format;
+use ps_rules::table::Format;
 use ps_splitlog::log::SplitLog;
-use ps_valid::config::Config;
-use ps_valid::start::Start;
 use ps_view::names::Names;
+use rules_config::config::Config;
+use rules_start::start::Start;
 use std::alloc::{AllocError, Global};
 use std::sync::Arc;
 
@@ -51,27 +50,9 @@ pub(crate) struct Opened {
     pub(crate) log: SplitLog,
 }
 
-fn push_copy(alloc: Global, copies: &mut Vec<Text>, text: &Text) -> Result<(), AllocError>
-    ensures { OnOk result (copies.new.items ≡ copies.old.items ++ text.now ∷ []) }
-{
-    let copy = text.copy(alloc)?;
-    copies.push(copy)?;
-    Ok(())
-}
-
-fn copies(alloc: Global, texts: &[Text]) -> Result<List<Text>, AllocError>
-    ensures { IfOk result (λ l. l ≡ texts.now) }
-{
-    let mut copies = Vec::with_capacity(alloc, texts.len())?;
-    for text in texts {
-        push_copy(alloc, &mut copies, text)?;
-    }
-    Ok(List::from_vec(copies))
-}
-
 // A log that begins with these events, which are of no connection.
 fn log_of(alloc: Global, cast: &Cast, told: &[Event]) -> Result<SplitLog, AllocError>
-    ensures { IfOk result (λ l. l ≡ held_with (Some cast.now) 0 (record { events = told.now; lines = []; joined = None }) [] ∷ []) }
+    ensures { IfOk result (λ l. l ≡ log_entry_with (Some cast.now) 0 (record { events = told.now; lines = []; joined = None }) [] ∷ []) }
 {
     let mut log = SplitLog::new(alloc);
     log.append(alloc, NOBODY, told, cast.names(), cast.dex())?;

@@ -1,5 +1,5 @@
 mod ListLemmas
-mod PlaceLemmas
+mod IndexLemmas
 mod TallyLemmas
 mod StackLemmas
 mod StepLemmas

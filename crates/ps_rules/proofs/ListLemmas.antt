@@ -1,4 +1,4 @@
--- Lists: the item at a place, what is left from there, and one item set.
+-- Lists: the item at an index, what is left from there, and one item set.
 use Rattle.std.proofs.Common.{◌≡◌, ℕ, zero, suc, ◌<◌, List, [], ◌∷◌, ◌++◌, length, take, drop, set, Some, None, refl, ap, arith}
 use Rattle.std.specs.List.{slice_get}
 use Rattle.std.proofs.lemmas.Option.{same_Some}

@@ -1,11 +1,12 @@
 -- The stack of lists and the marks of rulesets: what stands behind each step of the walk.
-use Rattle.std.proofs.Common.{◌≡◌, ℕ, zero, suc, ◌+◌, ◌<◌, ◌≤◌, ◌==◌, Bool, true, false, ◌||◌, List, [], ◌∷◌, length, take, drop, set, replicate, Option, Some, None, Result, Ok, Err, refl, sym, ap, ◌∙◌, subst, inl, inr, arith}
+use Rattle.std.proofs.Common.{◌≡◌, ℕ, zero, suc, ◌+◌, ◌<◌, ◌≤◌, Bool, true, false, ◌||◌, List, [], ◌∷◌, length, take, drop, set, replicate, Option, Some, None, Result, Ok, Err, refl, sym, ap, ◌∙◌, subst, inl, inr, arith}
 use Rattle.std.specs.List.{slice_get}
 use Rattle.std.proofs.lemmas.List.{length-drop, length-set, length-replicate}
 use Rattle.std.proofs.lemmas.Option.{same_Some, slice_get_within}
 use Rattle.std.proofs.lemmas.Bool.Decides.{eqb_tells}
-use Rattle.ps_rules.specs.declared.row.Rule.{Rule}
-use Rattle.ps_rules.specs.declared.row.Ruleset.{Ruleset}
+use Rattle.std.proofs.lemmas.Bool.{false_from_ne_true, eq-eqb}
+use Rattle.ps_rules.specs.declared.table.Rule.{Rule}
+use Rattle.ps_rules.specs.declared.table.Ruleset.{Ruleset}
 use Rattle.ps_rules.specs.declared.walk.Tally.{Tally}
 use Rattle.ps_rules.specs.declared.walk.Mark.{Mark}
 use Rattle.ps_rules.specs.declared.walk.Mark.TheVariants.{New, Open, Done}
@@ -38,7 +39,7 @@ found id (Some clauses) = Ok clauses
 
 -- what the marks alone tell
 abbrev pub by_marks : List Mark → Inside
-by_marks marks id place = found id (done (slice_get marks place))
+by_marks marks id index = found id (done (slice_get marks index))
 
 found_done : (id : List ℕ) (o : Option ℕ) (clauses : ℕ) → found id o ≡ Ok clauses → o ≡ Some clauses
 found_done id None clauses e = absurd cc
@@ -55,13 +56,6 @@ open_is None e = absurd cc
 open_is (Some New) e = absurd cc
 open_is (Some Open) e = refl
 open_is (Some (Done clauses)) e = absurd cc
-
-not_true : (b : Bool) → (b ≡ true → ⊥) → b ≡ false
-not_true true ne = absurd (ne refl)
-not_true false ne = refl
-
-pub itself : (n : ℕ) → (n == n) ≡ true
-itself n = elim (eqb_tells n n) [ inl same ↦ same.0 | inr other ↦ absurd (other.1 refl) ]
 
 -- ---- sums over rulesets and their marks
 
@@ -110,77 +104,77 @@ not_done (suc n) (suc q) = not_done n q
 
 -- ---- lists that are open
 
-abbrev pub with_place : Option ℕ → List ℕ → List ℕ
-with_place None places = places
-with_place (Some place) places = place ∷ places
+abbrev pub with_index : Option ℕ → List ℕ → List ℕ
+with_index None indices = indices
+with_index (Some index) indices = index ∷ indices
 
--- the places of the rulesets of lists, the innermost first
+-- the indices of the rulesets of lists, the innermost first
 abbrev pub opened : List Frame → List ℕ
 opened [] = []
-opened (f ∷ frames) = with_place f.place (opened frames)
+opened (f ∷ frames) = with_index f.index (opened frames)
 
--- what a ruleset leaves on inside those at `places`
+-- what a ruleset leaves on inside those at `indices`
 abbrev pub inside : List Ruleset → List ℕ → Inside
-inside sets places = set_at (drop (length places) sets) sets places
+inside sets indices = set_at (drop (length indices) sets) sets indices
 
 -- what the rest of a list makes of its tally so far
 abbrev pub goes_on : List Ruleset → List Rule → List ℕ → Frame → Result ℕ RuleFault
-goes_on sets first places f = texts sets (inside sets places) f.tally (drop f.next (rules_in sets first f.place))
+goes_on sets first indices f = texts sets (inside sets indices) f.tally (drop f.next (rules_in sets first f.index))
 
 abbrev pub whole : List Ruleset → List Rule → Result ℕ RuleFault
 whole sets first = texts sets (set_at sets sets []) nothing first
 
-module _ (sets : List Ruleset) (first : List Rule) (places : List ℕ) (f : Frame) where
-  pub goes_further : (r : Rule) (u : Tally) → slice_get (rules_in sets first f.place) f.next ≡ Some r → by_clause sets (inside sets places) f.tally r (clause_of r.id) ≡ Ok u
-      → goes_on sets first places f ≡ goes_on sets first places (further f u)
+module _ (sets : List Ruleset) (first : List Rule) (indices : List ℕ) (f : Frame) where
+  pub goes_further : (r : Rule) (u : Tally) → slice_get (rules_in sets first f.index) f.next ≡ Some r → by_clause sets (inside sets indices) f.tally r (clause_of r.id) ≡ Ok u
+      → goes_on sets first indices f ≡ goes_on sets first indices (further f u)
   goes_further r u text said =
-      let rules = rules_in sets first f.place in
+      let rules = rules_in sets first f.index in
       let one : suc f.next ≡ f.next + 1 = omega arith in
-      ap (λ (rest : List Rule). texts sets (inside sets places) f.tally rest) (rest_at rules f.next r text)
-      ∙ ap (λ (o : Result Tally RuleFault). o >>> λ t. texts sets (inside sets places) t (drop (suc f.next) rules)) said
-      ∙ ap (λ (n : ℕ). texts sets (inside sets places) u (drop n rules)) one
+      ap (λ (rest : List Rule). texts sets (inside sets indices) f.tally rest) (rest_at rules f.next r text)
+      ∙ ap (λ (o : Result Tally RuleFault). o >>> λ t. texts sets (inside sets indices) t (drop (suc f.next) rules)) said
+      ∙ ap (λ (n : ℕ). texts sets (inside sets indices) u (drop n rules)) one
 
-  pub goes_wrong : (r : Rule) (fault : RuleFault) → slice_get (rules_in sets first f.place) f.next ≡ Some r → by_clause sets (inside sets places) f.tally r (clause_of r.id) ≡ Err fault
-      → goes_on sets first places f ≡ Err fault
+  pub goes_wrong : (r : Rule) (fault : RuleFault) → slice_get (rules_in sets first f.index) f.next ≡ Some r → by_clause sets (inside sets indices) f.tally r (clause_of r.id) ≡ Err fault
+      → goes_on sets first indices f ≡ Err fault
   goes_wrong r fault text said =
-      let rules = rules_in sets first f.place in
-      ap (λ (rest : List Rule). texts sets (inside sets places) f.tally rest) (rest_at rules f.next r text)
-      ∙ ap (λ (o : Result Tally RuleFault). o >>> λ t. texts sets (inside sets places) t (drop (suc f.next) rules)) said
+      let rules = rules_in sets first f.index in
+      ap (λ (rest : List Rule). texts sets (inside sets indices) f.tally rest) (rest_at rules f.next r text)
+      ∙ ap (λ (o : Result Tally RuleFault). o >>> λ t. texts sets (inside sets indices) t (drop (suc f.next) rules)) said
 
-  pub goes_over : slice_get (rules_in sets first f.place) f.next ≡ None → goes_on sets first places f ≡ Ok (left_on f.tally)
-  goes_over past = ap (λ (rest : List Rule). texts sets (inside sets places) f.tally rest) (rest_past (rules_in sets first f.place) f.next past)
+  pub goes_over : slice_get (rules_in sets first f.index) f.next ≡ None → goes_on sets first indices f ≡ Ok (left_on f.tally)
+  goes_over past = ap (λ (rest : List Rule). texts sets (inside sets indices) f.tally rest) (rest_past (rules_in sets first f.index) f.next past)
 
 -- a ruleset that isn't open is entered
-entered_by : (d : Ruleset) (deeper sets : List Ruleset) (places : List ℕ) (id : List ℕ) (p : ℕ) → is_open p places ≡ false
-    → set_at (d ∷ deeper) sets places id p ≡ texts sets (set_at deeper sets (p ∷ places)) nothing (rules_of (slice_get sets p))
-entered_by d deeper sets places id p e = rw e refl
+entered_by : (d : Ruleset) (deeper sets : List Ruleset) (indices : List ℕ) (id : List ℕ) (p : ℕ) → is_open p indices ≡ false
+    → set_at (d ∷ deeper) sets indices id p ≡ texts sets (set_at deeper sets (p ∷ indices)) nothing (rules_of (slice_get sets p))
+entered_by d deeper sets indices id p e = rw e refl
 
-pub enters : (sets : List Ruleset) (places : List ℕ) (id : List ℕ) (p : ℕ) → length places < length sets → is_open p places ≡ false
-    → inside sets places id p ≡ texts sets (inside sets (p ∷ places)) nothing (rules_of (slice_get sets p))
-enters sets places id p room e =
-    let there = item_at sets (length places) room in
-    ap (λ (deeper : List Ruleset). set_at deeper sets places id p) (rest_at sets (length places) there.0 there.1)
-    ∙ entered_by there.0 (drop (suc (length places)) sets) sets places id p e
+pub enters : (sets : List Ruleset) (indices : List ℕ) (id : List ℕ) (p : ℕ) → length indices < length sets → is_open p indices ≡ false
+    → inside sets indices id p ≡ texts sets (inside sets (p ∷ indices)) nothing (rules_of (slice_get sets p))
+enters sets indices id p room e =
+    let there = item_at sets (length indices) room in
+    ap (λ (deeper : List Ruleset). set_at deeper sets indices id p) (rest_at sets (length indices) there.0 there.1)
+    ∙ entered_by there.0 (drop (suc (length indices)) sets) sets indices id p e
 
 -- one that is open is a cycle
-pub open_cycle : (deeper sets : List Ruleset) (places : List ℕ) (id : List ℕ) (p : ℕ) → is_open p places ≡ true → set_at deeper sets places id p ≡ Err (Cycle id)
-open_cycle [] sets places id p e = refl
-open_cycle (d ∷ deeper) sets places id p e = rw e refl
+pub open_cycle : (deeper sets : List Ruleset) (indices : List ℕ) (id : List ℕ) (p : ℕ) → is_open p indices ≡ true → set_at deeper sets indices id p ≡ Err (Cycle id)
+open_cycle [] sets indices id p e = refl
+open_cycle (d ∷ deeper) sets indices id p e = rw e refl
 
 -- ---- what the marks say
 
 abbrev pub NoneDone : List Mark → List ℕ → Type 0
-NoneDone marks places = (q : ℕ) → is_open q places ≡ true → done (slice_get marks q) ≡ None
+NoneDone marks indices = (q : ℕ) → is_open q indices ≡ true → done (slice_get marks q) ≡ None
 
 -- A ruleset that is done leaves on what its mark says, wherever it is met: inside none that is done, and with an item of
 -- `deeper` for each that is.
 abbrev pub Sound : List Ruleset → List Mark → Type 0
-Sound sets marks = (id : List ℕ) (q clauses : ℕ) (deeper : List Ruleset) (places : List ℕ) → done (slice_get marks q) ≡ Some clauses → NoneDone marks places → weighed is_done sets marks ≤ length deeper
-    → set_at deeper sets places id q ≡ Ok clauses
+Sound sets marks = (id : List ℕ) (q clauses : ℕ) (deeper : List Ruleset) (indices : List ℕ) → done (slice_get marks q) ≡ Some clauses → NoneDone marks indices → weighed is_done sets marks ≤ length deeper
+    → set_at deeper sets indices id q ≡ Ok clauses
 
-sound_agrees : (sets : List Ruleset) (marks : List Mark) → Sound sets marks → (deeper : List Ruleset) (places : List ℕ) → NoneDone marks places → weighed is_done sets marks ≤ length deeper
-    → Agrees (by_marks marks) (set_at deeper sets places)
-sound_agrees sets marks sound deeper places none enough = λ id q clauses e. sound id q clauses deeper places (found_done id (done (slice_get marks q)) clauses e) none enough
+sound_agrees : (sets : List Ruleset) (marks : List Mark) → Sound sets marks → (deeper : List Ruleset) (indices : List ℕ) → NoneDone marks indices → weighed is_done sets marks ≤ length deeper
+    → Agrees (by_marks marks) (set_at deeper sets indices)
+sound_agrees sets marks sound deeper indices none enough = λ id q clauses e. sound id q clauses deeper indices (found_done id (done (slice_get marks q)) clauses e) none enough
 
 -- what is done stays so
 abbrev pub Grows : List Mark → List Mark → Type 0
@@ -192,24 +186,24 @@ grows_agrees old new more = λ id q clauses e. ap (found id) (more q clauses (fo
 -- ---- the stack
 
 -- The list of a ruleset that isn't open in the lists around it. Its texts so far say the tally, by what is done alone.
-pub record IsInner (sets : List Ruleset) (marks : List Mark) (places : List ℕ) (f : Frame) : Type 0 where
-  pub ruleset_place : ℕ
-  pub is_place : f.place ≡ Some ruleset_place
-  pub alone : is_open ruleset_place places ≡ false
-  pub so_far : tallied sets (by_marks marks) nothing (take f.next (rules_of (slice_get sets ruleset_place))) ≡ Ok f.tally
+pub record IsInner (sets : List Ruleset) (marks : List Mark) (indices : List ℕ) (f : Frame) : Type 0 where
+  pub ruleset_index : ℕ
+  pub is_index : f.index ≡ Some ruleset_index
+  pub alone : is_open ruleset_index indices ≡ false
+  pub so_far : tallied sets (by_marks marks) nothing (take f.next (rules_of (slice_get sets ruleset_index))) ≡ Ok f.tally
 
 -- a fault of a list is one of the list that waits for it
 abbrev pub Chained : List Ruleset → List Rule → List Mark → Frame → List Frame → Type 0
-Chained sets first marks f [] = goes_on sets first (with_place f.place []) f ≡ whole sets first
+Chained sets first marks f [] = goes_on sets first (with_index f.index []) f ≡ whole sets first
 Chained sets first marks f (g ∷ frames) =
-    IsInner sets marks (with_place g.place (opened frames)) f
-    × ((fault : RuleFault) → goes_on sets first (with_place f.place (with_place g.place (opened frames))) f ≡ Err fault → goes_on sets first (with_place g.place (opened frames)) g ≡ Err fault)
+    IsInner sets marks (with_index g.index (opened frames)) f
+    × ((fault : RuleFault) → goes_on sets first (with_index f.index (with_index g.index (opened frames))) f ≡ Err fault → goes_on sets first (with_index g.index (opened frames)) g ≡ Err fault)
     × Chained sets first marks g frames
 
 pub record Stands (sets : List Ruleset) (first : List Rule) (marks : List Mark) (f : Frame) (frames : List Frame) : Type 0 where
   pub sized : length marks ≡ length sets
-  pub counted : weighed is_new sets marks + weighed is_done sets marks + length (with_place f.place (opened frames)) ≡ length sets
-  pub open_marks : (q : ℕ) → is_open q (with_place f.place (opened frames)) ≡ opens (slice_get marks q)
+  pub counted : weighed is_new sets marks + weighed is_done sets marks + length (with_index f.index (opened frames)) ≡ length sets
+  pub open_marks : (q : ℕ) → is_open q (with_index f.index (opened frames)) ≡ opens (slice_get marks q)
   pub sound : Sound sets marks
   pub chained : Chained sets first marks f frames
 
@@ -218,69 +212,69 @@ stands_at_first sets first = record {
   sized = length-replicate (length sets) New;
   counted = omega (arith, all_new sets, none_done sets);
   open_marks = λ q. sym (not_open (length sets) q);
-  sound = λ id q clauses deeper places e none enough. absurd (let k : None ≡ Some clauses = sym (not_done (length sets) q) ∙ e in cc);
+  sound = λ id q clauses deeper indices e none enough. absurd (let k : None ≡ Some clauses = sym (not_done (length sets) q) ∙ e in cc);
   chained = refl;
 }
 
-inner_grows : (sets : List Ruleset) (old new : List Mark) (places : List ℕ) (f : Frame) → Grows old new → IsInner sets old places f → IsInner sets new places f
-inner_grows sets old new places f more i = record {
-  ruleset_place = i.ruleset_place;
-  is_place = i.is_place;
+inner_grows : (sets : List Ruleset) (old new : List Mark) (indices : List ℕ) (f : Frame) → Grows old new → IsInner sets old indices f → IsInner sets new indices f
+inner_grows sets old new indices f more i = record {
+  ruleset_index = i.ruleset_index;
+  is_index = i.is_index;
   alone = i.alone;
-  so_far = tallied_agrees sets (by_marks old) (by_marks new) (grows_agrees old new more) nothing (take f.next (rules_of (slice_get sets i.ruleset_place))) f.tally i.so_far;
+  so_far = tallied_agrees sets (by_marks old) (by_marks new) (grows_agrees old new more) nothing (take f.next (rules_of (slice_get sets i.ruleset_index))) f.tally i.so_far;
 }
 
 chained_grows : (sets : List Ruleset) (first : List Rule) (old new : List Mark) → Grows old new → (f : Frame) (frames : List Frame) → Chained sets first old f frames → Chained sets first new f frames
 chained_grows sets first old new more f [] c = c
-chained_grows sets first old new more f (g ∷ frames) c = (inner_grows sets old new (with_place g.place (opened frames)) f more c.0, c.1, chained_grows sets first old new more g frames c.2)
+chained_grows sets first old new more f (g ∷ frames) c = (inner_grows sets old new (with_index g.index (opened frames)) f more c.0, c.1, chained_grows sets first old new more g frames c.2)
 
-pub fault_of_all : (sets : List Ruleset) (first : List Rule) (marks : List Mark) (f : Frame) (frames : List Frame) (fault : RuleFault) → Chained sets first marks f frames → goes_on sets first (with_place f.place (opened frames)) f ≡ Err fault → whole sets first ≡ Err fault
+pub fault_of_all : (sets : List Ruleset) (first : List Rule) (marks : List Mark) (f : Frame) (frames : List Frame) (fault : RuleFault) → Chained sets first marks f frames → goes_on sets first (with_index f.index (opened frames)) f ≡ Err fault → whole sets first ≡ Err fault
 fault_of_all sets first marks f [] fault c e = sym c ∙ e
 fault_of_all sets first marks f (g ∷ frames) fault c e = fault_of_all sets first marks g frames fault c.2 (c.1 fault e)
 
 -- ---- the steps
 
 module _ (sets : List Ruleset) (first : List Rule) (marks : List Mark) (f : Frame) (frames : List Frame) (s : Stands sets first marks f frames) where
-  pub enough_left : weighed is_done sets marks ≤ length (drop (length (with_place f.place (opened frames))) sets)
-  enough_left = omega (arith, length-drop (length (with_place f.place (opened frames))) sets, s.counted)
+  pub enough_left : weighed is_done sets marks ≤ length (drop (length (with_index f.index (opened frames))) sets)
+  enough_left = omega (arith, length-drop (length (with_index f.index (opened frames))) sets, s.counted)
 
-  pub stands_agrees : Agrees (by_marks marks) (inside sets (with_place f.place (opened frames)))
+  pub stands_agrees : Agrees (by_marks marks) (inside sets (with_index f.index (opened frames)))
   stands_agrees =
-      let places = with_place f.place (opened frames) in
-      sound_agrees sets marks s.sound (drop (length places) sets) places (λ q e. open_undone (slice_get marks q) (sym (s.open_marks q) ∙ e)) enough_left
+      let indices = with_index f.index (opened frames) in
+      sound_agrees sets marks s.sound (drop (length indices) sets) indices (λ q e. open_undone (slice_get marks q) (sym (s.open_marks q) ∙ e)) enough_left
 
-so_far_more : (sets : List Ruleset) (first : List Rule) (marks : List Mark) (places : List ℕ) (f : Frame) (r : Rule) (u : Tally) → slice_get (rules_in sets first f.place) f.next ≡ Some r
-    → by_clause sets (by_marks marks) f.tally r (clause_of r.id) ≡ Ok u → IsInner sets marks places f → IsInner sets marks places (further f u)
-so_far_more sets first marks places f r u text said i =
-    let rules = rules_of (slice_get sets i.ruleset_place) in
-    let here : slice_get rules f.next ≡ Some r = ap (λ (o : Option ℕ). slice_get (rules_in sets first o) f.next) (sym i.is_place) ∙ text in
+so_far_more : (sets : List Ruleset) (first : List Rule) (marks : List Mark) (indices : List ℕ) (f : Frame) (r : Rule) (u : Tally) → slice_get (rules_in sets first f.index) f.next ≡ Some r
+    → by_clause sets (by_marks marks) f.tally r (clause_of r.id) ≡ Ok u → IsInner sets marks indices f → IsInner sets marks indices (further f u)
+so_far_more sets first marks indices f r u text said i =
+    let rules = rules_of (slice_get sets i.ruleset_index) in
+    let here : slice_get rules f.next ≡ Some r = ap (λ (o : Option ℕ). slice_get (rules_in sets first o) f.next) (sym i.is_index) ∙ text in
     let one : f.next + 1 ≡ suc f.next = omega arith in
     record {
-      ruleset_place = i.ruleset_place;
-      is_place = i.is_place;
+      ruleset_index = i.ruleset_index;
+      is_index = i.is_index;
       alone = i.alone;
       so_far = ap (λ (n : ℕ). tallied sets (by_marks marks) nothing (take n rules)) one ∙ ap (λ (xs : List Rule). tallied sets (by_marks marks) nothing xs) (front_at rules f.next r here) ∙ tallied_more sets (by_marks marks) nothing (take f.next rules) r f.tally u i.so_far said;
     }
 
-chained_further : (sets : List Ruleset) (first : List Rule) (marks : List Mark) (f : Frame) (frames : List Frame) (r : Rule) (u : Tally) → slice_get (rules_in sets first f.place) f.next ≡ Some r
-    → by_clause sets (by_marks marks) f.tally r (clause_of r.id) ≡ Ok u → by_clause sets (inside sets (with_place f.place (opened frames))) f.tally r (clause_of r.id) ≡ Ok u
+chained_further : (sets : List Ruleset) (first : List Rule) (marks : List Mark) (f : Frame) (frames : List Frame) (r : Rule) (u : Tally) → slice_get (rules_in sets first f.index) f.next ≡ Some r
+    → by_clause sets (by_marks marks) f.tally r (clause_of r.id) ≡ Ok u → by_clause sets (inside sets (with_index f.index (opened frames))) f.tally r (clause_of r.id) ≡ Ok u
     → Chained sets first marks f frames → Chained sets first marks (further f u) frames
-chained_further sets first marks f [] r u text by_mark by_walk c = sym (goes_further sets first (with_place f.place []) f r u text by_walk) ∙ c
+chained_further sets first marks f [] r u text by_mark by_walk c = sym (goes_further sets first (with_index f.index []) f r u text by_walk) ∙ c
 chained_further sets first marks f (g ∷ frames) r u text by_mark by_walk c = (
-  so_far_more sets first marks (with_place g.place (opened frames)) f r u text by_mark c.0,
-  λ fault e. c.1 fault (goes_further sets first (with_place f.place (with_place g.place (opened frames))) f r u text by_walk ∙ e),
+  so_far_more sets first marks (with_index g.index (opened frames)) f r u text by_mark c.0,
+  λ fault e. c.1 fault (goes_further sets first (with_index f.index (with_index g.index (opened frames))) f r u text by_walk ∙ e),
   c.2,
 )
 
 -- a text that says something by what is done
 pub stands_further : (sets : List Ruleset) (first : List Rule) (marks : List Mark) (f : Frame) (frames : List Frame) (r : Rule) (u : Tally) → Stands sets first marks f frames
-    → slice_get (rules_in sets first f.place) f.next ≡ Some r → by_clause sets (by_marks marks) f.tally r (clause_of r.id) ≡ Ok u → Stands sets first marks (further f u) frames
+    → slice_get (rules_in sets first f.index) f.next ≡ Some r → by_clause sets (by_marks marks) f.tally r (clause_of r.id) ≡ Ok u → Stands sets first marks (further f u) frames
 stands_further sets first marks f frames r u s text said = record {
   sized = s.sized;
   counted = s.counted;
   open_marks = s.open_marks;
   sound = s.sound;
-  chained = chained_further sets first marks f frames r u text said (clause_agrees sets (by_marks marks) (inside sets (with_place f.place (opened frames))) (stands_agrees sets first marks f frames s) f.tally r (clause_of r.id) u said) s.chained;
+  chained = chained_further sets first marks f frames r u text said (clause_agrees sets (by_marks marks) (inside sets (with_index f.index (opened frames))) (stands_agrees sets first marks f frames s) f.tally r (clause_of r.id) u said) s.chained;
 }
 
 -- ---- a ruleset is entered
@@ -295,33 +289,33 @@ module _ (sets : List Ruleset) (marks : List Mark) (p : ℕ) (is_mark : slice_ge
     | inr other ↦ ap done (set_elsewhere marks p q Open other.1)
   ]
 
-  open_more : (places : List ℕ) → ((q : ℕ) → is_open q places ≡ opens (slice_get marks q)) → (q : ℕ) → is_open q (p ∷ places) ≡ opens (slice_get (set marks p Open) q)
-  open_more places before q = elim (eqb_tells p q) [
-    | inl same ↦ ap (λ (b : Bool). b || is_open q places) same.0 ∙ sym (ap (λ (n : ℕ). opens (slice_get (set marks p Open) n)) (sym same.1) ∙ ap opens (set_there marks p Open new_within))
-    | inr other ↦ ap (λ (b : Bool). b || is_open q places) other.0 ∙ before q ∙ sym (ap opens (set_elsewhere marks p q Open other.1))
+  open_more : (indices : List ℕ) → ((q : ℕ) → is_open q indices ≡ opens (slice_get marks q)) → (q : ℕ) → is_open q (p ∷ indices) ≡ opens (slice_get (set marks p Open) q)
+  open_more indices before q = elim (eqb_tells p q) [
+    | inl same ↦ ap (λ (b : Bool). b || is_open q indices) same.0 ∙ sym (ap (λ (n : ℕ). opens (slice_get (set marks p Open) n)) (sym same.1) ∙ ap opens (set_there marks p Open new_within))
+    | inr other ↦ ap (λ (b : Bool). b || is_open q indices) other.0 ∙ before q ∙ sym (ap opens (set_elsewhere marks p q Open other.1))
   ]
 
 pub stands_inner : (sets : List Ruleset) (first : List Rule) (marks : List Mark) (f : Frame) (frames : List Frame) (r : Rule) (p : ℕ) → Stands sets first marks f frames
-    → slice_get (rules_in sets first f.place) f.next ≡ Some r → clause_of r.id ≡ None → set_named sets r ≡ Some p → slice_get marks p ≡ Some New
+    → slice_get (rules_in sets first f.index) f.next ≡ Some r → clause_of r.id ≡ None → set_named sets r ≡ Some p → slice_get marks p ≡ Some New
     → Stands sets first (set marks p Open) (frame_at (Some p)) (f ∷ frames)
 stands_inner sets first marks f frames r p s text no_clause names is_mark =
-    let places = with_place f.place (opened frames) in
+    let indices = with_index f.index (opened frames) in
     let there = item_at sets p (omega (arith, slice_get_within marks p New is_mark, s.sized)) in
     let new : weighed is_new sets (set marks p Open) + 1 ≡ weighed is_new sets marks + 0 = weighed_set is_new sets marks p there.0 New Open there.1 is_mark in
     let done_as_before : weighed is_done sets (set marks p Open) + 0 ≡ weighed is_done sets marks + 0 = weighed_set is_done sets marks p there.0 New Open there.1 is_mark in
-    let room : length places < length sets = omega (arith, s.counted) in
-    let closed_yet : is_open p places ≡ false = s.open_marks p ∙ ap opens is_mark in
+    let room : length indices < length sets = omega (arith, s.counted) in
+    let closed_yet : is_open p indices ≡ false = s.open_marks p ∙ ap opens is_mark in
     record {
       sized = length-set marks p Open ∙ s.sized;
       counted = omega (arith, s.counted);
-      open_marks = open_more sets marks p is_mark places s.open_marks;
+      open_marks = open_more sets marks p is_mark indices s.open_marks;
       sound = λ id q clauses deeper around e none enough. s.sound id q clauses deeper around (sym (same_done sets marks p is_mark q) ∙ e) (λ k h. sym (same_done sets marks p is_mark k) ∙ none k h) (omega (arith, enough));
       chained = (
-        record { ruleset_place = p; is_place = refl; alone = closed_yet; so_far = refl },
-        λ fault e. goes_wrong sets first places f r fault text (
-            ap (by_clause sets (inside sets places) f.tally r) no_clause
-            ∙ ap (or_unknown (inside sets places) r.id f.tally) names
-            ∙ ap (λ (o : Result ℕ RuleFault). o >>> λ clauses. Ok (with_inner f.tally clauses)) (enters sets places r.id p room closed_yet ∙ e)),
+        record { ruleset_index = p; is_index = refl; alone = closed_yet; so_far = refl },
+        λ fault e. goes_wrong sets first indices f r fault text (
+            ap (by_clause sets (inside sets indices) f.tally r) no_clause
+            ∙ ap (or_unknown (inside sets indices) r.id f.tally) names
+            ∙ ap (λ (o : Result ℕ RuleFault). o >>> λ clauses. Ok (with_inner f.tally clauses)) (enters sets indices r.id p room closed_yet ∙ e)),
         chained_grows sets first marks (set marks p Open) (λ q clauses e. same_done sets marks p is_mark q ∙ e) f frames s.chained,
       );
     }
@@ -348,83 +342,83 @@ module _ (sets : List Ruleset) (marks : List Mark) (p clauses : ℕ) (is_mark : 
     | inr other ↦ ap done (set_elsewhere marks p q (Done clauses) other.1) ∙ e
   ]
 
-  open_less : (places : List ℕ) → is_open p places ≡ false → ((q : ℕ) → is_open q (p ∷ places) ≡ opens (slice_get marks q)) → (q : ℕ) → is_open q places ≡ opens (slice_get (set marks p (Done clauses)) q)
-  open_less places alone before q = elim (eqb_tells p q) [
-    | inl same ↦ ap (λ (n : ℕ). is_open n places) (sym same.1) ∙ alone ∙ sym (ap (λ (n : ℕ). opens (slice_get (set marks p (Done clauses)) n)) (sym same.1) ∙ ap opens (set_there marks p (Done clauses) open_within))
-    | inr other ↦ sym (ap (λ (b : Bool). b || is_open q places) other.0) ∙ before q ∙ sym (ap opens (set_elsewhere marks p q (Done clauses) other.1))
+  open_less : (indices : List ℕ) → is_open p indices ≡ false → ((q : ℕ) → is_open q (p ∷ indices) ≡ opens (slice_get marks q)) → (q : ℕ) → is_open q indices ≡ opens (slice_get (set marks p (Done clauses)) q)
+  open_less indices alone before q = elim (eqb_tells p q) [
+    | inl same ↦ ap (λ (n : ℕ). is_open n indices) (sym same.1) ∙ alone ∙ sym (ap (λ (n : ℕ). opens (slice_get (set marks p (Done clauses)) n)) (sym same.1) ∙ ap opens (set_there marks p (Done clauses) open_within))
+    | inr other ↦ sym (ap (λ (b : Bool). b || is_open q indices) other.0) ∙ before q ∙ sym (ap opens (set_elsewhere marks p q (Done clauses) other.1))
   ]
 
   -- inside a list of this ruleset there is still none that was done
-  none_inside : (places : List ℕ) → NoneDone (set marks p (Done clauses)) places → NoneDone marks (p ∷ places)
-  none_inside places none = λ q h. elim (eqb_tells p q) [
+  none_inside : (indices : List ℕ) → NoneDone (set marks p (Done clauses)) indices → NoneDone marks (p ∷ indices)
+  none_inside indices none = λ q h. elim (eqb_tells p q) [
     | inl same ↦ ap (λ (n : ℕ). done (slice_get marks n)) (sym same.1) ∙ ap done is_mark
-    | inr other ↦ not_before q (none q (sym (ap (λ (b : Bool). b || is_open q places) other.0) ∙ h))
+    | inr other ↦ not_before q (none q (sym (ap (λ (b : Bool). b || is_open q indices) other.0) ∙ h))
   ]
 
-  outside : (places : List ℕ) → NoneDone (set marks p (Done clauses)) places → is_open p places ≡ false
-  outside places none = not_true (is_open p places) (λ h. let k : Some clauses ≡ None = sym now_done ∙ none p h in cc)
+  outside : (indices : List ℕ) → NoneDone (set marks p (Done clauses)) indices → is_open p indices ≡ false
+  outside indices none = false_from_ne_true (is_open p indices) (λ h. let k : Some clauses ≡ None = sym now_done ∙ none p h in cc)
 
 -- the ruleset that is left leaves on the same wherever it is met
 sound_here : (sets : List Ruleset) (marks : List Mark) (p : ℕ) (t : Tally) (is_mark : slice_get marks p ≡ Some Open) → Sound sets marks → tallied sets (by_marks marks) nothing (rules_of (slice_get sets p)) ≡ Ok t
-    → (id : List ℕ) (deeper : List Ruleset) (places : List ℕ) → NoneDone (set marks p (Done (left_on t))) places → weighed is_done sets marks + 1 ≤ length deeper → set_at deeper sets places id p ≡ Ok (left_on t)
-sound_here sets marks p t is_mark sound said id [] places none enough = absurd (omega (arith, enough))
-sound_here sets marks p t is_mark sound said id (d ∷ deeper) places none enough =
+    → (id : List ℕ) (deeper : List Ruleset) (indices : List ℕ) → NoneDone (set marks p (Done (left_on t))) indices → weighed is_done sets marks + 1 ≤ length deeper → set_at deeper sets indices id p ≡ Ok (left_on t)
+sound_here sets marks p t is_mark sound said id [] indices none enough = absurd (omega (arith, enough))
+sound_here sets marks p t is_mark sound said id (d ∷ deeper) indices none enough =
     let rules = rules_of (slice_get sets p) in
     let less : weighed is_done sets marks ≤ length deeper = omega (arith, enough) in
-    let agrees = sound_agrees sets marks sound deeper (p ∷ places) (none_inside sets marks p (left_on t) is_mark places none) less in
-    entered_by d deeper sets places id p (outside sets marks p (left_on t) is_mark places none)
-    ∙ texts_tallied sets (set_at deeper sets (p ∷ places)) nothing rules
-    ∙ ap (λ (o : Result Tally RuleFault). o >>> λ u. Ok (left_on u)) (tallied_agrees sets (by_marks marks) (set_at deeper sets (p ∷ places)) agrees nothing rules t said)
+    let agrees = sound_agrees sets marks sound deeper (p ∷ indices) (none_inside sets marks p (left_on t) is_mark indices none) less in
+    entered_by d deeper sets indices id p (outside sets marks p (left_on t) is_mark indices none)
+    ∙ texts_tallied sets (set_at deeper sets (p ∷ indices)) nothing rules
+    ∙ ap (λ (o : Result Tally RuleFault). o >>> λ u. Ok (left_on u)) (tallied_agrees sets (by_marks marks) (set_at deeper sets (p ∷ indices)) agrees nothing rules t said)
 
 sound_after : (sets : List Ruleset) (marks : List Mark) (p : ℕ) (t : Tally) (is_mark : slice_get marks p ≡ Some Open) → Sound sets marks → tallied sets (by_marks marks) nothing (rules_of (slice_get sets p)) ≡ Ok t
     → weighed is_done sets (set marks p (Done (left_on t))) ≡ weighed is_done sets marks + 1 → Sound sets (set marks p (Done (left_on t)))
-sound_after sets marks p t is_mark sound said count = λ id q clauses deeper places e none enough.
+sound_after sets marks p t is_mark sound said count = λ id q clauses deeper indices e none enough.
     elim (eqb_tells p q) [
       | inl same ↦
           let is_clauses : left_on t ≡ clauses = same_Some (left_on t) clauses (sym (now_done sets marks p (left_on t) is_mark) ∙ ap (λ (n : ℕ). done (slice_get (set marks p (Done (left_on t))) n)) same.1 ∙ e) in
-          ap (λ (n : ℕ). set_at deeper sets places id n) (sym same.1) ∙ sound_here sets marks p t is_mark sound said id deeper places none (omega (arith, enough, count)) ∙ ap (λ (c : ℕ). Ok c) is_clauses
-      | inr other ↦ sound id q clauses deeper places (sym (ap done (set_elsewhere marks p q (Done (left_on t)) other.1)) ∙ e) (λ k h. not_before sets marks p (left_on t) is_mark k (none k h)) (omega (arith, enough, count))
+          ap (λ (n : ℕ). set_at deeper sets indices id n) (sym same.1) ∙ sound_here sets marks p t is_mark sound said id deeper indices none (omega (arith, enough, count)) ∙ ap (λ (c : ℕ). Ok c) is_clauses
+      | inr other ↦ sound id q clauses deeper indices (sym (ap done (set_elsewhere marks p q (Done (left_on t)) other.1)) ∙ e) (λ k h. not_before sets marks p (left_on t) is_mark k (none k h)) (omega (arith, enough, count))
     ]
 
 -- the ruleset of a list for which another waits is open
 around_open : (sets : List Ruleset) (first : List Rule) (marks : List Mark) (f g : Frame) (frames : List Frame) (s : Stands sets first marks f (g ∷ frames))
-    → (q : ℕ) → is_open q (s.chained.0.ruleset_place ∷ with_place g.place (opened frames)) ≡ opens (slice_get marks q)
-around_open sets first marks f g frames s = λ q. ap (λ (o : Option ℕ). is_open q (with_place o (with_place g.place (opened frames)))) (sym s.chained.0.is_place) ∙ s.open_marks q
+    → (q : ℕ) → is_open q (s.chained.0.ruleset_index ∷ with_index g.index (opened frames)) ≡ opens (slice_get marks q)
+around_open sets first marks f g frames s = λ q. ap (λ (o : Option ℕ). is_open q (with_index o (with_index g.index (opened frames)))) (sym s.chained.0.is_index) ∙ s.open_marks q
 
-pub stands_mark : (sets : List Ruleset) (first : List Rule) (marks : List Mark) (f g : Frame) (frames : List Frame) (s : Stands sets first marks f (g ∷ frames)) → slice_get marks s.chained.0.ruleset_place ≡ Some Open
+pub stands_mark : (sets : List Ruleset) (first : List Rule) (marks : List Mark) (f g : Frame) (frames : List Frame) (s : Stands sets first marks f (g ∷ frames)) → slice_get marks s.chained.0.ruleset_index ≡ Some Open
 stands_mark sets first marks f g frames s =
-    let p = s.chained.0.ruleset_place in
-    open_is (slice_get marks p) (sym (around_open sets first marks f g frames s p) ∙ ap (λ (b : Bool). b || is_open p (with_place g.place (opened frames))) (itself p))
+    let p = s.chained.0.ruleset_index in
+    open_is (slice_get marks p) (sym (around_open sets first marks f g frames s p) ∙ ap (λ (b : Bool). b || is_open p (with_index g.index (opened frames))) (eq-eqb p p refl))
 
-stands_left : (sets : List Ruleset) (first : List Rule) (marks : List Mark) (f g : Frame) (frames : List Frame) (s : Stands sets first marks f (g ∷ frames)) → slice_get (rules_in sets first f.place) f.next ≡ None
-    → Stands sets first (set marks s.chained.0.ruleset_place (Done (left_on f.tally))) g frames
+stands_left : (sets : List Ruleset) (first : List Rule) (marks : List Mark) (f g : Frame) (frames : List Frame) (s : Stands sets first marks f (g ∷ frames)) → slice_get (rules_in sets first f.index) f.next ≡ None
+    → Stands sets first (set marks s.chained.0.ruleset_index (Done (left_on f.tally))) g frames
 stands_left sets first marks f g frames s past =
     let i = s.chained.0 in
-    let p = i.ruleset_place in
-    let places = with_place g.place (opened frames) in
+    let p = i.ruleset_index in
+    let indices = with_index g.index (opened frames) in
     let before = around_open sets first marks f g frames s in
     let is_mark = stands_mark sets first marks f g frames s in
     let there = item_at sets p (omega (arith, slice_get_within marks p Open is_mark, s.sized)) in
     let new : weighed is_new sets (set marks p (Done (left_on f.tally))) + 0 ≡ weighed is_new sets marks + 0 = weighed_set is_new sets marks p there.0 Open (Done (left_on f.tally)) there.1 is_mark in
     let one_more : weighed is_done sets (set marks p (Done (left_on f.tally))) + 0 ≡ weighed is_done sets marks + 1 = weighed_set is_done sets marks p there.0 Open (Done (left_on f.tally)) there.1 is_mark in
     let count : weighed is_done sets (set marks p (Done (left_on f.tally))) ≡ weighed is_done sets marks + 1 = omega (arith, one_more) in
-    let one_less : length (with_place f.place places) ≡ suc (length places) = ap (λ (o : Option ℕ). length (with_place o places)) i.is_place in
+    let one_less : length (with_index f.index indices) ≡ suc (length indices) = ap (λ (o : Option ℕ). length (with_index o indices)) i.is_index in
     let rules = rules_of (slice_get sets p) in
-    let here : slice_get rules f.next ≡ None = ap (λ (o : Option ℕ). slice_get (rules_in sets first o) f.next) (sym i.is_place) ∙ past in
+    let here : slice_get rules f.next ≡ None = ap (λ (o : Option ℕ). slice_get (rules_in sets first o) f.next) (sym i.is_index) ∙ past in
     let said : tallied sets (by_marks marks) nothing rules ≡ Ok f.tally = ap (λ (xs : List Rule). tallied sets (by_marks marks) nothing xs) (sym (front_past rules f.next here)) ∙ i.so_far in
     record {
       sized = length-set marks p (Done (left_on f.tally)) ∙ s.sized;
       counted = omega (arith, s.counted);
-      open_marks = open_less sets marks p (left_on f.tally) is_mark places i.alone before;
+      open_marks = open_less sets marks p (left_on f.tally) is_mark indices i.alone before;
       sound = sound_after sets marks p f.tally is_mark s.sound said count;
       chained = chained_grows sets first marks (set marks p (Done (left_on f.tally))) (grows sets marks p (left_on f.tally) is_mark) g frames s.chained.2;
     }
 
-pub stands_over : (sets : List Ruleset) (first : List Rule) (marks : List Mark) (f g : Frame) (frames : List Frame) → Stands sets first marks f (g ∷ frames) → slice_get (rules_in sets first f.place) f.next ≡ None
-    → Stands sets first (closed marks f.place (left_on f.tally)) g frames
+pub stands_over : (sets : List Ruleset) (first : List Rule) (marks : List Mark) (f g : Frame) (frames : List Frame) → Stands sets first marks f (g ∷ frames) → slice_get (rules_in sets first f.index) f.next ≡ None
+    → Stands sets first (closed marks f.index (left_on f.tally)) g frames
 stands_over sets first marks f g frames s past =
-    subst (λ (ms : List Mark). Stands sets first ms g frames) (sym (ap (λ (o : Option ℕ). closed marks o (left_on f.tally)) s.chained.0.is_place)) (stands_left sets first marks f g frames s past)
+    subst (λ (ms : List Mark). Stands sets first ms g frames) (sym (ap (λ (o : Option ℕ). closed marks o (left_on f.tally)) s.chained.0.is_index)) (stands_left sets first marks f g frames s past)
 
 -- the last list is over
-pub whole_over : (sets : List Ruleset) (first : List Rule) (marks : List Mark) (f : Frame) → Stands sets first marks f [] → slice_get (rules_in sets first f.place) f.next ≡ None → whole sets first ≡ Ok (left_on f.tally)
-whole_over sets first marks f s past = sym s.chained ∙ goes_over sets first (with_place f.place []) f past
+pub whole_over : (sets : List Ruleset) (first : List Rule) (marks : List Mark) (f : Frame) → Stands sets first marks f [] → slice_get (rules_in sets first f.index) f.next ≡ None → whole sets first ≡ Ok (left_on f.tally)
+whole_over sets first marks f s past = sym s.chained ∙ goes_over sets first (with_index f.index []) f past

@@ -1,14 +1,14 @@
 -- What the texts of a list say, where two walks agree on the rulesets that they name.
 use Rattle.std.proofs.Common.{◌≡◌, ℕ, List, [], ◌∷◌, ◌++◌, Option, Some, None, Result, Ok, Err, refl, ap, ◌∙◌}
 use Rattle.ps_rules.specs.declared.clause.Clause.{Clause}
-use Rattle.ps_rules.specs.declared.row.Rule.{Rule}
-use Rattle.ps_rules.specs.declared.row.Ruleset.{Ruleset}
+use Rattle.ps_rules.specs.declared.table.Rule.{Rule}
+use Rattle.ps_rules.specs.declared.table.Ruleset.{Ruleset}
 use Rattle.ps_rules.specs.declared.walk.Tally.{Tally}
 use Rattle.ps_rules.specs.declared.fault.RuleFault.{RuleFault}
 use Rattle.ps_rules.specs.Clauses.{clause_of}
 use Rattle.ps_rules.specs.Walk.{◌>>>◌, left_on, with_inner, set_named, or_unknown, by_clause, texts}
 
--- what a ruleset leaves on, by the id that names it and its place
+-- what a ruleset leaves on, by the id that names it and its index
 abbrev pub Inside : Type 0
 Inside = List ℕ → ℕ → Result ℕ RuleFault
 
@@ -47,16 +47,16 @@ tallied_more sets inside t (s ∷ rules) r u v e said =
 
 -- what the first finds, the second finds too
 abbrev pub Agrees : Inside → Inside → Type 0
-Agrees one other = (id : List ℕ) (place clauses : ℕ) → one id place ≡ Ok clauses → other id place ≡ Ok clauses
+Agrees one other = (id : List ℕ) (index clauses : ℕ) → one id index ≡ Ok clauses → other id index ≡ Ok clauses
 
 module _ (sets : List Ruleset) (one other : Inside) (same : Agrees one other) where
-  place_agrees : (id : List ℕ) (t : Tally) (o : Option ℕ) (u : Tally) → or_unknown one id t o ≡ Ok u → or_unknown other id t o ≡ Ok u
-  place_agrees id t None u e = e
-  place_agrees id t (Some place) u e = then_ok (one id place) (other id place) (λ clauses. Ok (with_inner t clauses)) (λ clauses. Ok (with_inner t clauses)) u u (λ clauses h. same id place clauses h) (λ clauses h. h) e
+  index_agrees : (id : List ℕ) (t : Tally) (o : Option ℕ) (u : Tally) → or_unknown one id t o ≡ Ok u → or_unknown other id t o ≡ Ok u
+  index_agrees id t None u e = e
+  index_agrees id t (Some index) u e = then_ok (one id index) (other id index) (λ clauses. Ok (with_inner t clauses)) (λ clauses. Ok (with_inner t clauses)) u u (λ clauses h. same id index clauses h) (λ clauses h. h) e
 
   pub clause_agrees : (t : Tally) (r : Rule) (o : Option Clause) (u : Tally) → by_clause sets one t r o ≡ Ok u → by_clause sets other t r o ≡ Ok u
   clause_agrees t r (Some clause) u e = e
-  clause_agrees t r None u e = place_agrees r.id t (set_named sets r) u e
+  clause_agrees t r None u e = index_agrees r.id t (set_named sets r) u e
 
   pub tallied_agrees : (t : Tally) (rules : List Rule) (u : Tally) → tallied sets one t rules ≡ Ok u → tallied sets other t rules ≡ Ok u
   tallied_agrees t [] u e = e

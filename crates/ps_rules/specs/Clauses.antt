@@ -1,8 +1,9 @@
 -- The clauses, in their order.
-use Rattle.std.specs.Prelude.{ℕ, ◌==◌, Bool, not, List, codes, Option, Some, None, bit_and, if◌then◌else◌}
+use Rattle.std.specs.Prelude.{ℕ, List, codes, Option, Some, None, if◌then◌else◌}
 use Rattle.std.specs.Str.{bytes_eq}
 use Rattle.ps_rules.specs.declared.clause.Clause.{Clause}
 use Rattle.ps_rules.specs.declared.clause.Clause.TheVariants.{Species, Sleep, Freeze, Ohko, Evasion, Nickname, Percentage}
+use Rattle.ps_mon.specs.Clauses.{has_clause}
 
 -- the name of a clause; its id is that of this name
 abbrev pub name_of : Clause → List ℕ
@@ -26,7 +27,7 @@ clause_of id =
     if bytes_eq id (codes "hppercentagemod") then Some Percentage else
     None))))))
 
--- A set of clauses is a number; each clause has a bit of it.
+-- A set of clauses is a number; each clause has_clause a bit of it.
 abbrev pub bit_of : Clause → ℕ
 bit_of Species = 1
 bit_of Sleep = 2
@@ -35,7 +36,3 @@ bit_of Ohko = 8
 bit_of Evasion = 16
 bit_of Nickname = 32
 bit_of Percentage = 64
-
--- a set has a bit
-abbrev pub has : ℕ → ℕ → Bool
-has clauses bit = not (bit_and clauses bit == 0)

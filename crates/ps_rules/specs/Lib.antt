@@ -1,6 +1,6 @@
 pub mod Clauses
 pub mod Rules
-pub mod Places
+pub mod Indices
 pub mod Walk
 pub mod Steps
 pub mod Reading

@@ -1,5 +1,5 @@
 -- What rulesets and formats a configuration says.
-use Rattle.std.specs.Prelude.{ℕ, ◌==◌, ◌&&◌, ◌||◌, Bool, true, not, List, [], ◌∷◌, length, codes, position, is_some, bytes_eq, Result, Ok, Err, nat_le}
+use Rattle.std.specs.Prelude.{ℕ, ◌==◌, ◌&&◌, ◌||◌, Bool, true, not, List, [], ◌∷◌, length, codes, is_some, bytes_eq, Result, Ok, Err, nat_le}
 use Rattle.std.specs.List.{list_any, list_all}
 use Rattle.std.specs.Str.{chars}
 use Rattle.serde_json.specs.Data.{Data}
@@ -11,13 +11,14 @@ use Rattle.ps_data.specs.Paths.{Index}
 use Rattle.ps_data.specs.Reading.{◌>>=◌, refuse, under, ensure, required, optional}
 use Rattle.ps_data.specs.Forms.{object_in, text_in, boolean_in, number_in, array_in}
 use Rattle.ps_data.specs.Lists.{each, entries_at}
-use Rattle.ps_dex.specs.declared.row.Tables.{Tables}
+use Rattle.ps_data.specs.OwnIds.{has_id, key_id_in}
+use Rattle.ps_dex.specs.declared.item.Tables.{Tables}
 use Rattle.ps_dex.specs.Lookups.{species_of, move_of}
-use Rattle.ps_rules.specs.declared.row.Rule.{Rule}
-use Rattle.ps_rules.specs.declared.row.Ruleset.{Ruleset}
-use Rattle.ps_rules.specs.declared.row.Format.{Format}
-use Rattle.ps_rules.specs.declared.row.RuleTable.{RuleTable}
-use Rattle.ps_rules.specs.declared.row.Said.{Said}
+use Rattle.ps_rules.specs.declared.table.Rule.{Rule}
+use Rattle.ps_rules.specs.declared.table.Ruleset.{Ruleset}
+use Rattle.ps_rules.specs.declared.table.Format.{Format}
+use Rattle.ps_rules.specs.declared.table.RuleTable.{RuleTable}
+use Rattle.ps_rules.specs.declared.table.Said.{Said}
 use Rattle.ps_rules.specs.declared.name.Named.{Named}
 use Rattle.ps_rules.specs.declared.fault.RuleFault.{RuleFault}
 use Rattle.ps_rules.specs.declared.fault.RuleFault.TheVariants as rule_faults
@@ -35,20 +36,10 @@ rules_in d = do
   items ← array_in d
   each (λ before after. rule_in) [] items
 
-unfoldable pub has_set : List ℕ → List Ruleset → Bool
-has_set id sets = is_some (position (λ s. bytes_eq s.id id) sets)
-
--- the id of a key: not empty, and not that of a key before it
-unfoldable pub set_id_in : List Ruleset → List ℕ → Result (List ℕ) Fault
-set_id_in before key = do
-  _ ← ensure Range (not (length (id_of key) == 0))
-  _ ← ensure Repeat (not (has_set (id_of key) before))
-  Ok (id_of key)
-
 -- the key is tested before the value
 unfoldable pub ruleset_in : List Ruleset → List ℕ → Data → Result Ruleset Fault
 ruleset_in before key d = do
-  id ← set_id_in before key
+  id ← key_id_in (λ s. s.id) before key
   rules ← rules_in d
   Ok (record { id = id; rules = rules })
 
@@ -66,7 +57,7 @@ unfoldable pub is_name : List ℕ → List ℕ → Bool
 is_name cs id = are_name_chars cs && nat_le (length cs) 32 && not (length id == 0)
 
 unfoldable pub has_format : List ℕ → List Format → Bool
-has_format id formats = is_some (position (λ f. bytes_eq f.id id) formats)
+has_format id formats = has_id (λ f. f.id) id formats
 
 -- a name and its id, which no format before has
 unfoldable pub name_in : List Format → Data → Result Named Fault
@@ -119,7 +110,7 @@ bans_in dex d = do
 -- ---- levels: the least and the greatest, each 1 to 100
 
 abbrev pub level_in : ℕ → Data → Result ℕ Fault
-level_in place d = under (Index place) (number_in 1 100 d)
+level_in index d = under (Index index) (number_in 1 100 d)
 
 unfoldable pub two_levels_in : Data → Data → Result (List ℕ) Fault
 two_levels_in a b = do

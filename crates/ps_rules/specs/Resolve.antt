@@ -1,8 +1,8 @@
 -- What is played under a format, or under an id that no format has.
 use Rattle.std.specs.Prelude.{ℕ, true, false, List, [], ◌∷◌, bytes_eq, position, slice_get, Option, Some, None, Result, Ok}
-use Rattle.ps_rules.specs.declared.row.RuleTable.{RuleTable}
-use Rattle.ps_rules.specs.declared.row.Format.{Format}
-use Rattle.ps_rules.specs.declared.row.Said.{Said}
+use Rattle.ps_rules.specs.declared.table.RuleTable.{RuleTable}
+use Rattle.ps_rules.specs.declared.table.Format.{Format}
+use Rattle.ps_rules.specs.declared.table.Said.{Said}
 use Rattle.ps_rules.specs.declared.fault.RuleFault.{RuleFault}
 use Rattle.ps_rules.specs.Walk.{◌>>>◌, clauses_of}
 
@@ -10,17 +10,17 @@ use Rattle.ps_rules.specs.Walk.{◌>>>◌, clauses_of}
 abbrev pub no_formats : Said
 no_formats = record { rulesets = []; formats = [] }
 
--- the place of the format with an id
-unfoldable pub format_place : List ℕ → List Format → Option ℕ
-format_place id formats = position (λ f. bytes_eq f.id id) formats
+-- the index of the format with an id
+unfoldable pub format_index : List ℕ → List Format → Option ℕ
+format_index id formats = position (λ f. bytes_eq f.id id) formats
 
-abbrev pub at_place : Option ℕ → List Format → Option Format
-at_place None formats = None
-at_place (Some i) formats = slice_get formats i
+abbrev pub at_its_index : Option ℕ → List Format → Option Format
+at_its_index None formats = None
+at_its_index (Some i) formats = slice_get formats i
 
 -- the format with an id
 abbrev pub format_of : List ℕ → List Format → Option Format
-format_of id formats = at_place (format_place id formats) formats
+format_of id formats = at_its_index (format_index id formats) formats
 
 -- the clauses, and the defaults for the rest
 abbrev pub plain : ℕ → RuleTable

@@ -1,8 +1,8 @@
 -- Rule texts and rulesets.
 use Rattle.std.specs.Prelude.{ℕ, ◌==◌, Bool, false, List, [], ◌∷◌, position, Option, bytes_eq}
 use Rattle.ps_base.specs.Ids.{id_of}
-use Rattle.ps_rules.specs.declared.row.Rule.{Rule}
-use Rattle.ps_rules.specs.declared.row.Ruleset.{Ruleset}
+use Rattle.ps_rules.specs.declared.table.Rule.{Rule}
+use Rattle.ps_rules.specs.declared.table.Ruleset.{Ruleset}
 
 -- `!` stands at the front
 abbrev pub begins_so : List ℕ → Bool
@@ -13,6 +13,6 @@ begins_so (b ∷ text) = b == 33
 abbrev pub rule_of : List ℕ → Rule
 rule_of text = record { id = id_of text; repeals = begins_so text }
 
--- the place of the ruleset with an id
-unfoldable pub place_of : List ℕ → List Ruleset → Option ℕ
-place_of id sets = position (λ s. bytes_eq s.id id) sets
+-- the index of the ruleset with an id
+unfoldable pub index_of : List ℕ → List Ruleset → Option ℕ
+index_of id sets = position (λ s. bytes_eq s.id id) sets

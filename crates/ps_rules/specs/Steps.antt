@@ -2,8 +2,8 @@
 -- mark. Only private clauses cite this file; what a walk finds is said in `Walk`.
 use Rattle.std.specs.Prelude.{ℕ, ◌+◌, List, slice_get, slice_set, Option, Some, None, Result, Ok, Err}
 use Rattle.ps_rules.specs.declared.clause.Clause.{Clause}
-use Rattle.ps_rules.specs.declared.row.Rule.{Rule}
-use Rattle.ps_rules.specs.declared.row.Ruleset.{Ruleset}
+use Rattle.ps_rules.specs.declared.table.Rule.{Rule}
+use Rattle.ps_rules.specs.declared.table.Ruleset.{Ruleset}
 use Rattle.ps_rules.specs.declared.walk.Tally.{Tally}
 use Rattle.ps_rules.specs.declared.walk.Mark.{Mark}
 use Rattle.ps_rules.specs.declared.walk.Mark.TheVariants.{New, Open, Done}
@@ -15,29 +15,29 @@ use Rattle.ps_rules.specs.declared.fault.RuleFault.TheVariants.{UnknownRule, Cyc
 use Rattle.ps_rules.specs.Clauses.{clause_of, bit_of}
 use Rattle.ps_rules.specs.Walk.{nothing, left_on, own, with_inner, set_named, rules_of}
 
--- the texts of the ruleset at a place, or those that the walk begins with
+-- the texts of the ruleset at an index, or those that the walk begins with
 abbrev pub rules_in : List Ruleset → List Rule → Option ℕ → List Rule
 rules_in sets first None = first
-rules_in sets first (Some place) = rules_of (slice_get sets place)
+rules_in sets first (Some index) = rules_of (slice_get sets index)
 
 -- no text of a list has been walked yet
 abbrev pub frame_at : Option ℕ → Frame
-frame_at place = record { place = place; next = 0; tally = nothing }
+frame_at index = record { index = index; next = 0; tally = nothing }
 
 -- one text more has been walked
 abbrev pub further : Frame → Tally → Frame
-further f t = record { place = f.place; next = f.next + 1; tally = t }
+further f t = record { index = f.index; next = f.next + 1; tally = t }
 
 -- a text that names the ruleset with a mark
 abbrev pub by_mark : List ℕ → Frame → ℕ → Option Mark → Result Turn RuleFault
-by_mark id f place None = Err (Cycle id)
-by_mark id f place (Some New) = Ok (Inner place)
-by_mark id f place (Some Open) = Err (Cycle id)
-by_mark id f place (Some (Done clauses)) = Ok (Further (further f (with_inner f.tally clauses)))
+by_mark id f index None = Err (Cycle id)
+by_mark id f index (Some New) = Ok (Inner index)
+by_mark id f index (Some Open) = Err (Cycle id)
+by_mark id f index (Some (Done clauses)) = Ok (Further (further f (with_inner f.tally clauses)))
 
-abbrev pub by_place : List Mark → List ℕ → Frame → Option ℕ → Result Turn RuleFault
-by_place marks id f None = Err (UnknownRule id)
-by_place marks id f (Some place) = by_mark id f place (slice_get marks place)
+abbrev pub by_index : List Mark → List ℕ → Frame → Option ℕ → Result Turn RuleFault
+by_index marks id f None = Err (UnknownRule id)
+by_index marks id f (Some index) = by_mark id f index (slice_get marks index)
 
 -- a text that names a clause
 abbrev pub by_own : List ℕ → Frame → Option Tally → Result Turn RuleFault
@@ -46,7 +46,7 @@ by_own id f (Some t) = Ok (Further (further f t))
 
 abbrev pub by_name : List Ruleset → List Mark → Frame → Rule → Option Clause → Result Turn RuleFault
 by_name sets marks f r (Some clause) = by_own r.id f (own f.tally (bit_of clause) r.repeals)
-by_name sets marks f r None = by_place marks r.id f (set_named sets r)
+by_name sets marks f r None = by_index marks r.id f (set_named sets r)
 
 unfoldable pub heard : List Ruleset → List Mark → Frame → Rule → Result Turn RuleFault
 heard sets marks f r = by_name sets marks f r (clause_of r.id)
@@ -57,9 +57,9 @@ at_text sets marks f (Some r) = heard sets marks f r
 
 -- the next step in a list
 unfoldable pub turn_in : List Ruleset → List Mark → List Rule → Frame → Result Turn RuleFault
-turn_in sets marks first f = at_text sets marks f (slice_get (rules_in sets first f.place) f.next)
+turn_in sets marks first f = at_text sets marks f (slice_get (rules_in sets first f.index) f.next)
 
 -- the ruleset of a list leaves these clauses on from now on
 abbrev pub closed : List Mark → Option ℕ → ℕ → List Mark
 closed marks None clauses = marks
-closed marks (Some place) clauses = slice_set marks place (Done clauses)
+closed marks (Some index) clauses = slice_set marks index (Done clauses)

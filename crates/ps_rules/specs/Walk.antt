@@ -1,17 +1,18 @@
 -- What clauses a rule list leaves on.
 --
--- A list is walked in order, and a ruleset at its place depth first. The result is the clauses of the inner lists and
+-- A list is walked in order, and a ruleset where it stands depth first. The result is the clauses of the inner lists and
 -- those that the list names itself, less those that it repeals itself.
 use Rattle.std.specs.Prelude.{ℕ, ◌==◌, Bool, List, [], ◌∷◌, slice_get, Option, Some, None, Result, Ok, Err, bit_and, bit_or, bit_xor, if◌then◌else◌}
 use Rattle.std.specs.List.{list_any}
 use Rattle.ps_rules.specs.declared.clause.Clause.{Clause}
-use Rattle.ps_rules.specs.declared.row.Rule.{Rule}
-use Rattle.ps_rules.specs.declared.row.Ruleset.{Ruleset}
+use Rattle.ps_rules.specs.declared.table.Rule.{Rule}
+use Rattle.ps_rules.specs.declared.table.Ruleset.{Ruleset}
 use Rattle.ps_rules.specs.declared.walk.Tally.{Tally}
 use Rattle.ps_rules.specs.declared.fault.RuleFault.{RuleFault}
 use Rattle.ps_rules.specs.declared.fault.RuleFault.TheVariants.{UnknownRule, Cycle, Contradiction}
-use Rattle.ps_rules.specs.Clauses.{clause_of, bit_of, has}
-use Rattle.ps_rules.specs.Rules.{place_of}
+use Rattle.ps_rules.specs.Clauses.{clause_of, bit_of}
+use Rattle.ps_rules.specs.Rules.{index_of}
+use Rattle.ps_mon.specs.Clauses.{has_clause}
 
 -- ---- one list: the clauses of its inner lists, those that it names and those that it repeals
 
@@ -24,11 +25,11 @@ left_on t = bit_and (bit_or t.inner t.named) (bit_xor 255 t.repealed)
 
 -- the list names a clause; None where it repeals it too
 abbrev pub naming : Tally → ℕ → Option Tally
-naming t bit = if has t.repealed bit then None else Some (record { inner = t.inner; named = bit_or t.named bit; repealed = t.repealed })
+naming t bit = if has_clause t.repealed bit then None else Some (record { inner = t.inner; named = bit_or t.named bit; repealed = t.repealed })
 
 -- the list repeals a clause; None where it names it too
 abbrev pub repealing : Tally → ℕ → Option Tally
-repealing t bit = if has t.named bit then None else Some (record { inner = t.inner; named = t.named; repealed = bit_or t.repealed bit })
+repealing t bit = if has_clause t.named bit then None else Some (record { inner = t.inner; named = t.named; repealed = bit_or t.repealed bit })
 
 unfoldable pub own : Tally → ℕ → Bool → Option Tally
 own t bit repeals = if repeals then repealing t bit else naming t bit
@@ -41,7 +42,7 @@ with_inner t clauses = record { inner = bit_or t.inner clauses; named = t.named;
 
 -- the ruleset that a text names; a ruleset can't be repealed
 unfoldable pub set_named : List Ruleset → Rule → Option ℕ
-set_named sets r = if r.repeals then None else place_of r.id sets
+set_named sets r = if r.repeals then None else index_of r.id sets
 
 abbrev pub rules_of : Option Ruleset → List Rule
 rules_of None = []
@@ -54,7 +55,7 @@ abbrev pub ◌>>>◌ : {A B : Type 0} → Result A RuleFault → (A → Result B
 (Err fault) >>> next = Err fault
 
 abbrev pub is_open : ℕ → List ℕ → Bool
-is_open place within = list_any (λ p. p == place) within
+is_open index within = list_any (λ p. p == index) within
 
 -- a text that names a clause
 abbrev pub or_contradiction : List ℕ → Option Tally → Result Tally RuleFault
@@ -64,7 +65,7 @@ or_contradiction id (Some t) = Ok t
 -- a text that names a ruleset, where `inside` says what a ruleset leaves on
 abbrev pub or_unknown : (List ℕ → ℕ → Result ℕ RuleFault) → List ℕ → Tally → Option ℕ → Result Tally RuleFault
 or_unknown inside id t None = Err (UnknownRule id)
-or_unknown inside id t (Some place) = inside id place >>> λ clauses. Ok (with_inner t clauses)
+or_unknown inside id t (Some index) = inside id index >>> λ clauses. Ok (with_inner t clauses)
 
 abbrev pub by_clause : List Ruleset → (List ℕ → ℕ → Result ℕ RuleFault) → Tally → Rule → Option Clause → Result Tally RuleFault
 by_clause sets inside t r (Some clause) = or_contradiction r.id (own t (bit_of clause) r.repeals)
@@ -75,12 +76,12 @@ abbrev pub texts : List Ruleset → (List ℕ → ℕ → Result ℕ RuleFault) 
 texts sets inside t [] = Ok (left_on t)
 texts sets inside t (r ∷ rules) = by_clause sets inside t r (clause_of r.id) >>> λ u. texts sets inside u rules
 
--- What the ruleset at a place leaves on, inside the rulesets at the places `within`: a ruleset met inside itself is a
--- cycle. `deeper` has an item for each list that may still be entered. At first these are as many as there are
+-- What the ruleset at an index leaves on, inside the rulesets at the indices `within`: a ruleset met inside itself is a
+-- cycle. `deeper` has_clause an item for each list that may still be entered. At first these are as many as there are
 -- rulesets; so where none is left each ruleset is open already, and the first case says no more than the test in the second.
 abbrev pub set_at : List Ruleset → List Ruleset → List ℕ → List ℕ → ℕ → Result ℕ RuleFault
-set_at [] sets within id place = Err (Cycle id)
-set_at (d ∷ deeper) sets within id place = if is_open place within then Err (Cycle id) else texts sets (set_at deeper sets (place ∷ within)) nothing (rules_of (slice_get sets place))
+set_at [] sets within id index = Err (Cycle id)
+set_at (d ∷ deeper) sets within id index = if is_open index within then Err (Cycle id) else texts sets (set_at deeper sets (index ∷ within)) nothing (rules_of (slice_get sets index))
 
 -- the clauses that a rule list leaves on by itself
 unfoldable pub walk : List Ruleset → List Rule → Result ℕ RuleFault

@@ -1,6 +1,7 @@
 //! The clauses that a rule list may name.
 ghost use Rattle.std.specs.Prelude.{◌≡◌};
-ghost use Rattle.ps_rules.specs.Clauses.{clause_of, bit_of, name_of, has};
+ghost use Rattle.ps_rules.specs.Clauses.{clause_of, bit_of, name_of};
+ghost use Rattle.ps_mon.specs.Clauses.{has_clause};
 
 /// What a rule list can put on.
 #[derive(Clone, Copy, Debug, PartialEq, Eq)]
@@ -61,7 +62,7 @@ impl Clause {
 
     /// Whether the clause is on in a set of clauses.
     pub fn is_in(self, clauses: u8) -> bool
-        ensures { result ≡ has clauses (bit_of self) }
+        ensures { result ≡ has_clause clauses (bit_of self) }
     {
         has(clauses, self.bit())
     }
@@ -97,7 +98,7 @@ fn clause_of(id: &str) -> Option<Clause>
 
 /// Whether a bit is in a set of bits.
 pub(crate) fn has(set: u8, bit: u8) -> bool
-    ensures { result ≡ has set bit }
+    ensures { result ≡ has_clause set bit }
 {
     set & bit != 0
 }

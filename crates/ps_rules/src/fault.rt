@@ -1,25 +1,14 @@
 //! What the calls of this crate may refuse.
 ghost use Rattle.std.specs.Prelude.{◌≡◌};
 ghost use Rattle.ps_rules.specs.declared.fault.RuleFault.TheVariants.{NoMemory};
-ghost use Rattle.ps_rules.specs.Faults.{Tells};
 
 use ps_base::id::Id;
-use ps_base::text::Text;
-use ps_data::fault::{DataKind, Refusal};
-use std::alloc::{AllocError, AllocFailed, Global};
+use ps_data::file_fault::FileFault;
+use std::alloc::{AllocError, AllocFailed};
 
-/// Why a configuration has no formats.
-#[derive(Debug, Drop)]
-pub enum FormatFault {
-    /// The first value that isn't in its form, in the written order of the keys and then by places
-    /// of arrays: its path, like `formats[0].levels[1]`, and why it isn't. A rule list that can't be
-    /// resolved is a fault at the format's `rules`, by the first fault of its walk: `Unknown` for an
-    /// unknown rule, `Repeat` for a cycle and `Range` for a contradiction. Another value than an
-    /// object has the empty path and the kind `Shape`.
-    Fault { path: Text, kind: DataKind },
-    /// Memory ran out.
-    NoMemory,
-}
+/// Why a configuration has no formats. A rule list that can't be resolved is a fault at the format's `rules`, by
+/// the first fault of its walk: `Unknown` for an unknown rule, `Repeat` for a cycle and `Range` for a contradiction.
+pub type FormatFault = FileFault;
 
 /// The first fault in the walk of a rule list.
 #[derive(Debug, Drop)]
@@ -47,21 +36,5 @@ impl<T: Drop> From<AllocFailed<T>> for RuleFault {
 
     fn from(_error: AllocFailed<T>) -> RuleFault {
         RuleFault::NoMemory
-    }
-}
-
-/// The fault with its path as a text.
-pub(crate) fn told(alloc: Global, refusal: Refusal) -> FormatFault
-    ensures { Tells refusal result }
-{
-    match refusal {
-        Refusal::NoMemory => FormatFault::NoMemory,
-        Refusal::Fault(fault) => match fault.path.text(alloc) {
-            Err(_) => FormatFault::NoMemory,
-            Ok(path) => FormatFault::Fault {
-                path: Text::from_string(path),
-                kind: fault.kind,
-            },
-        },
     }
 }

@@ -1,19 +1,21 @@
 //! The formats of a configuration.
 ghost use Rattle.std.specs.Prelude.{◌≡◌, ◌<◌, length, option_map, IfOk, IfSome};
 ghost use Rattle.serde_json.specs.View.{view};
+ghost use Rattle.ps_data.specs.FileFaults.{GivesFile};
 ghost use Rattle.ps_data.specs.Reading.{Gives};
 ghost use Rattle.ps_rules.specs.Reading.{said_in};
-ghost use Rattle.ps_rules.specs.Resolve.{no_formats, format_place, format_of, plain, alone, resolved};
-ghost use Rattle.ps_rules.specs.Faults.{GivesFormats, Finds};
+ghost use Rattle.ps_rules.specs.Resolve.{no_formats, format_index, format_of, plain, alone, resolved};
+ghost use Rattle.ps_rules.specs.Faults.{Finds};
 
-use crate::fault::{FormatFault, RuleFault, told};
+use crate::fault::{FormatFault, RuleFault};
 use crate::read::read_said;
-use crate::row::{Format, Rule, RuleTable, Said};
 use crate::rulesets::Rulesets;
+use crate::table::{Format, Rule, RuleTable, Said};
 use crate::walk::clauses_of;
 use ps_base::id::Id;
 use ps_base::list::List;
 use ps_data::fault::Refusal;
+use ps_data::file_fault::reported;
 use ps_data::ids;
 use ps_dex::dex::Dex;
 use serde_json::Value;
@@ -28,19 +30,19 @@ pub struct Formats {
 }
 
 impl Model for Formats {
-    ghost use Rattle.ps_rules.specs.declared.row.Said.{Said};
+    ghost use Rattle.ps_rules.specs.declared.table.Said.{Said};
 
     ghost Value = { Said };
 
     ghost view = { λ f. f.said };
 }
 
-#[tactic(auto, unfolding(crate::specs::Resolve::format_place))]
-fn format_place(formats: &[Format], id: &str) -> Option<usize>
-    ensures place { result ≡ format_place id.now formats.now }
+#[tactic(auto, unfolding(crate::specs::Resolve::format_index))]
+fn format_index(formats: &[Format], id: &str) -> Option<usize>
+    ensures index { result ≡ format_index id.now formats.now }
     ensures within { IfSome result (λ i. i < length formats.now) }
 {
-    ids::place_of(formats, id)
+    ids::index_of(formats, id)
 }
 
 fn copies(alloc: Global, ids: &[Id]) -> Result<Vec<Id>, AllocError>
@@ -121,11 +123,11 @@ impl Formats {
 
     /// The same, where a fault has its path as a text.
     pub fn from_value(alloc: Global, value: &Value, dex: &Dex) -> Result<Formats, FormatFault>
-        ensures { GivesFormats result (said_in dex.now (view value.now)) }
+        ensures { GivesFile result (said_in dex.now (view value.now)) }
     {
         match Formats::read(alloc, value, dex) {
             Ok(formats) => Ok(formats),
-            Err(refusal) => Err(told(alloc, refusal)),
+            Err(refusal) => Err(reported(alloc, refusal)),
         }
     }
 
@@ -141,16 +143,16 @@ impl Formats {
         ensures { option_map (λ f. f.now) result ≡ format_of id.now self.now.formats }
     {
         let formats = self.said.formats.as_slice();
-        match format_place(formats, id.as_str()) {
+        match format_index(formats, id.as_str()) {
             None => None,
-            Some(place) => Some(&formats[place]),
+            Some(index) => Some(&formats[index]),
         }
     }
 }
 
 /// What is played under the format with an id. An id that no format has is taken as a format whose
 /// one rule is that id, with 1 to 6 members of the levels 1 to 100, no ban, and rated. The rule
-/// list is walked in order, each ruleset at its place depth first: `UnknownRule`, `Cycle` and
+/// list is walked in order, each ruleset where it stands depth first: `UnknownRule`, `Cycle` and
 /// `Contradiction` come exactly at the first such id of the walk, `NoMemory` where memory ran out.
 pub fn resolve(alloc: Global, formats: &Formats, id: &Id) -> Result<RuleTable, RuleFault>
     ensures { Finds result (resolved formats.now id.now) }

@@ -7,8 +7,8 @@ pub mod formats;
 mod list;
 mod name;
 mod read;
-pub mod row;
 pub mod rulesets;
+pub mod table;
 mod walk;
 
 pub use ps_data::fault::DataKind;

@@ -4,19 +4,19 @@ ghost use Rattle.serde_json.specs.View.{view};
 ghost use Rattle.ps_data.specs.Reading.{Gives, GivesBy};
 ghost use Rattle.ps_data.specs.Lists.{entries_at};
 ghost use Rattle.ps_rules.specs.Rules.{begins_so, rule_of};
-ghost use Rattle.ps_rules.specs.Reading.{rule_in, rules_in, has_set, set_id_in, ruleset_in, or_kind, clauses_in};
+ghost use Rattle.ps_rules.specs.Reading.{rule_in, rules_in, ruleset_in, or_kind, clauses_in};
 ghost use Rattle.ps_rules.specs.Walk.{clauses_of};
 
 use crate::fault::RuleFault;
-use crate::row::{Rule, Ruleset};
 use crate::rulesets::Rulesets;
+use crate::table::{Rule, Ruleset};
 use crate::walk::clauses_of;
-use ps_base::id::{Id, to_id};
+use ps_base::id::to_id;
 use ps_base::list::List;
 use ps_data::entries::{EntryForm, entries_at};
 use ps_data::fault::{DataKind, Refusal, refused};
-use ps_data::forms::{array, ensure, text};
-use ps_data::ids;
+use ps_data::forms::{array, text};
+use ps_data::ids::key_id;
 use ps_data::lists::{ItemForm, items_of};
 use serde_json::Value;
 use std::alloc::Global;
@@ -66,28 +66,11 @@ fn rules(alloc: Global, value: &Value) -> Result<Vec<Rule>, Refusal>
     items_of(alloc, &RuleForm, values)
 }
 
-#[tactic(auto, unfolding(crate::specs::Reading::has_set))]
-fn has_set(sets: &[Ruleset], id: &str) -> bool
-    ensures { result ≡ has_set id.now sets.now }
-{
-    ids::has_id(sets, id)
-}
-
-#[tactic(auto, unfolding(crate::specs::Reading::set_id_in))]
-fn set_id(alloc: Global, before: &[Ruleset], key: &str) -> Result<Id, Refusal>
-    ensures { Gives result (set_id_in before.now key.now) }
-{
-    let id = to_id(alloc, key)?;
-    ensure(alloc, !id.as_str().is_empty(), DataKind::Range)?;
-    ensure(alloc, !has_set(before, id.as_str()), DataKind::Repeat)?;
-    Ok(id)
-}
-
 #[tactic(auto, unfolding(crate::specs::Reading::ruleset_in))]
 fn ruleset(alloc: Global, before: &[Ruleset], key: &str, value: &Value) -> Result<Ruleset, Refusal>
     ensures { Gives result (ruleset_in before.now key.now (view value.now)) }
 {
-    let id = set_id(alloc, before, key)?;
+    let id = key_id(alloc, before, key)?;
     let rules = rules(alloc, value)?;
     Ok(Ruleset {
         id,

@@ -1,30 +1,24 @@
 //! Reads the names of formats.
-ghost use Rattle.std.specs.Prelude.{◌≡◌, IfOk};
-ghost use Rattle.std.specs.Str.{chars};
+ghost use Rattle.std.specs.Prelude.{◌≡◌};
 ghost use Rattle.serde_json.specs.View.{view};
 ghost use Rattle.ps_data.specs.Reading.{Gives};
 ghost use Rattle.ps_rules.specs.Reading.{are_name_chars, is_name, has_format, name_in};
 
-use crate::row::Format;
+use crate::table::Format;
+use ps_base::characters::characters;
 use ps_base::id::{Id, to_id};
 use ps_base::text::Text;
 use ps_data::fault::{DataKind, Refusal};
 use ps_data::forms::{ensure, text};
 use ps_data::ids;
 use serde_json::Value;
-use std::alloc::{AllocError, Global};
+use std::alloc::Global;
 
 /// A name beside its id.
 #[derive(Debug, Drop)]
 pub(crate) struct Named {
     pub(crate) name: Text,
     pub(crate) id: Id,
-}
-
-fn chars_of(alloc: Global, text: &str) -> Result<Vec<char>, AllocError>
-    ensures { IfOk result (λ v. v.items ≡ chars text.now) }
-{
-    text.chars().collect(alloc)
 }
 
 #[tactic(auto, unfolding(crate::specs::Reading::are_name_chars))]
@@ -57,7 +51,7 @@ pub(crate) fn read_name(alloc: Global, before: &[Format], value: &Value) -> Resu
 {
     let text = text(alloc, value)?;
     let id = to_id(alloc, text)?;
-    let chars = chars_of(alloc, text)?;
+    let chars = characters(alloc, text)?;
     ensure(alloc, is_name(&chars, id.as_str()), DataKind::Range)?;
     ensure(alloc, !has_format(before, id.as_str()), DataKind::Repeat)?;
     let name = Text::copy_of(alloc, text)?;

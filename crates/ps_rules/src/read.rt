@@ -7,8 +7,8 @@ ghost use Rattle.ps_rules.specs.Reading.{clauses_in, has_ban, is_known, ban_in, 
 
 use crate::list::{read_clauses, rulesets_at};
 use crate::name::{Named, read_name};
-use crate::row::{Format, RuleTable, Said};
 use crate::rulesets::Rulesets;
+use crate::table::{Format, RuleTable, Said};
 use ps_base::id::{Id, to_id};
 use ps_base::list::List;
 use ps_data::fault::{DataKind, Refusal, refused};

@@ -1,9 +1,9 @@
-//! Rulesets with their places by id.
+//! Rulesets with their indices by id.
 ghost use Rattle.std.specs.Prelude.{◌≡◌, [], IfOk};
-ghost use Rattle.ps_rules.specs.Rules.{place_of};
-ghost use Rattle.ps_rules.specs.Places.{IsIndex};
+ghost use Rattle.ps_rules.specs.Rules.{index_of};
+ghost use Rattle.ps_rules.specs.Indices.{IsIndex};
 
-use crate::row::Ruleset;
+use crate::table::Ruleset;
 use std::alloc::{AllocError, Global};
 use std::collections::BTreeMap;
 use std::marker::Model;
@@ -12,44 +12,44 @@ use std::marker::Model;
 #[derive(Debug, Drop)]
 pub struct Rulesets {
     list: Vec<Ruleset>,
-    places: BTreeMap<String, usize>,
+    indices: BTreeMap<String, usize>,
 }
 
 impl Model for Rulesets {
     ghost use Rattle.std.specs.Prelude as prelude;
-    ghost use Rattle.ps_rules.specs.declared.row.Ruleset.{Ruleset};
-    ghost use Rattle.ps_rules.specs.Places.{IsIndex};
+    ghost use Rattle.ps_rules.specs.declared.table.Ruleset.{Ruleset};
+    ghost use Rattle.ps_rules.specs.Indices.{IsIndex};
 
     ghost Value = { prelude.List Ruleset };
 
     ghost view = { λ r. r.list.items };
 
-    ghost invariant = { λ r. IsIndex r.list.items r.places };
+    ghost invariant = { λ r. IsIndex r.list.items r.indices };
 }
 
-/// The place of each id, the first where it comes twice.
-fn places_of(alloc: Global, sets: &[Ruleset]) -> Result<BTreeMap<String, usize>, AllocError>
-    ensures { IfOk result (λ places. IsIndex sets.now places) }
+/// The index of each id, the first where it comes twice.
+fn indices_of(alloc: Global, sets: &[Ruleset]) -> Result<BTreeMap<String, usize>, AllocError>
+    ensures { IfOk result (λ indices. IsIndex sets.now indices) }
 {
-    let mut places = BTreeMap::new(alloc);
-    let mut place = sets.len();
-    while place > 0 {
-        place -= 1;
-        let id = String::from_str(alloc, sets[place].id.as_str())?;
-        places.insert(id, place)?;
+    let mut indices = BTreeMap::new(alloc);
+    let mut index = sets.len();
+    while index > 0 {
+        index -= 1;
+        let id = String::from_str(alloc, sets[index].id.as_str())?;
+        indices.insert(id, index)?;
     }
-    Ok(places)
+    Ok(indices)
 }
 
 impl Rulesets {
     /// No ruleset. Takes no memory.
-    #[tactic(auto, unfolding(crate::specs::Rules::place_of))]
+    #[tactic(auto, unfolding(crate::specs::Rules::index_of))]
     pub(crate) fn none(alloc: Global) -> Rulesets
         ensures { result ≡ [] }
     {
         Rulesets {
             list: Vec::new(alloc),
-            places: BTreeMap::new(alloc),
+            indices: BTreeMap::new(alloc),
         }
     }
 
@@ -57,8 +57,8 @@ impl Rulesets {
     pub(crate) fn from_vec(alloc: Global, list: Vec<Ruleset>) -> Result<Rulesets, AllocError>
         ensures { IfOk result (λ sets. sets ≡ list.items) }
     {
-        let places = places_of(alloc, &list)?;
-        Ok(Rulesets { list, places })
+        let indices = indices_of(alloc, &list)?;
+        Ok(Rulesets { list, indices })
     }
 
     /// The rulesets in order.
@@ -68,13 +68,13 @@ impl Rulesets {
         self.list.as_slice()
     }
 
-    /// The place of the first ruleset with an id, from 0.
-    pub fn place_of(&self, id: &str) -> Option<usize>
-        ensures { result ≡ place_of id.now self.now }
+    /// The index of the first ruleset with an id, from 0.
+    pub fn index_of(&self, id: &str) -> Option<usize>
+        ensures { result ≡ index_of id.now self.now }
     {
-        match self.places.get(id) {
+        match self.indices.get(id) {
             None => None,
-            Some(place) => Some(*place),
+            Some(index) => Some(*index),
         }
     }
 }

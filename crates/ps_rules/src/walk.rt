@@ -6,8 +6,8 @@ ghost use Rattle.ps_rules.specs.Faults.{Finds};
 
 use crate::clause::{Clause, has};
 use crate::fault::RuleFault;
-use crate::row::{Rule, Ruleset};
 use crate::rulesets::Rulesets;
+use crate::table::{Rule, Ruleset};
 use ps_base::id::Id;
 use std::alloc::{AllocError, Global};
 use std::collections::VecDeque;
@@ -35,8 +35,8 @@ enum Mark {
 /// A list that the walk is in.
 #[derive(Clone, Copy)]
 struct Frame {
-    /// The place of its ruleset. None for the list that the walk begins with.
-    place: Option<usize>,
+    /// The index of its ruleset. None for the list that the walk begins with.
+    index: Option<usize>,
     /// How many of its texts have been walked.
     next: usize,
     /// What these say.
@@ -48,7 +48,7 @@ struct Frame {
 enum Turn {
     /// One text more has been walked.
     Further(Frame),
-    /// The text names a ruleset that the walk hasn't met, at a place.
+    /// The text names a ruleset that the walk hasn't met, at an index.
     Inner(usize),
     /// No text is left, and the list leaves these clauses on.
     Over(u8),
@@ -128,25 +128,25 @@ fn set_named(sets: &Rulesets, rule: &Rule) -> Option<usize>
     if rule.repeals {
         None
     } else {
-        sets.place_of(rule.id.as_str())
+        sets.index_of(rule.id.as_str())
     }
 }
 
-fn rules_at(sets: &[Ruleset], place: usize) -> &[Rule]
-    ensures { result.now ≡ rules_of (slice_get sets.now place) }
+fn rules_at(sets: &[Ruleset], index: usize) -> &[Rule]
+    ensures { result.now ≡ rules_of (slice_get sets.now index) }
 {
-    match sets.get(place) {
+    match sets.get(index) {
         None => &[],
         Some(set) => set.rules.as_slice(),
     }
 }
 
-fn rules_in<'a>(sets: &'a Rulesets, first: &'a [Rule], place: Option<usize>) -> &'a [Rule]
-    ensures { result.now ≡ rules_in sets.now first.now place }
+fn rules_in<'a>(sets: &'a Rulesets, first: &'a [Rule], index: Option<usize>) -> &'a [Rule]
+    ensures { result.now ≡ rules_in sets.now first.now index }
 {
-    match place {
+    match index {
         None => first,
-        Some(place) => rules_at(sets.as_slice(), place),
+        Some(index) => rules_at(sets.as_slice(), index),
     }
 }
 
@@ -162,11 +162,11 @@ fn next_text(rules: &[Rule], next: usize) -> Option<&Rule>
     }
 }
 
-fn frame_at(place: Option<usize>) -> Frame
-    ensures { result ≡ frame_at place }
+fn frame_at(index: Option<usize>) -> Frame
+    ensures { result ≡ frame_at index }
 {
     Frame {
-        place,
+        index,
         next: 0,
         tally: nothing(),
     }
@@ -177,7 +177,7 @@ fn further(frame: Frame, tally: Tally) -> Frame
     ensures { result ≡ further frame tally }
 {
     Frame {
-        place: frame.place,
+        index: frame.index,
         next: frame.next + 1,
         tally,
     }
@@ -188,14 +188,14 @@ fn by_mark(
     alloc: Global,
     id: &Id,
     frame: Frame,
-    place: usize,
+    index: usize,
     mark: Option<Mark>,
 ) -> Result<Turn, RuleFault>
     requires { frame.next + 1 < 2 ^ 64 }
-    ensures { Finds result (by_mark id.now frame place mark) }
+    ensures { Finds result (by_mark id.now frame index mark) }
 {
     match mark {
-        Some(Mark::New) => Ok(Turn::Inner(place)),
+        Some(Mark::New) => Ok(Turn::Inner(index)),
         Some(Mark::Done(clauses)) => Ok(Turn::Further(further(
             frame,
             with_inner(frame.tally, clauses),
@@ -230,7 +230,7 @@ fn heard(
         None => Err(RuleFault::UnknownRule {
             id: rule.id.copy(alloc)?,
         }),
-        Some(place) => by_mark(alloc, &rule.id, frame, place, marks.get(place).copied()),
+        Some(index) => by_mark(alloc, &rule.id, frame, index, marks.get(index).copied()),
     }
 }
 
@@ -245,7 +245,7 @@ fn turn_in(
 ) -> Result<Turn, RuleFault>
     ensures { Finds result (turn_in sets.now marks.now first.now frame) }
 {
-    match next_text(rules_in(sets, first, frame.place), frame.next) {
+    match next_text(rules_in(sets, first, frame.index), frame.next) {
         None => Ok(Turn::Over(left_on(frame.tally))),
         Some(rule) => heard(alloc, sets, marks, frame, rule),
     }
@@ -259,20 +259,20 @@ fn all_new(alloc: Global, count: usize) -> Result<Vec<Mark>, AllocError>
     Ok(marks)
 }
 
-fn set_mark(marks: &mut Vec<Mark>, place: usize, mark: Mark)
-    requires { place < length marks.old.items }
-    ensures { marks.new.items ≡ slice_set marks.old.items place mark }
+fn set_mark(marks: &mut Vec<Mark>, index: usize, mark: Mark)
+    requires { index < length marks.old.items }
+    ensures { marks.new.items ≡ slice_set marks.old.items index mark }
 {
-    marks[place] = mark;
+    marks[index] = mark;
 }
 
 /// The ruleset of a list leaves these clauses on from now on.
-fn close(marks: &mut Vec<Mark>, place: Option<usize>, clauses: u8)
-    requires { IfSome place (λ p. p < length marks.old.items) }
-    ensures { marks.new.items ≡ closed marks.old.items place clauses }
+fn close(marks: &mut Vec<Mark>, index: Option<usize>, clauses: u8)
+    requires { IfSome index (λ p. p < length marks.old.items) }
+    ensures { marks.new.items ≡ closed marks.old.items index clauses }
 {
-    if let Some(place) = place {
-        set_mark(marks, place, Mark::Done(clauses));
+    if let Some(index) = index {
+        set_mark(marks, index, Mark::Done(clauses));
     }
 }
 
@@ -288,16 +288,16 @@ fn walk(alloc: Global, sets: &Rulesets, rules: &[Rule]) -> Result<u8, RuleFault>
         match turn_in(alloc, sets, &marks, rules, frame) {
             Err(fault) => return Err(fault),
             Ok(Turn::Further(next)) => frame = next,
-            Ok(Turn::Inner(place)) => {
+            Ok(Turn::Inner(index)) => {
                 waiting.push_front(frame)?;
-                set_mark(&mut marks, place, Mark::Open);
-                frame = frame_at(Some(place));
+                set_mark(&mut marks, index, Mark::Open);
+                frame = frame_at(Some(index));
             }
             Ok(Turn::Over(clauses)) => {
                 let Some(outer) = waiting.pop_front() else {
                     return Ok(clauses);
                 };
-                close(&mut marks, frame.place, clauses);
+                close(&mut marks, frame.index, clauses);
                 frame = outer;
             }
         }

@@ -5,9 +5,9 @@ use Rattle.ps_lines.specs.declared.command.Command.{Command}
 use Rattle.ps_lines.specs.declared.command.HallCmd.{HallCmd}
 use Rattle.ps_room.specs.declared.outcome.Ending.{Ending}
 use Rattle.ps_session.specs.Sessions.{Record}
-use Rattle.ps_places.specs.declared.command.RoomCmd.TheVariants.{Begin, Play}
-use Rattle.ps_places.specs.Rooms.{Shows}
-use Rattle.ps_valid.specs.declared.start.Start.{Start}
+use Rattle.server_places.specs.declared.command.RoomCmd.TheVariants.{Begin, Play}
+use Rattle.server_places.specs.Rooms.{Shows}
+use Rattle.rules_start.specs.declared.start.Start.{Start}
 use Rattle.ps_hub.specs.Calls.{room_entry}
 use Rattle.ps_hub.specs.Hubs.{Hub, site_of}
 use Rattle.ps_hub.specs.declared.pass.HallPass.{HallPass}

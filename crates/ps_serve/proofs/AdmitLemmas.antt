@@ -10,8 +10,8 @@ use Rattle.ps_histlock.specs.Histories.{commands, entry}
 use Rattle.ps_session.specs.Sessions.{Record, begun}
 use Rattle.ps_outside.specs.Clocks.{IsNow, after_now}
 use Rattle.ps_outside.specs.Links.{Talk, LinkCounts}
-use Rattle.ps_places.specs.declared.site.Root.{Root}
-use Rattle.ps_places.specs.Halls.{HallShows}
+use Rattle.server_places.specs.declared.site.Root.{Root}
+use Rattle.server_places.specs.Halls.{HallShows}
 use Rattle.ps_hub.specs.Hubs.{Hub, root_of}
 use Rattle.ps_hub.specs.Names.{Names}
 use Rattle.ps_hub.specs.Passes.{AreOf}
@@ -25,7 +25,7 @@ use Rattle.ps_serve.specs.Acts.{since}
 use Rattle.ps_serve.specs.Sendings.{Sending, AreLooksAnswered}
 use Rattle.ps_serve.specs.Sittings.{IsSent, HallSits, PlaceSits, IsBegun, IsFrom, AreApart, Sits}
 use Rattle.ps_serve.specs.Steps.{Hours, TalksIf, Stands}
-use Rattle.ps_serve.specs.Ends.{Told, AreOfLink, HallSent, RoomSent, IsLabelled, HallMade, HallGiven, RoomMade, RoomGiven, AreAnswers, IsAsked, IsOpen, TellsMoments, HallLooks, RoomLooks, IsHallOf, IsRoomOf, IsBegunBy, IsOwnStart, starts_in, HallElsewhere, RoomElsewhere, Served}
+use Rattle.ps_serve.specs.Ends.{Account, AreOfLink, HallSent, RoomSent, IsLabelled, HallMade, HallGiven, RoomMade, RoomGiven, AreAnswers, IsAsked, IsOpen, TellsMoments, HallLooks, RoomLooks, IsHallOf, IsRoomOf, IsBegunBy, IsOwnStart, starts_in, HallElsewhere, RoomElsewhere, Served}
 use Rattle.ps_serve.proofs.Prefixes.{prefix_same}
 
 -- ---- the Open was made
@@ -73,7 +73,7 @@ stands_first hub conn moment p session talk counts hours are a begins = record {
 
 -- ---- memory was wanting for it
 
-abbrev nothing_told : ℕ → Told
+abbrev nothing_told : ℕ → Account
 nothing_told moment = record { acts = []; sendings = []; rest = []; opened = moment; extra = []; left = 0 }
 
 at_none : (P : HallPass → Type 0) (passes : Passes) → passes.hall ≡ None → IfSome passes.hall P
@@ -83,7 +83,7 @@ nothing_came : (moment : ℕ) (talk : Option Talk) → AreOfLink (nothing_told m
 nothing_came moment None = tt
 nothing_came moment (Some t) = record { given = refl; answers = omega arith; sent = sym (append-nil t.sent) }
 
-pub unserved : (hub : Hub) (conn moment : ℕ) (p : Passes) (talk : Option Talk) (counts : LinkCounts) (start hours : Hours) → p.conn ≡ conn → p.badge ≡ None → p.hall ≡ None → p.rooms.items ≡ [] → IsNow start moment → hours ≡ after_now start → (t : Told) × Served ends.NoMemory hub conn t p talk talk counts counts start hours
+pub unserved : (hub : Hub) (conn moment : ℕ) (p : Passes) (talk : Option Talk) (counts : LinkCounts) (start hours : Hours) → p.conn ≡ conn → p.badge ≡ None → p.hall ≡ None → p.rooms.items ≡ [] → IsNow start moment → hours ≡ after_now start → (t : Account) × Served ends.NoMemory hub conn t p talk talk counts counts start hours
 unserved hub conn moment p talk counts start hours conn_is no_badge no_hall no_rooms now later =
     let t = nothing_told moment in (
       t,

@@ -14,14 +14,15 @@ use Rattle.ps_base.specs.declared.hall_why.HallWhy.TheVariants as why
 use Rattle.ps_lines.specs.declared.command.HallCmd.{HallCmd}
 use Rattle.ps_lines.specs.declared.command.HallCmd.TheVariants.{Open, Quit, Bad, Name, Search, CancelSearch, Challenge, CancelChallenge, Reject, Accept, Whisper, Rank, Report}
 use Rattle.ps_group.specs.declared.group.Group.{Group}
-use Rattle.ps_rules.specs.declared.row.Format.{Format}
-use Rattle.ps_roster.specs.ById.{ById}
-use Rattle.ps_roster.specs.ShownNames.{sname}
+use Rattle.ps_rules.specs.declared.table.Format.{Format}
+use Rattle.ps_base.specs.ById.{ById}
+use Rattle.ps_base.specs.Messages.{sent}
+use Rattle.ps_group.specs.ShownNames.{shown_name}
 use Rattle.ps_users.specs.Assertions.{challstr_of}
 use Rattle.ps_users.specs.Refusals.{read_of}
 use Rattle.ps_users.specs.Seats.{badge_in}
 use Rattle.ps_users.specs.Steps.{granted}
-use Rattle.ps_pms.specs.Looks.{asked_by, partners}
+use Rattle.ps_pms.specs.Lookups.{asked_by, partners}
 use Rattle.ps_pms.specs.Records.{Record as Pms}
 use Rattle.ps_pms.specs.declared.asked.Asked.{Asked}
 use Rattle.ps_ladder.specs.declared.searches.Search.{Search as Waiting}
@@ -29,11 +30,11 @@ use Rattle.ps_hall.specs.declared.entry.HallEntry.{HallEntry}
 use Rattle.ps_hall.specs.declared.game.Game.{Game}
 use Rattle.ps_hall.specs.declared.notice.Notice.{Notice}
 use Rattle.ps_hall.specs.Records.{Record}
-use Rattle.ps_hall.specs.Looks.{badge_of, opponent, rating_in, game_in, player_id}
+use Rattle.ps_hall.specs.Lookups.{badge_of, opponent, rating_in, game_in, player_id}
 use Rattle.ps_hall.specs.Lines.{challstr_line, guest_line, formats_line, user_line, search_line, challenge_line, whisper_line, rating_line, taken_by, taken_line, refused_line}
 use Rattle.ps_hall.specs.Steps.{applied}
 use Rattle.ps_hall.specs.Told.{notice, to_conn, to_user, told_of_name, told_partners, told_of_quit, told_matched, told_both, told_of_cancel_challenge, accept_lines, told_whisper, rating_lines, told_player, told_of_report, told_of_named, told_by, told}
-use Rattle.ps_hall.specs.Halls.{verdict, after, notices_by, notices, lines_for, message_of, message, sent, view}
+use Rattle.ps_hall.specs.Halls.{verdict, after, notices_by, notices, lines_for, message_of, message, view}
 use Rattle.ps_serve.specs.Ends.{IsOfHall}
 
 -- a line that begins with `|`
@@ -64,7 +65,7 @@ formats_bar : (fs : List Format) → IsOfHall (formats_line fs)
 formats_bar fs = longer (codes "|formats|") (join_with_byte 124 (map (λ (f : Format). f.name) fs)) (codes "formats|", refl)
 
 user_bar : (groups : List Group) (badge : Badge) → IsOfHall (user_line groups badge)
-user_bar groups badge = longer (codes "|updateuser|" ++ sname groups badge.rank badge.name) (codes "|1|0|{}") (longer (codes "|updateuser|") (sname groups badge.rank badge.name) (codes "updateuser|", refl))
+user_bar groups badge = longer (codes "|updateuser|" ++ shown_name groups badge.rank badge.name) (codes "|1|0|{}") (longer (codes "|updateuser|") (shown_name groups badge.rank badge.name) (codes "updateuser|", refl))
 
 search_bar : (gs : List Game) (ss : List Waiting) (id : List ℕ) → IsOfHall (search_line gs ss id)
 unfolding search_line
@@ -76,11 +77,11 @@ challenge_bar asked id = longer (codes "|updatechallenges|") _ (codes "updatecha
 
 whisper_bar : (groups : List Group) (from to : Badge) (text : List ℕ) → IsOfHall (whisper_line groups from to text)
 whisper_bar groups from to text =
-    let one = codes "|pm|" ++ sname groups from.rank from.name in
+    let one = codes "|pm|" ++ shown_name groups from.rank from.name in
     let two = one ++ codes "|" in
-    let three = two ++ sname groups to.rank to.name in
+    let three = two ++ shown_name groups to.rank to.name in
     let four = three ++ codes "|" in
-    longer four text (longer three (codes "|") (longer two (sname groups to.rank to.name) (longer one (codes "|") (longer (codes "|pm|") (sname groups from.rank from.name) (codes "pm|", refl)))))
+    longer four text (longer three (codes "|") (longer two (shown_name groups to.rank to.name) (longer one (codes "|") (longer (codes "|pm|") (shown_name groups from.rank from.name) (codes "pm|", refl)))))
 
 rating_bar : (id format : List ℕ) (rating : ℤ) → IsOfHall (rating_line id format rating)
 rating_bar id format rating =

@@ -8,17 +8,17 @@ use Rattle.std.proofs.lemmas.List.Elements.{All-weaker, All-contains_itself, Con
 use mathlib.Core.List.{IsPrefix}
 use Rattle.ps_base.specs.declared.badge.Badge.{Badge}
 use Rattle.ps_lines.specs.declared.command.HallCmd.{HallCmd}
-use Rattle.ps_valid.specs.declared.start.Start.{Start}
+use Rattle.rules_start.specs.declared.start.Start.{Start}
 use Rattle.ps_hall.specs.declared.entry.HallEntry.{HallEntry}
 use Rattle.ps_hall.specs.declared.outcome.HallOut.{HallOut}
 use Rattle.ps_histlock.specs.declared.view.Entry.{Entry}
 use Rattle.ps_histlock.specs.Histories.{commands, entry, entries_of}
 use Rattle.ps_histlock.proofs.Lists.{entries_of-append}
 use Rattle.ps_histlock.proofs.TurnLemmas.{commands-append}
-use Rattle.ps_places.specs.declared.command.RoomCmd.{RoomCmd}
-use Rattle.ps_places.specs.declared.command.RoomCmd.TheVariants.{Begin, Play}
-use Rattle.ps_places.specs.Halls.{HallAnswers}
-use Rattle.ps_places.proofs.NumberLemmas.{numbers_rise}
+use Rattle.server_places.specs.declared.command.RoomCmd.{RoomCmd}
+use Rattle.server_places.specs.declared.command.RoomCmd.TheVariants.{Begin, Play}
+use Rattle.server_places.specs.Halls.{HallAnswers}
+use Rattle.server_places.proofs.NumberLemmas.{numbers_rise}
 use Rattle.ps_hub.specs.Hubs.{Hub, root_of}
 use Rattle.ps_hub.specs.Calls.{hall_entry}
 use Rattle.ps_hub.specs.declared.pass.HallPass.{HallPass}
@@ -27,7 +27,7 @@ use Rattle.ps_serve.specs.Acts.{in_hall, in_room, nowhere, Act, quiet, heard, ha
 use Rattle.ps_serve.specs.Sittings.{HallGave, Gave, AreGiven, SaysNothing, LastGave, AreAlmostGiven}
 use Rattle.ps_serve.specs.Ends.{start_in, starts_in}
 use Rattle.ps_serve.proofs.Actions.{hall_more, begins_more, given_more}
-use Rattle.ps_serve.proofs.Rows.{contains_none}
+use Rattle.ps_serve.proofs.PassLists.{contains_none}
 
 -- ---- Begins among the commands of a place
 

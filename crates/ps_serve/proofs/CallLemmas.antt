@@ -37,7 +37,7 @@ an_id : (r : Option (Bor (List ℕ))) → is_some r ≡ true → IsSome (option_
 an_id None e = absurd (cc)
 an_id (Some b) e = refl
 
--- the pass that was read at a place of the row, and the id by which it is held
+-- the pass that was read at an index of the list, and the id by which it is held
 pub record Read (rooms : List RoomPass) (place : ℕ) (item : RoomPass) (id : Option (Bor (List ℕ))) : Type 0 where
   pub within : place < length rooms
   pub at : item ≡ get_or rooms place item

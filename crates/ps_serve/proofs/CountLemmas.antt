@@ -17,7 +17,7 @@ use Rattle.ps_lines.specs.declared.order.Order.{Order}
 use Rattle.ps_outside.specs.Causes.{Rose}
 use Rattle.ps_outside.specs.Links.{Talk, LinkCounts}
 use Rattle.ps_outside.specs.declared.link.Arrival.{Arrival}
-use Rattle.ps_roster.specs.ById.{ById}
+use Rattle.ps_base.specs.ById.{ById}
 use Rattle.ps_hub.specs.Hubs.{Hub}
 use Rattle.ps_hub.specs.declared.pass.RoomPass.{RoomPass}
 use Rattle.ps_session.specs.Counts.{count_in, raised, with_left}
@@ -28,7 +28,7 @@ use Rattle.ps_session.proofs.KeptLemmas.{get_put}
 use Rattle.ps_serve.specs.declared.closed.End.{End}
 use Rattle.ps_serve.specs.declared.closed.End.TheVariants as ends
 use Rattle.ps_serve.specs.Acts.{Made, in_hall, in_room, nowhere, Act, quiet, heard, with_given, after_made, after_acts, arrival_of}
-use Rattle.ps_serve.specs.Ends.{Told, text_item, text_in, texts_in, IsReadable, IsWithin, EndsWell, EndsWellWithin, AreFew, IsTalk, AreOfLink, AreTold, IsTooMany, HasCause}
+use Rattle.ps_serve.specs.Ends.{Account, text_item, text_in, texts_in, IsReadable, IsWithin, EndsWell, EndsWellWithin, AreFew, IsTalk, AreOfLink, IsAccount, IsTooMany, HasCause}
 
 -- ---- counts
 
@@ -134,18 +134,18 @@ items_are : (texts : List (List ℕ)) → texts_in (map text_item texts) ≡ tex
 items_are [] = refl
 items_are (x ∷ xs) = ap (λ (l : List (List ℕ)). x ∷ l) (items_are xs)
 
-inbox_texts : (t : Told) (old new : Talk) → IsTalk t old new → texts_in old.inbox ≡ texts_in (map arrival_of t.acts) ++ (t.rest ++ texts_in new.inbox)
+inbox_texts : (t : Account) (old new : Talk) → IsTalk t old new → texts_in old.inbox ≡ texts_in (map arrival_of t.acts) ++ (t.rest ++ texts_in new.inbox)
 inbox_texts t old new k =
     ap texts_in k.given
     ∙ texts-append (map arrival_of t.acts) (map text_item t.rest ++ new.inbox)
     ∙ ap (λ (l : List (List ℕ)). texts_in (map arrival_of t.acts) ++ l) (texts-append (map text_item t.rest) new.inbox ∙ ap (λ (l : List (List ℕ)). l ++ texts_in new.inbox) (items_are t.rest))
 
-rest_read : (t : Told) (old new : Talk) (bytes : List ℕ) → IsTalk t old new → All IsReadable (texts_in old.inbox) → t.rest ≡ bytes ∷ [] → IsReadable bytes
+rest_read : (t : Account) (old new : Talk) (bytes : List ℕ) → IsTalk t old new → All IsReadable (texts_in old.inbox) → t.rest ≡ bytes ∷ [] → IsReadable bytes
 rest_read t old new bytes k all e =
     let there : Contains (t.rest ++ texts_in new.inbox) bytes = Contains-append_left t.rest (texts_in new.inbox) bytes (subst (λ (l : List (List ℕ)). Contains l bytes) (sym e) (0, omega arith, refl)) in
     All-contains IsReadable (texts_in old.inbox) bytes all (subst (λ (l : List (List ℕ)). Contains l bytes) (sym (inbox_texts t old new k)) (Contains-append_right (texts_in (map arrival_of t.acts)) (t.rest ++ texts_in new.inbox) bytes there))
 
-few_heard : (t : Told) (old new : Talk) (i : ℕ) → IsTalk t old new → length (texts_in old.inbox) ≤ 4096 → i < length t.rest → heard_in t.acts < 4096
+few_heard : (t : Account) (old new : Talk) (i : ℕ) → IsTalk t old new → length (texts_in old.inbox) ≤ 4096 → i < length t.rest → heard_in t.acts < 4096
 few_heard t old new i k all lt =
     let parts = ap length (inbox_texts t old new k) ∙ length-append (texts_in (map arrival_of t.acts)) (t.rest ++ texts_in new.inbox) in
     let rest = length-append t.rest (texts_in new.inbox) in
@@ -153,7 +153,7 @@ few_heard t old new i k all lt =
 
 -- ---- the end
 
-too_many : (room : Option (List ℕ)) (hub : Hub) (conn : ℕ) (t : Told) (rooms : List RoomPass) (bytes : List ℕ) → heard_in t.acts < 4096 → IsTooMany room hub conn t rooms bytes → ⊥
+too_many : (room : Option (List ℕ)) (hub : Hub) (conn : ℕ) (t : Account) (rooms : List RoomPass) (bytes : List ℕ) → heard_in t.acts < 4096 → IsTooMany room hub conn t rooms bytes → ⊥
 unfolding order_of
 too_many room hub conn t rooms bytes less (inl c) =
     let r = after_acts (begun conn) t.acts in
@@ -170,10 +170,10 @@ too_many room hub conn t rooms bytes less (inr c) =
     omega arith
 
 -- whatever became of them, none of so few texts is one more than its place takes
-few_within : (hub : Hub) (conn : ℕ) (t : Told) (rooms : List RoomPass) (old new : Talk) → IsTalk t old new → AreFew old.inbox → IsWithin hub conn t rooms old.inbox
+few_within : (hub : Hub) (conn : ℕ) (t : Account) (rooms : List RoomPass) (old new : Talk) → IsTalk t old new → AreFew old.inbox → IsWithin hub conn t rooms old.inbox
 few_within hub conn t rooms old new k f = record { readable = f.readable; few = λ i d lt room many. too_many room hub conn t rooms (get_or t.rest i d) (few_heard t old new i k f.few lt) many }
 
-ends_well : (end : End) (hub : Hub) (conn : ℕ) (t : Told) (rooms : List RoomPass) (old new : Talk) (counts0 counts : LinkCounts) → IsTalk t old new → HasCause end hub conn t rooms (Some new) counts0 counts → IsWithin hub conn t rooms old.inbox → (Rose counts0.faults counts.faults → ⊥) → EndsWell end
+ends_well : (end : End) (hub : Hub) (conn : ℕ) (t : Account) (rooms : List RoomPass) (old new : Talk) (counts0 counts : LinkCounts) → IsTalk t old new → HasCause end hub conn t rooms (Some new) counts0 counts → IsWithin hub conn t rooms old.inbox → (Rose counts0.faults counts.faults → ⊥) → EndsWell end
 ends_well ends.Closed hub conn t rooms old new counts0 counts k cause w sound = tt
 ends_well ends.NoMemory hub conn t rooms old new counts0 counts k cause w sound = tt
 ends_well ends.LinkFault hub conn t rooms old new counts0 counts k cause w sound = sound cause.counts.0
@@ -182,14 +182,14 @@ ends_well (ends.OwnLimit room) hub conn t rooms old new counts0 counts k cause w
     let not_many : All (λ (bytes : List ℕ). (room : Option (List ℕ)) → IsTooMany room hub conn t rooms bytes → ⊥) (cause.text.0 ∷ []) = subst (All (λ (bytes : List ℕ). (room : Option (List ℕ)) → IsTooMany room hub conn t rooms bytes → ⊥)) cause.text.1 w.few in
     All-head (λ (bytes : List ℕ). (room : Option (List ℕ)) → IsTooMany room hub conn t rooms bytes → ⊥) cause.text.0 [] not_many room cause.text.2
 
-pub complete_of : (end : End) (hub : Hub) (conn : ℕ) (t : Told) (rooms : List RoomPass) (told new : Option Talk) (counts0 counts : LinkCounts) → AreTold conn t told new → HasCause end hub conn t rooms new counts0 counts → EndsWellWithin end hub conn t rooms told counts0 counts
-complete_of end hub conn t rooms told new counts0 counts are cause old is w sound = by_talk new (subst (λ (o : Option Talk). AreTold conn t o new) is are).0 cause where
+pub complete_of : (end : End) (hub : Hub) (conn : ℕ) (t : Account) (rooms : List RoomPass) (told new : Option Talk) (counts0 counts : LinkCounts) → IsAccount conn t told new → HasCause end hub conn t rooms new counts0 counts → EndsWellWithin end hub conn t rooms told counts0 counts
+complete_of end hub conn t rooms told new counts0 counts are cause old is w sound = by_talk new (subst (λ (o : Option Talk). IsAccount conn t o new) is are).0 cause where
   by_talk : (new : Option Talk) → AreOfLink t (Some old) new → HasCause end hub conn t rooms new counts0 counts → EndsWell end
   by_talk None k cause = absurd k
   by_talk (Some talk) k cause = ends_well end hub conn t rooms old talk counts0 counts k cause w sound
 
-pub few_complete : (end : End) (hub : Hub) (conn : ℕ) (t : Told) (rooms : List RoomPass) (old : Talk) (told new : Option Talk) (counts0 counts : LinkCounts) → told ≡ Some old → AreTold conn t told new → EndsWellWithin end hub conn t rooms told counts0 counts → AreFew old.inbox → (Rose counts0.faults counts.faults → ⊥) → EndsWell end
-few_complete end hub conn t rooms old told new counts0 counts is are complete f sound = by_talk new (subst (λ (o : Option Talk). AreTold conn t o new) is are).0 where
+pub few_complete : (end : End) (hub : Hub) (conn : ℕ) (t : Account) (rooms : List RoomPass) (old : Talk) (told new : Option Talk) (counts0 counts : LinkCounts) → told ≡ Some old → IsAccount conn t told new → EndsWellWithin end hub conn t rooms told counts0 counts → AreFew old.inbox → (Rose counts0.faults counts.faults → ⊥) → EndsWell end
+few_complete end hub conn t rooms old told new counts0 counts is are complete f sound = by_talk new (subst (λ (o : Option Talk). IsAccount conn t o new) is are).0 where
   by_talk : (new : Option Talk) → AreOfLink t (Some old) new → EndsWell end
   by_talk None k = absurd k
   by_talk (Some talk) k = complete old is (few_within hub conn t rooms old talk k f) sound

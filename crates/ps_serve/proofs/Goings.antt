@@ -6,7 +6,7 @@ use Rattle.std.proofs.lemmas.List.Elements.{Contains-get_or, AllZip-get_or, leng
 use Rattle.ps_hub.specs.declared.pass.RoomPass.{RoomPass}
 use Rattle.ps_hub.proofs.QuitLemmas.{zip_self}
 use Rattle.ps_serve.specs.Sittings.{AreApart}
-use Rattle.ps_serve.proofs.Rows.{IsKin, kin_self, Grows}
+use Rattle.ps_serve.proofs.PassLists.{IsKin, kin_self, Grows}
 
 -- it saw more, and is held as it was
 pub record Goes (h k : RoomPass) : Type 0 where

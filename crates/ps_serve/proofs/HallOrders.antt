@@ -3,16 +3,17 @@ use Rattle.std.proofs.Common.{◌≡◌, ◌≢◌, ◌⊎◌, ℕ, ◌+◌, ◌
 use Rattle.std.specs.Prelude.{IsSome, IfSome}
 use Rattle.std.proofs.lemmas.List.Elements.{All-nil, All-cons, All-weaker}
 use Rattle.std.proofs.lemmas.Bool.Decides.{eqb_tells}
+use Rattle.std.proofs.lemmas.Option.{none-some}
 use mathlib.Core.List.{IsPrefix}
 use Rattle.ps_base.specs.declared.badge.Badge.{Badge}
 use Rattle.ps_lines.specs.declared.command.HallCmd.{HallCmd}
 use Rattle.ps_lines.specs.declared.order.Order.TheVariants.{Hall}
-use Rattle.ps_valid.specs.declared.start.Start.{Start}
+use Rattle.rules_start.specs.declared.start.Start.{Start}
 use Rattle.ps_histlock.specs.Histories.{commands}
 use Rattle.ps_histlock.proofs.Lists.{prefix_self}
-use Rattle.ps_places.specs.declared.command.RoomCmd.{RoomCmd}
-use Rattle.ps_places.specs.declared.command.RoomCmd.TheVariants.{Begin}
-use Rattle.ps_places.specs.Rooms.{Answers}
+use Rattle.server_places.specs.declared.command.RoomCmd.{RoomCmd}
+use Rattle.server_places.specs.declared.command.RoomCmd.TheVariants.{Begin}
+use Rattle.server_places.specs.Rooms.{Answers}
 use Rattle.ps_session.specs.Sessions.{Record, counted}
 use Rattle.ps_session.specs.Routes.{taken}
 use Rattle.ps_hub.specs.Hubs.{Hub, site_of}
@@ -26,10 +27,10 @@ use Rattle.ps_serve.specs.Acts.{Act, heard, in_hall, with_given, room_cmds, hall
 use Rattle.ps_serve.specs.Sendings.{Sending}
 use Rattle.ps_serve.specs.Sittings.{AreApart, IsBegun, Sits, PlaceLeft, IsUpToDate}
 use Rattle.ps_serve.proofs.Prefixes.{prefix_front, prefix_same}
-use Rattle.ps_serve.proofs.Rows.{IsBeside, beside, new_all, before_is, has_new, new_apart, Grows, grows_self, grows_beside}
+use Rattle.ps_serve.proofs.PassLists.{IsBeside, beside, new_all, before_is, has_new, new_apart, Grows, grows_self, grows_beside}
 use Rattle.ps_serve.proofs.Actions.{IsQuietAt, cmds_more, quiet_hall, quiet_start, starts_here, room_on}
 use Rattle.ps_serve.proofs.Moves.{stays, last_turns_move, last_enters_move, one_turn_at_last}
-use Rattle.ps_serve.proofs.Places.{never_some, IsMoved, kin_moved, told_moved, sits_moved, IsPlace, IsBattle, Amid, place_before, HasPlace, sitting_at, sitting_on, place_on}
+use Rattle.ps_serve.proofs.Places.{IsMoved, kin_moved, told_moved, sits_moved, IsPlace, IsBattle, Amid, place_before, HasPlace, sitting_at, sitting_on, place_on}
 use Rattle.ps_serve.proofs.Tries.{amid_start, hall_start, InHall}
 use Rattle.ps_serve.proofs.Sides.{place_begins, place_left, left_whole}
 use Rattle.ps_serve.proofs.Reached.{Reaches, Breaks}
@@ -77,7 +78,7 @@ module _ (hub : Hub) (conn open_at : ℕ) (acts : List Act) (ss : List Sending) 
     hall = d.hall;
     kin = d.kin;
     hall_is = d.is;
-    rooms = sitting_on hub conn ss acts None (IsUpToDate old) (heard bytes moment (in_hall cmd badge None)) new.rooms.items (amid new.rooms.items d.rooms) (λ number. quiet_hall conn number bytes moment cmd badge) (λ o id e not_one named. never_some id not_one);
+    rooms = sitting_on hub conn ss acts None (IsUpToDate old) (heard bytes moment (in_hall cmd badge None)) new.rooms.items (amid new.rooms.items d.rooms) (λ number. quiet_hall conn number bytes moment cmd badge) (λ o id e not_one named. absurd (none-some id not_one));
     grows = subst (Grows old.rooms.items) (sym d.rooms) (grows_self old.rooms.items);
     starts = All-nil (IsBegun new.rooms.items);
     named = subst (All (λ (k : RoomPass). IsSome k.id → IsSome new.badge)) (sym d.rooms) (named_on badge new d.badge_is);
@@ -87,7 +88,7 @@ module _ (hub : Hub) (conn open_at : ℕ) (acts : List Act) (ss : List Sending) 
   -- the rooms, where only the hall has to do with an act
   rooms_left : (bytes : List ℕ) (moment : ℕ) (cmd : HallCmd) (rooms : List RoomPass) → rooms ≡ old.rooms.items → All (PlaceLeft false hub conn acts (acts ++ heard bytes moment (in_hall cmd None None) ∷ []) ss) rooms
   rooms_left bytes moment cmd rooms e =
-      let sit = sitting_on hub conn ss acts None (IsUpToDate old) (heard bytes moment (in_hall cmd None None)) rooms (amid rooms e) (λ number. quiet_hall conn number bytes moment cmd None) (λ o id is not_one named. never_some id not_one) in
+      let sit = sitting_on hub conn ss acts None (IsUpToDate old) (heard bytes moment (in_hall cmd None None)) rooms (amid rooms e) (λ number. quiet_hall conn number bytes moment cmd None) (λ o id is not_one named. absurd (none-some id not_one)) in
       All-weaker (HasPlace hub conn ss (acts ++ heard bytes moment (in_hall cmd None None) ∷ []) (length acts)) (PlaceLeft false hub conn acts (acts ++ heard bytes moment (in_hall cmd None None) ∷ []) ss) (λ k p. left_whole hub conn ss acts (heard bytes moment (in_hall cmd None None)) k p) rooms sit.places
 
   -- memory was wanting for it
@@ -153,7 +154,7 @@ module _ (hub : Hub) (conn open_at : ℕ) (acts : List Act) (ss : List Sending) 
       hall_is = d.is;
       rooms = sitting_at hub conn ss acts None (IsUpToDate old) (heard bytes moment (in_hall cmd badge (Some start))) mid.rooms.items b.before b.behind new.rooms.items (beside_begun b) (amid mid.rooms.items d.rooms)
           (λ number ne. quiet_begun number b.before.number b.number ne)
-          (λ o ne id e not_one named. never_some id not_one)
+          (λ o ne id e not_one named. absurd (none-some id not_one))
           (place_begins hub conn ss acts (IsUpToDate old) bytes moment cmd badge start b.before b.behind above b.number b.id (moved_begun b) (one_turn_at_last b.before.pass.1 (Begin start) b.behind.pass.1 b.done) (place_begun b));
       grows = grows_begun b (Begin start ∷ []) (moved_begun b);
       starts = All-cons (IsBegun new.rooms.items) start [] (b.behind, has_new hub conn mid.rooms.items b.before b.behind new.rooms.items (beside_begun b), b.but.same_place ∙ b.number) (All-nil (IsBegun new.rooms.items));
@@ -181,14 +182,14 @@ module _ (hub : Hub) (conn open_at : ℕ) (acts : List Act) (ss : List Sending) 
         let q = p.holding id (sym same_id ∙ e) in
         let joined : since k.number acts ≢ [] = ⊎_elim
         (λ (j : (since h.number acts ≢ []) × (IsUpToDate old → h.at ≡ length h.pass.1.seen)). (let w : since k.number acts ≢ [] = (λ bare. j.0 (ap (λ (n : ℕ). since n acts) (sym m.place) ∙ bare)) in w))
-        (λ (j : (None ≡ Some id) × (since h.number acts ≡ [])). never_some id j.0)
+        (λ (j : (None ≡ Some id) × (since h.number acts ≡ [])). absurd (none-some id j.0))
         q.1 in
         room_on hub conn acts (heard bytes moment (in_hall cmd badge (Some start))) ss id k joined (sits_moved hub conn ss acts (length acts) id h more k m q.0)
         ))
 
     -- another place, at which nothing happened
     beside_left : (k : RoomPass) → 15 + start.number ≢ k.number → IsPlace hub conn ss acts None (IsUpToDate old) k × IsBattle hub conn ss k → PlaceLeft false hub conn acts (acts ++ heard bytes moment (in_hall cmd badge (Some start)) ∷ []) ss k
-    beside_left k ne p = left_whole hub conn ss acts (heard bytes moment (in_hall cmd badge (Some start))) k (place_on hub conn ss acts None (IsUpToDate old) (heard bytes moment (in_hall cmd badge (Some start))) k (quiet_start conn k.number bytes moment cmd badge start ne) (λ id e not_one named. never_some id not_one) p)
+    beside_left k ne p = left_whole hub conn ss acts (heard bytes moment (in_hall cmd badge (Some start))) k (place_on hub conn ss acts None (IsUpToDate old) (heard bytes moment (in_hall cmd badge (Some start))) k (quiet_start conn k.number bytes moment cmd badge start ne) (λ id e not_one named. absurd (none-some id not_one)) p)
 
     -- the Begin isn't there at its place
     unbegun_left : (k : RoomPass) → IsPlace hub conn ss acts None (IsUpToDate old) k × IsBattle hub conn ss k → PlaceLeft false hub conn acts (acts ++ heard bytes moment (in_hall cmd badge (Some start)) ∷ []) ss k

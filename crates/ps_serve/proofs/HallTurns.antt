@@ -8,7 +8,7 @@ use Rattle.ps_lines.specs.declared.command.BadWhy.TheVariants.{NoSuchRoom}
 use Rattle.ps_lines.specs.declared.command.HallCmd.{HallCmd}
 use Rattle.ps_lines.specs.declared.command.HallCmd.TheVariants.{Bad}
 use Rattle.ps_lines.specs.declared.order.Order.TheVariants.{Hall}
-use Rattle.ps_valid.specs.declared.start.Start.{Start}
+use Rattle.rules_start.specs.declared.start.Start.{Start}
 use Rattle.ps_room.specs.declared.outcome.Ending.{Ending}
 use Rattle.ps_hall.specs.declared.entry.HallEntry.{HallEntry}
 use Rattle.ps_hall.specs.Records.{Record as HallRecord}
@@ -17,7 +17,7 @@ use Rattle.ps_histlock.specs.declared.view.Entry.{Entry}
 use Rattle.ps_histlock.specs.Histories.{commands, entry, entries_of}
 use Rattle.ps_histlock.specs.Turns.{turned}
 use Rattle.ps_histlock.specs.declared.lock.TheConstants.{OWN_LIMIT}
-use Rattle.ps_places.specs.Halls.{HallAnswers, hall_after}
+use Rattle.server_places.specs.Halls.{HallAnswers, hall_after}
 use Rattle.ps_hub.specs.Hubs.{Hub, root_of}
 use Rattle.ps_hub.specs.Turns.{Turns, FallsShort}
 use Rattle.ps_hub.specs.Calls.{hall_entry, badge_after, HallOrdered, HallGoes}

@@ -1,13 +1,13 @@
 -- The pass of the hall while an order is obeyed, and what acts were answered.
-use Rattle.std.proofs.Common.{◌≡◌, ℕ, ◌≤◌, List, [], ◌∷◌, ◌++◌, length, sym, ap, ◌∙◌, subst, inl, inr, ⊎_elim, arith, append-nil, Option, Some, None, Contains}
+use Rattle.std.proofs.Common.{◌≡◌, ℕ, ◌≤◌, List, [], ◌∷◌, ◌++◌, length, sym, ap, ◌∙◌, subst, inl, inr, ⊎_elim, arith, Option, Some, None, Contains}
 use mathlib.Core.List.{IsPrefix}
-use Rattle.ps_openings.specs.Openings.{first_battle}
+use Rattle.ps_room.specs.Openings.{first_battle}
 use Rattle.ps_lines.specs.declared.command.Command.{Command}
 use Rattle.ps_hall.specs.declared.entry.HallEntry.{HallEntry}
 use Rattle.ps_histlock.specs.Histories.{commands, entry, entries_of}
 use Rattle.ps_histlock.proofs.Lists.{prefix_length}
-use Rattle.ps_places.specs.declared.command.RoomCmd.TheVariants.{Play}
-use Rattle.ps_places.specs.Halls.{HallShows}
+use Rattle.server_places.specs.declared.command.RoomCmd.TheVariants.{Play}
+use Rattle.server_places.specs.Halls.{HallShows}
 use Rattle.ps_hub.specs.Hubs.{Hub, root_of}
 use Rattle.ps_hub.specs.Names.{Names}
 use Rattle.ps_hub.specs.Calls.{hall_entry, room_entry, NamesNone}
@@ -17,7 +17,7 @@ use Rattle.ps_serve.specs.Acts.{Made, in_hall, in_room, nowhere, Act, quiet, hea
 use Rattle.ps_serve.specs.Sendings.{Sending, AreLooksAnswered}
 use Rattle.ps_serve.specs.Sittings.{IsSent, HasOpen, RoomGave, IsUnfound, IsOthers, IsNowhere, GaveMade, Gave, AreGiven, SaysNothing, LastGave, AreAlmostGiven}
 use Rattle.ps_serve.proofs.Prefixes.{prefix_trans, prefix_commands, sent_grows, looks_grow}
-use Rattle.ps_serve.proofs.Rows.{IsKin, Grows}
+use Rattle.ps_serve.proofs.PassLists.{IsKin, Grows}
 use Rattle.ps_serve.proofs.Moves.{Moves}
 
 -- ---- the pass of the hall
@@ -54,9 +54,6 @@ hall_moved hub conn open_at made looked ss h more k at m p =
       within = omega arith;
       opened = open_grows conn open_at h k (record { number = m.number; seen = m.seen }) p.opened;
     }
-
-pub hall_same : (hub : Hub) (conn open_at : ℕ) (made : List HallEntry) (looked : ℕ) (ss : List Sending) (h k : HallPass) → k.at ≡ h.at → Moves h.pass.1 [] k.pass.1 → IsHall hub conn open_at made looked ss h → IsHall hub conn open_at made looked ss k
-hall_same hub conn open_at made looked ss h k at m p = subst (λ (l : List HallEntry). IsHall hub conn open_at l looked ss k) (append-nil made) (hall_moved hub conn open_at made looked ss h [] k at m p)
 
 pub hall_as : (hub : Hub) (conn open_at : ℕ) (made all : List HallEntry) (looked : ℕ) (ss : List Sending) (h : HallPass) → made ≡ all → IsHall hub conn open_at made looked ss h → IsHall hub conn open_at all looked ss h
 hall_as hub conn open_at made all looked ss h e p = subst (λ (l : List HallEntry). IsHall hub conn open_at l looked ss h) e p

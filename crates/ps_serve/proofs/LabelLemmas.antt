@@ -6,8 +6,8 @@ use Rattle.std.proofs.lemmas.List.Elements.{All-contains, Contains-get_or, Conta
 use mathlib.Core.List.{IsPrefix}
 use Rattle.ps_histlock.specs.Histories.{commands}
 use Rattle.ps_session.specs.Texts.{behind}
-use Rattle.ps_places.specs.Rooms.{Shows}
-use Rattle.ps_places.specs.Halls.{HallShows, hall_opened}
+use Rattle.server_places.specs.Rooms.{Shows}
+use Rattle.server_places.specs.Halls.{HallShows, hall_opened}
 use Rattle.ps_hub.specs.Hubs.{Hub, root_of, site_of}
 use Rattle.ps_hub.specs.Names.{Names}
 use Rattle.ps_hub.specs.declared.pass.HallPass.{HallPass}
@@ -17,7 +17,7 @@ use Rattle.ps_serve.specs.Sendings.{Sending, text_if, text_from, texts_from, mes
 use Rattle.ps_serve.specs.Sittings.{IsFromBy, IsFrom}
 use Rattle.ps_serve.proofs.BarLemmas.{IsBarred, view_barred}
 use Rattle.ps_serve.proofs.SendingLemmas.{is_place_self}
-use Rattle.ps_serve.specs.Ends.{Told, IsSentSo, HallSent, RoomSent, IsOfRoom, IsOfHall, IsLabelledBy, IsLabelled}
+use Rattle.ps_serve.specs.Ends.{Account, IsSentSo, HallSent, RoomSent, IsOfRoom, IsOfHall, IsLabelledBy, IsLabelled}
 
 -- ---- members of lists
 
@@ -72,10 +72,10 @@ module _ {C : Type 0} (shows : List C → List (List (List ℕ)) → Type 0) whe
 -- ---- rooms
 
 -- what is known of the pass of a room
-abbrev pub IsKnown : Bool → Hub → ℕ → Told → RoomPass → Type 0
+abbrev pub IsKnown : Bool → Hub → ℕ → Account → RoomPass → Type 0
 IsKnown b hub conn t k = RoomSent b hub conn t k × IfSome k.id (λ id. Names hub.config id k.number)
 
-of_room : (b : Bool) (hub : Hub) (conn : ℕ) (t : Told) (rooms : List RoomPass) (number : ℕ) (text : List ℕ) → All (IsKnown b hub conn t) rooms → IsFromBy (Some number) rooms → Contains (texts_from (Some number) t.sendings) text → IsOfRoom hub rooms number text
+of_room : (b : Bool) (hub : Hub) (conn : ℕ) (t : Account) (rooms : List RoomPass) (number : ℕ) (text : List ℕ) → All (IsKnown b hub conn t) rooms → IsFromBy (Some number) rooms → Contains (texts_from (Some number) t.sendings) text → IsOfRoom hub rooms number text
 of_room b hub conn t rooms number text known (k, there, place, held) c =
     let i = some_value k.id held in
     let facts = All-contains (IsKnown b hub conn t) rooms k known there in
@@ -86,7 +86,7 @@ of_room b hub conn t rooms number text known (k, there, place, held) c =
 
 -- ---- the hall
 
-of_hall : (b : Bool) (hub : Hub) (conn : ℕ) (t : Told) (h : HallPass) (text : List ℕ) → HallSent b hub conn t h → Contains (texts_from None t.sendings) text → IsOfHall text
+of_hall : (b : Bool) (hub : Hub) (conn : ℕ) (t : Account) (h : HallPass) (text : List ℕ) → HallSent b hub conn t h → Contains (texts_from None t.sendings) text → IsOfHall text
 of_hall b hub conn t h text sent c =
     let m = message_of (HallShows conn (root_of hub)) b (commands h.pass.1.seen) h.at None None t.sendings text sent c in
     let barred = view_barred conn (hall_opened (root_of hub)) (take h.at (commands h.pass.1.seen)) in
@@ -95,11 +95,11 @@ of_hall b hub conn t h text sent c =
 
 -- ---- all texts
 
-by_place : (b : Bool) (hub : Hub) (conn : ℕ) (t : Told) (h : HallPass) (rooms : List RoomPass) (place : Option ℕ) (text : List ℕ) → HallSent b hub conn t h → All (IsKnown b hub conn t) rooms → IsFromBy place rooms → Contains (texts_from place t.sendings) text → IsLabelledBy place hub rooms text
+by_place : (b : Bool) (hub : Hub) (conn : ℕ) (t : Account) (h : HallPass) (rooms : List RoomPass) (place : Option ℕ) (text : List ℕ) → HallSent b hub conn t h → All (IsKnown b hub conn t) rooms → IsFromBy place rooms → Contains (texts_from place t.sendings) text → IsLabelledBy place hub rooms text
 by_place b hub conn t h rooms None text hall known from c = of_hall b hub conn t h text hall c
 by_place b hub conn t h rooms (Some number) text hall known from c = of_room b hub conn t rooms number text known from c
 
-pub labelled : (b : Bool) (hub : Hub) (conn : ℕ) (t : Told) (h : HallPass) (rooms : List RoomPass) → HallSent b hub conn t h → All (IsKnown b hub conn t) rooms → All (IsFrom rooms) t.sendings → All (IsLabelled hub rooms) t.sendings
+pub labelled : (b : Bool) (hub : Hub) (conn : ℕ) (t : Account) (h : HallPass) (rooms : List RoomPass) → HallSent b hub conn t h → All (IsKnown b hub conn t) rooms → All (IsFrom rooms) t.sendings → All (IsLabelled hub rooms) t.sendings
 labelled b hub conn t h rooms hall known from i d lt =
     let s = get_or t.sendings i d in
     by_place b hub conn t h rooms s.place s.text hall known (from i d lt) (text_in t.sendings s (Contains-get_or t.sendings i d lt))

@@ -25,7 +25,7 @@ pub mod QuitLemmas
 pub mod Reached
 pub mod RestLemmas
 pub mod RoomOrders
-pub mod Rows
+pub mod PassLists
 pub mod SendingLemmas
 pub mod ServedLemmas
 pub mod Sides

@@ -3,8 +3,8 @@ use Rattle.std.proofs.Common.{◌≡◌, ◌≢◌, ℕ, ◌+◌, ◌<◌, ◌�
 use Rattle.std.proofs.lemmas.Bool.Decides.{leb_tells}
 use Rattle.std.proofs.lemmas.Fmt.{decimal-digits_of, decimal_injective}
 use Rattle.std.specs.Int.Digits.{digits_of}
-use Rattle.ps_valid.specs.declared.row.ChatRoom.{ChatRoom}
-use Rattle.ps_valid.specs.declared.row.Settings.{Settings}
+use Rattle.rules_config.specs.declared.settings.ChatRoom.{ChatRoom}
+use Rattle.rules_config.specs.declared.settings.Settings.{Settings}
 use Rattle.ps_hub.specs.Names.{IsChatId, IsFirstChat, IsBattleId, IsNoChat, Names}
 
 -- ---- the number at the end of a battle's id

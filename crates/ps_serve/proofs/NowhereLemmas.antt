@@ -8,21 +8,22 @@ use Rattle.std.proofs.lemmas.Option.{same_Some}
 use mathlib.Core.List.{IsPrefix}
 use Rattle.ps_base.specs.declared.badge.Badge.{Badge}
 use Rattle.ps_lines.specs.declared.command.HallCmd.{HallCmd}
-use Rattle.ps_openings.specs.Openings.{first_battle}
-use Rattle.ps_start.specs.Fits.{IsFit}
-use Rattle.ps_valid.specs.declared.row.Settings.{Settings}
-use Rattle.ps_valid.specs.declared.start.Start.{Start}
+use Rattle.ps_room.specs.Openings.{first_battle}
+use Rattle.rules_start.specs.Fits.{IsFit}
+use Rattle.rules_config.specs.declared.settings.Settings.{Settings}
+use Rattle.rules_start.specs.declared.start.Start.{Start}
 use Rattle.ps_room.specs.declared.entry.Entry.{Entry}
 use Rattle.ps_room.specs.Openings.{Opening}
+use Rattle.ps_room.specs.Stories.{story, Story}
 use Rattle.ps_histlock.specs.declared.view.Entry.{Entry as Made}
 use Rattle.ps_histlock.specs.Histories.{commands, entries_of}
 use Rattle.ps_histlock.proofs.Lists.{entries_of-append}
 use Rattle.ps_histlock.proofs.TurnLemmas.{commands-append}
-use Rattle.ps_places.specs.declared.site.Site.{Site}
-use Rattle.ps_places.specs.declared.command.RoomCmd.{RoomCmd}
-use Rattle.ps_places.specs.declared.command.RoomCmd.TheVariants.{Begin, Play}
-use Rattle.ps_places.specs.Sites.{Opens, battle_at, chat_at, Story, story, plays, BattleTells, TellsBy, Tells, id_told}
-use Rattle.ps_places.proofs.TellLemmas.{one_story, tells_more}
+use Rattle.server_places.specs.declared.site.Site.{Site}
+use Rattle.server_places.specs.declared.command.RoomCmd.{RoomCmd}
+use Rattle.server_places.specs.declared.command.RoomCmd.TheVariants.{Begin, Play}
+use Rattle.server_places.specs.Sites.{Opens, battle_at, chat_at, plays, BattleTells, TellsBy, Tells, id_told}
+use Rattle.server_places.proofs.TellLemmas.{one_story, tells_more}
 use Rattle.ps_hub.specs.Hubs.{Hub, site_of}
 use Rattle.ps_hub.specs.Names.{IsBattleId, IsNoChat, Names}
 use Rattle.ps_hub.specs.Passes.{HeldBy, IsRoomPass}
@@ -32,9 +33,9 @@ use Rattle.ps_hub.specs.declared.pass.RoomPass.{RoomPass}
 use Rattle.ps_hub.proofs.NameLemmas.{names_battle, names_none}
 use Rattle.ps_serve.specs.Acts.{in_hall, in_room, nowhere, Act, quiet, heard, room_of, room_cmds, since, begins, begun_by, all_begun}
 use Rattle.ps_serve.specs.Sittings.{HallGave, IsOthers, IsNowhere, Gave, AreGiven, SaysNothing, LastGave, AreApart}
-use Rattle.ps_serve.specs.Ends.{Told, starts_in, AreAnswers, AreSure, IsRightlyNowhere, IsRightly, AreRightly}
+use Rattle.ps_serve.specs.Ends.{Account, starts_in, AreAnswers, AreSure, IsRightlyNowhere, IsRightly, AreRightly}
 use Rattle.ps_serve.proofs.Names.{one_place}
-use Rattle.ps_serve.proofs.Rows.{contains_none, contains_cases}
+use Rattle.ps_serve.proofs.PassLists.{contains_none, contains_cases}
 use Rattle.ps_serve.proofs.Prefixes.{prefix_trans, prefix_commands}
 use Rattle.ps_serve.proofs.Actions.{given_more}
 use Rattle.ps_serve.proofs.BeginLemmas.{starts_are, own_starts, only_one, shorter}
@@ -288,7 +289,7 @@ module _ (hub : Hub) (conn : ℕ) (h : HallPass) (rooms : List RoomPass) (are : 
       (λ (n : SaysNothing a rooms). rightly_more [] sure a (given_rightly [] sure tt g (λ front b more e. made_only front b (more ++ a ∷ []) (ap (λ (x : List Act). x ++ a ∷ []) e ∙ append_assoc front (b ∷ more) (a ∷ [])))) (nothing_rightly sure a n))
       l.0)
 
-  pub answers_rightly : (s : Bool) (t : Told) → AreAnswers s hub conn t rooms h → AreMadeTo [] t.acts → AreRightly hub [] t.acts rooms
+  pub answers_rightly : (s : Bool) (t : Account) → AreAnswers s hub conn t rooms h → AreMadeTo [] t.acts → AreRightly hub [] t.acts rooms
   answers_rightly false t g made = given_rightly [] t.acts tt g made
   answers_rightly true t g made = subst (λ (acts : List Act). AreRightly hub [] acts rooms) (sym g.1.1) (last_rightly g.0 g.1.0 g.1.2 g.1.3 (subst (AreMadeTo []) g.1.1 made))
 

@@ -1,6 +1,7 @@
 -- What hearing a text promises, from what its steps did.
 use Rattle.std.proofs.Common.{◌≡◌, ◌⊎◌, ℕ, Bool, true, false, if◌then◌else◌, List, length, refl, sym, ap, ◌∙◌, subst, ⊎_elim, Option, Some, None, Ok, Err, is_some, true≢false}
 use Rattle.std.specs.Prelude.{IsSome}
+use Rattle.std.proofs.lemmas.Option.{none-some}
 use Rattle.ps_base.specs.declared.badge.Badge.{Badge}
 use Rattle.ps_lines.specs.declared.command.BadWhy.TheVariants.{NoSuchRoom}
 use Rattle.ps_lines.specs.declared.command.Command.{Command}
@@ -8,7 +9,7 @@ use Rattle.ps_lines.specs.declared.command.HallCmd.{HallCmd}
 use Rattle.ps_lines.specs.declared.command.HallCmd.TheVariants.{Bad}
 use Rattle.ps_lines.specs.declared.order.Order.{Order}
 use Rattle.ps_lines.specs.declared.order.Order.TheVariants.{Hall, Room}
-use Rattle.ps_valid.specs.declared.start.Start.{Start}
+use Rattle.rules_start.specs.declared.start.Start.{Start}
 use Rattle.ps_room.specs.declared.outcome.Ending.{Ending}
 use Rattle.ps_outside.specs.Clocks.{IsNow, after_now}
 use Rattle.ps_session.specs.Sessions.{Record, is_full, counted}
@@ -29,7 +30,6 @@ use Rattle.ps_serve.specs.Sittings.{Sits, IsUpToDate}
 use Rattle.ps_serve.specs.Steps.{Hours, Hears}
 use Rattle.ps_serve.specs.Obeys.{TriesInVain, OrdersAtLast, Unmakes, report, Follows, TellsNowhereIf, TellsNowhere, Obeys}
 use Rattle.ps_serve.proofs.Tries.{between_start, room_tries, enters}
-use Rattle.ps_serve.proofs.Places.{never_some}
 use Rattle.ps_serve.proofs.Reached.{Reaches, sits_next}
 use Rattle.ps_serve.proofs.HallTurns.{hall_made, report_keeps, bad_keeps}
 use Rattle.ps_serve.proofs.HallOrders.{in_hall_start, hall_reaches, begins_reach}
@@ -74,7 +74,7 @@ module _ (hub : Hub) (conn open_at : ℕ) (acts : List Act) (ss : List Sending) 
       made = in_hall cmd out.badge (Some start);
       reach = begins_reach hub conn open_at acts ss r old s bytes moment cmd out.badge start mid new take are (hall_made hub conn open_at acts ss s.hall_pass old cmd moment old mid out (Some start) e1 (in_hall_start hub conn open_at acts ss r old s) t) after session f;
     }
-    hall_follows cmd out mid take t session None (Some ending) e1 e2 f = never_some ending (sym t.3.ended ∙ e2)
+    hall_follows cmd out mid take t session None (Some ending) e1 e2 f = absurd (none-some ending (sym t.3.ended ∙ e2))
     hall_follows cmd out mid take t session None None e1 e2 f = record {
       made = in_hall cmd out.badge None;
       reach = subst (Reaches hub conn open_at acts ss r old s (heard bytes moment (in_hall cmd out.badge None)) after) (sym f.1)
@@ -83,7 +83,7 @@ module _ (hub : Hub) (conn open_at : ℕ) (acts : List Act) (ss : List Sending) 
 
     room_follows : (id : List ℕ) (cmd : Command) (out : HubOut) (mid : Passes) → taken r bytes ≡ Ok (Room id cmd) → IsSome old.badge → OrdersAtLast hub (Room id cmd) moment old (Ok out) mid → after ≡ with_given out.badge (counted (Some id) r)
         → (start : Option Start) (ended : Option Ending) → out.start ≡ start → out.ended ≡ ended → Follows hub moment start ended mid None new → Goes bytes moment after new
-    room_follows id cmd out mid take has t session (Some start) ended e1 e2 f = never_some start (sym t.3.2.start ∙ e1)
+    room_follows id cmd out mid take has t session (Some start) ended e1 e2 f = absurd (none-some start (sym t.3.2.start ∙ e1))
     room_follows id cmd out mid take has t session None None e1 e2 f =
         let b = enters hub conn acts ss (IsUpToDate old) old id t.1 t.3.0 t.3.1 (at_room id cmd moment t.0 t.1 t.2) in
         let d = room_done hub conn open_at acts ss r old s bytes moment id cmd None t.3.0 mid out e2 b t.3.2 in

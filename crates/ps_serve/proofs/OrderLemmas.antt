@@ -1,5 +1,5 @@
 -- What one try of an order tells.
-use Rattle.std.proofs.Common.{◌≡◌, ℕ, suc, ◌≤◌, Bool, true, false, if◌then◌else◌, List, refl, sym, ap, ◌∙◌, subst, ⊎_elim, Option, Some, None, Result, Ok, Err, is_some, is_ok, true≢false}
+use Rattle.std.proofs.Common.{◌≡◌, ℕ, suc, Bool, true, false, if◌then◌else◌, List, refl, sym, ap, ◌∙◌, subst, ⊎_elim, Option, Some, None, Result, Ok, Err, is_some, is_ok, true≢false}
 use Rattle.ps_base.specs.declared.badge.Badge.{Badge}
 use Rattle.ps_lines.specs.Clients.{client}
 use Rattle.ps_lines.specs.Commands.{command}
@@ -15,7 +15,7 @@ use Rattle.std.specs.Prelude.{IsSome, IfSome}
 use Rattle.ps_lines.specs.declared.command.Command.{Command}
 use Rattle.ps_lines.specs.declared.order.Order.{Order}
 use Rattle.ps_lines.specs.declared.order.Order.TheVariants.{Hall, Room}
-use Rattle.ps_session.specs.Sessions.{Record, is_full, is_past_rooms, counted}
+use Rattle.ps_session.specs.Sessions.{Record, is_full, is_past_rooms}
 use Rattle.ps_hub.specs.Hubs.{Hub}
 use Rattle.ps_hub.specs.Calls.{Held, HeldUp, EntersAt, RoomFails, Orders, NeedsBadge}
 use Rattle.ps_hub.specs.declared.out.HubFault.{HubFault}
@@ -23,7 +23,7 @@ use Rattle.ps_hub.specs.declared.out.HubFault.TheVariants as hub_faults
 use Rattle.ps_hub.specs.declared.out.HubOut.{HubOut}
 use Rattle.ps_hub.specs.declared.passes.Passes.{Passes}
 use Rattle.ps_serve.specs.declared.obey.Unmade.TheVariants as unmade
-use Rattle.ps_serve.specs.Obeys.{TriesInVain, OrdersAtLast, IsLast}
+use Rattle.ps_serve.specs.Obeys.{TriesInVain, OrdersAtLast}
 
 -- the order comes back
 pub back_is : (hub : Hub) (order : Order) (moment : ℕ) (old : Passes) (word : ℕ) (back : Order) (new : Passes) → Orders hub order moment old (Err (hub_faults.Busy word back)) new → back ≡ order
@@ -99,7 +99,3 @@ needs_of badge (Room id cmd) passes e has = subst IsSome (sym e) has
 
 pub taken_needs : (r : Record) (bytes : List ℕ) (order : Order) (passes : Passes) → taken r bytes ≡ Ok order → passes.badge ≡ r.badge → NeedsBadge order passes
 taken_needs r bytes order passes t e = needs_of r.badge order passes e (within_badge r.badge r (order_of r.badge r bytes) order (order_badge r.badge r bytes) t)
-
-pub last_of : (r after : Record) (order : Order) → after ≡ counted (place_of order) r → IsLast order after
-last_of r after (Hall cmd) e = tt
-last_of r after (Room id cmd) e = ap (λ (x : Record). x.last) e

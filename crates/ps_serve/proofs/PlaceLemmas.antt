@@ -2,6 +2,7 @@
 use Rattle.std.proofs.Common.{◌≡◌, ℕ, ◌+◌, ◌-◌, ◌≤◌, Bool, true, false, List, [], ◌∷◌, ◌++◌, length, take, Option, Some, None, ap, sym, ◌∙◌, subst, arith}
 use Rattle.std.specs.Prelude.{All, IsSome}
 use Rattle.std.proofs.lemmas.Grind.{flat_map-append}
+use Rattle.std.proofs.lemmas.Bool.{false≢true}
 use Rattle.ps_base.specs.declared.msg.Msg.{Msg}
 use mathlib.Core.List.{IsPrefix}
 use Rattle.ps_hall.specs.declared.entry.HallEntry.{HallEntry}
@@ -9,13 +10,13 @@ use Rattle.ps_histlock.specs.declared.view.Entry.{Entry}
 use Rattle.ps_histlock.specs.Histories.{commands}
 use Rattle.ps_histlock.proofs.Lists.{prefix_self}
 use Rattle.ps_session.specs.Texts.{texts_of}
-use Rattle.ps_places.specs.declared.command.RoomCmd.{RoomCmd}
-use Rattle.ps_places.specs.declared.site.Root.{Root}
-use Rattle.ps_places.specs.declared.site.Site.{Site}
-use Rattle.ps_places.specs.Sites.{view_told}
-use Rattle.ps_places.specs.Rooms.{Shows}
-use Rattle.ps_places.specs.Halls.{HallShows}
-use Rattle.ps_places.proofs.TellLemmas.{one_story}
+use Rattle.server_places.specs.declared.command.RoomCmd.{RoomCmd}
+use Rattle.server_places.specs.declared.site.Root.{Root}
+use Rattle.server_places.specs.declared.site.Site.{Site}
+use Rattle.server_places.specs.Sites.{view_told}
+use Rattle.server_places.specs.Rooms.{Shows}
+use Rattle.server_places.specs.Halls.{HallShows}
+use Rattle.server_places.proofs.TellLemmas.{one_story}
 use Rattle.ps_hub.specs.Hubs.{Hub, root_of, site_of}
 use Rattle.ps_hub.specs.Calls.{HallCaught, Caught}
 use Rattle.ps_hub.specs.declared.pass.HallPass.{HallPass}
@@ -82,12 +83,9 @@ as_was h k = record k { number = h.number; id = h.id }
 pub as_is : (h k : RoomPass) → k.number ≡ h.number → k.id ≡ h.id → as_was h k ≡ k
 as_is h k number id = λ i. record k { number = sym number i; id = sym id i }
 
-absent : {P : Type 0} → false ≡ true → P
-absent e = absurd (cc)
-
 held_tells : (hub : Hub) (conn : ℕ) (acts : List Act) (m : ℕ) (ss news : List Sending) (h k : RoomPass) (n : ℕ) (id : Option (List ℕ)) → IsSome id → SitsBy id hub conn acts m ss h → Looked h.pass.1 k.pass.1 n → IsSent (Shows conn (site_of hub h.number)) (commands k.pass.1.seen) k.at id (Some h.number) (ss ++ news)
     → k.at ≡ length (commands k.pass.1.seen) → n ≤ length (commands k.pass.1.seen) → All (λ (s : Sending). s.after ≤ m + 1) (ss ++ news) → m + 1 ≡ length acts → SitsBy id hub conn acts (m + 1) (ss ++ news) (as_was h k)
-held_tells hub conn acts m ss news h k n None held sits l now end within time last = absent held
+held_tells hub conn acts m ss news h k n None held sits l now end within time last = absurd (false≢true held)
 held_tells hub conn acts m ss news h k n (Some id) held sits l now end within time last =
     let more = one_look_more h.pass.1 k.pass.1 n l in
     let short = since_within h.number acts in
@@ -185,7 +183,7 @@ place_left whole hub conn acts a looked ss k le sits = record {
 }
 
 looks_left_late : (hub : Hub) (conn : ℕ) (acts : List Act) (m : ℕ) (ss news : List Sending) (h k : RoomPass) (n : ℕ) (id : Option (List ℕ)) → IsSome id → m + 1 ≡ length acts → SitsBy id hub conn acts m ss h → Looked h.pass.1 k.pass.1 n → LooksLeft id hub conn acts (ss ++ news) (as_was h k)
-looks_left_late hub conn acts m ss news h k n None held last sits l = absent held
+looks_left_late hub conn acts m ss news h k n None held last sits l = absurd (false≢true held)
 looks_left_late hub conn acts m ss news h k n (Some id) held last sits l =
     let count = sits.count in (
       sits.named,
@@ -193,7 +191,7 @@ looks_left_late hub conn acts m ss news h k n (Some id) held last sits l =
     )
 
 pub never_free : (id : Option (List ℕ)) → IsSome id → id ≡ None → ⊥
-never_free None held e = absent held
+never_free None held e = absurd (false≢true held)
 never_free (Some id) held e = let bad : Some id ≡ None = e in cc
 
 pub place_left_late : (whole : Bool) (hub : Hub) (conn : ℕ) (acts : List Act) (a : Act) (ss news : List Sending) (h k : RoomPass) (n : ℕ) → PlaceSits hub conn (acts ++ a ∷ []) (length acts) ss h → IsSome h.id → Looked h.pass.1 k.pass.1 n → k.number ≡ h.number → k.id ≡ h.id

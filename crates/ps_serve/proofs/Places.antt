@@ -1,18 +1,19 @@
 -- The passes of places while an order is obeyed.
-use Rattle.std.proofs.Common.{◌≡◌, ◌≢◌, ◌⊎◌, ℕ, ◌+◌, ◌-◌, ◌≤◌, List, [], ◌∷◌, ◌++◌, length, take, refl, sym, ap, ◌∙◌, subst, inl, inr, ⊎_elim, arith, All, Option, Some, None, is_some, true≢false, append-nil}
+use Rattle.std.proofs.Common.{◌≡◌, ◌≢◌, ◌⊎◌, ℕ, ◌+◌, ◌-◌, ◌≤◌, List, [], ◌∷◌, ◌++◌, length, take, refl, sym, ap, ◌∙◌, subst, inl, inr, ⊎_elim, arith, All, Option, Some, None, true≢false, append-nil}
 use Rattle.std.specs.Prelude.{IsSome}
 use Rattle.std.proofs.lemmas.List.Elements.{All-weaker}
-use Rattle.std.proofs.lemmas.Option.{same_Some}
-use Rattle.ps_openings.specs.Openings.{first_battle}
+use Rattle.std.proofs.lemmas.Option.{same_Some, none-some}
+use Rattle.ps_room.specs.Openings.{first_battle}
 use Rattle.ps_room.specs.Openings.{Opening}
+use Rattle.ps_room.specs.Stories.{story, Story}
 use Rattle.ps_histlock.specs.Histories.{commands}
 use Rattle.ps_histlock.specs.Seated.{TableId}
 use Rattle.ps_histlock.specs.declared.view.View.{View}
 use Rattle.ps_histlock.proofs.Lists.{prefix_length}
-use Rattle.ps_places.specs.declared.command.RoomCmd.{RoomCmd}
-use Rattle.ps_places.specs.declared.site.Site.{Site}
-use Rattle.ps_places.specs.Sites.{chat_at, Story, story, TellsBy, Tells, view_told}
-use Rattle.ps_places.specs.Rooms.{Shows}
+use Rattle.server_places.specs.declared.command.RoomCmd.{RoomCmd}
+use Rattle.server_places.specs.declared.site.Site.{Site}
+use Rattle.server_places.specs.Sites.{chat_at, TellsBy, Tells, view_told}
+use Rattle.server_places.specs.Rooms.{Shows}
 use Rattle.ps_hub.specs.Hubs.{Hub, site_of}
 use Rattle.ps_hub.specs.Names.{Names}
 use Rattle.ps_hub.specs.Passes.{IsNewPass}
@@ -21,12 +22,9 @@ use Rattle.ps_serve.specs.Acts.{Act, room_cmds, since, asked, begins}
 use Rattle.ps_serve.specs.Sendings.{Sending, texts_from, message_texts, AreLooksAnswered}
 use Rattle.ps_serve.specs.Sittings.{IsSent, RoomSits, LastLacks, RoomWaits, SitsBy, PlaceSits, IsUntouched, AreApart}
 use Rattle.ps_serve.proofs.Prefixes.{prefix_commands, sent_grows, looks_grow}
-use Rattle.ps_serve.proofs.Rows.{Lack, IsBeside, IsKin, new_all, before_is, new_apart, old_lack}
+use Rattle.ps_serve.proofs.PassLists.{Lack, IsBeside, IsKin, new_all, before_is, new_apart, old_lack}
 use Rattle.ps_serve.proofs.Actions.{IsQuietAt, cmds_quiet, asked_quiet, begins_quiet, since_away, untouched_on, room_on, since_still}
 use Rattle.ps_serve.proofs.Moves.{Moves, IsSameView}
-
-pub never_some : {A P : Type 0} → (x : A) → None ≡ Some x → P
-never_some x e = absurd (true≢false (sym (ap is_some e)))
 
 -- ---- nothing is told of no entries
 
@@ -152,7 +150,7 @@ module _ (hub : Hub) (conn : ℕ) (ss : List Sending) where
           joined = u.not_joined;
           at = n.at;
         };
-        holding = λ id e. never_some id (sym n.id ∙ e);
+        holding = λ id e. absurd (none-some id (sym n.id ∙ e));
       }
 
   pub place_of : (acts : List Act) (who : Option (List ℕ)) (up : Type 0) (k : RoomPass) → PlaceSits hub conn acts (length acts) ss k → k.at ≤ length (commands k.pass.1.seen) → (IsSome k.id → since k.number acts ≢ []) → (up → IsSome k.id → k.at ≡ length k.pass.1.seen) → IsPlace acts who up k × IsBattle k
@@ -218,7 +216,7 @@ module _ (hub : Hub) (conn : ℕ) (ss : List Sending) where
         entries = m.moves.mine ∙ append-nil (commands h.pass.1.mine) ∙ p.entries ∙ ap (λ (n : ℕ). room_cmds conn n acts) (sym m.place);
         told = sent_none conn (site_of hub k.number) (commands k.pass.1.seen) k.at k.id (Some k.number) ss at texts;
         within = within_moved h [] k m p.within;
-        waiting = λ e. never_some id (sym e ∙ is);
+        waiting = λ e. absurd (none-some id (sym e ∙ is));
         holding = λ other e. (
             let same : other ≡ id = same_Some other id (sym e ∙ is) in (
               record {

@@ -2,10 +2,10 @@
 use Rattle.std.proofs.Common.{◌≡◌, ◌≢◌, ℕ, ◌+◌, ◌-◌, ◌≤◌, List, [], ◌∷◌, ◌++◌, length, get_or, Option, Some, None, refl, ap, sym, ◌∙◌, subst, arith}
 use Rattle.std.specs.Prelude.{All, IsSome}
 use Rattle.std.proofs.lemmas.List.{append-nil, length-append}
-use Rattle.ps_valid.specs.declared.start.Start.{Start}
+use Rattle.rules_start.specs.declared.start.Start.{Start}
 use Rattle.ps_histlock.specs.Histories.{commands}
 use Rattle.ps_session.specs.Sessions.{Record, begun}
-use Rattle.ps_places.specs.Rooms.{Shows}
+use Rattle.server_places.specs.Rooms.{Shows}
 use Rattle.ps_hub.specs.Hubs.{Hub, site_of}
 use Rattle.ps_hub.specs.declared.pass.HallPass.{HallPass}
 use Rattle.ps_hub.specs.declared.pass.RoomPass.{RoomPass}

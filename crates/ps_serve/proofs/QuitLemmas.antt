@@ -13,10 +13,10 @@ use Rattle.ps_histlock.specs.declared.view.Entry.{Entry}
 use Rattle.ps_histlock.specs.declared.view.View.{View}
 use Rattle.ps_histlock.specs.Histories.{commands, entries_of}
 use Rattle.ps_histlock.proofs.Lists.{prefix_self}
-use Rattle.ps_places.specs.declared.command.RoomCmd.{RoomCmd}
-use Rattle.ps_places.specs.declared.command.RoomCmd.TheVariants.{Play}
-use Rattle.ps_places.specs.Rooms.{Shows}
-use Rattle.ps_places.specs.Halls.{HallShows}
+use Rattle.server_places.specs.declared.command.RoomCmd.{RoomCmd}
+use Rattle.server_places.specs.declared.command.RoomCmd.TheVariants.{Play}
+use Rattle.server_places.specs.Rooms.{Shows}
+use Rattle.server_places.specs.Halls.{HallShows}
 use Rattle.ps_hub.specs.Hubs.{Hub, root_of, site_of}
 use Rattle.ps_hub.specs.Names.{Names}
 use Rattle.ps_hub.specs.Passes.{IsHallPass, IsRoomPass}
@@ -27,7 +27,7 @@ use Rattle.ps_hub.proofs.CallLemmas.{some_value, RoomEndsAtMost, HallEndsAtMost}
 use Rattle.ps_serve.specs.declared.closed.End.{End}
 use Rattle.ps_serve.specs.Acts.{hall_entries, room_cmds, since}
 use Rattle.ps_serve.specs.Sendings.{Sending}
-use Rattle.ps_serve.specs.Ends.{Told, AllOrPart, AllThenQuit, hall_quit, room_quit, HallMade, RoomMadeBy, RoomMade, HallGiven, RoomGivenBy, RoomGiven, AreLooksSo, HallLooks, RoomLooksBy, RoomLooks, IsSentSo, HallSent, RoomSent, IsAskedBy, IsAsked}
+use Rattle.ps_serve.specs.Ends.{Account, AllOrPart, AllThenQuit, hall_quit, room_quit, HallMade, RoomMadeBy, RoomMade, HallGiven, RoomGivenBy, RoomGiven, AreLooksSo, HallLooks, RoomLooksBy, RoomLooks, IsSentSo, HallSent, RoomSent, IsAskedBy, IsAsked}
 use Rattle.ps_serve.specs.Rests.{HallRests, RoomRests}
 use Rattle.ps_serve.proofs.Prefixes.{prefix_commands, take_prefix, looks_grow, sent_grows}
 use Rattle.ps_serve.proofs.Halls.{IsHallKin}
@@ -87,7 +87,7 @@ hall_within hub conn h is =
     let long = length-map h.pass.1.seen (λ (x : Entry HallEntry). x.cmd) in
     omega arith
 
-hall_given_on : (b : Bool) (conn : ℕ) (t : Told) (h k : HallPass) (more : List HallEntry) → HallWent h k more → h.at ≤ length h.pass.1.seen → HallGiven b conn t h → HallGiven b conn t k
+hall_given_on : (b : Bool) (conn : ℕ) (t : Account) (h k : HallPass) (more : List HallEntry) → HallWent h k more → h.at ≤ length h.pass.1.seen → HallGiven b conn t h → HallGiven b conn t k
 hall_given_on true conn t h k more w le g = tt
 hall_given_on false conn t h k more w le g =
     ap (λ (n : ℕ). commands (entries_of n (take k.at k.pass.1.seen))) w.went.number
@@ -96,12 +96,12 @@ hall_given_on false conn t h k more w le g =
     ∙ g
 
 -- what was sent, shown and handed out of the hall
-pub record HallKeeps (broken : Bool) (hub : Hub) (conn : ℕ) (t : Told) (k : HallPass) : Type 0 where
+pub record HallKeeps (broken : Bool) (hub : Hub) (conn : ℕ) (t : Account) (k : HallPass) : Type 0 where
   pub given : HallGiven broken conn t k
   pub looks : HallLooks broken hub conn t k
   pub sent : HallSent broken hub conn t k
 
-pub hall_keeps : (b s : Bool) (hub : Hub) (conn : ℕ) (t : Told) (h k : HallPass) (more : List HallEntry) → HallWent h k more → h.at ≤ length h.pass.1.seen → HallRests b s hub conn t h → HallKeeps b hub conn t k
+pub hall_keeps : (b s : Bool) (hub : Hub) (conn : ℕ) (t : Account) (h k : HallPass) (more : List HallEntry) → HallWent h k more → h.at ≤ length h.pass.1.seen → HallRests b s hub conn t h → HallKeeps b hub conn t k
 hall_keeps b s hub conn t h k more w le r =
     let cmds = commands h.pass.1.seen in
     let now = commands k.pass.1.seen in
@@ -115,10 +115,10 @@ hall_keeps b s hub conn t h k more w le r =
       sent = subst (λ (n : ℕ). IsSentSo (HallShows conn (root_of hub)) b now n None None t.sendings) (sym w.at) (sent_on (HallShows conn (root_of hub)) b cmds now h.at None None t.sendings grows within r.sent);
     }
 
-pub hall_made : (s : Bool) (conn : ℕ) (t : Told) (h k : HallPass) → HallWent h k (hall_quit conn t.left) → AllOrPart s (commands h.pass.1.mine) (hall_entries conn t.acts) → HallMade s conn t k
+pub hall_made : (s : Bool) (conn : ℕ) (t : Account) (h k : HallPass) → HallWent h k (hall_quit conn t.left) → AllOrPart s (commands h.pass.1.mine) (hall_entries conn t.acts) → HallMade s conn t k
 hall_made s conn t h k w made = then_quit s (commands h.pass.1.mine) (commands k.pass.1.mine) (hall_entries conn t.acts) (hall_quit conn t.left) made w.went.mine
 
-pub hall_made_at_most : (conn : ℕ) (t : Told) (h k : HallPass) → HallWentAtMost conn t.left h k → AllOrPart true (commands h.pass.1.mine) (hall_entries conn t.acts) → HallMade true conn t k
+pub hall_made_at_most : (conn : ℕ) (t : Account) (h k : HallPass) → HallWentAtMost conn t.left h k → AllOrPart true (commands h.pass.1.mine) (hall_entries conn t.acts) → HallMade true conn t k
 hall_made_at_most conn t h k (inl w) made = at_most_quit (commands h.pass.1.mine) (commands k.pass.1.mine) (hall_entries conn t.acts) (hall_quit conn t.left) made (inl (cmds_same h.pass.1 k.pass.1 w.went))
 hall_made_at_most conn t h k (inr w) made = hall_made true conn t h k w made
 
@@ -142,13 +142,13 @@ room_within hub conn k is =
     omega arith
 
 -- the looks and the texts of a place by its number, and the place up to which was handed out
-abbrev LooksAt : List ℕ → Bool → Hub → ℕ → Told → ℕ → ℕ → List RoomCmd → List ℕ → Type 0
+abbrev LooksAt : List ℕ → Bool → Hub → ℕ → Account → ℕ → ℕ → List RoomCmd → List ℕ → Type 0
 LooksAt id b hub conn t n at cmds looks = AreLooksSo (Shows conn (site_of hub n)) b cmds at (Some id) (Some n) t.sendings (length t.acts - length (since n t.acts) + 1) (length (since n t.acts)) looks
 
-abbrev SentAt : Option (List ℕ) → Bool → Hub → ℕ → Told → ℕ → ℕ → List RoomCmd → Type 0
+abbrev SentAt : Option (List ℕ) → Bool → Hub → ℕ → Account → ℕ → ℕ → List RoomCmd → Type 0
 SentAt id b hub conn t n at cmds = IsSentSo (Shows conn (site_of hub n)) b cmds at id (Some n) t.sendings
 
-room_looks_on : (id : Option (List ℕ)) (b : Bool) (hub : Hub) (conn : ℕ) (t : Told) (h k : RoomPass) (more : List RoomCmd) → RoomWent h k more → RoomLooksBy id b hub conn t h → RoomLooksBy id b hub conn t k
+room_looks_on : (id : Option (List ℕ)) (b : Bool) (hub : Hub) (conn : ℕ) (t : Account) (h k : RoomPass) (more : List RoomCmd) → RoomWent h k more → RoomLooksBy id b hub conn t h → RoomLooksBy id b hub conn t k
 room_looks_on None b hub conn t h k more w l = w.went.looks ∙ l
 room_looks_on (Some id) b hub conn t h k more w l =
     let now = commands k.pass.1.seen in
@@ -158,7 +158,7 @@ room_looks_on (Some id) b hub conn t h k more w l =
     (subst (λ (l : List ℕ). LooksAt id b hub conn t h.number h.at now l) (sym w.went.looks)
     (looks_on (Shows conn (site_of hub h.number)) b (commands h.pass.1.seen) now h.at (Some id) (Some h.number) t.sendings (length t.acts - length (since h.number t.acts) + 1) (length (since h.number t.acts)) h.pass.1.looks grows l)))
 
-room_given_on : (id : Option (List ℕ)) (b : Bool) (conn : ℕ) (t : Told) (h k : RoomPass) (more : List RoomCmd) → RoomWent h k more → h.at ≤ length h.pass.1.seen → RoomGivenBy id b conn t h → RoomGivenBy id b conn t k
+room_given_on : (id : Option (List ℕ)) (b : Bool) (conn : ℕ) (t : Account) (h k : RoomPass) (more : List RoomCmd) → RoomWent h k more → h.at ≤ length h.pass.1.seen → RoomGivenBy id b conn t h → RoomGivenBy id b conn t k
 room_given_on None b conn t h k more w le g = tt
 room_given_on (Some id) true conn t h k more w le g = tt
 room_given_on (Some id) false conn t h k more w le g =
@@ -168,13 +168,13 @@ room_given_on (Some id) false conn t h k more w le g =
     ∙ g
     ∙ ap (λ (n : ℕ). room_cmds conn n t.acts) (sym w.place)
 
-pub record RoomKeeps (broken : Bool) (hub : Hub) (conn : ℕ) (t : Told) (k : RoomPass) : Type 0 where
+pub record RoomKeeps (broken : Bool) (hub : Hub) (conn : ℕ) (t : Account) (k : RoomPass) : Type 0 where
   pub given : RoomGiven broken conn t k
   pub looks : RoomLooks broken hub conn t k
   pub sent : RoomSent broken hub conn t k
   pub named : IfSome k.id (λ id. Names hub.config id k.number)
 
-room_keeps : (b s : Bool) (hub : Hub) (conn : ℕ) (t : Told) (h k : RoomPass) (more : List RoomCmd) → RoomWent h k more → h.at ≤ length h.pass.1.seen → RoomRests b s hub conn t h → RoomKeeps b hub conn t k
+room_keeps : (b s : Bool) (hub : Hub) (conn : ℕ) (t : Account) (h k : RoomPass) (more : List RoomCmd) → RoomWent h k more → h.at ≤ length h.pass.1.seen → RoomRests b s hub conn t h → RoomKeeps b hub conn t k
 room_keeps b s hub conn t h k more w le r =
     let cmds = commands h.pass.1.seen in
     let now = commands k.pass.1.seen in
@@ -192,13 +192,13 @@ room_keeps b s hub conn t h k more w le r =
     }
 
 -- what the Quits leave of the pass of a place
-pub record RoomQuit (broken short : Bool) (hub : Hub) (conn : ℕ) (badge : Option Badge) (t : Told) (h k : RoomPass) : Type 0 where
+pub record RoomQuit (broken short : Bool) (hub : Hub) (conn : ℕ) (badge : Option Badge) (t : Account) (h k : RoomPass) : Type 0 where
   pub goes : Goes h k
   pub keeps : RoomKeeps broken hub conn t k
   pub made : RoomMade short conn badge t k
   pub more : IsPrefix (commands h.pass.1.mine) (commands k.pass.1.mine)
 
-quit_nothing : (b s : Bool) (hub : Hub) (conn : ℕ) (badge : Option Badge) (t : Told) (h : RoomPass) → h.id ≡ None → RoomRests b s hub conn t h → RoomQuit b s hub conn badge t h h
+quit_nothing : (b s : Bool) (hub : Hub) (conn : ℕ) (badge : Option Badge) (t : Account) (h : RoomPass) → h.id ≡ None → RoomRests b s hub conn t h → RoomQuit b s hub conn badge t h h
 quit_nothing b s hub conn badge t h free r = record {
   goes = is_still h;
   keeps = record { given = r.given; looks = r.looks; sent = r.sent; named = r.named };
@@ -206,7 +206,7 @@ quit_nothing b s hub conn badge t h free r = record {
   more = prefix_self (commands h.pass.1.mine);
 }
 
-quit_went : (b s : Bool) (hub : Hub) (conn : ℕ) (badge : Option Badge) (kept : Badge) (id : List ℕ) (t : Told) (h k : RoomPass) → h.id ≡ Some id → badge ≡ Some kept → RoomWent h k (room_quit conn kept t.left) → h.at ≤ length h.pass.1.seen → RoomRests b s hub conn t h → RoomQuit b s hub conn badge t h k
+quit_went : (b s : Bool) (hub : Hub) (conn : ℕ) (badge : Option Badge) (kept : Badge) (id : List ℕ) (t : Account) (h k : RoomPass) → h.id ≡ Some id → badge ≡ Some kept → RoomWent h k (room_quit conn kept t.left) → h.at ≤ length h.pass.1.seen → RoomRests b s hub conn t h → RoomQuit b s hub conn badge t h k
 quit_went b s hub conn badge kept id t h k held is w le r =
     let now : commands k.pass.1.mine ≡ commands h.pass.1.mine ++ room_quit conn kept t.left = w.went.mine in
     record {
@@ -217,21 +217,21 @@ quit_went b s hub conn badge kept id t h k held is w le r =
       more = (room_quit conn kept t.left, sym now);
     }
 
-by_quit : (id : Option (List ℕ)) (b s : Bool) (hub : Hub) (conn : ℕ) (badge : Option Badge) (t : Told) (h k : RoomPass) → h.id ≡ id → QuitsBy id badge conn t.left h k → h.at ≤ length h.pass.1.seen → RoomRests b s hub conn t h → RoomQuit b s hub conn badge t h k
+by_quit : (id : Option (List ℕ)) (b s : Bool) (hub : Hub) (conn : ℕ) (badge : Option Badge) (t : Account) (h k : RoomPass) → h.id ≡ id → QuitsBy id badge conn t.left h k → h.at ≤ length h.pass.1.seen → RoomRests b s hub conn t h → RoomQuit b s hub conn badge t h k
 by_quit None b s hub conn badge t h k free q le r = subst (λ (x : RoomPass). RoomQuit b s hub conn badge t h x) (sym q) (quit_nothing b s hub conn badge t h free r)
 by_quit (Some id) b s hub conn badge t h k held q le r =
     quit_went b s hub conn badge q.0 id t h k held q.1 (record { went = last_enters_move h.pass.1 (Play (room_entry conn q.0 t.left room_commands.Quit)) k.pass.1 q.2; at = q.3; place = q.4; id = q.5 }) le r
 
-pub quits_room : (b s : Bool) (hub : Hub) (conn : ℕ) (badge : Option Badge) (t : Told) (h k : RoomPass) → QuitsRoom badge conn t.left h k → h.at ≤ length h.pass.1.seen → RoomRests b s hub conn t h → RoomQuit b s hub conn badge t h k
+pub quits_room : (b s : Bool) (hub : Hub) (conn : ℕ) (badge : Option Badge) (t : Account) (h k : RoomPass) → QuitsRoom badge conn t.left h k → h.at ≤ length h.pass.1.seen → RoomRests b s hub conn t h → RoomQuit b s hub conn badge t h k
 quits_room b s hub conn badge t h k q le r = by_quit h.id b s hub conn badge t h k refl q le r
 
 -- ---- where memory was wanting
 
-without_quit : (id : Option (List ℕ)) (conn : ℕ) (badge : Option Badge) (t : Told) (k : RoomPass) → (IsSome id → IsSome badge) → IsPrefix (commands k.pass.1.mine) (room_cmds conn k.number t.acts) → RoomMadeBy id true conn badge t k
+without_quit : (id : Option (List ℕ)) (conn : ℕ) (badge : Option Badge) (t : Account) (k : RoomPass) → (IsSome id → IsSome badge) → IsPrefix (commands k.pass.1.mine) (room_cmds conn k.number t.acts) → RoomMadeBy id true conn badge t k
 without_quit None conn badge t k named made = made
 without_quit (Some id) conn badge t k named made = let b = some_value badge (named refl) in (b.0, b.1, (commands k.pass.1.mine, made, inl refl))
 
-quit_missing : (b : Bool) (hub : Hub) (conn : ℕ) (badge : Option Badge) (t : Told) (h k : RoomPass) → RoomWent h k [] → h.at ≤ length h.pass.1.seen → (IsSome h.id → IsSome badge) → RoomRests b true hub conn t h → RoomQuit b true hub conn badge t h k
+quit_missing : (b : Bool) (hub : Hub) (conn : ℕ) (badge : Option Badge) (t : Account) (h k : RoomPass) → RoomWent h k [] → h.at ≤ length h.pass.1.seen → (IsSome h.id → IsSome badge) → RoomRests b true hub conn t h → RoomQuit b true hub conn badge t h k
 quit_missing b hub conn badge t h k w le named r =
     let now : commands k.pass.1.mine ≡ commands h.pass.1.mine = cmds_same h.pass.1 k.pass.1 w.went in
     record {
@@ -241,7 +241,7 @@ quit_missing b hub conn badge t h k w le named r =
       more = subst (λ (l : List RoomCmd). IsPrefix (commands h.pass.1.mine) l) (sym now) (prefix_self (commands h.pass.1.mine));
     }
 
-pub quits_room_at_most : (b : Bool) (hub : Hub) (conn : ℕ) (badge : Option Badge) (t : Told) (h k : RoomPass) → RoomEndsAtMost badge conn t.left h k → h.at ≤ length h.pass.1.seen → (IsSome h.id → IsSome badge) → RoomRests b true hub conn t h → RoomQuit b true hub conn badge t h k
+pub quits_room_at_most : (b : Bool) (hub : Hub) (conn : ℕ) (badge : Option Badge) (t : Account) (h k : RoomPass) → RoomEndsAtMost badge conn t.left h k → h.at ≤ length h.pass.1.seen → (IsSome h.id → IsSome badge) → RoomRests b true hub conn t h → RoomQuit b true hub conn badge t h k
 quits_room_at_most b hub conn badge t h k (inl q) le named r = quits_room b true hub conn badge t h k q le r
 quits_room_at_most b hub conn badge t h k (inr (place, id, at, inl is)) le named r = quit_missing b hub conn badge t h k (record { went = stays h.pass.1 k.pass.1 is; at = at; place = place; id = id }) le named r
 quits_room_at_most b hub conn badge t h k (inr (place, id, at, inr read)) le named r = quit_missing b hub conn badge t h k (record { went = last_turns_move h.pass.1 k.pass.1 read; at = at; place = place; id = id }) le named r
@@ -256,7 +256,7 @@ zip_more R S P step (h ∷ hs) (k ∷ ks) all z = (step h k (All-head P h hs all
 
 -- ---- what was asked of a place that isn't held
 
-pub asked_quit : (end : End) (hub : Hub) (conn moment : ℕ) (badge : Option Badge) (t : Told) (h k : RoomPass) → QuitsRoom badge conn moment h k → IsAsked end hub t h → IsAsked end hub t k
+pub asked_quit : (end : End) (hub : Hub) (conn moment : ℕ) (badge : Option Badge) (t : Account) (h k : RoomPass) → QuitsRoom badge conn moment h k → IsAsked end hub t h → IsAsked end hub t k
 asked_quit end hub conn moment badge t h k q a = by_asked end (h.id) refl q a where
   by_asked : (end : End) (id : Option (List ℕ)) → h.id ≡ id → QuitsBy id badge conn moment h k → IsAsked end hub t h → IsAsked end hub t k
   by_asked end None e q a = subst (IsAsked end hub t) (sym q) a

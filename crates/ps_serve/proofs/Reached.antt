@@ -6,7 +6,7 @@ use mathlib.Core.List.{IsPrefix}
 use Rattle.ps_hall.specs.declared.entry.HallEntry.{HallEntry}
 use Rattle.ps_histlock.specs.Histories.{commands}
 use Rattle.ps_session.specs.Sessions.{Record, begun}
-use Rattle.ps_places.specs.Halls.{HallShows}
+use Rattle.server_places.specs.Halls.{HallShows}
 use Rattle.ps_hub.specs.Hubs.{Hub, root_of}
 use Rattle.ps_hub.specs.Passes.{AreOf}
 use Rattle.ps_hub.specs.declared.pass.HallPass.{HallPass}
@@ -16,7 +16,7 @@ use Rattle.ps_serve.specs.Acts.{Act, after_act, after_acts, IsAct, AreActs, hall
 use Rattle.ps_serve.specs.Sendings.{Sending}
 use Rattle.ps_serve.specs.Sittings.{AreApart, IsBegun, IsFrom, Gave, LastGave, Sits, AreAlmostAnswered, PlaceLeft, Left, PlaceFull, SitsFull}
 use Rattle.ps_serve.proofs.Prefixes.{prefix_same}
-use Rattle.ps_serve.proofs.Rows.{Grows, begun_grows, from_grows}
+use Rattle.ps_serve.proofs.PassLists.{Grows, begun_grows, from_grows}
 use Rattle.ps_serve.proofs.Actions.{after_acts_more, after_acts-append, acts_more, hall_more, all_begun_more, given_more}
 use Rattle.ps_serve.proofs.Places.{AreSitting}
 use Rattle.ps_serve.proofs.Halls.{IsHall, IsHallKin, given_grows}

@@ -9,23 +9,23 @@ use Rattle.ps_histlock.proofs.Lists.{none_before}
 use Rattle.ps_hall.specs.declared.entry.HallEntry.{HallEntry}
 use Rattle.ps_session.specs.Sessions.{Record, begun}
 use Rattle.ps_outside.specs.Links.{Talk, LinkCounts}
-use Rattle.ps_places.specs.declared.command.RoomCmd.{RoomCmd}
-use Rattle.ps_places.specs.Rooms.{Shows}
-use Rattle.ps_places.specs.Halls.{HallShows}
+use Rattle.server_places.specs.declared.command.RoomCmd.{RoomCmd}
+use Rattle.server_places.specs.Rooms.{Shows}
+use Rattle.server_places.specs.Halls.{HallShows}
 use Rattle.ps_hub.specs.Hubs.{Hub, root_of, site_of}
 use Rattle.ps_hub.specs.Names.{Names}
 use Rattle.ps_hub.specs.Passes.{AreOf, IsHallPass, IsRoomPass}
 use Rattle.ps_hub.specs.declared.pass.HallPass.{HallPass}
 use Rattle.ps_hub.specs.declared.pass.RoomPass.{RoomPass}
 use Rattle.ps_hub.specs.declared.passes.Passes.{Passes}
-use Rattle.ps_hub.proofs.RowLemmas.{hall_of}
+use Rattle.ps_hub.proofs.PassListLemmas.{hall_of}
 use Rattle.ps_serve.specs.declared.closed.End.{End}
 use Rattle.ps_serve.specs.declared.closed.End.TheVariants as ends
 use Rattle.ps_serve.specs.Acts.{Act, after_acts, AreActs, moments_of, hall_entries, room_cmds, since, all_begun}
 use Rattle.ps_serve.specs.Sendings.{Sending, AreLooksAnswered}
 use Rattle.ps_serve.specs.Sittings.{IsSent, HasOpen, HallSits, RoomSits, RoomWaits, SitsBy, PlaceSits, Sits, IsUpToDate, AreGiven, AreApart, IsFrom, IsBegun, LooksLeft, PlaceLeft, Left, HeldFull, SitsFull}
 use Rattle.ps_serve.specs.Steps.{Hours, Asked}
-use Rattle.ps_serve.specs.Ends.{Told, is_short, is_broken, AreTold, AllOrPart, HallGiven, RoomGivenBy, AreLooksSo, RoomLooksBy, IsSentSo, AreAnswers, IsAskedBy, IsAsked, AreSure, HasCause}
+use Rattle.ps_serve.specs.Ends.{Account, is_short, is_broken, IsAccount, AllOrPart, HallGiven, RoomGivenBy, AreLooksSo, RoomLooksBy, IsSentSo, AreAnswers, IsAskedBy, IsAsked, AreSure, HasCause}
 use Rattle.ps_serve.specs.Rests.{HallRests, RoomRests, HasExtraAt, Rests}
 use Rattle.ps_serve.proofs.Prefixes.{prefix_same}
 use Rattle.ps_serve.proofs.LookLemmas.{whole_part, all_answered}
@@ -78,7 +78,7 @@ part_so true made all e = prefix_same made all e
 abbrev pub IsAtEnd : {C : Type 0} → List Act → ℕ → List (Entry C) → Type 0
 IsAtEnd acts at seen = (acts ≡ []) ⊎ (at ≡ length seen)
 
-pub hall_whole : (hub : Hub) (conn : ℕ) (t : Told) (h : HallPass) → IsHallPass hub conn h → HallSits hub conn t.acts (length t.acts) t.sendings h → IsAtEnd t.acts h.at h.pass.1.seen → HallRests false false hub conn t h
+pub hall_whole : (hub : Hub) (conn : ℕ) (t : Account) (h : HallPass) → IsHallPass hub conn h → HallSits hub conn t.acts (length t.acts) t.sendings h → IsAtEnd t.acts h.at h.pass.1.seen → HallRests false false hub conn t h
 hall_whole hub conn t h is s end = record {
   entries = s.entries;
   given = handed_at h.pass.1.number h.at h.pass.1.mine h.pass.1.seen (hall_entries conn t.acts) is.rest.2 s.entries (⊎_elim (λ (e : t.acts ≡ []). inl (ap (hall_entries conn) e)) (λ (e : h.at ≡ length h.pass.1.seen). inr e) end);
@@ -87,7 +87,7 @@ hall_whole hub conn t h is s end = record {
   sent = s.sent;
 }
 
-pub hall_so : (b s : Bool) (hub : Hub) (conn : ℕ) (t : Told) (h : HallPass) → HallRests false false hub conn t h → HallRests b s hub conn t h
+pub hall_so : (b s : Bool) (hub : Hub) (conn : ℕ) (t : Account) (h : HallPass) → HallRests false false hub conn t h → HallRests b s hub conn t h
 hall_so b s hub conn t h r = record {
   entries = part_so s (commands h.pass.1.mine) (hall_entries conn t.acts) r.entries;
   given = given_so b r.given;
@@ -100,21 +100,21 @@ hall_so b s hub conn t h r = record {
 
 -- ---- rooms
 
-room_given : (id : Option (List ℕ)) (b : Bool) (conn : ℕ) (t : Told) (k : RoomPass) → (IsSome id → commands (entries_of k.pass.1.number (take k.at k.pass.1.seen)) ≡ room_cmds conn k.number t.acts) → RoomGivenBy id b conn t k
+room_given : (id : Option (List ℕ)) (b : Bool) (conn : ℕ) (t : Account) (k : RoomPass) → (IsSome id → commands (entries_of k.pass.1.number (take k.at k.pass.1.seen)) ≡ room_cmds conn k.number t.acts) → RoomGivenBy id b conn t k
 room_given None b conn t k e = tt
 room_given (Some id) true conn t k e = tt
 room_given (Some id) false conn t k e = e refl
 
-room_looks_so : (id : Option (List ℕ)) (b : Bool) (hub : Hub) (conn : ℕ) (t : Told) (k : RoomPass) → RoomLooksBy id false hub conn t k → RoomLooksBy id b hub conn t k
+room_looks_so : (id : Option (List ℕ)) (b : Bool) (hub : Hub) (conn : ℕ) (t : Account) (k : RoomPass) → RoomLooksBy id false hub conn t k → RoomLooksBy id b hub conn t k
 room_looks_so None b hub conn t k a = a
 room_looks_so (Some id) b hub conn t k a = looks_so (Shows conn (site_of hub k.number)) b (commands k.pass.1.seen) k.at (Some id) (Some k.number) t.sendings (length t.acts - length (since k.number t.acts) + 1) (length (since k.number t.acts)) k.pass.1.looks a
 
-given_still : (id : Option (List ℕ)) (b : Bool) (conn : ℕ) (t : Told) (k : RoomPass) → RoomGivenBy id false conn t k → RoomGivenBy id b conn t k
+given_still : (id : Option (List ℕ)) (b : Bool) (conn : ℕ) (t : Account) (k : RoomPass) → RoomGivenBy id false conn t k → RoomGivenBy id b conn t k
 given_still None b conn t k g = tt
 given_still (Some id) true conn t k g = tt
 given_still (Some id) false conn t k g = g
 
-pub room_so : (b s : Bool) (hub : Hub) (conn : ℕ) (t : Told) (k : RoomPass) → RoomRests false false hub conn t k → RoomRests b s hub conn t k
+pub room_so : (b s : Bool) (hub : Hub) (conn : ℕ) (t : Account) (k : RoomPass) → RoomRests false false hub conn t k → RoomRests b s hub conn t k
 room_so b s hub conn t k r = record {
   entries = part_so s (commands k.pass.1.mine) (room_cmds conn k.number t.acts) r.entries;
   given = given_still k.id b conn t k r.given;
@@ -123,26 +123,26 @@ room_so b s hub conn t k r = record {
   named = r.named;
 }
 
-held_looks : (hub : Hub) (conn : ℕ) (t : Told) (id : List ℕ) (k : RoomPass) → RoomSits hub conn t.acts (length t.acts) t.sendings id k → IsAtEnd t.acts k.at k.pass.1.seen → RoomLooksBy (Some id) false hub conn t k
+held_looks : (hub : Hub) (conn : ℕ) (t : Account) (id : List ℕ) (k : RoomPass) → RoomSits hub conn t.acts (length t.acts) t.sendings id k → IsAtEnd t.acts k.at k.pass.1.seen → RoomLooksBy (Some id) false hub conn t k
 held_looks hub conn t id k s end =
     let counted : length k.pass.1.looks + (length t.acts - length t.acts) ≡ length (since k.number t.acts) = s.count in
     looks_whole (Shows conn (site_of hub k.number)) (commands k.pass.1.seen) k.at (Some id) (Some k.number) t.sendings (length t.acts - length (since k.number t.acts) + 1) (length (since k.number t.acts)) k.pass.1.looks (omega arith) s.looks
     (⊎_elim (λ (e : t.acts ≡ []). inl (ap (λ (l : List Act). length (since k.number l)) e)) (λ (e : k.at ≡ length k.pass.1.seen). inr (length-map k.pass.1.seen (λ (x : Entry RoomCmd). x.cmd) ∙ sym e)) end)
 
 -- what is known of the looks of a place: those of a room that is held, or that there are none
-abbrev pub HeldOrNone : Option (List ℕ) → Hub → ℕ → Told → RoomPass → Type 0
+abbrev pub HeldOrNone : Option (List ℕ) → Hub → ℕ → Account → RoomPass → Type 0
 HeldOrNone (Some id) hub conn t k = RoomSits hub conn t.acts (length t.acts) t.sendings id k
 HeldOrNone None hub conn t k = k.pass.1.looks ≡ []
 
-by_looks : (id : Option (List ℕ)) (hub : Hub) (conn : ℕ) (t : Told) (k : RoomPass) → HeldOrNone id hub conn t k → (IsSome id → IsAtEnd t.acts k.at k.pass.1.seen) → RoomLooksBy id false hub conn t k
+by_looks : (id : Option (List ℕ)) (hub : Hub) (conn : ℕ) (t : Account) (k : RoomPass) → HeldOrNone id hub conn t k → (IsSome id → IsAtEnd t.acts k.at k.pass.1.seen) → RoomLooksBy id false hub conn t k
 by_looks None hub conn t k s end = s
 by_looks (Some id) hub conn t k s end = held_looks hub conn t id k s (end refl)
 
-by_name : (id : Option (List ℕ)) (hub : Hub) (conn : ℕ) (t : Told) (k : RoomPass) → HeldOrNone id hub conn t k → IfSome id (λ i. Names hub.config i k.number)
+by_name : (id : Option (List ℕ)) (hub : Hub) (conn : ℕ) (t : Account) (k : RoomPass) → HeldOrNone id hub conn t k → IfSome id (λ i. Names hub.config i k.number)
 by_name None hub conn t k s = tt
 by_name (Some id) hub conn t k s = s.named
 
-pub room_whole : (hub : Hub) (conn : ℕ) (t : Told) (k : RoomPass) → IsRoomPass hub conn k → commands k.pass.1.mine ≡ room_cmds conn k.number t.acts → IsSent (Shows conn (site_of hub k.number)) (commands k.pass.1.seen) k.at k.id (Some k.number) t.sendings → HeldOrNone k.id hub conn t k → (IsSome k.id → IsAtEnd t.acts k.at k.pass.1.seen) → RoomRests false false hub conn t k
+pub room_whole : (hub : Hub) (conn : ℕ) (t : Account) (k : RoomPass) → IsRoomPass hub conn k → commands k.pass.1.mine ≡ room_cmds conn k.number t.acts → IsSent (Shows conn (site_of hub k.number)) (commands k.pass.1.seen) k.at k.id (Some k.number) t.sendings → HeldOrNone k.id hub conn t k → (IsSome k.id → IsAtEnd t.acts k.at k.pass.1.seen) → RoomRests false false hub conn t k
 room_whole hub conn t k is made sent s end = record {
   entries = made;
   given = room_given k.id false conn t k (λ held. handed_at k.pass.1.number k.at k.pass.1.mine k.pass.1.seen (room_cmds conn k.number t.acts) is.rest.2 made (⊎_elim (λ (e : t.acts ≡ []). inl (ap (room_cmds conn k.number) e)) (λ (e : k.at ≡ length k.pass.1.seen). inr e) (end held)));
@@ -151,17 +151,17 @@ room_whole hub conn t k is made sent s end = record {
   named = by_name k.id hub conn t k s;
 }
 
-by_sits : (id : Option (List ℕ)) (hub : Hub) (conn : ℕ) (t : Told) (k : RoomPass) → SitsBy id hub conn t.acts (length t.acts) t.sendings k → HeldOrNone id hub conn t k
+by_sits : (id : Option (List ℕ)) (hub : Hub) (conn : ℕ) (t : Account) (k : RoomPass) → SitsBy id hub conn t.acts (length t.acts) t.sendings k → HeldOrNone id hub conn t k
 by_sits None hub conn t k s = s.looks
 by_sits (Some id) hub conn t k s = s
 
-by_full : (id : Option (List ℕ)) (hub : Hub) (conn : ℕ) (t : Told) (k : RoomPass) → HeldFull id hub conn t.acts t.sendings k → HeldOrNone id hub conn t k
+by_full : (id : Option (List ℕ)) (hub : Hub) (conn : ℕ) (t : Account) (k : RoomPass) → HeldFull id hub conn t.acts t.sendings k → HeldOrNone id hub conn t k
 by_full None hub conn t k s = s
 by_full (Some id) hub conn t k s = s
 
 -- ---- all of it, where nothing broke off
 
-pub record Whole (hub : Hub) (conn : ℕ) (t : Told) (passes : Passes) : Type 0 where
+pub record Whole (hub : Hub) (conn : ℕ) (t : Account) (passes : Passes) : Type 0 where
   pub are : AreOf hub passes
   pub conn_is : passes.conn ≡ conn
   pub way : AreActs (begun conn) t.acts
@@ -189,7 +189,7 @@ room_end : (acts : List Act) (passes : Passes) (i : ℕ) (d : RoomPass) → i < 
 room_end acts passes i d lt (inl e) held = inl e
 room_end acts passes i d lt (inr up) held = inr (up.rooms i d lt held)
 
-pub whole_sits : (hub : Hub) (conn : ℕ) (t : Told) (session : Record) (passes : Passes) → Sits hub conn t.opened t.acts (length t.acts) t.sendings session passes → IsUp t.acts passes → Whole hub conn t passes
+pub whole_sits : (hub : Hub) (conn : ℕ) (t : Account) (session : Record) (passes : Passes) → Sits hub conn t.opened t.acts (length t.acts) t.sendings session passes → IsUp t.acts passes → Whole hub conn t passes
 whole_sits hub conn t session passes s up = record {
   are = s.are;
   conn_is = s.conn_is;
@@ -207,7 +207,7 @@ whole_sits hub conn t session passes s up = record {
   opened = s.opened;
 }
 
-pub whole_full : (hub : Hub) (conn : ℕ) (t : Told) (passes : Passes) → SitsFull hub conn t.opened t.acts t.sendings passes → IsUp t.acts passes → passes.badge ≡ (after_acts (begun conn) t.acts).badge → Whole hub conn t passes
+pub whole_full : (hub : Hub) (conn : ℕ) (t : Account) (passes : Passes) → SitsFull hub conn t.opened t.acts t.sendings passes → IsUp t.acts passes → passes.badge ≡ (after_acts (begun conn) t.acts).badge → Whole hub conn t passes
 whole_full hub conn t passes s up badge = record {
   are = s.are;
   conn_is = s.conn_is;
@@ -227,7 +227,7 @@ whole_full hub conn t passes s up badge = record {
 
 -- ---- the rest of a whole session, at any end
 
-pub answers_so : (s : Bool) (hub : Hub) (conn : ℕ) (t : Told) (rooms : List RoomPass) (h : HallPass) → AreGiven hub conn [] t.acts h rooms → AreAnswers s hub conn t rooms h
+pub answers_so : (s : Bool) (hub : Hub) (conn : ℕ) (t : Account) (rooms : List RoomPass) (h : HallPass) → AreGiven hub conn [] t.acts h rooms → AreAnswers s hub conn t rooms h
 answers_so true hub conn t rooms h g = (t.acts, ([], sym (append-nil t.acts), g, tt))
 answers_so false hub conn t rooms h g = g
 
@@ -235,8 +235,8 @@ sure_so : (s : Bool) (acts : List Act) → AreSure s acts acts
 sure_so true acts = ([], sym (append-nil acts), omega arith)
 sure_so false acts = refl
 
-pub rests_whole : (end : End) (hub : Hub) (conn : ℕ) (t : Told) (passes : Passes) (talk0 talk : Option Talk) (counts0 counts : LinkCounts) (hours0 hours : Hours)
-    → Whole hub conn t passes → AreTold conn t talk0 talk → HasCause end hub conn t passes.rooms.items talk counts0 counts → HasExtraAt end conn t → All (IsAsked end hub t) passes.rooms.items → Asked hours0 (moments_of t.acts ++ t.extra) hours → Rests end hub conn t passes talk0 talk counts0 counts hours0 hours
+pub rests_whole : (end : End) (hub : Hub) (conn : ℕ) (t : Account) (passes : Passes) (talk0 talk : Option Talk) (counts0 counts : LinkCounts) (hours0 hours : Hours)
+    → Whole hub conn t passes → IsAccount conn t talk0 talk → HasCause end hub conn t passes.rooms.items talk counts0 counts → HasExtraAt end conn t → All (IsAsked end hub t) passes.rooms.items → Asked hours0 (moments_of t.acts ++ t.extra) hours → Rests end hub conn t passes talk0 talk counts0 counts hours0 hours
 rests_whole end hub conn t passes talk0 talk counts0 counts hours0 hours w told cause extra asked asked_for = record {
   are = w.are;
   conn_is = w.conn_is;
@@ -263,47 +263,47 @@ rests_whole end hub conn t passes talk0 talk counts0 counts hours0 hours w told 
 
 -- ---- what is asked of the places that aren't held
 
-waits_of : (id : Option (List ℕ)) (hub : Hub) (conn : ℕ) (t : Told) (k : RoomPass) → SitsBy id hub conn t.acts (length t.acts) t.sendings k → IsAskedBy id hub t k
+waits_of : (id : Option (List ℕ)) (hub : Hub) (conn : ℕ) (t : Account) (k : RoomPass) → SitsBy id hub conn t.acts (length t.acts) t.sendings k → IsAskedBy id hub t k
 waits_of None hub conn t k s = s
 waits_of (Some id) hub conn t k s = tt
 
-pub asked_so : (end : End) (hub : Hub) (t : Told) (k : RoomPass) → IsAskedBy k.id hub t k → IsAsked end hub t k
+pub asked_so : (end : End) (hub : Hub) (t : Account) (k : RoomPass) → IsAskedBy k.id hub t k → IsAsked end hub t k
 asked_so ends.NoMemory hub t k a = tt
 asked_so (ends.OwnLimit room) hub t k a = tt
 asked_so ends.Closed hub t k a = a
 asked_so ends.LinkFault hub t k a = a
 asked_so (ends.BadText bytes) hub t k a = a
 
-pub asked_sits : (end : End) (hub : Hub) (conn : ℕ) (t : Told) (rooms : List RoomPass) → All (PlaceSits hub conn t.acts (length t.acts) t.sendings) rooms → All (IsAsked end hub t) rooms
+pub asked_sits : (end : End) (hub : Hub) (conn : ℕ) (t : Account) (rooms : List RoomPass) → All (PlaceSits hub conn t.acts (length t.acts) t.sendings) rooms → All (IsAsked end hub t) rooms
 asked_sits end hub conn t rooms all i d lt = asked_so end hub t (get_or rooms i d) (waits_of (get_or rooms i d).id hub conn t (get_or rooms i d) (all i d lt).2)
 
 -- ---- a session that broke off
 
 -- its link failed
-left_looks : (id : Option (List ℕ)) (hub : Hub) (conn : ℕ) (t : Told) (k : RoomPass) → LooksLeft id hub conn t.acts t.sendings k → RoomLooksBy id true hub conn t k
+left_looks : (id : Option (List ℕ)) (hub : Hub) (conn : ℕ) (t : Account) (k : RoomPass) → LooksLeft id hub conn t.acts t.sendings k → RoomLooksBy id true hub conn t k
 left_looks None hub conn t k l = l
 left_looks (Some id) hub conn t k l = l.1
 
-left_name : (id : Option (List ℕ)) (hub : Hub) (conn : ℕ) (t : Told) (k : RoomPass) → LooksLeft id hub conn t.acts t.sendings k → IfSome id (λ i. Names hub.config i k.number)
+left_name : (id : Option (List ℕ)) (hub : Hub) (conn : ℕ) (t : Account) (k : RoomPass) → LooksLeft id hub conn t.acts t.sendings k → IfSome id (λ i. Names hub.config i k.number)
 left_name None hub conn t k l = tt
 left_name (Some id) hub conn t k l = l.0
 
-pub given_broken : (id : Option (List ℕ)) (conn : ℕ) (t : Told) (k : RoomPass) → RoomGivenBy id true conn t k
+pub given_broken : (id : Option (List ℕ)) (conn : ℕ) (t : Account) (k : RoomPass) → RoomGivenBy id true conn t k
 given_broken None conn t k = tt
 given_broken (Some id) conn t k = tt
 
-room_failed : (hub : Hub) (conn : ℕ) (early : List Act) (t : Told) (k : RoomPass) → PlaceLeft true hub conn early t.acts t.sendings k → RoomRests true false hub conn t k
+room_failed : (hub : Hub) (conn : ℕ) (early : List Act) (t : Account) (k : RoomPass) → PlaceLeft true hub conn early t.acts t.sendings k → RoomRests true false hub conn t k
 room_failed hub conn early t k l = record { entries = l.entries; given = given_broken k.id conn t k; looks = left_looks k.id hub conn t k l.looks; sent = l.sent; named = left_name k.id hub conn t k l.looks }
 
-room_short : (hub : Hub) (conn : ℕ) (early : List Act) (t : Told) (k : RoomPass) → PlaceLeft false hub conn early t.acts t.sendings k → RoomRests true true hub conn t k
+room_short : (hub : Hub) (conn : ℕ) (early : List Act) (t : Account) (k : RoomPass) → PlaceLeft false hub conn early t.acts t.sendings k → RoomRests true true hub conn t k
 room_short hub conn early t k l = record { entries = l.entries.1; given = given_broken k.id conn t k; looks = left_looks k.id hub conn t k l.looks; sent = l.sent; named = left_name k.id hub conn t k l.looks }
 
-waits_left : (id : Option (List ℕ)) (hub : Hub) (t : Told) (k : RoomPass) → (id ≡ None → RoomWaits hub t.acts k) → IsAskedBy id hub t k
+waits_left : (id : Option (List ℕ)) (hub : Hub) (t : Account) (k : RoomPass) → (id ≡ None → RoomWaits hub t.acts k) → IsAskedBy id hub t k
 waits_left None hub t k w = w refl
 waits_left (Some id) hub t k w = tt
 
-pub rests_failed : (hub : Hub) (conn : ℕ) (early : List Act) (t : Told) (passes : Passes) (talk0 talk : Option Talk) (counts0 counts : LinkCounts) (hours0 hours : Hours)
-    → Left true hub conn t.opened early t.acts t.sendings passes → AreTold conn t talk0 talk → HasCause ends.LinkFault hub conn t passes.rooms.items talk counts0 counts → HasExtraAt ends.LinkFault conn t → Asked hours0 (moments_of t.acts ++ t.extra) hours → Rests ends.LinkFault hub conn t passes talk0 talk counts0 counts hours0 hours
+pub rests_failed : (hub : Hub) (conn : ℕ) (early : List Act) (t : Account) (passes : Passes) (talk0 talk : Option Talk) (counts0 counts : LinkCounts) (hours0 hours : Hours)
+    → Left true hub conn t.opened early t.acts t.sendings passes → IsAccount conn t talk0 talk → HasCause ends.LinkFault hub conn t passes.rooms.items talk counts0 counts → HasExtraAt ends.LinkFault conn t → Asked hours0 (moments_of t.acts ++ t.extra) hours → Rests ends.LinkFault hub conn t passes talk0 talk counts0 counts hours0 hours
 rests_failed hub conn early t passes talk0 talk counts0 counts hours0 hours l told cause extra asked_for = record {
   are = l.are;
   conn_is = l.conn_is;
@@ -329,8 +329,8 @@ rests_failed hub conn early t passes talk0 talk counts0 counts hours0 hours l to
 }
 
 -- memory was wanting
-pub rests_short : (hub : Hub) (conn : ℕ) (early last : List Act) (t : Told) (passes : Passes) (talk0 talk : Option Talk) (counts0 counts : LinkCounts) (hours0 hours : Hours)
-    → Left false hub conn t.opened early t.acts t.sendings passes → t.acts ≡ early ++ last → length last ≤ 1 → AreTold conn t talk0 talk → HasCause ends.NoMemory hub conn t passes.rooms.items talk counts0 counts → HasExtraAt ends.NoMemory conn t → Asked hours0 (moments_of t.acts ++ t.extra) hours → Rests ends.NoMemory hub conn t passes talk0 talk counts0 counts hours0 hours
+pub rests_short : (hub : Hub) (conn : ℕ) (early last : List Act) (t : Account) (passes : Passes) (talk0 talk : Option Talk) (counts0 counts : LinkCounts) (hours0 hours : Hours)
+    → Left false hub conn t.opened early t.acts t.sendings passes → t.acts ≡ early ++ last → length last ≤ 1 → IsAccount conn t talk0 talk → HasCause ends.NoMemory hub conn t passes.rooms.items talk counts0 counts → HasExtraAt ends.NoMemory conn t → Asked hours0 (moments_of t.acts ++ t.extra) hours → Rests ends.NoMemory hub conn t passes talk0 talk counts0 counts hours0 hours
 rests_short hub conn early last t passes talk0 talk counts0 counts hours0 hours l parts one told cause extra asked_for = record {
   are = l.are;
   conn_is = l.conn_is;

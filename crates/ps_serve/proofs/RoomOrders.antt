@@ -3,21 +3,21 @@ use Rattle.std.proofs.Common.{◌≡◌, ◌≢◌, ◌⊎◌, ℕ, ◌+◌, ◌
 use Rattle.std.specs.Prelude.{IsSome}
 use Rattle.std.proofs.lemmas.List.{length-map}
 use Rattle.std.proofs.lemmas.List.Elements.{All-nil, All-weaker}
-use Rattle.std.proofs.lemmas.Option.{same_Some}
+use Rattle.std.proofs.lemmas.Option.{same_Some, none-some}
 use mathlib.Core.List.{IsPrefix}
 use Rattle.ps_base.specs.declared.badge.Badge.{Badge}
 use Rattle.ps_lines.specs.declared.command.Command.{Command}
 use Rattle.ps_lines.specs.declared.command.HallCmd.{HallCmd}
-use Rattle.ps_valid.specs.declared.start.Start.{Start}
+use Rattle.rules_start.specs.declared.start.Start.{Start}
 use Rattle.ps_room.specs.declared.outcome.Ending.{Ending}
 use Rattle.ps_histlock.specs.declared.view.Entry.{Entry}
 use Rattle.ps_histlock.specs.Histories.{commands, entry, entries_of}
 use Rattle.ps_histlock.specs.Turns.{turned}
 use Rattle.ps_histlock.proofs.Lists.{prefix_self}
-use Rattle.ps_places.specs.declared.command.RoomCmd.{RoomCmd}
-use Rattle.ps_places.specs.declared.command.RoomCmd.TheVariants.{Play}
-use Rattle.ps_places.specs.Sites.{Tells}
-use Rattle.ps_places.specs.Rooms.{Answers}
+use Rattle.server_places.specs.declared.command.RoomCmd.{RoomCmd}
+use Rattle.server_places.specs.declared.command.RoomCmd.TheVariants.{Play}
+use Rattle.server_places.specs.Sites.{Tells}
+use Rattle.server_places.specs.Rooms.{Answers}
 use Rattle.ps_session.specs.Sessions.{Record}
 use Rattle.ps_hub.specs.Hubs.{Hub, site_of}
 use Rattle.ps_hub.specs.Names.{Names}
@@ -32,16 +32,16 @@ use Rattle.ps_hub.specs.declared.pass.RoomPass.{RoomPass}
 use Rattle.ps_hub.specs.declared.passes.Passes.{Passes}
 use Rattle.ps_hub.proofs.NameLemmas.{names_none as no_name}
 use Rattle.ps_hub.proofs.ShortLemmas.{short_turns}
-use Rattle.ps_openings.specs.Openings.{first_battle}
+use Rattle.ps_room.specs.Openings.{first_battle}
 use Rattle.ps_serve.specs.Acts.{Act, heard, in_room, nowhere, after_act, IsAct, hall_of, hall_entries, room_of, room_cmds, since, begun_by}
 use Rattle.ps_serve.specs.Sendings.{Sending}
 use Rattle.ps_serve.specs.Sittings.{RoomSits, RoomGave, IsUnfound, IsOthers, Gave, IsBegun, Sits, PlaceLeft, IsUpToDate, AreApart}
 use Rattle.ps_serve.proofs.Prefixes.{prefix_front, prefix_same}
 use Rattle.ps_serve.proofs.Names.{one_place}
-use Rattle.ps_serve.proofs.Rows.{IsBeside, new_all, has_new, new_apart, IsKin, kin_self, Grows, grows_trans, grows_beside}
+use Rattle.ps_serve.proofs.PassLists.{IsBeside, new_all, has_new, new_apart, IsKin, kin_self, Grows, grows_trans, grows_beside}
 use Rattle.ps_serve.proofs.Actions.{hall_more, cmds_more, cmds_here, joins_here, quiet_room, quiet_nowhere, quiet_asked}
 use Rattle.ps_serve.proofs.Moves.{Moves, stays, turns_move, enters_move, entered_moves, entered_seen, turned_seen, one_turn}
-use Rattle.ps_serve.proofs.Places.{never_some, IsMoved, kin_moved, told_moved, IsPlace, IsBattle, HasPlace, AreSitting, sitting_at, sitting_on, place_on}
+use Rattle.ps_serve.proofs.Places.{IsMoved, kin_moved, told_moved, IsPlace, IsBattle, HasPlace, AreSitting, sitting_at, sitting_on, place_on}
 use Rattle.ps_serve.proofs.Halls.{IsHallKin, hall_as}
 use Rattle.ps_serve.proofs.Tries.{Between, hall_start, InHall, beside_of, place_was}
 use Rattle.ps_serve.proofs.Sides.{held_on, place_plays, place_asked, IsFull, place_full, place_full_asked, place_left, left_whole, left_before, left_moved}
@@ -240,7 +240,7 @@ module _ (hub : Hub) (conn open_at : ℕ) (acts : List Act) (ss : List Sending) 
               (λ number ne. quiet_nowhere conn number bytes moment id cmd)
               (λ x ne y is who names. not_there id e.before.number e.named x ne y is who names)
               (subst (HasPlace hub conn ss (acts ++ heard bytes moment (nowhere None id cmd) ∷ []) (length acts)) (sym same)
-              (place_on hub conn ss acts (Some id) (IsUpToDate old) (heard bytes moment (nowhere None id cmd)) e.before (quiet_nowhere conn e.before.number bytes moment id cmd) not (p, λ none. never_some other (sym none ∙ held))));
+              (place_on hub conn ss acts (Some id) (IsUpToDate old) (heard bytes moment (nowhere None id cmd)) e.before (quiet_nowhere conn e.before.number bytes moment id cmd) not (p, λ none. absurd (none-some other (sym none ∙ held)))));
           grows = grows_at id mid e.before e.behind new b bes (subst (IsKin e.before) (sym same) (kin_self e.before));
           gave = λ hall. inr (e.behind, has_new hub conn mid.rooms.items e.before e.behind new.rooms.items bes, subst (IsOthers hub acts id) (sym same) others);
           begins_none = refl;
@@ -279,7 +279,7 @@ module _ (hub : Hub) (conn open_at : ℕ) (acts : List Act) (ss : List Sending) 
               (λ number ne. quiet_asked conn number bytes moment e.before.number id cmd (λ x. ne (sym x)))
               (λ x ne y some who names. not_there id e.before.number e.named x ne y some who names)
               (place_asked hub conn ss acts (Some id) (IsUpToDate old) bytes moment id cmd e.before e.behind e.done.0 was is m (one_turn e.before.pass.1 e.behind.pass.1 t) lacks p);
-          grows = grows_at id mid e.before e.behind new b bes (kin_moved e.before [] e.behind m (λ x some. never_some x (sym was ∙ some)));
+          grows = grows_at id mid e.before e.behind new b bes (kin_moved e.before [] e.behind m (λ x some. absurd (none-some x (sym was ∙ some))));
           gave = λ hall. (e.behind, has_new hub conn mid.rooms.items e.before e.behind new.rooms.items bes, unfound);
           begins_none = refl;
         };
@@ -374,7 +374,7 @@ module _ (hub : Hub) (conn open_at : ℕ) (acts : List Act) (ss : List Sending) 
       (subst (IsPrefix (room_cmds conn g.behind.number acts)) (sym made) (prefix_front (room_cmds conn g.behind.number acts) more))
       (subst (λ l. IsPrefix l (room_cmds conn g.behind.number (acts ++ heard bytes moment (in_room g.before.number id cmd badge None) ∷ []))) (sym made) (subst (IsPrefix (room_cmds conn g.behind.number acts ++ more)) (sym all) high))
       (told_moved hub conn ss g.before more g.behind m (g.held_on ∙ sym g.held) p.within p.told)
-      (λ none. never_some id (sym none ∙ g.held_on))
+      (λ none. absurd (none-some id (sym none ∙ g.held_on)))
       (λ other e. subst (λ (x : List ℕ). RoomSits hub conn (acts ++ heard bytes moment (in_room g.before.number id cmd badge None) ∷ []) (length acts) ss x g.behind) (same_Some id other (sym g.held_on ∙ e)) joined.0) in
       record {
         are = are;

@@ -6,15 +6,15 @@ use Rattle.std.proofs.lemmas.List.{append-nil}
 use Rattle.std.proofs.lemmas.List.Elements.{All-weaker, All-contains, All-contains_itself, Contains-get_or, AllZip-get_or, length_all_zip}
 use mathlib.Core.List.{IsPrefix}
 use Rattle.ps_base.specs.declared.badge.Badge.{Badge}
-use Rattle.ps_valid.specs.declared.start.Start.{Start}
+use Rattle.rules_start.specs.declared.start.Start.{Start}
 use Rattle.ps_histlock.specs.Histories.{commands}
 use Rattle.ps_histlock.proofs.Lists.{prefix_length}
 use Rattle.ps_outside.specs.Clocks.{IsNow, after_now}
 use Rattle.ps_outside.specs.Links.{Talk, LinkCounts}
-use Rattle.ps_places.specs.declared.command.RoomCmd.{RoomCmd}
+use Rattle.server_places.specs.declared.command.RoomCmd.{RoomCmd}
 use Rattle.ps_hub.specs.Hubs.{Hub, root_of, site_of}
-use Rattle.ps_places.specs.Rooms.{Shows}
-use Rattle.ps_places.specs.Halls.{HallShows}
+use Rattle.server_places.specs.Rooms.{Shows}
+use Rattle.server_places.specs.Halls.{HallShows}
 use Rattle.ps_hub.specs.Names.{Names}
 use Rattle.ps_hub.specs.Passes.{AreOf, IsRoomPass}
 use Rattle.ps_hub.specs.Calls.{QuitsHall, QuitsRoom, QuitsWith, Quits}
@@ -22,16 +22,16 @@ use Rattle.ps_hub.specs.declared.pass.HallPass.{HallPass}
 use Rattle.ps_hub.specs.declared.pass.RoomPass.{RoomPass}
 use Rattle.ps_hub.specs.declared.passes.Passes.{Passes}
 use Rattle.ps_hub.proofs.CallLemmas.{RoomEndsAtMost, HallEndsAtMost, quits_each}
-use Rattle.ps_hub.proofs.RowLemmas.{hall_of}
+use Rattle.ps_hub.proofs.PassListLemmas.{hall_of}
 use Rattle.ps_serve.specs.declared.closed.End.{End}
 use Rattle.ps_serve.specs.declared.closed.End.TheVariants as ends
 use Rattle.ps_serve.specs.Acts.{Act, moments_of, hall_entries, room_cmds, since, begins, all_begun}
 use Rattle.ps_serve.specs.Sittings.{IsFrom, IsBegun, AreApart}
 use Rattle.ps_serve.specs.Steps.{Hours, Asked}
-use Rattle.ps_serve.specs.Ends.{Told, is_short, is_broken, AllOrPart, AllThenQuit, hall_quit, room_quit, HallMade, HallGiven, RoomMadeBy, RoomMade, RoomGiven, HallLooks, RoomLooksBy, RoomLooks, HallSent, RoomSent, AreAnswers, IsAsked, IsOpen, moments_in, HasExtra, TellsMoments, starts_in, IsBegunBy, AreSure, IsOwnStart, OneBegin, HallElsewhere, IsHallOf, IsRoomOf, OneHistory, IsTooMany, HasTextCause, HasCause, Served}
+use Rattle.ps_serve.specs.Ends.{Account, is_short, is_broken, AllOrPart, AllThenQuit, hall_quit, room_quit, HallMade, HallGiven, RoomMadeBy, RoomMade, RoomGiven, HallLooks, RoomLooksBy, RoomLooks, HallSent, RoomSent, AreAnswers, IsAsked, IsOpen, moments_in, HasExtra, TellsMoments, starts_in, IsBegunBy, AreSure, IsOwnStart, OneBegin, HallElsewhere, IsHallOf, IsRoomOf, OneHistory, IsTooMany, HasTextCause, HasCause, Served}
 use Rattle.ps_serve.specs.Rests.{HallRests, RoomRests, HasExtraAt, Rests, ComesToRest}
 use Rattle.ps_serve.proofs.Prefixes.{prefix_same, prefix_trans}
-use Rattle.ps_serve.proofs.Rows.{Grows, from_grows}
+use Rattle.ps_serve.proofs.PassLists.{Grows, from_grows}
 use Rattle.ps_serve.proofs.Halls.{IsHallKin, open_grows, nowhere_grows, given_grows, almost_grows}
 use Rattle.ps_serve.proofs.Goings.{Goes, kept_in, zip_all, apart_on}
 use Rattle.ps_serve.proofs.StandLemmas.{asked_on}
@@ -68,13 +68,13 @@ with_quit false made all conn b moment e = prefix_same (starts_in made) (starts_
 with_quit true made all conn b moment (part, front, inl e) = subst (λ l. IsPrefix (starts_in l) (starts_in all)) (sym e) (starts_front part all front)
 with_quit true made all conn b moment (part, front, inr e) = subst (λ (l : List Start). IsPrefix l (starts_in all)) (sym (ap (λ l. starts_in l) e ∙ no_quit_start part conn b moment)) (starts_front part all front)
 
-made_starts : (id : Option (List ℕ)) (s : Bool) (conn : ℕ) (badge : Option Badge) (t : Told) (k : RoomPass) → RoomMadeBy id s conn badge t k → IsPrefix (starts_in (commands k.pass.1.mine)) (starts_in (room_cmds conn k.number t.acts))
+made_starts : (id : Option (List ℕ)) (s : Bool) (conn : ℕ) (badge : Option Badge) (t : Account) (k : RoomPass) → RoomMadeBy id s conn badge t k → IsPrefix (starts_in (commands k.pass.1.mine)) (starts_in (room_cmds conn k.number t.acts))
 made_starts None true conn badge t k m = starts_front (commands k.pass.1.mine) (room_cmds conn k.number t.acts) m
 made_starts None false conn badge t k m = prefix_same (starts_in (commands k.pass.1.mine)) (starts_in (room_cmds conn k.number t.acts)) (ap (λ l. starts_in l) m)
 made_starts (Some id) s conn badge t k m = with_quit s (commands k.pass.1.mine) (room_cmds conn k.number t.acts) conn m.0 t.left m.2
 
 -- no pass has a Begin but of battles that the connection started
-own_of : (s : Bool) (conn : ℕ) (badge : Option Badge) (t : Told) (k : RoomPass) → RoomMade s conn badge t k → All (IsOwnStart t k.number) (starts_in (commands k.pass.1.mine))
+own_of : (s : Bool) (conn : ℕ) (badge : Option Badge) (t : Account) (k : RoomPass) → RoomMade s conn badge t k → All (IsOwnStart t k.number) (starts_in (commands k.pass.1.mine))
 own_of s conn badge t k m =
     let front : IsPrefix (starts_in (commands k.pass.1.mine)) (begins k.number t.acts) = subst (λ (l : List Start). IsPrefix (starts_in (commands k.pass.1.mine)) l) (starts_are conn k.number t.acts) (made_starts k.id s conn badge t k m) in
     All-weaker (λ (x : Start). Contains (all_begun t.acts) x × (k.number ≡ 15 + x.number)) (IsOwnStart t k.number) (λ x p. record { started = p.0; place = p.1 }) (starts_in (commands k.pass.1.mine))
@@ -87,12 +87,12 @@ single (y ∷ []) x (zero, lt, e) le = ap (λ (s : Start). s ∷ []) e
 single (y ∷ []) x (suc k, lt, e) le = absurd (let bad : suc k < length (y ∷ []) = lt in omega arith)
 
 -- each battle has a number of its own
-begins_few : (s : Bool) (hub : Hub) (conn : ℕ) (t : Told) (number : ℕ) (rooms : List RoomPass) (hall : HallPass) → AreAnswers s hub conn t rooms hall → length (begins number t.acts) ≤ 1
+begins_few : (s : Bool) (hub : Hub) (conn : ℕ) (t : Account) (number : ℕ) (rooms : List RoomPass) (hall : HallPass) → AreAnswers s hub conn t rooms hall → length (begins number t.acts) ≤ 1
 begins_few false hub conn t number rooms hall g = one_each hub conn number [] t.acts hall rooms g
 begins_few true hub conn t number rooms hall g = almost_each hub conn number g.0 t.acts hall rooms g.1
 
 -- a battle that was started has its Begin
-begin_of : (s : Bool) (hub : Hub) (conn : ℕ) (badge : Option Badge) (t : Told) (sure : List Act) (hall : HallPass) (rooms : List RoomPass) (h k : RoomPass) (start : Start) → AreAnswers s hub conn t rooms hall → Contains (all_begun sure) start → h.number ≡ 15 + start.number
+begin_of : (s : Bool) (hub : Hub) (conn : ℕ) (badge : Option Badge) (t : Account) (sure : List Act) (hall : HallPass) (rooms : List RoomPass) (h k : RoomPass) (start : Start) → AreAnswers s hub conn t rooms hall → Contains (all_begun sure) start → h.number ≡ 15 + start.number
     → IsPrefix (room_cmds conn h.number sure) (commands h.pass.1.mine) → k.number ≡ h.number → IsPrefix (commands h.pass.1.mine) (commands k.pass.1.mine) → RoomMade s conn badge t k → starts_in (commands k.pass.1.mine) ≡ start ∷ []
 begin_of s hub conn badge t sure hall rooms h k start g c place early same more m =
     let front : IsPrefix (starts_in (commands k.pass.1.mine)) (begins k.number t.acts) = subst (λ (l : List Start). IsPrefix (starts_in (commands k.pass.1.mine)) l) (starts_are conn k.number t.acts) (made_starts k.id s conn badge t k m) in
@@ -106,7 +106,7 @@ begin_of s hub conn badge t sure hall rooms h k start g c place early same more 
 
 -- ---- after the Quits
 
-pub record Quitted (broken short : Bool) (hub : Hub) (conn : ℕ) (t : Told) (old new : Passes) (was : HallPass) : Type 0 where
+pub record Quitted (broken short : Bool) (hub : Hub) (conn : ℕ) (t : Account) (old new : Passes) (was : HallPass) : Type 0 where
   pub are : AreOf hub new
   pub conn_is : new.conn ≡ conn
   pub hall_pass : HallPass
@@ -120,14 +120,14 @@ pub record Quitted (broken short : Bool) (hub : Hub) (conn : ℕ) (t : Told) (ol
 abbrev Nothing : RoomPass → Type 0
 Nothing k = Unit {0}
 
-room_facts : (b s : Bool) (hub : Hub) (conn : ℕ) (t : Told) (old new : Passes) (Q : RoomPass → Type 0) → ((h k : RoomPass) → RoomQuit b s hub conn new.badge t h k → Q k) → AllZip (RoomQuit b s hub conn new.badge t) old.rooms.items new.rooms.items → All Q new.rooms.items
+room_facts : (b s : Bool) (hub : Hub) (conn : ℕ) (t : Account) (old new : Passes) (Q : RoomPass → Type 0) → ((h k : RoomPass) → RoomQuit b s hub conn new.badge t h k → Q k) → AllZip (RoomQuit b s hub conn new.badge t) old.rooms.items new.rooms.items → All Q new.rooms.items
 room_facts b s hub conn t old new Q step z = zip_all (RoomQuit b s hub conn new.badge t) Nothing Q (λ h k r nothing. step h k r) old.rooms.items new.rooms.items z (λ i d lt. tt)
 
-rooms_go : (b s : Bool) (hub : Hub) (conn : ℕ) (t : Told) (old new : Passes) → AllZip (RoomQuit b s hub conn new.badge t) old.rooms.items new.rooms.items → AllZip Goes old.rooms.items new.rooms.items
+rooms_go : (b s : Bool) (hub : Hub) (conn : ℕ) (t : Account) (old new : Passes) → AllZip (RoomQuit b s hub conn new.badge t) old.rooms.items new.rooms.items → AllZip Goes old.rooms.items new.rooms.items
 rooms_go b s hub conn t old new z = zip_more (RoomQuit b s hub conn new.badge t) Goes Nothing (λ h k nothing r. r.goes) old.rooms.items new.rooms.items (λ i d lt. tt) z
 
 -- the entries of the acts that are sure are still there
-early_on : (b s : Bool) (hub : Hub) (conn : ℕ) (t : Told) (sure : List Act) (old new : Passes) → All (λ (k : RoomPass). IsPrefix (room_cmds conn k.number sure) (commands k.pass.1.mine)) old.rooms.items → AllZip (RoomQuit b s hub conn new.badge t) old.rooms.items new.rooms.items → All (λ (k : RoomPass). IsPrefix (room_cmds conn k.number sure) (commands k.pass.1.mine)) new.rooms.items
+early_on : (b s : Bool) (hub : Hub) (conn : ℕ) (t : Account) (sure : List Act) (old new : Passes) → All (λ (k : RoomPass). IsPrefix (room_cmds conn k.number sure) (commands k.pass.1.mine)) old.rooms.items → AllZip (RoomQuit b s hub conn new.badge t) old.rooms.items new.rooms.items → All (λ (k : RoomPass). IsPrefix (room_cmds conn k.number sure) (commands k.pass.1.mine)) new.rooms.items
 early_on b s hub conn t sure old new early z =
     zip_all (RoomQuit b s hub conn new.badge t) (λ (k : RoomPass). IsPrefix (room_cmds conn k.number sure) (commands k.pass.1.mine)) (λ (k : RoomPass). IsPrefix (room_cmds conn k.number sure) (commands k.pass.1.mine))
     (λ h k rq p. subst (λ (n : ℕ). IsPrefix (room_cmds conn n sure) (commands k.pass.1.mine)) (sym rq.goes.grew.place) (prefix_trans (room_cmds conn h.number sure) (commands h.pass.1.mine) (commands k.pass.1.mine) p rq.more)) old.rooms.items new.rooms.items z early
@@ -135,25 +135,25 @@ early_on b s hub conn t sure old new early z =
 at_hall : (P : HallPass → Type 0) (passes : Passes) (h : HallPass) → passes.hall ≡ Some h → P h → IfSome passes.hall P
 at_hall P passes h is p = subst (λ (o : Option HallPass). IfSome o P) (sym is) p
 
-answers_on : (s : Bool) (hub : Hub) (conn : ℕ) (t : Told) (h k : HallPass) (old new : List RoomPass) → IsHallKin h k → Grows old new → AreAnswers s hub conn t old h → AreAnswers s hub conn t new k
+answers_on : (s : Bool) (hub : Hub) (conn : ℕ) (t : Account) (h k : HallPass) (old new : List RoomPass) → IsHallKin h k → Grows old new → AreAnswers s hub conn t old h → AreAnswers s hub conn t new k
 answers_on true hub conn t h k old new grew kept g = (g.0, almost_grows hub conn g.0 t.acts h k old new grew kept g.1)
 answers_on false hub conn t h k old new grew kept g = given_grows hub conn [] t.acts h k old new grew kept g
 
-tells_of : (end : End) (conn : ℕ) (t : Told) (h : HallPass) (old new : Hours) → HasExtraAt end conn t → Asked old (moments_in t) new → TellsMoments end conn t (Some h) old new
+tells_of : (end : End) (conn : ℕ) (t : Account) (h : HallPass) (old new : Hours) → HasExtraAt end conn t → Asked old (moments_in t) new → TellsMoments end conn t (Some h) old new
 tells_of ends.Closed conn t h old new extra asked = (extra, asked)
 tells_of ends.LinkFault conn t h old new extra asked = (extra, asked)
 tells_of (ends.OwnLimit room) conn t h old new extra asked = (extra, asked)
 tells_of (ends.BadText bytes) conn t h old new extra asked = (extra, asked)
 tells_of ends.NoMemory conn t h old new extra asked = (extra, asked)
 
-moments_all : (t : Told) (start hours0 hours1 hours2 : Hours) → IsNow start t.opened → hours0 ≡ after_now start → Asked hours0 (moments_of t.acts ++ t.extra) hours1 → IsNow hours1 t.left → hours2 ≡ after_now hours1 → Asked start (moments_in t) hours2
+moments_all : (t : Account) (start hours0 hours1 hours2 : Hours) → IsNow start t.opened → hours0 ≡ after_now start → Asked hours0 (moments_of t.acts ++ t.extra) hours1 → IsNow hours1 t.left → hours2 ≡ after_now hours1 → Asked start (moments_in t) hours2
 moments_all t start hours0 hours1 hours2 first begun_at asked last end =
     let rest : Asked hours1 (t.left ∷ []) hours2 = (last, end) in
     let behind : Asked (after_now start) (moments_of t.acts ++ t.extra) hours1 = subst (λ (h : Hours). Asked h (moments_of t.acts ++ t.extra) hours1) begun_at asked in
     let all : Asked (after_now start) ((moments_of t.acts ++ t.extra) ++ t.left ∷ []) hours2 = asked_on (after_now start) (moments_of t.acts ++ t.extra) (t.left ∷ []) hours1 hours2 behind rest in
     (first, subst (λ (ms : List ℕ). Asked (after_now start) ms hours2) (append_assoc (moments_of t.acts) t.extra (t.left ∷ [])) all)
 
-one_begin : (end : End) (hub : Hub) (conn : ℕ) (t : Told) (old new : Passes) (talk0 talk : Option Talk) (counts0 counts : LinkCounts) (hours0 hours1 : Hours) → (r : Rests end hub conn t old talk0 talk counts0 counts hours0 hours1) → Quitted (is_broken end) (is_short end) hub conn t old new r.hall_pass → OneBegin end t new.rooms.items
+one_begin : (end : End) (hub : Hub) (conn : ℕ) (t : Account) (old new : Passes) (talk0 talk : Option Talk) (counts0 counts : LinkCounts) (hours0 hours1 : Hours) → (r : Rests end hub conn t old talk0 talk counts0 counts hours0 hours1) → Quitted (is_broken end) (is_short end) hub conn t old new r.hall_pass → OneBegin end t new.rooms.items
 one_begin end hub conn t old new talk0 talk counts0 counts hours0 hours1 r q = record {
   sure = r.sure;
   are_sure = r.are_sure;
@@ -181,11 +181,11 @@ history_of hub conn passes are conn_is apart = record {
 }
 
 -- that no such room was there is what passes of more say too
-many_on : (room : Option (List ℕ)) (hub : Hub) (conn : ℕ) (t : Told) (h k : HallPass) (old new : List RoomPass) (bytes : List ℕ) → IsHallKin h k → Grows old new → IsTooMany room hub conn t old bytes → IsTooMany room hub conn t new bytes
+many_on : (room : Option (List ℕ)) (hub : Hub) (conn : ℕ) (t : Account) (h k : HallPass) (old new : List RoomPass) (bytes : List ℕ) → IsHallKin h k → Grows old new → IsTooMany room hub conn t old bytes → IsTooMany room hub conn t new bytes
 many_on room hub conn t h k old new bytes grew kept (inl c) = inl c
 many_on room hub conn t h k old new bytes grew kept (inr (hall, id, cmd, asked, take, full, unfound, one)) = inr (hall, id, cmd, asked, take, full, nowhere_grows hub conn t.acts h k old new grew kept asked id unfound, one)
 
-text_on : (end : End) (hub : Hub) (conn : ℕ) (t : Told) (h k : HallPass) (old new : List RoomPass) → IsHallKin h k → Grows old new → HasTextCause end hub conn t old → HasTextCause end hub conn t new
+text_on : (end : End) (hub : Hub) (conn : ℕ) (t : Account) (h k : HallPass) (old new : List RoomPass) → IsHallKin h k → Grows old new → HasTextCause end hub conn t old → HasTextCause end hub conn t new
 text_on ends.Closed hub conn t h k old new grew kept c = c
 text_on ends.LinkFault hub conn t h k old new grew kept c = c
 text_on (ends.OwnLimit room) hub conn t h k old new grew kept c = (c.0, c.1, many_on room hub conn t h k old new c.0 grew kept c.2)
@@ -193,7 +193,7 @@ text_on (ends.BadText bytes) hub conn t h k old new grew kept c = c
 text_on ends.NoMemory hub conn t h k old new grew kept c = c
 
 -- a session with its Quits
-pub served : (end : End) (hub : Hub) (conn : ℕ) (t : Told) (old new : Passes) (talk0 talk : Option Talk) (counts0 counts : LinkCounts) (start hours0 hours1 hours2 : Hours)
+pub served : (end : End) (hub : Hub) (conn : ℕ) (t : Account) (old new : Passes) (talk0 talk : Option Talk) (counts0 counts : LinkCounts) (start hours0 hours1 hours2 : Hours)
     → (r : Rests end hub conn t old talk0 talk counts0 counts hours0 hours1) → Quitted (is_broken end) (is_short end) hub conn t old new r.hall_pass → All (IsAsked end hub t) new.rooms.items
     → IsNow start t.opened → hours0 ≡ after_now start → IsNow hours1 t.left → hours2 ≡ after_now hours1 → Served end hub conn t new talk0 talk counts0 counts start hours2
 served end hub conn t old new talk0 talk counts0 counts start hours0 hours1 hours2 r q asked first begun_at last ended =
@@ -244,7 +244,7 @@ served end hub conn t old new talk0 talk counts0 counts start hours0 hours1 hour
 
 -- ---- where memory was wanting
 
-hall_weak : (b s : Bool) (hub : Hub) (conn : ℕ) (t : Told) (h : HallPass) → HallRests b s hub conn t h → HallRests true true hub conn t h
+hall_weak : (b s : Bool) (hub : Hub) (conn : ℕ) (t : Account) (h : HallPass) → HallRests b s hub conn t h → HallRests true true hub conn t h
 hall_weak b s hub conn t h r = record {
   entries = entries_weak s (commands h.pass.1.mine) (hall_entries conn t.acts) r.entries;
   given = tt;
@@ -255,11 +255,11 @@ hall_weak b s hub conn t h r = record {
   entries_weak false made all e = prefix_same made all e
   entries_weak true made all e = e
 
-  looks_weak : (b : Bool) (hub : Hub) (conn : ℕ) (t : Told) (h : HallPass) → HallLooks b hub conn t h → HallLooks true hub conn t h
+  looks_weak : (b : Bool) (hub : Hub) (conn : ℕ) (t : Account) (h : HallPass) → HallLooks b hub conn t h → HallLooks true hub conn t h
   looks_weak false hub conn t h l = looks_so (HallShows conn (root_of hub)) true (commands h.pass.1.seen) h.at None None t.sendings 1 (length t.acts) h.pass.1.looks l
   looks_weak true hub conn t h l = l
 
-  sent_weak : (b : Bool) (hub : Hub) (conn : ℕ) (t : Told) (h : HallPass) → HallSent b hub conn t h → HallSent true hub conn t h
+  sent_weak : (b : Bool) (hub : Hub) (conn : ℕ) (t : Account) (h : HallPass) → HallSent b hub conn t h → HallSent true hub conn t h
   sent_weak false hub conn t h l = sent_so (HallShows conn (root_of hub)) true (commands h.pass.1.seen) h.at None None t.sendings l
   sent_weak true hub conn t h l = l
 
@@ -267,16 +267,16 @@ room_entries : (s : Bool) (made all : List RoomCmd) → AllOrPart s made all →
 room_entries false made all e = prefix_same made all e
 room_entries true made all e = e
 
-room_looks_weak : (b : Bool) (id : Option (List ℕ)) (hub : Hub) (conn : ℕ) (t : Told) (k : RoomPass) → RoomLooksBy id b hub conn t k → RoomLooksBy id true hub conn t k
+room_looks_weak : (b : Bool) (id : Option (List ℕ)) (hub : Hub) (conn : ℕ) (t : Account) (k : RoomPass) → RoomLooksBy id b hub conn t k → RoomLooksBy id true hub conn t k
 room_looks_weak true id hub conn t k l = l
 room_looks_weak false None hub conn t k l = l
 room_looks_weak false (Some id) hub conn t k l = looks_so (Shows conn (site_of hub k.number)) true (commands k.pass.1.seen) k.at (Some id) (Some k.number) t.sendings (length t.acts - length (since k.number t.acts) + 1) (length (since k.number t.acts)) k.pass.1.looks l
 
-room_sent_weak : (b : Bool) (hub : Hub) (conn : ℕ) (t : Told) (k : RoomPass) → RoomSent b hub conn t k → RoomSent true hub conn t k
+room_sent_weak : (b : Bool) (hub : Hub) (conn : ℕ) (t : Account) (k : RoomPass) → RoomSent b hub conn t k → RoomSent true hub conn t k
 room_sent_weak true hub conn t k l = l
 room_sent_weak false hub conn t k l = sent_so (Shows conn (site_of hub k.number)) true (commands k.pass.1.seen) k.at k.id (Some k.number) t.sendings l
 
-room_weak : (b s : Bool) (hub : Hub) (conn : ℕ) (t : Told) (k : RoomPass) → RoomRests b s hub conn t k → RoomRests true true hub conn t k
+room_weak : (b s : Bool) (hub : Hub) (conn : ℕ) (t : Account) (k : RoomPass) → RoomRests b s hub conn t k → RoomRests true true hub conn t k
 room_weak b s hub conn t k r = record {
   entries = room_entries s (commands k.pass.1.mine) (room_cmds conn k.number t.acts) r.entries;
   given = given_broken k.id conn t k;
@@ -289,7 +289,7 @@ sure_weak : (s : Bool) (sure acts : List Act) → AreSure s sure acts → AreSur
 sure_weak true sure acts a = a
 sure_weak false sure acts e = ([], sym e ∙ sym (append-nil sure), omega arith)
 
-answers_weak : (s : Bool) (hub : Hub) (conn : ℕ) (t : Told) (rooms : List RoomPass) (h : HallPass) → AreAnswers s hub conn t rooms h → AreAnswers true hub conn t rooms h
+answers_weak : (s : Bool) (hub : Hub) (conn : ℕ) (t : Account) (rooms : List RoomPass) (h : HallPass) → AreAnswers s hub conn t rooms h → AreAnswers true hub conn t rooms h
 answers_weak true hub conn t rooms h g = g
 answers_weak false hub conn t rooms h g = answers_so true hub conn t rooms h g
 
@@ -299,14 +299,14 @@ no_texts xs e = let l = ap length e in omega arith
 one_text : {A : Type 0} (xs : List A) (x : A) → xs ≡ x ∷ [] → length xs ≤ 1
 one_text xs x e = let l = ap length e in omega arith
 
-rest_few : (end : End) (hub : Hub) (conn : ℕ) (t : Told) (rooms : List RoomPass) → HasTextCause end hub conn t rooms → length t.rest ≤ 1
+rest_few : (end : End) (hub : Hub) (conn : ℕ) (t : Account) (rooms : List RoomPass) → HasTextCause end hub conn t rooms → length t.rest ≤ 1
 rest_few ends.Closed hub conn t rooms c = no_texts t.rest c
 rest_few ends.LinkFault hub conn t rooms c = no_texts t.rest c
 rest_few (ends.OwnLimit room) hub conn t rooms c = one_text t.rest c.0 c.1
 rest_few (ends.BadText bytes) hub conn t rooms c = one_text t.rest bytes.items c.0
 rest_few ends.NoMemory hub conn t rooms c = c
 
-extra_weak : (end : End) (conn : ℕ) (t : Told) → HasExtraAt end conn t → HasExtra conn t
+extra_weak : (end : End) (conn : ℕ) (t : Account) → HasExtraAt end conn t → HasExtra conn t
 extra_weak ends.Closed conn t e = inl e
 extra_weak ends.LinkFault conn t e = inl e
 extra_weak (ends.OwnLimit room) conn t e = e
@@ -314,7 +314,7 @@ extra_weak (ends.BadText bytes) conn t e = inl e
 extra_weak ends.NoMemory conn t e = e
 
 -- what holds at any end holds where memory was wanting then
-pub rests_weak : (end : End) (hub : Hub) (conn : ℕ) (t : Told) (passes : Passes) (talk0 talk : Option Talk) (counts0 counts : LinkCounts) (hours0 hours1 : Hours) → Rests end hub conn t passes talk0 talk counts0 counts hours0 hours1 → Rests ends.NoMemory hub conn t passes talk0 talk counts0 counts hours0 hours1
+pub rests_weak : (end : End) (hub : Hub) (conn : ℕ) (t : Account) (passes : Passes) (talk0 talk : Option Talk) (counts0 counts : LinkCounts) (hours0 hours1 : Hours) → Rests end hub conn t passes talk0 talk counts0 counts hours0 hours1 → Rests ends.NoMemory hub conn t passes talk0 talk counts0 counts hours0 hours1
 rests_weak end hub conn t passes talk0 talk counts0 counts hours0 hours1 r = record {
   are = r.are;
   conn_is = r.conn_is;
@@ -342,16 +342,16 @@ rests_weak end hub conn t passes talk0 talk counts0 counts hours0 hours1 r = rec
 -- ---- the Quits
 
 -- what is known of a pass before its Quit
-abbrev Before : Bool → Bool → Hub → ℕ → Told → Option Badge → RoomPass → Type 0
+abbrev Before : Bool → Bool → Hub → ℕ → Account → Option Badge → RoomPass → Type 0
 Before b s hub conn t badge h = RoomRests b s hub conn t h × (h.at ≤ length h.pass.1.seen) × (IsSome h.id → IsSome badge)
 
-before_all : (end : End) (hub : Hub) (conn : ℕ) (t : Told) (old : Passes) (talk0 talk : Option Talk) (counts0 counts : LinkCounts) (hours0 hours1 : Hours) → Rests end hub conn t old talk0 talk counts0 counts hours0 hours1 → All (Before (is_broken end) (is_short end) hub conn t old.badge) old.rooms.items
+before_all : (end : End) (hub : Hub) (conn : ℕ) (t : Account) (old : Passes) (talk0 talk : Option Talk) (counts0 counts : LinkCounts) (hours0 hours1 : Hours) → Rests end hub conn t old talk0 talk counts0 counts hours0 hours1 → All (Before (is_broken end) (is_short end) hub conn t old.badge) old.rooms.items
 before_all end hub conn t old talk0 talk counts0 counts hours0 hours1 r i d lt = (r.rooms i d lt, room_within hub old.conn (get_or old.rooms.items i d) (r.are.rooms i d lt), r.named i d lt)
 
 same_hall : (passes : Passes) (one two : HallPass) → passes.hall ≡ Some one → passes.hall ≡ Some two → one ≡ two
 same_hall passes one two a b = let e : Some one ≡ Some two = sym a ∙ b in cc
 
-pub quitted_ok : (end : End) (hub : Hub) (conn : ℕ) (t : Told) (old new : Passes) (talk0 talk : Option Talk) (counts0 counts : LinkCounts) (hours0 hours1 : Hours) → (r : Rests end hub conn t old talk0 talk counts0 counts hours0 hours1) → AreOf hub new
+pub quitted_ok : (end : End) (hub : Hub) (conn : ℕ) (t : Account) (old new : Passes) (talk0 talk : Option Talk) (counts0 counts : LinkCounts) (hours0 hours1 : Hours) → (r : Rests end hub conn t old talk0 talk counts0 counts hours0 hours1) → AreOf hub new
     → QuitsWith (QuitsRoom old.badge conn t.left) (QuitsHall conn t.left) old new → Quitted (is_broken end) (is_short end) hub conn t old new r.hall_pass
 quitted_ok end hub conn t old new talk0 talk counts0 counts hours0 hours1 r are q =
     let h = r.hall_pass in
@@ -373,7 +373,7 @@ quitted_ok end hub conn t old new talk0 talk counts0 counts hours0 hours1 r are 
       badge = q.badge;
     }
 
-pub quitted_short : (hub : Hub) (conn : ℕ) (t : Told) (old new : Passes) (talk0 talk : Option Talk) (counts0 counts : LinkCounts) (hours0 hours1 : Hours) → (r : Rests ends.NoMemory hub conn t old talk0 talk counts0 counts hours0 hours1) → AreOf hub new
+pub quitted_short : (hub : Hub) (conn : ℕ) (t : Account) (old new : Passes) (talk0 talk : Option Talk) (counts0 counts : LinkCounts) (hours0 hours1 : Hours) → (r : Rests ends.NoMemory hub conn t old talk0 talk counts0 counts hours0 hours1) → AreOf hub new
     → QuitsWith (RoomEndsAtMost old.badge conn t.left) (HallEndsAtMost conn t.left) old new → Quitted true true hub conn t old new r.hall_pass
 quitted_short hub conn t old new talk0 talk counts0 counts hours0 hours1 r are q =
     let h = r.hall_pass in
@@ -398,7 +398,7 @@ quitted_short hub conn t old new talk0 talk counts0 counts hours0 hours1 r are q
 -- ---- the end of a session
 
 pub serves_ok : (end : End) (hub : Hub) (conn open_at left : ℕ) (old new : Passes) (talk0 talk : Option Talk) (counts0 counts : LinkCounts) (start hours0 hours1 hours2 : Hours) → ComesToRest end hub conn open_at left old talk0 talk counts0 counts hours0 hours1 → AreOf hub new
-    → QuitsWith (QuitsRoom old.badge old.conn left) (QuitsHall old.conn left) old new → IsNow start open_at → hours0 ≡ after_now start → IsNow hours1 left → hours2 ≡ after_now hours1 → (t : Told) × Served end hub conn t new talk0 talk counts0 counts start hours2
+    → QuitsWith (QuitsRoom old.badge old.conn left) (QuitsHall old.conn left) old new → IsNow start open_at → hours0 ≡ after_now start → IsNow hours1 left → hours2 ≡ after_now hours1 → (t : Account) × Served end hub conn t new talk0 talk counts0 counts start hours2
 serves_ok end hub conn open_at left old new talk0 talk counts0 counts start hours0 hours1 hours2 (t, o, l, r) are q first begun_at last ended =
     let own = subst (λ (n : ℕ). QuitsWith (QuitsRoom old.badge n left) (QuitsHall n left) old new) r.conn_is q in
     let quits = subst (λ (m : ℕ). QuitsWith (QuitsRoom old.badge conn m) (QuitsHall conn m) old new) (sym l) own in (
@@ -409,7 +409,7 @@ serves_ok end hub conn open_at left old new talk0 talk counts0 counts start hour
     )
 
 pub serves_short : (end : End) (hub : Hub) (conn open_at left : ℕ) (old new : Passes) (talk0 talk : Option Talk) (counts0 counts : LinkCounts) (start hours0 hours1 hours2 : Hours) → ComesToRest end hub conn open_at left old talk0 talk counts0 counts hours0 hours1 → AreOf hub new
-    → Quits {T = Unit {0}} {E = Unit {0}} hub left old (Err tt) new → IsNow start open_at → hours0 ≡ after_now start → IsNow hours1 left → hours2 ≡ after_now hours1 → (t : Told) × Served ends.NoMemory hub conn t new talk0 talk counts0 counts start hours2
+    → Quits {T = Unit {0}} {E = Unit {0}} hub left old (Err tt) new → IsNow start open_at → hours0 ≡ after_now start → IsNow hours1 left → hours2 ≡ after_now hours1 → (t : Account) × Served ends.NoMemory hub conn t new talk0 talk counts0 counts start hours2
 serves_short end hub conn open_at left old new talk0 talk counts0 counts start hours0 hours1 hours2 (t, o, l, r) are q first begun_at last ended =
     let own = subst (λ (n : ℕ). QuitsWith (RoomEndsAtMost old.badge n left) (HallEndsAtMost n left) old new) r.conn_is (quits_each {T = Unit {0}} {E = Unit {0}} hub left old new (Err tt) r.are refl q) in
     let quits = subst (λ (m : ℕ). QuitsWith (RoomEndsAtMost old.badge conn m) (HallEndsAtMost conn m) old new) (sym l) own in

@@ -1,17 +1,18 @@
 -- What the last steps of an order leave of a place.
 use Rattle.std.proofs.Common.{◌≡◌, ◌≢◌, ℕ, ◌+◌, ◌-◌, ◌≤◌, true, false, List, [], ◌∷◌, ◌++◌, length, refl, sym, ap, ◌∙◌, subst, ⊎_elim, arith, Option, Some, None, is_some, true≢false, append-nil, length-append}
 use Rattle.std.specs.Prelude.{IsSome}
+use Rattle.std.proofs.lemmas.Option.{none-some}
 use mathlib.Core.List.{IsPrefix}
 use Rattle.ps_base.specs.declared.badge.Badge.{Badge}
-use Rattle.ps_openings.specs.Openings.{first_battle}
+use Rattle.ps_room.specs.Openings.{first_battle}
 use Rattle.ps_lines.specs.declared.command.Command.{Command}
 use Rattle.ps_lines.specs.declared.command.HallCmd.{HallCmd}
-use Rattle.ps_valid.specs.declared.start.Start.{Start}
+use Rattle.rules_start.specs.declared.start.Start.{Start}
 use Rattle.ps_room.specs.declared.outcome.Ending.{Ending}
 use Rattle.ps_histlock.specs.Histories.{commands}
-use Rattle.ps_places.specs.declared.command.RoomCmd.{RoomCmd}
-use Rattle.ps_places.specs.declared.command.RoomCmd.TheVariants.{Begin, Play}
-use Rattle.ps_places.specs.Rooms.{Shows}
+use Rattle.server_places.specs.declared.command.RoomCmd.{RoomCmd}
+use Rattle.server_places.specs.declared.command.RoomCmd.TheVariants.{Begin, Play}
+use Rattle.server_places.specs.Rooms.{Shows}
 use Rattle.ps_hub.specs.Hubs.{Hub, site_of}
 use Rattle.ps_hub.specs.Names.{Names}
 use Rattle.ps_hub.specs.Calls.{Lacks, room_entry}
@@ -21,7 +22,7 @@ use Rattle.ps_serve.specs.Sendings.{Sending}
 use Rattle.ps_serve.specs.Sittings.{RoomSits, RoomWaits, SitsBy, LastLacks, LooksLeft, AreAlmostAnswered, PlaceLeft, PlaceFull, HeldFull}
 use Rattle.ps_serve.proofs.Prefixes.{prefix_front, prefix_same}
 use Rattle.ps_serve.proofs.Actions.{cmds_more, asked_more, begins_more, since_away, since_still, since_here, room_on, room_joins, cmds_here, joins_here, starts_here, asks_here}
-use Rattle.ps_serve.proofs.Places.{never_some, IsMoved, IsTold, told_moved, sits_moved, IsPlace, HasPlace}
+use Rattle.ps_serve.proofs.Places.{IsMoved, IsTold, told_moved, sits_moved, IsPlace, HasPlace}
 
 not_empty : {A P : Type 0} → (xs : List A) (x : A) → xs ++ x ∷ [] ≡ [] → P
 not_empty xs x e = absurd (let l = ap length e in let m = length-append xs (x ∷ []) in omega arith)
@@ -66,7 +67,7 @@ module _ (hub : Hub) (conn : ℕ) (ss : List Sending) (acts : List Act) where
           let s = p.holding other (sym id ∙ e) in
           let joined : since k.number acts ≢ [] = ⊎_elim
           (λ (j : (since h.number acts ≢ []) × (up → h.at ≡ length h.pass.1.seen)). (let r : since k.number acts ≢ [] = (λ bare. j.0 (ap (λ (n : ℕ). since n acts) (sym m.place) ∙ bare)) in r))
-          (λ (j : (None ≡ Some other) × (since h.number acts ≡ [])). never_some other j.0)
+          (λ (j : (None ≡ Some other) × (since h.number acts ≡ [])). absurd (none-some other j.0))
           s.1 in
           (room_on hub conn acts (heard bytes moment (in_hall cmd badge (Some start))) ss other k joined (sits_moved hub conn ss acts (length acts) other h (Begin start ∷ []) k m s.0), λ some. since_still k.number acts (heard bytes moment (in_hall cmd badge (Some start))) joined)
 

@@ -2,13 +2,14 @@
 use Rattle.std.proofs.Common.{◌≡◌, ◌⊎◌, ℕ, Bool, true, false, List, [], ◌∷◌, ◌++◌, length, refl, sym, ap, ◌∙◌, subst, inl, inr, ⊎_elim, All, append-nil, Option, Some, None, Ok, Err, is_some, true≢false}
 use Rattle.std.specs.Prelude.{IsSome}
 use Rattle.std.proofs.lemmas.List.Elements.{All-weaker}
+use Rattle.std.proofs.lemmas.Option.{none-some}
 use Rattle.ps_lines.specs.declared.command.BadWhy.TheVariants.{NoSuchRoom}
 use Rattle.ps_lines.specs.declared.command.Command.{Command}
 use Rattle.ps_lines.specs.declared.command.HallCmd.{HallCmd}
 use Rattle.ps_lines.specs.declared.command.HallCmd.TheVariants.{Bad}
 use Rattle.ps_lines.specs.declared.order.Order.{Order}
 use Rattle.ps_lines.specs.declared.order.Order.TheVariants.{Hall, Room}
-use Rattle.ps_valid.specs.declared.start.Start.{Start}
+use Rattle.rules_start.specs.declared.start.Start.{Start}
 use Rattle.ps_room.specs.declared.outcome.Ending.{Ending}
 use Rattle.ps_histlock.proofs.Lists.{prefix_self}
 use Rattle.ps_outside.specs.Clocks.{IsNow, after_now}
@@ -31,9 +32,9 @@ use Rattle.ps_serve.specs.Sendings.{Sending}
 use Rattle.ps_serve.specs.Sittings.{IsNowhere, AreApart, Sits, IsUpToDate, PlaceLeft}
 use Rattle.ps_serve.specs.Steps.{Hours, StopsFull, StopsShort, Stops}
 use Rattle.ps_serve.specs.Obeys.{OrdersAtLast, Unmakes, report, Follows, TellsNowhereIf, TellsNowhere, Obeys}
-use Rattle.ps_serve.proofs.Rows.{Grows, grows_self}
+use Rattle.ps_serve.proofs.PassLists.{Grows, grows_self}
 use Rattle.ps_serve.proofs.Tries.{enters, hall_start, amid_start}
-use Rattle.ps_serve.proofs.Places.{never_some, IsPlace, IsBattle}
+use Rattle.ps_serve.proofs.Places.{IsPlace, IsBattle}
 use Rattle.ps_serve.proofs.Sides.{IsFull, left_before}
 use Rattle.ps_serve.proofs.Reached.{Breaks, left_next, left_here, full_next}
 use Rattle.ps_serve.proofs.HallTurns.{hall_made, hall_unmade}
@@ -123,14 +124,14 @@ module _ (hub : Hub) (conn open_at : ℕ) (acts : List Act) (ss : List Sending) 
         (λ (same : IsAsBefore mid new). short_in (in_hall cmd out.badge (Some start)) (take, tt) (begins_none hub conn open_at acts ss r old s bytes moment cmd out.badge start mid new take are d same))
         (λ (b : BeginsAt hub start (BeginsAtMost hub start) mid new). short_in (in_hall cmd out.badge (Some start)) (take, tt) (begins_break hub conn open_at acts ss r old s bytes moment cmd out.badge start mid new take are d b))
         f.1)
-    hall_stops stop cmd out mid take t None (Some ending) e1 e2 f = never_some ending (sym t.3.ended ∙ e2)
+    hall_stops stop cmd out mid take t None (Some ending) e1 e2 f = absurd (none-some ending (sym t.3.ended ∙ e2))
     hall_stops stop cmd out mid take t None None e1 e2 f = never_none stop f.0
 
     -- ---- orders to a room
 
     room_stops : (stop : Stop) (id : List ℕ) (cmd : Command) (out : HubOut) (mid : Passes) → taken r bytes ≡ Ok (Room id cmd) → IsSome old.badge → OrdersAtLast hub (Room id cmd) moment old (Ok out) mid
         → (start : Option Start) (ended : Option Ending) → out.start ≡ start → out.ended ≡ ended → Follows hub moment start ended mid (Some stop) new → Stopping stop
-    room_stops stop id cmd out mid take has t (Some start) ended e1 e2 f = never_some start (sym t.3.2.start ∙ e1)
+    room_stops stop id cmd out mid take has t (Some start) ended e1 e2 f = absurd (none-some start (sym t.3.2.start ∙ e1))
     room_stops stop id cmd out mid take has t None None e1 e2 f = never_none stop f.0
     room_stops stop id cmd out mid take has t None (Some ending) e1 e2 f =
         let b = enters hub conn acts ss (IsUpToDate old) old id t.1 t.3.0 t.3.1 (at_room hub conn open_at acts ss r old s id cmd moment t.0 t.1 t.2) in

@@ -22,7 +22,7 @@ use Rattle.ps_serve.specs.Acts.{Made, Act, quiet, heard, arrival_of, moment_of, 
 use Rattle.ps_serve.specs.Sendings.{Sending}
 use Rattle.ps_serve.specs.Sittings.{Sits, IsUpToDate, Left}
 use Rattle.ps_serve.specs.Steps.{Hours, Asked, Hears, StopsFull, StopsShort, Stops, Tells, TellsPart, IsBreak, Talks, TalksIf, Stands}
-use Rattle.ps_serve.specs.Ends.{Told, text_item, IsTalk, AreOfLink, HasEmptyInbox, HasCause}
+use Rattle.ps_serve.specs.Ends.{Account, text_item, IsTalk, AreOfLink, HasEmptyInbox, HasCause}
 use Rattle.ps_serve.specs.Rests.{end_after, IsSitting, GoesOn, HasExtraAt, ComesToRest}
 use Rattle.ps_serve.proofs.SendingLemmas.{no_sendings}
 use Rattle.ps_serve.proofs.ActLemmas.{acts_length, moments_more}
@@ -96,7 +96,7 @@ RestMoves rest None None = Unit {0}
 RestMoves rest (Some was) (Some mid) = (was.inbox ≡ map text_item rest ++ mid.inbox) × (mid.answers ≡ was.answers + length rest) × (mid.sent ≡ was.sent)
 RestMoves rest was mid = ⊥
 
-told_here : (t : Told) (old was mid : Talk) → Talks t.acts t.sendings old was → RestMoves t.rest (Some was) (Some mid) → IsTalk t old mid
+told_here : (t : Account) (old was mid : Talk) → Talks t.acts t.sendings old was → RestMoves t.rest (Some was) (Some mid) → IsTalk t old mid
 told_here t old was mid k m =
     let counted : was.answers ≡ old.answers + length t.acts = k.answers in
     let later : mid.answers ≡ was.answers + length t.rest = m.1 in
@@ -106,7 +106,7 @@ told_here t old was mid k m =
       sent = m.2 ∙ k.sent;
     }
 
-told_by : (t : Told) (old was mid : Option Talk) → TalksIf t.acts t.sendings old was → RestMoves t.rest was mid → AreOfLink t old mid
+told_by : (t : Account) (old was mid : Option Talk) → TalksIf t.acts t.sendings old was → RestMoves t.rest was mid → AreOfLink t old mid
 told_by t None None None k m = tt
 told_by t None None (Some mid) k m = absurd m
 told_by t None (Some was) mid k m = absurd k
@@ -151,11 +151,11 @@ no_list x xs none one = let bad : x ∷ [] ≡ [] = sym one ∙ none in cc
 
 module _ (hub : Hub) (conn open_at left : ℕ) (acts : List Act) (ss : List Sending) (talk0 : Option Talk) (counts0 : LinkCounts) (hours0 : Hours) where
   -- what was done, where what came last is no act
-  abbrev told_of : List (List ℕ) → List ℕ → Told
+  abbrev told_of : List (List ℕ) → List ℕ → Account
   told_of rest extra = record { acts = acts; sendings = ss; rest = rest; opened = open_at; extra = extra; left = left }
 
   -- and where it is one
-  abbrev told_with : Act → List Sending → Told
+  abbrev told_with : Act → List Sending → Account
   told_with a more = record { acts = acts ++ a ∷ []; sendings = ss ++ more; rest = []; opened = open_at; extra = []; left = left }
 
   -- ---- nothing came of it
@@ -265,7 +265,7 @@ module _ (hub : Hub) (conn open_at left : ℕ) (acts : List Act) (ss : List Send
       → (q : StopsShort hub conn open_at acts ss bytes.items s h h1 p1) (moment : ℕ) (made : Made) → q.last ≡ heard bytes.items moment made ∷ [] → q.moments ≡ moments_of q.last → ComesToRest ends.NoMemory hub conn open_at left p1 talk0 mid counts0 c1 hours0 h1
   short_within s p p1 bytes was mid c0 c1 h h1 st is front q moment made one agree =
       let a : Act = heard bytes.items moment made in
-      let t : Told = record { acts = acts ++ a ∷ []; sendings = ss; rest = []; opened = open_at; extra = []; left = left } in
+      let t : Account = record { acts = acts ++ a ∷ []; sendings = ss; rest = []; opened = open_at; extra = []; left = left } in
       let parts : Left false hub conn open_at acts (acts ++ a ∷ []) ss p1 = subst (λ (l : List Act). Left false hub conn open_at acts (acts ++ l) ss p1) one q.left in
       let talks : TalksIf (acts ++ a ∷ []) ss talk0 mid = subst (λ (l : List Sending). TalksIf (acts ++ a ∷ []) l talk0 mid) (append-nil ss) (talks_on acts a ss [] talk0 was mid mid st.talks (text_moves bytes moment made was mid is front) (All-nil (λ (x : Sending). x.after ≡ length acts + 1)) (no_sendings mid)) in
       let asked : Asked h (moment ∷ []) h1 = subst (λ (ms : List ℕ). Asked h ms h1) (agree ∙ ap moments_of one) q.asked in

@@ -7,7 +7,7 @@ use Rattle.std.proofs.lemmas.List.Elements.{All-nil, All-cons, All-head, All-tai
 use Rattle.std.proofs.lemmas.Option.{same_Some, none-some}
 use Rattle.std.proofs.lemmas.Grind.{flat_map-append}
 use Rattle.ps_base.specs.declared.badge.Badge.{Badge}
-use Rattle.ps_valid.specs.declared.start.Start.{Start}
+use Rattle.rules_start.specs.declared.start.Start.{Start}
 use Rattle.ps_histlock.specs.Histories.{commands}
 use Rattle.ps_session.specs.Sessions.{Record, begun}
 use Rattle.ps_session.specs.Texts.{texts_of}
@@ -18,14 +18,14 @@ use Rattle.ps_hub.specs.Calls.{HallCaught, LooksAtMost}
 use Rattle.ps_hub.specs.declared.pass.HallPass.{HallPass}
 use Rattle.ps_hub.specs.declared.pass.RoomPass.{RoomPass}
 use Rattle.ps_hub.specs.declared.passes.Passes.{Passes}
-use Rattle.ps_hub.proofs.RowLemmas.{all_left}
+use Rattle.ps_hub.proofs.PassListLemmas.{all_left}
 use Rattle.ps_serve.specs.declared.closed.End.{End}
 use Rattle.ps_serve.specs.Acts.{Act, after_acts, AreActs, since, begun_by, all_begun}
 use Rattle.ps_serve.specs.Sendings.{Sending, is_place, texts_from}
 use Rattle.ps_serve.specs.Sittings.{HasOpen, HallSits, PlaceSits, AreGiven, AreGivenSo, IsFromBy, IsFrom, IsBegun, AreApart, IsUntouched, Sits, sure_acts, HallLeft, PlaceLeft, Left}
 use Rattle.ps_serve.specs.Steps.{after_sendings, TellsPart, is_fault}
 use Rattle.ps_serve.specs.Tellings.{TellsHall, TellsHallPart}
-use Rattle.ps_serve.proofs.Rows.{begun_grows, from_grows}
+use Rattle.ps_serve.proofs.PassLists.{begun_grows, from_grows}
 use Rattle.ps_serve.proofs.Actions.{given_parts}
 use Rattle.ps_serve.proofs.Halls.{IsHallKin, open_grows, given_grows}
 use Rattle.ps_serve.proofs.SendingLemmas.{sendings, sending, is_place_other, from_self, from_other, from_still, all_sent_at, no_sendings, texts_after}
@@ -64,14 +64,14 @@ all_from place n [] rooms f = All-nil (IsFrom rooms)
 all_from place n (text ∷ texts) rooms f = All-cons (IsFrom rooms) (sending place n text) (sendings place n texts) f (all_from place n texts rooms f)
 
 pub based_on : (hub : Hub) (conn open_at : ℕ) (acts : List Act) (ss news : List Sending) (h k : HallPass) (old new : List RoomPass) (badge : Option Badge) → IsHallKin h k → AllZip Goes old new → All (IsFrom new) news → Based hub conn open_at acts ss h old badge → Based hub conn open_at acts (ss ++ news) k new badge
-based_on hub conn open_at acts ss news h k old new badge more row here b = record {
-  joined = zip_all Goes (λ (x : RoomPass). IsSome x.id → since x.number acts ≢ []) (λ (x : RoomPass). IsSome x.id → since x.number acts ≢ []) (λ x y g p held. subst (λ (n : ℕ). since n acts ≢ []) (sym g.grew.place) (p (subst (λ (o : Option (List ℕ)). IsSome o) g.id held))) old new row b.joined;
-  others = λ number all. untouched number (b.others number (all_went (λ (x : RoomPass). x.number ≢ number) (λ (x : RoomPass). x.number ≢ number) (λ x y g p e. p (g.grew.place ∙ e)) old new row all)) all;
-  apart = apart_on old new row b.apart;
-  begins_are = All-weaker (IsBegun old) (IsBegun new) (begun_grows old new (kept_in old new row)) (all_begun acts) b.begins_are;
-  named = zip_all Goes (λ (x : RoomPass). IsSome x.id → IsSome badge) (λ (x : RoomPass). IsSome x.id → IsSome badge) (λ x y g p held. p (subst (λ (o : Option (List ℕ)). IsSome o) g.id held)) old new row b.named;
-  gave = given_grows hub conn [] acts h k old new more (kept_in old new row) b.gave;
-  from = All-append (IsFrom new) ss news (All-weaker (IsFrom old) (IsFrom new) (from_grows old new (kept_in old new row)) ss b.from) here;
+based_on hub conn open_at acts ss news h k old new badge more pass_list here b = record {
+  joined = zip_all Goes (λ (x : RoomPass). IsSome x.id → since x.number acts ≢ []) (λ (x : RoomPass). IsSome x.id → since x.number acts ≢ []) (λ x y g p held. subst (λ (n : ℕ). since n acts ≢ []) (sym g.grew.place) (p (subst (λ (o : Option (List ℕ)). IsSome o) g.id held))) old new pass_list b.joined;
+  others = λ number all. untouched number (b.others number (all_went (λ (x : RoomPass). x.number ≢ number) (λ (x : RoomPass). x.number ≢ number) (λ x y g p e. p (g.grew.place ∙ e)) old new pass_list all)) all;
+  apart = apart_on old new pass_list b.apart;
+  begins_are = All-weaker (IsBegun old) (IsBegun new) (begun_grows old new (kept_in old new pass_list)) (all_begun acts) b.begins_are;
+  named = zip_all Goes (λ (x : RoomPass). IsSome x.id → IsSome badge) (λ (x : RoomPass). IsSome x.id → IsSome badge) (λ x y g p held. p (subst (λ (o : Option (List ℕ)). IsSome o) g.id held)) old new pass_list b.named;
+  gave = given_grows hub conn [] acts h k old new more (kept_in old new pass_list) b.gave;
+  from = All-append (IsFrom new) ss news (All-weaker (IsFrom old) (IsFrom new) (from_grows old new (kept_in old new pass_list)) ss b.from) here;
   opened = open_grows conn open_at h k more b.opened;
 }
   where
@@ -80,7 +80,7 @@ based_on hub conn open_at acts ss news h k old new badge more row here b = recor
 
 -- ---- on the way
 
--- The hall and the first rooms of the row have told, and the others haven't.
+-- The hall and the first rooms of the list have told, and the others haven't.
 pub record Telling (hub : Hub) (conn open_at : ℕ) (acts : List Act) (a : Act) (ss : List Sending) (session : Record) (place : ℕ) (was is : Option Talk) (passes : Passes) : Type 0 where
   pub more : List Sending
   pub all : List Sending
@@ -97,7 +97,7 @@ pub record Telling (hub : Hub) (conn open_at : ℕ) (acts : List Act) (a : Act) 
   pub hall_told : hall_pass.at ≡ length hall_pass.pass.1.seen
   pub front : List RoomPass
   pub behind : List RoomPass
-  pub row : passes.rooms.items ≡ front ++ behind
+  pub pass_list : passes.rooms.items ≡ front ++ behind
   pub place_is : length front ≡ place
   pub base : Based hub conn open_at (acts ++ a ∷ []) all hall_pass (front ++ behind) passes.badge
   pub done : All (PlaceSits hub conn (acts ++ a ∷ []) (length acts + 1) all) front
@@ -143,20 +143,20 @@ given_left false hub conn acts a h rooms g = (let p = given_parts hub conn [] ac
 
 pub left_of : (whole : Bool) (hub : Hub) (conn open_at : ℕ) (acts : List Act) (a : Act) (ss : List Sending) (h : HallPass) (rooms : List RoomPass) (passes : Passes) → AreOf hub passes → passes.conn ≡ conn → AreActs (begun conn) (acts ++ a ∷ []) → passes.hall ≡ Some h → passes.rooms.items ≡ rooms → passes.badge ≡ (after_acts (begun conn) (acts ++ a ∷ [])).badge
     → HallLeft whole hub conn acts (acts ++ a ∷ []) ss h → All (PlaceLeft whole hub conn acts (acts ++ a ∷ []) ss) rooms → Based hub conn open_at (acts ++ a ∷ []) ss h rooms passes.badge → Left whole hub conn open_at acts (acts ++ a ∷ []) ss passes
-left_of whole hub conn open_at acts a ss h rooms passes are conn_is way hall row badge_is hall_is all b = record {
+left_of whole hub conn open_at acts a ss h rooms passes are conn_is way hall pass_list badge_is hall_is all b = record {
   are = are;
   conn_is = conn_is;
   way = way;
   hall_pass = h;
   hall = hall;
   hall_left = hall_is;
-  rooms = subst (λ (rs : List RoomPass). All (PlaceLeft whole hub conn acts (acts ++ a ∷ []) ss) rs) (sym row) all;
-  apart = subst AreApart (sym row) b.apart;
-  gave = subst (λ (rs : List RoomPass). AreGivenSo whole hub conn acts (acts ++ a ∷ []) h rs) (sym row) (given_left whole hub conn acts a h rooms b.gave);
+  rooms = subst (λ (rs : List RoomPass). All (PlaceLeft whole hub conn acts (acts ++ a ∷ []) ss) rs) (sym pass_list) all;
+  apart = subst AreApart (sym pass_list) b.apart;
+  gave = subst (λ (rs : List RoomPass). AreGivenSo whole hub conn acts (acts ++ a ∷ []) h rs) (sym pass_list) (given_left whole hub conn acts a h rooms b.gave);
   badge_is = badge_is;
-  begun = subst (λ (rs : List RoomPass). All (IsBegun rs) (all_begun (sure_acts whole acts (acts ++ a ∷ [])))) (sym row) (begun_left whole rooms acts a b.begins_are);
-  from = subst (λ (rs : List RoomPass). All (IsFrom rs) ss) (sym row) b.from;
-  named = subst (λ (rs : List RoomPass). All (λ (k : RoomPass). IsSome k.id → IsSome passes.badge) rs) (sym row) b.named;
+  begun = subst (λ (rs : List RoomPass). All (IsBegun rs) (all_begun (sure_acts whole acts (acts ++ a ∷ [])))) (sym pass_list) (begun_left whole rooms acts a b.begins_are);
+  from = subst (λ (rs : List RoomPass). All (IsFrom rs) ss) (sym pass_list) b.from;
+  named = subst (λ (rs : List RoomPass). All (λ (k : RoomPass). IsSome k.id → IsSome passes.badge) rs) (sym pass_list) b.named;
   opened = b.opened;
 }
 
@@ -199,7 +199,7 @@ hall_step hub conn open_at acts a ss session was is old new s t =
       hall_told = hall_up hub conn s.hall_pass t.only.behind t.msgs caught;
       front = [];
       behind = old.rooms.items;
-      row = t.only.rooms;
+      pass_list = t.only.rooms;
       place_is = refl;
       base = subst (λ (b : Option Badge). Based hub conn open_at (acts ++ a ∷ []) (ss ++ news) t.only.behind old.rooms.items b) (sym t.only.badge)
           (based_on hub conn open_at (acts ++ a ∷ []) ss news s.hall_pass t.only.behind old.rooms.items old.rooms.items old.badge (hall_grew s.hall_pass t.only.behind caught.0.0 l) (all_stay old.rooms.items) (all_from None (m + 1) texts old.rooms.items tt) (base_of hub conn open_at (acts ++ a ∷ []) m ss session old s));
@@ -246,7 +246,7 @@ hall_breaks end hub conn open_at acts a ss session was is old new s are (inr t) 
 
 -- ---- a room
 
--- the pass at a place of the row
+-- the pass at an index of the list
 pub split_at : (front behind : List RoomPass) (i : ℕ) (h : RoomPass) → length front ≡ i → slice_get (front ++ behind) i ≡ Some h → (rest : List RoomPass) × (behind ≡ h ∷ rest)
 split_at [] [] i h e get = absurd (none-some h get)
 split_at [] (x ∷ rest) zero h e get = (rest, ap (λ (y : RoomPass). y ∷ rest) (same_Some x h get))

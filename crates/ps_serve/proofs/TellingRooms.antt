@@ -26,13 +26,13 @@ use Rattle.ps_serve.proofs.LookLemmas.{Looked, looked, looked_at_most}
 use Rattle.ps_histlock.proofs.Lists.{prefix_self}
 use Rattle.ps_serve.proofs.Goings.{one_goes}
 use Rattle.ps_serve.proofs.Halls.{IsHallKin}
-use Rattle.ps_serve.proofs.Rows.{apart_left, apart_right, contains_at}
+use Rattle.ps_serve.proofs.PassLists.{apart_left, apart_right, contains_at}
 use Rattle.ps_serve.proofs.PlaceLemmas.{room_goes, place_tells, place_up, place_free, never_free, hall_sits_on, hall_left, place_left_late, place_part, place_still}
 use Rattle.ps_serve.proofs.TellingLemmas.{hall_step, hall_breaks, Based, based_on, all_from, Telling, by_now, one_more, all_apart, room_alone, places_left, left_of, room_within, split_at}
 
--- ---- the room at a place of the row
+-- ---- the room at an index of the list
 
--- It is about to tell, and others of the row aren't of its number.
+-- It is about to tell, and others of the list aren't of its number.
 pub record Here (hub : Hub) (conn open_at : ℕ) (acts : List Act) (m : ℕ) (all : List Sending) (hall_pass : HallPass) (front behind : List RoomPass) (badge : Option Badge) (h : RoomPass) : Type 0 where
   pub rest : List RoomPass
   pub split : behind ≡ h ∷ rest
@@ -60,7 +60,7 @@ here_by hub conn open_at acts m all hall_pass front behind badge h rest split ba
 here_of : (hub : Hub) (conn open_at : ℕ) (acts : List Act) (a : Act) (ss : List Sending) (session : Record) (place : ℕ) (was is : Option Talk) (passes : Passes) (h : RoomPass) (t : Telling hub conn open_at acts a ss session place was is passes) → slice_get passes.rooms.items place ≡ Some h
     → Here hub conn open_at (acts ++ a ∷ []) (length acts) t.all t.hall_pass t.front t.behind passes.badge h
 here_of hub conn open_at acts a ss session place was is passes h t get =
-    let at = split_at t.front t.behind place h t.place_is (subst (λ (rs : List RoomPass). slice_get rs place ≡ Some h) t.row get) in
+    let at = split_at t.front t.behind place h t.place_is (subst (λ (rs : List RoomPass). slice_get rs place ≡ Some h) t.pass_list get) in
     here_by hub conn open_at (acts ++ a ∷ []) (length acts) t.all t.hall_pass t.front t.behind passes.badge h at.0 at.1 t.base t.waits
 
 member : (P : RoomPass → Type 0) (rooms : List RoomPass) (place : ℕ) (h : RoomPass) → All P rooms → slice_get rooms place ≡ Some h → P h
@@ -75,8 +75,8 @@ base_after hub conn open_at acts m all hall_pass front behind badge h k n texts 
     based_on hub conn open_at acts all (sendings (Some h.number) (m + 1) texts) hall_pass hall_pass (front ++ h ∷ x.rest) (front ++ k ∷ x.rest) badge (hall_kin_self hall_pass) (one_goes front h k x.rest (room_goes h k n l number id))
     (all_from (Some h.number) (m + 1) texts (front ++ k ∷ x.rest) (k, contains_at front k x.rest, number, subst (λ (o : Option (List ℕ)). IsSome o) (sym id) held)) x.base
 
-row_after : (front behind : List RoomPass) (h k : RoomPass) (rest : List RoomPass) (place : ℕ) (old new : List RoomPass) → old ≡ front ++ behind → behind ≡ h ∷ rest → length front ≡ place → new ≡ slice_set old place k → new ≡ front ++ k ∷ rest
-row_after front behind h k rest place old new row split at is = is ∙ ap (λ (rs : List RoomPass). slice_set rs place k) (row ∙ ap (λ (b : List RoomPass). front ++ b) split) ∙ set_at front h rest k place at
+pass_list_after : (front behind : List RoomPass) (h k : RoomPass) (rest : List RoomPass) (place : ℕ) (old new : List RoomPass) → old ≡ front ++ behind → behind ≡ h ∷ rest → length front ≡ place → new ≡ slice_set old place k → new ≡ front ++ k ∷ rest
+pass_list_after front behind h k rest place old new pass_list split at is = is ∙ ap (λ (rs : List RoomPass). slice_set rs place k) (pass_list ∙ ap (λ (b : List RoomPass). front ++ b) split) ∙ set_at front h rest k place at
 
 -- ---- it tells all
 
@@ -95,7 +95,7 @@ held_step hub conn open_at acts a ss session place was mid is old new t r =
     let x = here_of hub conn open_at acts a ss session place was mid old h t r.there in
     let now = all_sent_at (Some h.number) (m + 1) texts in
     let time = by_now (m + 1) t.all news t.on_time now in
-    let row : new.rooms.items ≡ t.front ++ k ∷ x.rest = row_after t.front t.behind h k x.rest place old.rooms.items new.rooms.items t.row x.split t.place_is r.only.rooms in
+    let pass_list : new.rooms.items ≡ t.front ++ k ∷ x.rest = pass_list_after t.front t.behind h k x.rest place old.rooms.items new.rooms.items t.pass_list x.split t.place_is r.only.rooms in
     let base = base_after hub conn open_at (acts ++ a ∷ []) m t.all t.hall_pass t.front t.behind old.badge h k caught.0.0 texts x r.held l number id in
     let further : t.front ++ k ∷ x.rest ≡ (t.front ++ k ∷ []) ++ x.rest = sym (append_assoc t.front (k ∷ []) x.rest) in
     record {
@@ -114,7 +114,7 @@ held_step hub conn open_at acts a ss session place was mid is old new t r =
       hall_told = t.hall_told;
       front = t.front ++ k ∷ [];
       behind = x.rest;
-      row = row ∙ further;
+      pass_list = pass_list ∙ further;
       place_is = length_push t.front k ∙ ap (λ (i : ℕ). i + 1) t.place_is;
       base = subst (λ (rs : List RoomPass). Based hub conn open_at (acts ++ a ∷ []) (t.all ++ news) t.hall_pass rs new.badge) further (subst (λ (b : Option Badge). Based hub conn open_at (acts ++ a ∷ []) (t.all ++ news) t.hall_pass (t.front ++ k ∷ x.rest) b) (sym r.only.badge) base);
       done = All-push (PlaceSits hub conn (acts ++ a ∷ []) (m + 1) (t.all ++ news)) t.front k (all_apart hub conn (acts ++ a ∷ []) (m + 1) t.all news t.front t.done (room_alone h.number (m + 1) texts t.front x.before))
@@ -146,7 +146,7 @@ free_step hub conn open_at acts a ss session place was mid is old h t there free
       hall_told = t.hall_told;
       front = t.front ++ h ∷ [];
       behind = x.rest;
-      row = t.row ∙ ap (λ (b : List RoomPass). t.front ++ b) x.split ∙ further;
+      pass_list = t.pass_list ∙ ap (λ (b : List RoomPass). t.front ++ b) x.split ∙ further;
       place_is = length_push t.front h ∙ ap (λ (i : ℕ). i + 1) t.place_is;
       base = subst (λ (rs : List RoomPass). Based hub conn open_at (acts ++ a ∷ []) t.all t.hall_pass rs old.badge) further x.base;
       done = All-push (PlaceSits hub conn (acts ++ a ∷ []) (length acts + 1) t.all) t.front h t.done (place_free hub conn (acts ++ a ∷ []) (length acts) (length acts + 1) t.all h free x.sits);
@@ -169,7 +169,7 @@ room_breaks_by end hub conn open_at acts a ss session place was mid is old new h
     let news : List Sending = sendings (Some h.number) (m + 1) texts in
     let x = here_of hub conn open_at acts a ss session place was mid old h t there in
     let now = all_sent_at (Some h.number) (m + 1) texts in
-    let row : new.rooms.items ≡ t.front ++ k ∷ x.rest = row_after t.front t.behind h k x.rest place old.rooms.items new.rooms.items t.row x.split t.place_is rooms in
+    let pass_list : new.rooms.items ≡ t.front ++ k ∷ x.rest = pass_list_after t.front t.behind h k x.rest place old.rooms.items new.rooms.items t.pass_list x.split t.place_is rooms in
     let base = base_after hub conn open_at (acts ++ a ∷ []) m t.all t.hall_pass t.front t.behind old.badge h k n texts x held l number id in
     let all_is : t.all ++ news ≡ ss ++ (t.more ++ news) = ap (λ (ys : List Sending). ys ++ news) t.all_is ∙ append_assoc ss t.more news in
     let told = places_left (is_fault end) hub conn acts a (m + 1) (t.all ++ news) t.front (omega arith) (all_apart hub conn (acts ++ a ∷ []) (m + 1) t.all news t.front t.done (room_alone h.number (m + 1) texts t.front x.before)) in
@@ -179,7 +179,7 @@ room_breaks_by end hub conn open_at acts a ss session place was mid is old new h
       now = All-append (λ (s : Sending). s.after ≡ m + 1) t.more news t.now now;
       sent = sent ∙ ap (after_sendings news) t.sent ∙ sendings_more t.more news was;
       left = subst (λ (ys : List Sending). Left (is_fault end) hub conn open_at acts (acts ++ a ∷ []) ys new) all_is
-          (left_of (is_fault end) hub conn open_at acts a (t.all ++ news) t.hall_pass (t.front ++ k ∷ x.rest) new are (conn_is ∙ t.conn_is) t.way (hall ∙ t.hall) row (badge ∙ t.badge_is ∙ ap (λ (r : Record). r.badge) t.session_is)
+          (left_of (is_fault end) hub conn open_at acts a (t.all ++ news) t.hall_pass (t.front ++ k ∷ x.rest) new are (conn_is ∙ t.conn_is) t.way (hall ∙ t.hall) pass_list (badge ∙ t.badge_is ∙ ap (λ (r : Record). r.badge) t.session_is)
           (hall_left (is_fault end) hub conn acts a (t.all ++ news) t.hall_pass (hall_sits_on hub conn (acts ++ a ∷ []) (m + 1) t.all news t.hall_pass t.hall_sits (from_room h.number (m + 1) texts)))
           (All-append (PlaceLeft (is_fault end) hub conn acts (acts ++ a ∷ []) (t.all ++ news)) t.front (k ∷ x.rest) told (All-cons (PlaceLeft (is_fault end) hub conn acts (acts ++ a ∷ []) (t.all ++ news)) k x.rest left untold))
           (subst (λ (b : Option Badge). Based hub conn open_at (acts ++ a ∷ []) (t.all ++ news) t.hall_pass (t.front ++ k ∷ x.rest) b) (sym badge) base));
@@ -218,8 +218,8 @@ room_breaks end hub conn open_at acts a ss session place was mid is old new t wa
 
 all_told : (hub : Hub) (conn open_at : ℕ) (acts : List Act) (a : Act) (ss : List Sending) (session : Record) (was is : Option Talk) (passes : Passes) (place : ℕ) (t : Telling hub conn open_at acts a ss session place was is passes) → AreOf hub passes → t.behind ≡ [] → Tells hub conn open_at acts a ss session was is passes
 all_told hub conn open_at acts a ss session was is passes place t are none_left =
-    let row : passes.rooms.items ≡ t.front = t.row ∙ ap (λ (b : List RoomPass). t.front ++ b) none_left ∙ append-nil t.front in
-    let base : Based hub conn open_at (acts ++ a ∷ []) t.all t.hall_pass passes.rooms.items passes.badge = subst (λ (rs : List RoomPass). Based hub conn open_at (acts ++ a ∷ []) t.all t.hall_pass rs passes.badge) (sym t.row) t.base in
+    let pass_list : passes.rooms.items ≡ t.front = t.pass_list ∙ ap (λ (b : List RoomPass). t.front ++ b) none_left ∙ append-nil t.front in
+    let base : Based hub conn open_at (acts ++ a ∷ []) t.all t.hall_pass passes.rooms.items passes.badge = subst (λ (rs : List RoomPass). Based hub conn open_at (acts ++ a ∷ []) t.all t.hall_pass rs passes.badge) (sym t.pass_list) t.base in
     record {
       more = t.more;
       now = t.now;
@@ -233,7 +233,7 @@ all_told hub conn open_at acts a ss session was is passes place t are none_left 
         hall_pass = t.hall_pass;
         hall = t.hall;
         hall_sits = t.hall_sits;
-        rooms = subst (λ (rs : List RoomPass). All (PlaceSits hub conn (acts ++ a ∷ []) (length acts + 1) t.all) rs) (sym row) t.done;
+        rooms = subst (λ (rs : List RoomPass). All (PlaceSits hub conn (acts ++ a ∷ []) (length acts + 1) t.all) rs) (sym pass_list) t.done;
         joined = base.joined;
         others = base.others;
         apart = base.apart;
@@ -246,19 +246,19 @@ all_told hub conn open_at acts a ss session was is passes place t are none_left 
       });
       up = record {
         hall = λ h is. subst (λ (x : HallPass). x.at ≡ length x.pass.1.seen) (same_Some t.hall_pass h (sym t.hall ∙ is)) t.hall_told;
-        rooms = subst (λ (rs : List RoomPass). All (λ (k : RoomPass). IsSome k.id → k.at ≡ length k.pass.1.seen) rs) (sym row) t.told;
+        rooms = subst (λ (rs : List RoomPass). All (λ (k : RoomPass). IsSome k.id → k.at ≡ length k.pass.1.seen) rs) (sym pass_list) t.told;
       };
     }
 
 pub telling_ends : (hub : Hub) (conn open_at : ℕ) (acts : List Act) (a : Act) (ss : List Sending) (session : Record) (was is : Option Talk) (passes : Passes) (place : ℕ) → Telling hub conn open_at acts a ss session place was is passes → AreOf hub passes → length passes.rooms.items ≤ place → Tells hub conn open_at acts a ss session was is passes
 telling_ends hub conn open_at acts a ss session was is passes place t are past =
-    let size = ap length t.row ∙ length-append t.front t.behind in
+    let size = ap length t.pass_list ∙ length-append t.front t.behind in
     let at = t.place_is in
     all_told hub conn open_at acts a ss session was is passes place t are (nil_from_length t.behind (omega arith))
 
 -- ---- whatever the session did before
 
--- The hall and the first rooms of the row have told, since the passes were `old`.
+-- The hall and the first rooms of the list have told, since the passes were `old`.
 pub record HaveTold (hub : Hub) (session : Record) (place : ℕ) (old new : Passes) (was is : Option Talk) : Type 0 where
   pub so : (conn open_at : ℕ) (acts : List Act) (a : Act) (ss : List Sending) → Sits hub conn open_at (acts ++ a ∷ []) (length acts) ss session old → Telling hub conn open_at acts a ss session place was is new
 

@@ -1,6 +1,7 @@
 -- The passes while an order is tried.
 use Rattle.std.proofs.Common.{◌≡◌, ◌⊎◌, ℕ, zero, suc, ◌<◌, ◌≤◌, List, [], ◌++◌, length, refl, sym, ap, ◌∙◌, subst, ⊎_elim, arith, Option, Some, None, Err, append-nil}
-use Rattle.ps_openings.specs.Openings.{first_battle}
+use Rattle.std.proofs.lemmas.Option.{none-some}
+use Rattle.ps_room.specs.Openings.{first_battle}
 use Rattle.ps_lines.specs.declared.command.Command.{Command}
 use Rattle.ps_lines.specs.declared.command.HallCmd.{HallCmd}
 use Rattle.ps_lines.specs.declared.order.Order.{Order}
@@ -23,9 +24,9 @@ use Rattle.ps_serve.specs.Sendings.{Sending}
 use Rattle.ps_serve.specs.Sittings.{Sits, IsUpToDate}
 use Rattle.ps_serve.specs.Obeys.{TriesInVain}
 use Rattle.ps_serve.proofs.Names.{one_id}
-use Rattle.ps_serve.proofs.Rows.{IsBeside, beside, IsKin, kin_self, Grows, grows_self, grows_trans, grows_beside}
+use Rattle.ps_serve.proofs.PassLists.{IsBeside, beside, IsKin, kin_self, Grows, grows_self, grows_trans, grows_beside}
 use Rattle.ps_serve.proofs.Moves.{Moves, stays, IsSameView, busy_same, same_moves, turns_move}
-use Rattle.ps_serve.proofs.Places.{never_some, IsMoved, kin_moved, IsPlace, IsBattle, place_of, place_same, place_held, Amid, place_before, amid_step}
+use Rattle.ps_serve.proofs.Places.{IsMoved, kin_moved, IsPlace, IsBattle, place_of, place_same, place_held, Amid, place_before, amid_step}
 use Rattle.ps_serve.proofs.Halls.{IsHall, hall_moved, hall_as, IsHallKin, hall_kin_trans}
 
 pub one_hall : (a b : HallPass) → Some a ≡ Some b → a ≡ b
@@ -162,11 +163,11 @@ module _ (hub : Hub) (conn : ℕ) (acts : List Act) (ss : List Sending) (up : Ty
     where
       at_once : e.before.id ≡ Some id → e.behind ≡ e.before → Amidst id new
       at_once is same = but_one id mid e.before e.behind new e.but b (subst (IsKin e.before) (sym same) (kin_self e.before))
-          (subst (IsPlace hub conn ss acts (Some id) up) (sym same) (place_was id mid e.before e.behind new e.but b), λ none. never_some id (sym none ∙ ap (λ (x : RoomPass). x.id) same ∙ is))
+          (subst (IsPlace hub conn ss acts (Some id) up) (sym same) (place_was id mid e.before e.behind new e.but b), λ none. absurd (none-some id (sym none ∙ ap (λ (x : RoomPass). x.id) same ∙ is)))
 
       asks : e.before.id ≡ None → e.behind.id ≡ Some id → IsMoved e.before [] e.behind → Amidst id new
-      asks none is m = but_one id mid e.before e.behind new e.but b (kin_moved e.before [] e.behind m (λ other some. never_some other (sym none ∙ some)))
-          (place_held hub conn ss acts up id e.before e.behind none is (subst (λ (n : ℕ). Names hub.config id n) (sym e.but.same_place) e.named) m (place_was id mid e.before e.behind new e.but b), λ no_id. never_some id (sym no_id ∙ is))
+      asks none is m = but_one id mid e.before e.behind new e.but b (kin_moved e.before [] e.behind m (λ other some. absurd (none-some other (sym none ∙ some))))
+          (place_held hub conn ss acts up id e.before e.behind none is (subst (λ (n : ℕ). Names hub.config id n) (sym e.but.same_place) e.named) m (place_was id mid e.before e.behind new e.but b), λ no_id. absurd (none-some id (sym no_id ∙ is)))
 
       chat : (o : Option (List ℕ)) → e.before.id ≡ o → e.before.number < first_battle → e.behind ≡ record e.before { id = Some id } → Amidst id new
       chat None none low is = asks none (ap (λ (x : RoomPass). x.id) is) record { place = e.but.same_place; at = ap (λ (x : RoomPass). x.at) is; moves = stays e.before.pass.1 e.behind.pass.1 (ap (λ (x : RoomPass). x.pass.1) is) }
@@ -184,7 +185,7 @@ module _ (hub : Hub) (conn : ℕ) (acts : List Act) (ss : List Sending) (up : Ty
           } in
           let m : IsMoved e.before [] e.behind = record { place = e.but.same_place; at = at; moves = same_moves e.before.pass.1 e.behind.pass.1 v } in
           but_one id mid e.before e.behind new e.but b (kin_moved e.before [] e.behind m (λ x y. keeps ∙ y))
-          (place_same hub conn ss acts (Some id) up e.before e.behind e.but.same_place at keeps v m (place_was id mid e.before e.behind new e.but b), λ none. never_some other (sym (sym keeps ∙ none) ∙ some))
+          (place_same hub conn ss acts (Some id) up e.before e.behind e.but.same_place at keeps v m (place_was id mid e.before e.behind new e.but b), λ none. absurd (none-some other (sym (sym keeps ∙ none) ∙ some)))
 
   -- ---- tries
 
@@ -195,7 +196,7 @@ module _ (hub : Hub) (conn : ℕ) (acts : List Act) (ss : List Sending) (up : Ty
       place_busy id mid e.before e.behind new word e.but e.done.3 (e.done.2 ∙ sym e.done.1) (λ none. subst (λ (x : ℕ). first_battle ≤ x) (sym e.but.same_place) e.done.0) e.done.4 b)
       (λ (n : (here : Passes) × EntersAt hub id (Held id) mid here × RoomFails hub id cmd moment here (hub_faults.Busy word back) new).
       let g = n.2.1 in
-      place_busy id n.0 g.before g.behind new word g.but g.at (g.held_on ∙ sym g.held) (λ none. never_some id (sym none ∙ g.held_on)) g.done.0 (enters id mid n.0 n.1 b))
+      place_busy id n.0 g.before g.behind new word g.but g.at (g.held_on ∙ sym g.held) (λ none. absurd (none-some id (sym none ∙ g.held_on))) g.done.0 (enters id mid n.0 n.1 b))
       t
 
   pub room_tries : (id : List ℕ) (cmd : Command) (moment tries : ℕ) (start new : Passes) → TriesInVain hub (Room id cmd) moment tries start new → Amidst id start → Amidst id new

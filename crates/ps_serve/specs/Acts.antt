@@ -8,14 +8,14 @@ use Rattle.ps_lines.specs.declared.command.HallCmd.{HallCmd}
 use Rattle.ps_lines.specs.declared.command.HallCmd.TheVariants as hall_commands
 use Rattle.ps_lines.specs.declared.order.Order.{Order}
 use Rattle.ps_lines.specs.declared.order.Order.TheVariants.{Hall, Room}
-use Rattle.ps_valid.specs.declared.start.Start.{Start}
+use Rattle.rules_start.specs.declared.start.Start.{Start}
 use Rattle.ps_hall.specs.declared.entry.HallEntry.{HallEntry}
 use Rattle.ps_room.specs.declared.outcome.Ending.{Ending}
-use Rattle.ps_openings.specs.Openings.{room_of_battle}
+use Rattle.ps_room.specs.Openings.{room_of_battle}
 use Rattle.ps_session.specs.Sessions.{Record, is_full, counted, with_badge}
 use Rattle.ps_session.specs.Routes.{taken, after_no_room}
-use Rattle.ps_places.specs.declared.command.RoomCmd.{RoomCmd}
-use Rattle.ps_places.specs.declared.command.RoomCmd.TheVariants.{Begin, Play}
+use Rattle.server_places.specs.declared.command.RoomCmd.{RoomCmd}
+use Rattle.server_places.specs.declared.command.RoomCmd.TheVariants.{Begin, Play}
 use Rattle.ps_hub.specs.Calls.{hall_entry, room_entry}
 use Rattle.ps_outside.specs.declared.link.Arrival.{Arrival}
 use Rattle.ps_outside.specs.declared.link.Arrival.TheVariants as arrivals

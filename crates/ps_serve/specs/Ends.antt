@@ -10,7 +10,7 @@ use Rattle.ps_lines.specs.declared.command.Command.TheVariants as room_commands
 use Rattle.ps_lines.specs.declared.command.HallCmd.TheVariants as hall_commands
 use Rattle.ps_lines.specs.declared.order.Order.{Order}
 use Rattle.ps_lines.specs.declared.order.Order.TheVariants.{Room}
-use Rattle.ps_valid.specs.declared.start.Start.{Start}
+use Rattle.rules_start.specs.declared.start.Start.{Start}
 use Rattle.ps_hall.specs.declared.entry.HallEntry.{HallEntry}
 use Rattle.ps_histlock.specs.Histories.{commands, entries_of}
 use Rattle.ps_histlock.specs.Seated.{TableId}
@@ -26,15 +26,15 @@ use Rattle.ps_outside.specs.declared.link.Arrival.{Arrival}
 use Rattle.ps_outside.specs.declared.link.Arrival.TheVariants as arrivals
 use Rattle.ps_laws.specs.Same.{AreSame}
 use Rattle.ps_room.specs.declared.entry.Entry.{Entry}
-use Rattle.ps_openings.specs.Openings.{room_of_battle}
-use Rattle.ps_laws.specs.Stories.{Story as World, story as world, view_of}
+use Rattle.ps_room.specs.Openings.{room_of_battle}
 use Rattle.ps_laws.specs.HallSame.{AreHallsSame}
+use Rattle.ps_room.specs.Stories.{Story, story, view_of}
 use Rattle.ps_laws.specs.HallStories.{HallStory, hall_story, hall_view_of}
-use Rattle.ps_places.specs.declared.command.RoomCmd.{RoomCmd}
-use Rattle.ps_places.specs.declared.command.RoomCmd.TheVariants.{Begin, Play}
-use Rattle.ps_places.specs.Sites.{battle_at, Story, story, Tells}
-use Rattle.ps_places.specs.Rooms.{Shows}
-use Rattle.ps_places.specs.Halls.{HallShows}
+use Rattle.server_places.specs.declared.command.RoomCmd.{RoomCmd}
+use Rattle.server_places.specs.declared.command.RoomCmd.TheVariants.{Begin, Play}
+use Rattle.server_places.specs.Sites.{battle_at, Tells}
+use Rattle.server_places.specs.Rooms.{Shows}
+use Rattle.server_places.specs.Halls.{HallShows}
 use Rattle.std.specs.FinMap.{empty}
 use Rattle.ps_hub.specs.Hubs.{Hub, root_of, site_of, lock_of}
 use Rattle.ps_hub.specs.Names.{IsNoChat, Names}
@@ -53,7 +53,7 @@ use Rattle.ps_serve.specs.Steps.{Hours, Asked}
 -- What a session did and sent: of each answer of the link, in order, what came of it; what was sent; the text that ended the
 -- session and became nothing, if there was one; and the moments of its Open, of such a text, if one was asked for it, and of its
 -- Quits.
-pub record Told : Type 0 where
+pub record Account : Type 0 where
   pub acts : List Act
   pub sendings : List Sending
   pub rest : List (List ℕ)
@@ -78,23 +78,23 @@ abbrev pub text_item : List ℕ → Arrival
 text_item bytes = arrivals.Text bytes
 
 -- where the link tells its talk: the acts are what it gave, in order and each once, and the sendings what it was sent
-pub record IsTalk (t : Told) (old new : Talk) : Type 0 where
+pub record IsTalk (t : Account) (old new : Talk) : Type 0 where
   pub given : old.inbox ≡ map arrival_of t.acts ++ (map text_item t.rest ++ new.inbox)
   pub answers : new.answers ≡ old.answers + (length t.acts + length t.rest)
   pub sent : new.sent ≡ old.sent ++ map (sent_text old.answers) t.sendings
 
-abbrev pub AreOfLink : Told → Option Talk → Option Talk → Type 0
+abbrev pub AreOfLink : Account → Option Talk → Option Talk → Type 0
 AreOfLink t None None = Unit {0}
 AreOfLink t (Some old) (Some new) = IsTalk t old new
 AreOfLink t old new = ⊥
 
 -- each text became what the way of texts makes of it
-abbrev pub AreOfWay : ℕ → Told → Type 0
+abbrev pub AreOfWay : ℕ → Account → Type 0
 AreOfWay conn t = AreActs (begun conn) t.acts
 
 -- the session of a connection over a link
-abbrev pub AreTold : ℕ → Told → Option Talk → Option Talk → Type 0
-AreTold conn t old new = AreOfLink t old new × AreOfWay conn t
+abbrev pub IsAccount : ℕ → Account → Option Talk → Option Talk → Type 0
+IsAccount conn t old new = AreOfLink t old new × AreOfWay conn t
 
 -- ---- sent is the view
 
@@ -105,13 +105,13 @@ module _ {C : Type 0} (shows : List C → List (List (List ℕ)) → Type 0) whe
   IsSentSo true cmds at room place ss = IsPartSent shows cmds at room place ss
   IsSentSo false cmds at room place ss = IsSent shows cmds at room place ss
 
-abbrev pub HallSent : Bool → Hub → ℕ → Told → HallPass → Type 0
+abbrev pub HallSent : Bool → Hub → ℕ → Account → HallPass → Type 0
 HallSent broken hub conn t h = IsSentSo (HallShows conn (root_of hub)) broken (commands h.pass.1.seen) h.at None None t.sendings
 
-abbrev pub RoomSent : Bool → Hub → ℕ → Told → RoomPass → Type 0
+abbrev pub RoomSent : Bool → Hub → ℕ → Account → RoomPass → Type 0
 RoomSent broken hub conn t k = IsSentSo (Shows conn (site_of hub k.number)) broken (commands k.pass.1.seen) k.at k.id (Some k.number) t.sendings
 
-pub record SentIsView (end : End) (hub : Hub) (conn : ℕ) (t : Told) (passes : Passes) : Type 0 where
+pub record SentIsView (end : End) (hub : Hub) (conn : ℕ) (t : Account) (passes : Passes) : Type 0 where
   pub hall : IfSome passes.hall (HallSent (is_broken end) hub conn t)
   pub rooms : All (RoomSent (is_broken end) hub conn t) passes.rooms.items
 
@@ -157,30 +157,30 @@ AllOrPart true made all = IsPrefix made all
 AllOrPart false made all = made ≡ all
 
 -- The pass of the hall has made the entries of the texts, in order and each once, and then one Quit.
-abbrev pub HallMade : Bool → ℕ → Told → HallPass → Type 0
+abbrev pub HallMade : Bool → ℕ → Account → HallPass → Type 0
 HallMade short conn t h = AllThenQuit short (commands h.pass.1.mine) (hall_entries conn t.acts) (hall_quit conn t.left)
 
 -- so has the pass of a place that is held, the Quit with the badge that is kept; at one that isn't there are Begins alone
-abbrev pub RoomMadeBy : Option (List ℕ) → Bool → ℕ → Option Badge → Told → RoomPass → Type 0
+abbrev pub RoomMadeBy : Option (List ℕ) → Bool → ℕ → Option Badge → Account → RoomPass → Type 0
 RoomMadeBy None short conn badge t k = AllOrPart short (commands k.pass.1.mine) (room_cmds conn k.number t.acts)
 RoomMadeBy (Some id) short conn badge t k = (b : Badge) × (badge ≡ Some b) × AllThenQuit short (commands k.pass.1.mine) (room_cmds conn k.number t.acts) (room_quit conn b t.left)
 
-abbrev pub RoomMade : Bool → ℕ → Option Badge → Told → RoomPass → Type 0
+abbrev pub RoomMade : Bool → ℕ → Option Badge → Account → RoomPass → Type 0
 RoomMade short conn badge t k = RoomMadeBy k.id short conn badge t k
 
 -- all but the Quit stand among what was handed out
-abbrev pub HallGiven : Bool → ℕ → Told → HallPass → Type 0
+abbrev pub HallGiven : Bool → ℕ → Account → HallPass → Type 0
 HallGiven true conn t h = Unit {0}
 HallGiven false conn t h = commands (entries_of h.pass.1.number (take h.at h.pass.1.seen)) ≡ hall_entries conn t.acts
 
-abbrev pub RoomGivenBy : Option (List ℕ) → Bool → ℕ → Told → RoomPass → Type 0
+abbrev pub RoomGivenBy : Option (List ℕ) → Bool → ℕ → Account → RoomPass → Type 0
 RoomGivenBy (Some id) false conn t k = commands (entries_of k.pass.1.number (take k.at k.pass.1.seen)) ≡ room_cmds conn k.number t.acts
 RoomGivenBy id broken conn t k = Unit {0}
 
-abbrev pub RoomGiven : Bool → ℕ → Told → RoomPass → Type 0
+abbrev pub RoomGiven : Bool → ℕ → Account → RoomPass → Type 0
 RoomGiven broken conn t k = RoomGivenBy k.id broken conn t k
 
-pub record EntriesAreMade (end : End) (conn : ℕ) (t : Told) (passes : Passes) : Type 0 where
+pub record EntriesAreMade (end : End) (conn : ℕ) (t : Account) (passes : Passes) : Type 0 where
   pub hall : IfSome passes.hall (HallMade (is_short end) conn t)
   pub hall_given : IfSome passes.hall (HallGiven (is_broken end) conn t)
   pub rooms : All (RoomMade (is_short end) conn passes.badge t) passes.rooms.items
@@ -192,16 +192,16 @@ pub record EntriesAreMade (end : End) (conn : ℕ) (t : Told) (passes : Passes) 
 
 -- What each act made is what its place answered: the badge of the connection's own Name, the battle that an entry started, the end
 -- of a battle, and that no such room was there. Where memory was wanting the last act may say of no answer.
-abbrev pub AreAnswers : Bool → Hub → ℕ → Told → List RoomPass → HallPass → Type 0
+abbrev pub AreAnswers : Bool → Hub → ℕ → Account → List RoomPass → HallPass → Type 0
 AreAnswers true hub conn t rooms h = (sure : List Act) × AreAlmostGiven hub conn sure t.acts h rooms
 AreAnswers false hub conn t rooms h = AreGiven hub conn [] t.acts h rooms
 
 -- A place that isn't held took one turn for each text that asked for it in vain, and one for each battle that was begun there.
-abbrev pub IsAskedBy : Option (List ℕ) → Hub → Told → RoomPass → Type 0
+abbrev pub IsAskedBy : Option (List ℕ) → Hub → Account → RoomPass → Type 0
 IsAskedBy None hub t k = RoomWaits hub t.acts k
 IsAskedBy (Some id) hub t k = Unit {0}
 
-abbrev pub IsAsked : End → Hub → Told → RoomPass → Type 0
+abbrev pub IsAsked : End → Hub → Account → RoomPass → Type 0
 IsAsked ends.NoMemory hub t k = Unit {0}
 IsAsked (ends.OwnLimit room) hub t k = Unit {0}
 IsAsked end hub t k = IsAskedBy k.id hub t k
@@ -222,13 +222,13 @@ abbrev pub AreRightly : Hub → List Act → List Act → List RoomPass → Type
 AreRightly hub done [] rooms = Unit {0}
 AreRightly hub done (a ∷ rest) rooms = IsRightly hub done a rooms × AreRightly hub (done ++ a ∷ []) rest rooms
 
-pub record AnswersAreKept (end : End) (hub : Hub) (conn : ℕ) (t : Told) (passes : Passes) : Type 0 where
+pub record AnswersAreKept (end : End) (hub : Hub) (conn : ℕ) (t : Account) (passes : Passes) : Type 0 where
   pub made : IfSome passes.hall (AreAnswers (is_short end) hub conn t passes.rooms.items)
   pub rightly : AreRightly hub [] t.acts passes.rooms.items
   pub asked : All (IsAsked end hub t) passes.rooms.items
 
 -- The hall is held, and the Open stands in it. Where memory was wanting for the Open, nothing is held, and nothing came of the link.
-abbrev pub IsOpen : Bool → ℕ → Told → Passes → Option HallPass → Type 0
+abbrev pub IsOpen : Bool → ℕ → Account → Passes → Option HallPass → Type 0
 IsOpen short conn t passes (Some h) = HasOpen conn t.opened h
 IsOpen true conn t passes None = (passes.rooms.items ≡ []) × (t.acts ≡ []) × (t.rest ≡ []) × (t.sendings ≡ [])
 IsOpen false conn t passes None = ⊥
@@ -236,15 +236,15 @@ IsOpen false conn t passes None = ⊥
 -- ---- moments
 
 -- the clock told one moment for the Open, one for each text that became an order, and one for the Quits
-abbrev pub moments_in : Told → List ℕ
+abbrev pub moments_in : Account → List ℕ
 moments_in t = t.opened ∷ (moments_of t.acts ++ (t.extra ++ t.left ∷ []))
 
 -- a text that is no act has a moment only where it was taken for an order
-abbrev pub HasExtra : ℕ → Told → Type 0
+abbrev pub HasExtra : ℕ → Account → Type 0
 HasExtra conn t = (t.extra ≡ []) ⊎ ((bytes : List ℕ) × (order : Order) × (t.rest ≡ bytes ∷ []) × (taken (after_acts (begun conn) t.acts) bytes ≡ Ok order) × (length t.extra ≡ 1))
 
 -- where memory was wanting, also for the Open alone, if that wasn't made
-abbrev pub TellsMoments : End → ℕ → Told → Option HallPass → Hours → Hours → Type 0
+abbrev pub TellsMoments : End → ℕ → Account → Option HallPass → Hours → Hours → Type 0
 TellsMoments ends.NoMemory conn t None old new = Asked old (t.opened ∷ []) new
 TellsMoments ends.NoMemory conn t (Some h) old new = HasExtra conn t × Asked old (moments_in t) new
 TellsMoments (ends.OwnLimit room) conn t hall old new = HasExtra conn t × Asked old (moments_in t) new
@@ -259,18 +259,18 @@ module _ {C : Type 0} (shows : List C → List (List (List ℕ)) → Type 0) whe
   AreLooksSo true cmds at room place ss first count looks = AreAlmostAnswered shows cmds room place ss first (count - 1) count looks
   AreLooksSo false cmds at room place ss first count looks = (length looks ≡ count) × AreLooksAnswered shows cmds room place ss first looks × All (λ n. n ≤ at) looks
 
-abbrev pub HallLooks : Bool → Hub → ℕ → Told → HallPass → Type 0
+abbrev pub HallLooks : Bool → Hub → ℕ → Account → HallPass → Type 0
 HallLooks broken hub conn t h = AreLooksSo (HallShows conn (root_of hub)) broken (commands h.pass.1.seen) h.at None None t.sendings 1 (length t.acts) h.pass.1.looks
 
 -- a place that isn't held has no look
-abbrev pub RoomLooksBy : Option (List ℕ) → Bool → Hub → ℕ → Told → RoomPass → Type 0
+abbrev pub RoomLooksBy : Option (List ℕ) → Bool → Hub → ℕ → Account → RoomPass → Type 0
 RoomLooksBy None broken hub conn t k = k.pass.1.looks ≡ []
 RoomLooksBy (Some id) broken hub conn t k = AreLooksSo (Shows conn (site_of hub k.number)) broken (commands k.pass.1.seen) k.at (Some id) (Some k.number) t.sendings (length t.acts - length (since k.number t.acts) + 1) (length (since k.number t.acts)) k.pass.1.looks
 
-abbrev pub RoomLooks : Bool → Hub → ℕ → Told → RoomPass → Type 0
+abbrev pub RoomLooks : Bool → Hub → ℕ → Account → RoomPass → Type 0
 RoomLooks broken hub conn t k = RoomLooksBy k.id broken hub conn t k
 
-pub record LooksAreAnswered (end : End) (hub : Hub) (conn : ℕ) (t : Told) (passes : Passes) : Type 0 where
+pub record LooksAreAnswered (end : End) (hub : Hub) (conn : ℕ) (t : Account) (passes : Passes) : Type 0 where
   pub hall : IfSome passes.hall (HallLooks (is_broken end) hub conn t)
   pub rooms : All (RoomLooks (is_broken end) hub conn t) passes.rooms.items
 
@@ -324,13 +324,13 @@ AreSure true sure acts = (last : List Act) × (acts ≡ sure ++ last) × (length
 AreSure false sure acts = sure ≡ acts
 
 -- it was started by an entry of the connection, and has the number of the place
-pub record IsOwnStart (t : Told) (number : ℕ) (start : Start) : Type 0 where
+pub record IsOwnStart (t : Account) (number : ℕ) (start : Start) : Type 0 where
   pub started : Contains (all_begun t.acts) start
   pub place : number ≡ room_of_battle start.number
 
 -- Each battle that an entry of the connection started was begun, once, and no pass has another Begin. Where memory was wanting, the
 -- last Begin may be missing.
-pub record OneBegin (end : End) (t : Told) (rooms : List RoomPass) : Type 0 where
+pub record OneBegin (end : End) (t : Account) (rooms : List RoomPass) : Type 0 where
   pub sure : List Act
   pub are_sure : AreSure (is_short end) sure t.acts
   pub begun : All (IsBegunBy rooms) (all_begun sure)
@@ -347,13 +347,13 @@ abbrev pub hall_world : Hub → HallPass → HallStory
 hall_world hub h = hall_story (record { config = hub.config; dex = hub.dex; ranks = empty }) (take h.at (commands h.pass.1.seen))
 
 -- what was sent from a place is the view over every world that is the same to the connection
-abbrev pub HallElsewhere : Bool → Hub → ℕ → Told → HallPass → Type 0
+abbrev pub HallElsewhere : Bool → Hub → ℕ → Account → HallPass → Type 0
 HallElsewhere broken hub conn t h = (other : HallStory) → AreHallsSame conn (hall_world hub h) other → IsTextsOf broken None None t.sendings (hall_view_of conn other)
 
-abbrev pub RoomElsewhere : Bool → Hub → ℕ → Told → RoomPass → Type 0
-RoomElsewhere broken hub conn t k = (s : Story) (other : World) → Tells (site_of hub k.number) (take k.at (commands k.pass.1.seen)) (Some s) → AreSame conn (world s.opening s.history) other → IsTextsOf broken k.id (Some k.number) t.sendings (view_of conn other)
+abbrev pub RoomElsewhere : Bool → Hub → ℕ → Account → RoomPass → Type 0
+RoomElsewhere broken hub conn t k = (s other : Story) → Tells (site_of hub k.number) (take k.at (commands k.pass.1.seen)) (Some s) → AreSame conn s other → IsTextsOf broken k.id (Some k.number) t.sendings (view_of conn other)
 
-pub record TwoWorlds (end : End) (hub : Hub) (conn : ℕ) (t : Told) (passes : Passes) : Type 0 where
+pub record TwoWorlds (end : End) (hub : Hub) (conn : ℕ) (t : Account) (passes : Passes) : Type 0 where
   pub hall : IfSome passes.hall (HallElsewhere (is_broken end) hub conn t)
   pub rooms : All (RoomElsewhere (is_broken end) hub conn t) passes.rooms.items
 
@@ -373,20 +373,20 @@ HasEmptyInbox ends.Closed (Some talk) = talk.inbox ≡ []
 HasEmptyInbox end talk = Unit {0}
 
 -- A text more than its place takes, where the place is that of the order, or the hall since no such room was there.
-abbrev pub IsTooMany : Option (List ℕ) → Hub → ℕ → Told → List RoomPass → List ℕ → Type 0
+abbrev pub IsTooMany : Option (List ℕ) → Hub → ℕ → Account → List RoomPass → List ℕ → Type 0
 IsTooMany room hub conn t rooms bytes =
     ((taken (after_acts (begun conn) t.acts) bytes ≡ Err (take_faults.Limit room)) × (t.extra ≡ []))
     ⊎ ((room ≡ None) × (id : List ℕ) × (cmd : Command) × (asked : Option ℕ) × (taken (after_acts (begun conn) t.acts) bytes ≡ Ok (Room id cmd)) × (is_full None (counted (Some id) (after_acts (begun conn) t.acts)) ≡ true) × IsNowhere hub conn t.acts asked id rooms × (length t.extra ≡ 1))
 
 -- BadText and OwnLimit only by the text that came last, and what it is taken for after the acts; at the other ends but want of memory
 -- each text that came is an act.
-abbrev pub HasTextCause : End → Hub → ℕ → Told → List RoomPass → Type 0
+abbrev pub HasTextCause : End → Hub → ℕ → Account → List RoomPass → Type 0
 HasTextCause (ends.BadText bytes) hub conn t rooms = (t.rest ≡ bytes.items ∷ []) × (taken (after_acts (begun conn) t.acts) bytes.items ≡ Err take_faults.BadText)
 HasTextCause (ends.OwnLimit room) hub conn t rooms = (bytes : List ℕ) × (t.rest ≡ bytes ∷ []) × IsTooMany room hub conn t rooms bytes
 HasTextCause ends.NoMemory hub conn t rooms = length t.rest ≤ 1
 HasTextCause end hub conn t rooms = t.rest ≡ []
 
-pub record HasCause (end : End) (hub : Hub) (conn : ℕ) (t : Told) (rooms : List RoomPass) (talk : Option Talk) (old new : LinkCounts) : Type 0 where
+pub record HasCause (end : End) (hub : Hub) (conn : ℕ) (t : Account) (rooms : List RoomPass) (talk : Option Talk) (old new : LinkCounts) : Type 0 where
   pub counts : HasCountCause end old new
   pub inbox : HasEmptyInbox end talk
   pub text : HasTextCause end hub conn t rooms
@@ -413,12 +413,12 @@ EndsWell other = ⊥
 
 -- The texts are within the limits: each that the link holds can be read, and the one that came last, if it is no act, wasn't one
 -- more than its place takes. The limit is a place's: where the acts before it went counts, and not how many there were in all.
-pub record IsWithin (hub : Hub) (conn : ℕ) (t : Told) (rooms : List RoomPass) (inbox : List Arrival) : Type 0 where
+pub record IsWithin (hub : Hub) (conn : ℕ) (t : Account) (rooms : List RoomPass) (inbox : List Arrival) : Type 0 where
   pub readable : All IsReadable (texts_in inbox)
   pub few : All (λ (bytes : List ℕ). (room : Option (List ℕ)) → IsTooMany room hub conn t rooms bytes → ⊥) t.rest
 
 -- where the link tells its talk, holds texts within the limits, and doesn't fail
-abbrev pub EndsWellWithin : End → Hub → ℕ → Told → List RoomPass → Option Talk → LinkCounts → LinkCounts → Type 0
+abbrev pub EndsWellWithin : End → Hub → ℕ → Account → List RoomPass → Option Talk → LinkCounts → LinkCounts → Type 0
 EndsWellWithin end hub conn t rooms told old new = (talk : Talk) → told ≡ Some talk → IsWithin hub conn t rooms talk.inbox → (Rose old.faults new.faults → ⊥) → EndsWell end
 
 -- so few texts in all that whatever becomes of them no place is given too many, and each can be read
@@ -428,8 +428,8 @@ pub record AreFew (inbox : List Arrival) : Type 0 where
 
 -- ---- all of it
 
-pub record Served (end : End) (hub : Hub) (conn : ℕ) (t : Told) (passes : Passes) (old_talk talk : Option Talk) (old_counts counts : LinkCounts) (old_hours hours : Hours) : Type 0 where
-  pub told : AreTold conn t old_talk talk
+pub record Served (end : End) (hub : Hub) (conn : ℕ) (t : Account) (passes : Passes) (old_talk talk : Option Talk) (old_counts counts : LinkCounts) (old_hours hours : Hours) : Type 0 where
+  pub told : IsAccount conn t old_talk talk
   pub sent : SentIsView end hub conn t passes
   pub labels : All (IsLabelled hub passes.rooms.items) t.sendings
   pub entries : EntriesAreMade end conn t passes

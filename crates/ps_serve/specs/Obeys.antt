@@ -5,9 +5,9 @@ use Rattle.ps_lines.specs.declared.command.HallCmd.{HallCmd}
 use Rattle.ps_lines.specs.declared.command.HallCmd.TheVariants.{Report}
 use Rattle.ps_lines.specs.declared.order.Order.{Order}
 use Rattle.ps_lines.specs.declared.order.Order.TheVariants.{Hall, Room}
-use Rattle.ps_valid.specs.declared.start.Start.{Start}
-use Rattle.ps_start.specs.Fits.{IsFit}
-use Rattle.ps_hall.specs.Looks.{most_battles}
+use Rattle.rules_start.specs.declared.start.Start.{Start}
+use Rattle.rules_start.specs.Fits.{IsFit}
+use Rattle.ps_base.specs.Limits.{most_battles}
 use Rattle.ps_room.specs.declared.outcome.Ending.{Ending}
 use Rattle.ps_session.specs.Sessions.{Record, is_full}
 use Rattle.ps_session.specs.Routes.{bad_order, after_no_room}

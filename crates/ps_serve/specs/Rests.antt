@@ -20,7 +20,7 @@ use Rattle.ps_serve.specs.Acts.{Act, after_acts, moments_of, hall_entries, room_
 use Rattle.ps_serve.specs.Sendings.{Sending}
 use Rattle.ps_serve.specs.Sittings.{HasOpen, Sits, AreApart, IsFrom, IsBegun}
 use Rattle.ps_serve.specs.Steps.{Hours, Asked, Stands}
-use Rattle.ps_serve.specs.Ends.{Told, is_short, is_broken, AreTold, AllOrPart, HallGiven, RoomGiven, HallLooks, RoomLooks, HallSent, RoomSent, AreAnswers, IsAsked, HasExtra, AreSure, HasCause}
+use Rattle.ps_serve.specs.Ends.{Account, is_short, is_broken, IsAccount, AllOrPart, HallGiven, RoomGiven, HallLooks, RoomLooks, HallSent, RoomSent, AreAnswers, IsAsked, HasExtra, AreSure, HasCause}
 
 -- the end of a session that these bytes stopped
 abbrev pub end_after : Stop → Vec ℕ Global → End
@@ -38,13 +38,13 @@ GoesOn hub conn open_at session passes old_talk talk old_counts counts old_hours
 
 -- ---- before the Quits
 
-pub record HallRests (broken short : Bool) (hub : Hub) (conn : ℕ) (t : Told) (h : HallPass) : Type 0 where
+pub record HallRests (broken short : Bool) (hub : Hub) (conn : ℕ) (t : Account) (h : HallPass) : Type 0 where
   pub entries : AllOrPart short (commands h.pass.1.mine) (hall_entries conn t.acts)
   pub given : HallGiven broken conn t h
   pub looks : HallLooks broken hub conn t h
   pub sent : HallSent broken hub conn t h
 
-pub record RoomRests (broken short : Bool) (hub : Hub) (conn : ℕ) (t : Told) (k : RoomPass) : Type 0 where
+pub record RoomRests (broken short : Bool) (hub : Hub) (conn : ℕ) (t : Account) (k : RoomPass) : Type 0 where
   pub entries : AllOrPart short (commands k.pass.1.mine) (room_cmds conn k.number t.acts)
   pub given : RoomGiven broken conn t k
   pub looks : RoomLooks broken hub conn t k
@@ -52,16 +52,16 @@ pub record RoomRests (broken short : Bool) (hub : Hub) (conn : ℕ) (t : Told) (
   pub named : IfSome k.id (λ id. Names hub.config id k.number)
 
 -- the moments that were asked for a text which is no act
-abbrev pub HasExtraAt : End → ℕ → Told → Type 0
+abbrev pub HasExtraAt : End → ℕ → Account → Type 0
 HasExtraAt ends.NoMemory conn t = HasExtra conn t
 HasExtraAt (ends.OwnLimit room) conn t = HasExtra conn t
 HasExtraAt end conn t = t.extra ≡ []
 
 -- what a session did, sent and has at this end, before its Quits
-pub record Rests (end : End) (hub : Hub) (conn : ℕ) (t : Told) (passes : Passes) (old_talk talk : Option Talk) (old_counts counts : LinkCounts) (old_hours hours : Hours) : Type 0 where
+pub record Rests (end : End) (hub : Hub) (conn : ℕ) (t : Account) (passes : Passes) (old_talk talk : Option Talk) (old_counts counts : LinkCounts) (old_hours hours : Hours) : Type 0 where
   pub are : AreOf hub passes
   pub conn_is : passes.conn ≡ conn
-  pub told : AreTold conn t old_talk talk
+  pub told : IsAccount conn t old_talk talk
   pub hall_pass : HallPass
   pub hall : passes.hall ≡ Some hall_pass
   pub hall_rests : HallRests (is_broken end) (is_short end) hub conn t hall_pass
@@ -83,4 +83,4 @@ pub record Rests (end : End) (hub : Hub) (conn : ℕ) (t : Told) (passes : Passe
 
 -- with any moment for the Quits
 abbrev pub ComesToRest : End → Hub → ℕ → ℕ → ℕ → Passes → Option Talk → Option Talk → LinkCounts → LinkCounts → Hours → Hours → Type 0
-ComesToRest end hub conn open_at left passes old_talk talk old_counts counts old_hours hours = (t : Told) × (t.opened ≡ open_at) × (t.left ≡ left) × Rests end hub conn t passes old_talk talk old_counts counts old_hours hours
+ComesToRest end hub conn open_at left passes old_talk talk old_counts counts old_hours hours = (t : Account) × (t.opened ≡ open_at) × (t.left ≡ left) × Rests end hub conn t passes old_talk talk old_counts counts old_hours hours

@@ -5,7 +5,7 @@ use Rattle.ps_base.specs.declared.badge.Badge.{Badge}
 use Rattle.ps_lines.specs.declared.command.Command.{Command}
 use Rattle.ps_lines.specs.declared.command.HallCmd.{HallCmd}
 use Rattle.ps_lines.specs.declared.command.HallCmd.TheVariants.{Open}
-use Rattle.ps_valid.specs.declared.start.Start.{Start}
+use Rattle.rules_start.specs.declared.start.Start.{Start}
 use Rattle.ps_hall.specs.declared.entry.HallEntry.{HallEntry}
 use Rattle.ps_hall.specs.declared.outcome.HallOut.{HallOut}
 use Rattle.ps_room.specs.declared.outcome.Ending.{Ending}
@@ -13,16 +13,18 @@ use Rattle.ps_room.specs.declared.outcome.RoomOut.{RoomOut}
 use Rattle.ps_histlock.specs.declared.view.Entry.{Entry}
 use Rattle.ps_histlock.specs.Histories.{commands, entry, entries_of}
 use Rattle.ps_session.specs.Sessions.{Record, begun}
-use Rattle.ps_openings.specs.Openings.{first_battle, room_of_battle}
-use Rattle.ps_places.specs.declared.command.RoomCmd.{RoomCmd}
-use Rattle.ps_places.specs.declared.command.RoomCmd.TheVariants.{Play}
-use Rattle.ps_places.specs.Rooms.{Answers, Shows}
-use Rattle.ps_places.specs.Halls.{HallAnswers, HallShows}
+use Rattle.ps_room.specs.Openings.{first_battle, room_of_battle}
+use Rattle.ps_room.specs.Stories.{Story}
+use Rattle.ps_room.specs.Logs.{ended_in}
+use Rattle.server_places.specs.declared.command.RoomCmd.{RoomCmd}
+use Rattle.server_places.specs.declared.command.RoomCmd.TheVariants.{Play}
+use Rattle.server_places.specs.Rooms.{Answers, Shows}
+use Rattle.server_places.specs.Halls.{HallAnswers, HallShows}
 use Rattle.ps_hub.specs.Hubs.{Hub, root_of, site_of}
 use Rattle.ps_hub.specs.Names.{Names}
 use Rattle.ps_hub.specs.Passes.{AreOf}
-use Rattle.ps_places.specs.Sites.{Story, Tells, id_told}
-use Rattle.ps_hub.specs.Calls.{hall_entry, room_entry, ended_in, Lacks, NamesNone}
+use Rattle.server_places.specs.Sites.{Tells, id_told}
+use Rattle.ps_hub.specs.Calls.{hall_entry, room_entry, Lacks, NamesNone}
 use Rattle.ps_hub.specs.declared.pass.HallPass.{HallPass}
 use Rattle.ps_hub.specs.declared.pass.RoomPass.{RoomPass}
 use Rattle.ps_hub.specs.declared.passes.Passes.{Passes}

@@ -21,7 +21,7 @@ use ps_lines::order::Order;
 use ps_outside::clock::Clock;
 use ps_room::outcome::Ending;
 use ps_session::session::TakeFault;
-use ps_valid::start::Start;
+use rules_start::start::Start;
 use std::alloc::Global;
 use std::sync::Wait;
 use std::thread;

@@ -101,7 +101,7 @@ impl Sitting {
         }
     }
 
-    // What the room at a place of the row tells, if it is held.
+    // What the room at an index of the list tells, if it is held.
     fn tell_room<R: Wait, L: Link>(
         &mut self,
         alloc: Global,
@@ -115,7 +115,7 @@ impl Sitting {
         ensures of { AreOf hub.now self.new.passes }
         ensures session { self.new.session ≡ self.old.session }
         ensures badge { self.new.passes.badge ≡ self.old.passes.badge }
-        ensures row { length self.new.passes.rooms.items ≡ length self.old.passes.rooms.items }
+        ensures pass_list { length self.new.passes.rooms.items ≡ length self.old.passes.rooms.items }
         ensures counts { IfNone result (L.counts link.new ≡ L.counts link.old) }
         ensures cause { IfSome result (λ end. IsBreak end (L.counts link.old) (L.counts link.new)) }
         ensures told { IfNone result (TellsRoom hub.now place self.old.passes self.new.passes (L.talk link.old) (L.talk link.new)) }

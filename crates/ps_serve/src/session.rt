@@ -7,7 +7,7 @@ ghost use Rattle.ps_serve.specs.Acts.{Act};
 ghost use Rattle.ps_serve.specs.Sendings.{Sending};
 ghost use Rattle.ps_serve.specs.Sittings.{Sits};
 ghost use Rattle.ps_serve.specs.Steps.{Hours, Stands};
-ghost use Rattle.ps_serve.specs.Ends.{Told, AreTold, SentIsView, IsLabelled, EntriesAreMade, AnswersAreKept, IsOpen, TellsMoments, LooksAreAnswered, AreOfHub, OneHistory, OneBegin, TwoWorlds, HasCause, EndsWell, EndsWellWithin, AreFew, Served, is_short};
+ghost use Rattle.ps_serve.specs.Ends.{Account, IsAccount, SentIsView, IsLabelled, EntriesAreMade, AnswersAreKept, IsOpen, TellsMoments, LooksAreAnswered, AreOfHub, OneHistory, OneBegin, TwoWorlds, HasCause, EndsWell, EndsWellWithin, AreFew, Served, is_short};
 ghost use Rattle.ps_serve.specs.Rests.{end_after, IsSitting, GoesOn, ComesToRest};
 
 use crate::closed::{Closed, End};
@@ -98,7 +98,7 @@ fn serve<R: Wait, L: Link, C: Clock>(
     link: &mut L,
     clock: &mut C,
 ) -> Closed
-    ensures served { (t : Told) × Served result.end hub.now conn t result.passes (L.talk link.old) (L.talk link.new) (L.counts link.old) (L.counts link.new) (C.hours clock.old) (C.hours clock.new) }
+    ensures served { (t : Account) × Served result.end hub.now conn t result.passes (L.talk link.old) (L.talk link.new) (L.counts link.old) (L.counts link.new) (C.hours clock.old) (C.hours clock.new) }
 {
     let Ok(passes) = hub.admit(rt, conn, clock.now()) else {
         return Closed {
@@ -141,20 +141,20 @@ pub fn serve_session<R: Wait, L: Link, C: Clock>(
     link: &mut L,
     clock: &mut C,
 ) -> Closed
-    ensures served { (t : Told) × Served result.end hub.now conn t result.passes (L.talk link.old) (L.talk link.new) (L.counts link.old) (L.counts link.new) (C.hours clock.old) (C.hours clock.new) }
-    ensures sent_is_the_view { (t : Told) × AreTold conn t (L.talk link.old) (L.talk link.new) × SentIsView result.end hub.now conn t result.passes }
-    ensures labels { (t : Told) × AreTold conn t (L.talk link.old) (L.talk link.new) × All (IsLabelled hub.now result.passes.rooms.items) t.sendings }
-    ensures entries_of_the_texts { (t : Told) × AreTold conn t (L.talk link.old) (L.talk link.new) × EntriesAreMade result.end conn t result.passes }
-    ensures answers { (t : Told) × AreTold conn t (L.talk link.old) (L.talk link.new) × AnswersAreKept result.end hub.now conn t result.passes }
-    ensures opened { (t : Told) × AreTold conn t (L.talk link.old) (L.talk link.new) × IsOpen (is_short result.end) conn t result.passes result.passes.hall }
-    ensures moments { (t : Told) × AreTold conn t (L.talk link.old) (L.talk link.new) × TellsMoments result.end conn t result.passes.hall (C.hours clock.old) (C.hours clock.new) }
-    ensures looks_are_answered { (t : Told) × AreTold conn t (L.talk link.old) (L.talk link.new) × LooksAreAnswered result.end hub.now conn t result.passes }
+    ensures served { (t : Account) × Served result.end hub.now conn t result.passes (L.talk link.old) (L.talk link.new) (L.counts link.old) (L.counts link.new) (C.hours clock.old) (C.hours clock.new) }
+    ensures sent_is_the_view { (t : Account) × IsAccount conn t (L.talk link.old) (L.talk link.new) × SentIsView result.end hub.now conn t result.passes }
+    ensures labels { (t : Account) × IsAccount conn t (L.talk link.old) (L.talk link.new) × All (IsLabelled hub.now result.passes.rooms.items) t.sendings }
+    ensures entries_of_the_texts { (t : Account) × IsAccount conn t (L.talk link.old) (L.talk link.new) × EntriesAreMade result.end conn t result.passes }
+    ensures answers { (t : Account) × IsAccount conn t (L.talk link.old) (L.talk link.new) × AnswersAreKept result.end hub.now conn t result.passes }
+    ensures opened { (t : Account) × IsAccount conn t (L.talk link.old) (L.talk link.new) × IsOpen (is_short result.end) conn t result.passes result.passes.hall }
+    ensures moments { (t : Account) × IsAccount conn t (L.talk link.old) (L.talk link.new) × TellsMoments result.end conn t result.passes.hall (C.hours clock.old) (C.hours clock.new) }
+    ensures looks_are_answered { (t : Account) × IsAccount conn t (L.talk link.old) (L.talk link.new) × LooksAreAnswered result.end hub.now conn t result.passes }
     ensures of_the_hub { AreOfHub hub.now result.passes }
     ensures one_history { OneHistory hub.now conn result.passes }
-    ensures one_begin { (t : Told) × AreTold conn t (L.talk link.old) (L.talk link.new) × OneBegin result.end t result.passes.rooms.items }
-    ensures two_worlds { (t : Told) × AreTold conn t (L.talk link.old) (L.talk link.new) × TwoWorlds result.end hub.now conn t result.passes }
-    ensures cause { (t : Told) × AreTold conn t (L.talk link.old) (L.talk link.new) × HasCause result.end hub.now conn t result.passes.rooms.items (L.talk link.new) (L.counts link.old) (L.counts link.new) }
-    ensures complete { (t : Told) × AreTold conn t (L.talk link.old) (L.talk link.new) × EndsWellWithin result.end hub.now conn t result.passes.rooms.items (L.talk link.old) (L.counts link.old) (L.counts link.new) }
+    ensures one_begin { (t : Account) × IsAccount conn t (L.talk link.old) (L.talk link.new) × OneBegin result.end t result.passes.rooms.items }
+    ensures two_worlds { (t : Account) × IsAccount conn t (L.talk link.old) (L.talk link.new) × TwoWorlds result.end hub.now conn t result.passes }
+    ensures cause { (t : Account) × IsAccount conn t (L.talk link.old) (L.talk link.new) × HasCause result.end hub.now conn t result.passes.rooms.items (L.talk link.new) (L.counts link.old) (L.counts link.new) }
+    ensures complete { (t : Account) × IsAccount conn t (L.talk link.old) (L.talk link.new) × EndsWellWithin result.end hub.now conn t result.passes.rooms.items (L.talk link.old) (L.counts link.old) (L.counts link.new) }
     ensures few_texts { (talk : Talk) → L.talk link.old ≡ Some talk → AreFew talk.inbox → (Rose (L.counts link.old).faults (L.counts link.new).faults → ⊥) → EndsWell result.end }
 {
     serve(alloc, rt, hub, conn, link, clock)

@@ -1,19 +1,15 @@
 -- Counts that are settled, with the last that rose.
 use Rattle.std.proofs.Common.{arith, ◌≡◌, ◌<◌, ◌+◌, ◌-◌, ℕ, zero, suc, List, Bool, true, false, cond, Option, Some, None, option_map, refl, sym, ap, ◌∙◌, unwrap_or}
-use Rattle.std.specs.Ordering.{nat_cmp, eq_by_cmp}
+use Rattle.std.specs.Ordering.{nat_cmp}
 use Rattle.std.specs.Str.{bytes_eq}
-use Rattle.std.specs.Cmp.{eq_by_cmp_equiv}
 use Rattle.std.specs.Cmp.Lexicographic.{slice_cmp, nat_list_cmp_total}
 use Rattle.std.specs.FinMap.{empty, get, insert, remove, get-empty, get-insert, get-remove, same_map, slice_cmp-IsAntisymmetric, nat_cmp-IsAntisymmetric}
-use Rattle.std.proofs.lemmas.Map.Text.{is_eq-slice_cmp}
 use Rattle.std.proofs.lemmas.Slice.Eq.{bytes_eq-Decides}
-use Rattle.ps_roster.specs.ById.{ById}
-use Rattle.ps_session.specs.Counts.{count_in, with_left, lowered, held_left, without_last}
-use Rattle.ps_session.specs.Kept.{counts_of, with_risen, held_without, some_texts, IsRisen, IsLast, HasNoZero}
+use Rattle.ps_base.specs.ById.{ById}
+use Rattle.ps_base.proofs.ByIdLemmas.{turned}
+use Rattle.ps_session.specs.Counts.{count_in, with_left, lowered, joined_left, without_last}
+use Rattle.ps_session.specs.Kept.{counts_of, with_risen, joined_without, some_texts, IsRisen, IsLast, HasNoZero}
 use Rattle.ps_session.specs.declared.room_counts.Risen.{Risen}
-
-turned : (id q : List ℕ) → bytes_eq id q ≡ eq_by_cmp (slice_cmp nat_cmp) q id
-turned id q = sym (is_eq-slice_cmp id q) ∙ (eq_by_cmp_equiv nat_list_cmp_total).symm id q
 
 -- a count in the map with one more, by the texts of the ids
 pub get_put : (m : ById ℕ) (id : List ℕ) (n : ℕ) (q : List ℕ) → get (insert m id n) q ≡ cond (bytes_eq id q) (Some n) (get m q)
@@ -74,12 +70,12 @@ pub lowered-risen : (m : ById ℕ) (risen : Risen) → IsRisen m risen → lower
 lowered-risen m risen is =
     ap (λ (n : ℕ). with_left (n - 1) risen.id (insert m risen.id risen.count)) (count_in-put m risen.id risen.count) ∙ taken_back m risen.id risen.count (risen.count - 1) is.before
 
-pub without_risen : (m : ById ℕ) (held : ℕ) (last : Option Risen) → IsLast m last → record { rooms = m; held = held_without last held; last = None } ≡ without_last (option_map (λ risen. risen.id) last) (counts_of m held last)
-without_risen m held None is = refl
-without_risen m held (Some risen) is =
-    ap (λ (rooms : ById ℕ). counts_of rooms (held_left (risen.count - 1) held) None) (sym (lowered-risen m risen is)) ∙ ap (λ (n : ℕ). counts_of (lowered risen.id (insert m risen.id risen.count)) (held_left (n - 1) held) None) (sym (count_in-put m risen.id risen.count))
+pub without_risen : (m : ById ℕ) (joined : ℕ) (last : Option Risen) → IsLast m last → record { rooms = m; joined = joined_without last joined; last = None } ≡ without_last (option_map (λ risen. risen.id) last) (counts_of m joined last)
+without_risen m joined None is = refl
+without_risen m joined (Some risen) is =
+    ap (λ (rooms : ById ℕ). counts_of rooms (joined_left (risen.count - 1) joined) None) (sym (lowered-risen m risen is)) ∙ ap (λ (n : ℕ). counts_of (lowered risen.id (insert m risen.id risen.count)) (joined_left (n - 1) joined) None) (sym (count_in-put m risen.id risen.count))
 
--- a look-up in the map with the count that rose last
+-- a lookup in the map with the count that rose last
 pub get_risen : (m : ById ℕ) (last : Option Risen) (risen : Risen) (id : List ℕ) (b : Bool) → last ≡ Some risen → bytes_eq risen.id id ≡ b → get (with_risen last m) id ≡ cond b (Some risen.count) (get m id)
 get_risen m last risen id b e t =
     ap (λ (l : Option Risen). get (with_risen l m) id) e ∙ get_put m risen.id risen.count id ∙ ap (λ (b : Bool). cond b (Some risen.count) (get m id)) t

@@ -2,8 +2,8 @@
 use Rattle.std.specs.Prelude.{◌≡◌, ◌<◌, ℕ, zero, suc, ◌-◌, List, Option, None, Some}
 use Rattle.std.specs.Option.{option_map}
 use Rattle.std.specs.FinMap.{get, insert}
-use Rattle.ps_roster.specs.ById.{ById}
-use Rattle.ps_session.specs.Counts.{Counts, held_left}
+use Rattle.ps_base.specs.ById.{ById}
+use Rattle.ps_session.specs.Counts.{Counts, joined_left}
 use Rattle.ps_session.specs.declared.room_counts.Risen.{Risen}
 
 -- the counts with the one that rose last
@@ -12,12 +12,12 @@ with_risen None settled = settled
 with_risen (Some risen) settled = insert settled risen.id risen.count
 
 abbrev pub counts_of : ById ℕ → ℕ → Option Risen → Counts
-counts_of settled held last = record { rooms = with_risen last settled; held = held; last = option_map (λ risen. risen.id) last }
+counts_of settled joined last = record { rooms = with_risen last settled; joined = joined; last = option_map (λ risen. risen.id) last }
 
 -- how many rooms have a text once the last is taken back
-abbrev pub held_without : Option Risen → ℕ → ℕ
-held_without None held = held
-held_without (Some risen) held = held_left (risen.count - 1) held
+abbrev pub joined_without : Option Risen → ℕ → ℕ
+joined_without None joined = joined
+joined_without (Some risen) joined = joined_left (risen.count - 1) joined
 
 -- a count, where there is a text
 abbrev pub some_texts : ℕ → Option ℕ

@@ -2,22 +2,22 @@
 use Rattle.std.specs.Prelude.{ℕ, ◌+◌, ◌-◌, Bool, true, false, List, Option, None, Some, nat_le, nat_lt, if◌then◌else◌}
 use Rattle.std.specs.FinMap.{empty, get}
 use Rattle.ps_base.specs.declared.badge.Badge.{Badge}
-use Rattle.ps_roster.specs.ById.{ById}
-use Rattle.ps_session.specs.Counts.{count_in, raised, held_with, lowered, held_left}
+use Rattle.ps_base.specs.ById.{ById}
+use Rattle.ps_session.specs.Counts.{count_in, raised, joined_with, lowered, joined_left}
 
 -- `hall` counts the texts for the hall, `rooms` those for each room with at least one, by its id as the whole text;
--- `held` is the number of these rooms; `last` is the room of the order that was taken last, if it was one for a room
+-- `joined` is the number of these rooms; `last` is the room of the order that was taken last, if it was one for a room
 pub record Record : Type 0 where
   pub conn : ℕ
   pub badge : Option Badge
   pub hall : ℕ
   pub rooms : ById ℕ
-  pub held : ℕ
+  pub joined : ℕ
   pub last : Option (List ℕ)
 
 -- a connection that has given no text
 abbrev pub begun : ℕ → Record
-begun conn = record { conn = conn; badge = None; hall = 0; rooms = empty; held = 0; last = None }
+begun conn = record { conn = conn; badge = None; hall = 0; rooms = empty; joined = 0; last = None }
 
 -- ---- limits
 
@@ -44,20 +44,20 @@ is_none (Some count) = false
 
 -- whether a room would be one more than a connection may have
 abbrev pub is_past_rooms : List ℕ → Record → Bool
-is_past_rooms id r = if nat_lt r.held most_rooms then false else is_none (get r.rooms id)
+is_past_rooms id r = if nat_lt r.joined most_rooms then false else is_none (get r.rooms id)
 
 -- ---- counting
 
 -- the record after a text for a place
 abbrev pub counted : Option (List ℕ) → Record → Record
-counted None r = record { conn = r.conn; badge = r.badge; hall = r.hall + 1; rooms = r.rooms; held = r.held; last = None }
-counted (Some id) r = record { conn = r.conn; badge = r.badge; hall = r.hall; rooms = raised id r.rooms; held = held_with (get r.rooms id) r.held; last = Some id }
+counted None r = record { conn = r.conn; badge = r.badge; hall = r.hall + 1; rooms = r.rooms; joined = r.joined; last = None }
+counted (Some id) r = record { conn = r.conn; badge = r.badge; hall = r.hall; rooms = raised id r.rooms; joined = joined_with (get r.rooms id) r.joined; last = Some id }
 
 -- the record without a text that was counted to a room; one that is left without a text isn't there any more
 abbrev pub uncounted : Option (List ℕ) → Record → Record
 uncounted None r = r
-uncounted (Some id) r = record { conn = r.conn; badge = r.badge; hall = r.hall; rooms = lowered id r.rooms; held = held_left (count_in id r.rooms - 1) r.held; last = None }
+uncounted (Some id) r = record { conn = r.conn; badge = r.badge; hall = r.hall; rooms = lowered id r.rooms; joined = joined_left (count_in id r.rooms - 1) r.joined; last = None }
 
 -- the record once a badge is known
 abbrev pub with_badge : Badge → Record → Record
-with_badge badge r = record { conn = r.conn; badge = Some badge; hall = r.hall; rooms = r.rooms; held = r.held; last = r.last }
+with_badge badge r = record { conn = r.conn; badge = Some badge; hall = r.hall; rooms = r.rooms; joined = r.joined; last = r.last }

@@ -1,11 +1,11 @@
 //! How many texts were given to each room.
 ghost use Rattle.std.specs.Prelude.{◌≡◌, ◌<◌, ◌+◌, ◌^◌, None, Some, OnOk, OnErr};
 ghost use Rattle.std.specs.FinMap.{get};
-ghost use Rattle.ps_session.specs.Counts.{no_counts, count_in, raised, held_with, held_left, without_last};
-ghost use Rattle.ps_session.specs.Kept.{with_risen, held_without};
+ghost use Rattle.ps_session.specs.Counts.{no_counts, count_in, raised, joined_with, joined_left, without_last};
+ghost use Rattle.ps_session.specs.Kept.{with_risen, joined_without};
 
+use ps_base::id_map::IdMap;
 use ps_base::text::Text;
-use ps_roster::id_map::IdMap;
 use std::alloc::{AllocError, Global};
 use std::marker::Model;
 
@@ -21,13 +21,13 @@ pub(crate) struct Risen {
 #[derive(Drop)]
 pub(crate) struct RoomCounts {
     settled: IdMap<u32>,
-    held: u32,
+    joined: u32,
     last: Option<Risen>,
 }
 
 impl Model for RoomCounts {
     ghost use Rattle.std.specs.Coded.{codes, coded_ℕ};
-    ghost use Rattle.ps_roster.specs.ById.{by_id_code};
+    ghost use Rattle.ps_base.specs.ById.{by_id_code};
     ghost use Rattle.ps_session.specs.Counts.{Counts};
     ghost use Rattle.ps_session.specs.Kept.{counts_of, IsLast, HasNoZero};
 
@@ -35,7 +35,7 @@ impl Model for RoomCounts {
 
     ghost coded = { Prim.hlevel (codes, by_id_code coded_ℕ) };
 
-    ghost view = { λ c. counts_of c.settled c.held c.last };
+    ghost view = { λ c. counts_of c.settled c.joined c.last };
 
     ghost invariant = { λ c. HasNoZero c.settled × IsLast c.settled c.last };
 }
@@ -51,33 +51,33 @@ fn settle(alloc: Global, settled: &mut IdMap<u32>, last: &Option<Risen>) -> Resu
     }
 }
 
-fn held_with(so_far: Option<u32>, held: u32) -> u32
-    requires { so_far ≡ None → held + 1 < 2 ^ 32 }
-    ensures { result ≡ held_with so_far held }
+fn joined_with(so_far: Option<u32>, joined: u32) -> u32
+    requires { so_far ≡ None → joined + 1 < 2 ^ 32 }
+    ensures { result ≡ joined_with so_far joined }
 {
     match so_far {
-        None => held + 1,
-        Some(_) => held,
+        None => joined + 1,
+        Some(_) => joined,
     }
 }
 
-fn held_left(count: u32, held: u32) -> u32
-    ensures { result ≡ held_left count held }
+fn joined_left(count: u32, joined: u32) -> u32
+    ensures { result ≡ joined_left count joined }
 {
     if count == 0 {
-        held.saturating_sub(1)
+        joined.saturating_sub(1)
     } else {
-        held
+        joined
     }
 }
 
 // How many rooms have a text once the last is taken back.
-fn held_without(last: &Option<Risen>, held: u32) -> u32
-    ensures { result ≡ held_without last.now held }
+fn joined_without(last: &Option<Risen>, joined: u32) -> u32
+    ensures { result ≡ joined_without last.now joined }
 {
     match last {
-        None => held,
-        Some(risen) => held_left(risen.count.saturating_sub(1), held),
+        None => joined,
+        Some(risen) => joined_left(risen.count.saturating_sub(1), joined),
     }
 }
 
@@ -88,7 +88,7 @@ impl RoomCounts {
     {
         RoomCounts {
             settled: IdMap::new(alloc),
-            held: 0,
+            joined: 0,
             last: None,
         }
     }
@@ -109,25 +109,25 @@ impl RoomCounts {
     }
 
     /// How many rooms have a text.
-    pub(crate) fn held(&self) -> u32
-        ensures { result ≡ self.now.held }
+    pub(crate) fn joined(&self) -> u32
+        ensures { result ≡ self.now.joined }
     {
-        self.held
+        self.joined
     }
 
     /// Counts a text to a room. Where memory fails nothing changes.
     pub(crate) fn count(&mut self, alloc: Global, id: Text) -> Result<(), AllocError>
         requires few { count_in id self.old.rooms + 1 < 2 ^ 32 }
-        requires fit { get self.old.rooms id ≡ None → self.old.held + 1 < 2 ^ 32 }
-        ensures ok { OnOk result (self.new ≡ record { rooms = raised id self.old.rooms; held = held_with (get self.old.rooms id) self.old.held; last = Some id }) }
+        requires fit { get self.old.rooms id ≡ None → self.old.joined + 1 < 2 ^ 32 }
+        ensures ok { OnOk result (self.new ≡ record { rooms = raised id self.old.rooms; joined = joined_with (get self.old.rooms id) self.old.joined; last = Some id }) }
         ensures err { OnErr result (self.new ≡ self.old) }
     {
         let so_far = self.get(id.as_str());
         let count = so_far.unwrap_or(0) + 1;
-        let held = held_with(so_far, self.held);
+        let joined = joined_with(so_far, self.joined);
         settle(alloc, &mut self.settled, &self.last)?;
         self.last = Some(Risen { id, count });
-        self.held = held;
+        self.joined = joined;
         Ok(())
     }
 
@@ -135,13 +135,13 @@ impl RoomCounts {
     pub(crate) fn uncount(&mut self)
         ensures { self.new ≡ without_last self.old.last self.old }
     {
-        self.held = held_without(&self.last, self.held);
+        self.joined = joined_without(&self.last, self.joined);
         self.last = None;
     }
 
     /// The text that was counted last can't be taken back any more. Where memory fails nothing changes.
     pub(crate) fn keep(&mut self, alloc: Global) -> Result<(), AllocError>
-        ensures ok { OnOk result (self.new ≡ record { rooms = self.old.rooms; held = self.old.held; last = None }) }
+        ensures ok { OnOk result (self.new ≡ record { rooms = self.old.rooms; joined = self.old.joined; last = None }) }
         ensures err { OnErr result (self.new ≡ self.old) }
     {
         settle(alloc, &mut self.settled, &self.last)?;

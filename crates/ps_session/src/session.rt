@@ -61,14 +61,14 @@ pub struct Session {
 
 impl Model for Session {
     ghost use Rattle.std.specs.Coded.{codes, coded_ℕ};
-    ghost use Rattle.ps_roster.specs.ById.{by_id_code};
+    ghost use Rattle.ps_base.specs.ById.{by_id_code};
     ghost use Rattle.ps_session.specs.Sessions.{Record};
 
     ghost Value = { Record };
 
     ghost coded = { Prim.hlevel (codes, by_id_code coded_ℕ) };
 
-    ghost view = { λ s. record { conn = s.conn; badge = s.badge; hall = s.hall; rooms = s.rooms.rooms; held = s.rooms.held; last = s.rooms.last } };
+    ghost view = { λ s. record { conn = s.conn; badge = s.badge; hall = s.hall; rooms = s.rooms.rooms; joined = s.rooms.joined; last = s.rooms.last } };
 }
 
 fn bad_order(why: BadWhy) -> Order
@@ -135,7 +135,7 @@ impl Session {
     fn is_past_rooms(&self, id: &str) -> bool
         ensures { result ≡ is_past_rooms id.now self.now }
     {
-        if self.rooms.held() < MOST_ROOMS {
+        if self.rooms.joined() < MOST_ROOMS {
             return false;
         }
         match self.rooms.get(id) {

@@ -1,6 +1,6 @@
 -- What is stored of an event is shown as the event.
 use Rattle.std.proofs.Common.{◌≡◌, ℕ, Bool, true, false, cond, not, ◌&&◌, List, Some, None, refl, sym, ap, ◌∙◌, ◌⊎◌, inl, inr}
-use Rattle.ps_dex.specs.declared.row.Tables.{Tables}
+use Rattle.ps_dex.specs.declared.item.Tables.{Tables}
 use Rattle.ps_event.specs.declared.audience.Audience.{Audience}
 use Rattle.ps_event.specs.declared.audience.Audience.TheVariants as audiences
 use Rattle.ps_event.specs.declared.event.Event.{Event}

@@ -1,22 +1,23 @@
 -- The log: its entries, and what a connection is sent at each.
 use Rattle.std.specs.Prelude.{ℕ, ◌-◌, List, [], ◌∷◌, ◌++◌, length, map, take, drop, Option, Some, None, ◌==◌, if◌then◌else◌}
 use Rattle.std.specs.List.{filter, flat_map}
+use Rattle.std.specs.Option.{option_to_list}
 use Rattle.ps_event.specs.declared.event.Event.{Event}
-use Rattle.ps_dex.specs.declared.row.Tables.{Tables}
+use Rattle.ps_dex.specs.declared.item.Tables.{Tables}
 use Rattle.ps_view.specs.declared.names.Names.{Names}
 use Rattle.ps_view.specs.declared.role.Role.{Role}
 use Rattle.ps_splitlog.specs.declared.stored.Stored.{Stored}
 use Rattle.ps_splitlog.specs.declared.entry.Joined.{Joined}
-use Rattle.ps_splitlog.specs.declared.entry.Held.{Held}
+use Rattle.ps_splitlog.specs.declared.entry.LogEntry.{LogEntry}
 use Rattle.ps_splitlog.specs.Lines.{Line, stored_of, stored_of_line, is_logged_line, shown_lines}
 
--- what the log holds of an entry
-abbrev pub held_of : Names → Tables → ℕ → List Event → List Line → Option Joined → List (ℕ × Role) → Held
-held_of names dex conn events ls join roles = record { conn = conn; lines = stored_of names dex events ls; join = join; roles = roles }
+-- what the log keeps of an entry
+abbrev pub log_entry_of : Names → Tables → ℕ → List Event → List Line → Option Joined → List (ℕ × Role) → LogEntry
+log_entry_of names dex conn events ls join roles = record { conn = conn; lines = stored_of names dex events ls; join = join; roles = roles }
 
 -- of an entry that tells no event and gives no role
-abbrev pub held_of_lines : ℕ → List Line → Option Joined → Held
-held_of_lines conn ls join = record { conn = conn; lines = map stored_of_line ls; join = join; roles = [] }
+abbrev pub log_entry_of_lines : ℕ → List Line → Option Joined → LogEntry
+log_entry_of_lines conn ls join = record { conn = conn; lines = map stored_of_line ls; join = join; roles = [] }
 
 -- ---- roles
 
@@ -27,11 +28,11 @@ changed conn (c ∷ cs) role = if c.0 == conn then c.1 else changed conn cs role
 
 -- ---- the backlog
 
-abbrev pub logged_in : Held → List Stored
+abbrev pub logged_in : LogEntry → List Stored
 logged_in h = filter is_logged_line h.lines
 
 -- all lines of these entries that are logged, in order
-abbrev pub logged_lines : List Held → List Stored
+abbrev pub logged_lines : List LogEntry → List Stored
 logged_lines hs = flat_map logged_in hs
 
 -- the last so many; this number means all
@@ -41,29 +42,25 @@ all_of_them = 4294967295
 abbrev pub last_of : {X : Type 0} → ℕ → List X → List X
 last_of keep ls = if keep == all_of_them then ls else drop (length ls - keep) ls
 
-abbrev pub tail_texts : Option (List ℕ) → List (List ℕ)
-tail_texts None = []
-tail_texts (Some text) = text ∷ []
-
 -- ---- messages
 
 -- what who joins is sent in the place of the entry's lines, where this connection is the one
-abbrev pub join_for : ℕ → Held → Option Joined
+abbrev pub join_for : ℕ → LogEntry → Option Joined
 join_for conn h = if conn == h.conn then h.join else None
 
 -- the head, the last lines that were logged before by the role of the join, and the tail
 abbrev pub joined_or : ℕ → Option Joined → List Stored → List (List ℕ) → List (List ℕ)
 joined_or conn None before texts = texts
-joined_or conn (Some j) before texts = j.head ++ shown_lines conn j.role (last_of j.keep before) ++ tail_texts j.tail
+joined_or conn (Some j) before texts = j.head ++ shown_lines conn j.role (last_of j.keep before) ++ option_to_list j.tail
 
 -- what a connection in this role is sent at an entry, before which these lines were logged
-abbrev pub message_of : ℕ → Role → List Stored → Held → List (List ℕ)
+abbrev pub message_of : ℕ → Role → List Stored → LogEntry → List (List ℕ)
 message_of conn role before h = joined_or conn (join_for conn h) before (shown_lines conn role h.lines)
 
-abbrev pub first_message : ℕ → Role → List Held → List Held → List (List ℕ)
+abbrev pub first_message : ℕ → Role → List LogEntry → List LogEntry → List (List ℕ)
 first_message conn role earlier [] = []
 first_message conn role earlier (h ∷ hs) = message_of conn role (logged_lines earlier) h
 
--- what it is sent at the entry in this place of the log; past the end there is none
-abbrev pub message_at : ℕ → Role → List Held → ℕ → List (List ℕ)
-message_at conn role log place = first_message conn role (take place log) (drop place log)
+-- what it is sent at the entry at this index of the log; past the end there is none
+abbrev pub message_at : ℕ → Role → List LogEntry → ℕ → List (List ℕ)
+message_at conn role log entry_index = first_message conn role (take entry_index log) (drop entry_index log)

@@ -7,7 +7,7 @@ use Rattle.ps_event.specs.declared.event.Event.{Event}
 use Rattle.ps_event.specs.declared.line.ChatLine.{ChatLine}
 use Rattle.ps_event.specs.declared.side.Side.{Side}
 use Rattle.ps_event.specs.Table.{audience_of, is_logged}
-use Rattle.ps_dex.specs.declared.row.Tables.{Tables}
+use Rattle.ps_dex.specs.declared.item.Tables.{Tables}
 use Rattle.ps_view.specs.declared.names.Names.{Names}
 use Rattle.ps_view.specs.declared.role.Role.{Role}
 use Rattle.ps_view.specs.declared.role.Role.TheVariants.{Spectator, Player}

@@ -1,31 +1,26 @@
 -- Reading by a cursor.
 use Rattle.std.specs.Prelude.{◌≡◌, ◌≤◌, ℕ, false, List, [], ◌∷◌, ◌++◌, length, take, drop, Option, Some, None}
-use Rattle.ps_base.specs.declared.msg.Msg.{Msg}
+use Rattle.ps_base.specs.Messages.{sent}
 use Rattle.ps_event.specs.declared.event.Event.{Event}
-use Rattle.ps_dex.specs.declared.row.Tables.{Tables}
+use Rattle.ps_dex.specs.declared.item.Tables.{Tables}
 use Rattle.ps_view.specs.declared.names.Names.{Names}
 use Rattle.ps_view.specs.declared.role.Role.{Role}
 use Rattle.ps_view.specs.declared.role.Role.TheVariants.{Outside}
 use Rattle.ps_view.specs.Lines.{line_of}
 use Rattle.ps_event.specs.Table.{is_logged}
 use Rattle.ps_splitlog.specs.declared.stored.Stored.{Stored}
-use Rattle.ps_splitlog.specs.declared.entry.Held.{Held}
+use Rattle.ps_splitlog.specs.declared.entry.LogEntry.{LogEntry}
 use Rattle.ps_splitlog.specs.declared.cursor.Cursor.{Cursor}
 use Rattle.ps_splitlog.specs.Lines.{stored_of_event, shown_if, is_logged_line}
 use Rattle.ps_splitlog.specs.Entries.{changed, logged_lines, message_of}
 
--- a message, where it has lines
-abbrev pub sent : List (List ℕ) → List (List (List ℕ))
-sent [] = []
-sent (line ∷ ls) = (line ∷ ls) ∷ []
-
 -- the messages of entries to a connection in this role before, where these came earlier
-abbrev pub messages_of : ℕ → Role → List Held → List Held → List (List (List ℕ))
+abbrev pub messages_of : ℕ → Role → List LogEntry → List LogEntry → List (List (List ℕ))
 messages_of conn role earlier [] = []
 messages_of conn role earlier (h ∷ hs) = sent (message_of conn role (logged_lines earlier) h) ++ messages_of conn (changed conn h.roles role) (earlier ++ h ∷ []) hs
 
 -- the role after entries: what one gives holds from the next on
-abbrev pub role_past : ℕ → Role → List Held → Role
+abbrev pub role_past : ℕ → Role → List LogEntry → Role
 role_past conn role [] = role
 role_past conn role (h ∷ hs) = role_past conn (changed conn h.roles role) hs
 
@@ -36,34 +31,31 @@ abbrev pub first_cursor : ℕ → Cursor
 first_cursor conn = record { conn = conn; at = 0; role = Outside }
 
 -- at the end of the log
-abbrev pub cursor_past : Cursor → List Held → Cursor
+abbrev pub cursor_past : Cursor → List LogEntry → Cursor
 cursor_past c log = record { conn = c.conn; at = length log; role = role_past c.conn c.role (drop c.at log) }
 
 -- the messages past a cursor
-abbrev pub read_past : Cursor → List Held → List (List (List ℕ))
+abbrev pub read_past : Cursor → List LogEntry → List (List (List ℕ))
 read_past c log = messages_of c.conn c.role (take c.at log) (drop c.at log)
-
-abbrev pub msg_lines : Msg → List (List ℕ)
-msg_lines m = m.lines
 
 -- ---- laws
 
 -- Who reads a log, and reads again when it has grown, gets what who reads it once when it has grown gets, and stands at the
--- same place.
-pub record ReadsTwice (c : Cursor) (log more : List Held) : Type 0 where
+-- same entry.
+pub record ReadsTwice (c : Cursor) (log more : List LogEntry) : Type 0 where
   pub messages : read_past c (log ++ more) ≡ read_past c log ++ read_past (cursor_past c log) (log ++ more)
   pub end : cursor_past c (log ++ more) ≡ cursor_past (cursor_past c log) (log ++ more)
 
 abbrev pub ReadsCompose : Type 0
-ReadsCompose = (c : Cursor) (log more : List Held) → c.at ≤ length log → ReadsTwice c log more
+ReadsCompose = (c : Cursor) (log more : List LogEntry) → c.at ≤ length log → ReadsTwice c log more
 
 -- the messages of who reads a log after each further entry
-abbrev pub read_each : Cursor → List Held → List Held → List (List (List ℕ))
+abbrev pub read_each : Cursor → List LogEntry → List LogEntry → List (List (List ℕ))
 read_each c log [] = []
 read_each c log (h ∷ hs) = read_past c (log ++ h ∷ []) ++ read_each (cursor_past c (log ++ h ∷ [])) (log ++ h ∷ []) hs
 
 abbrev pub ReadsAgree : Type 0
-ReadsAgree = (conn : ℕ) (log : List Held) → read_each (first_cursor conn) [] log ≡ read_past (first_cursor conn) log
+ReadsAgree = (conn : ℕ) (log : List LogEntry) → read_each (first_cursor conn) [] log ≡ read_past (first_cursor conn) log
 
 -- ---- a stored event is shown as the event
 

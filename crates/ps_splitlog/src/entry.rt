@@ -2,7 +2,7 @@
 ghost use Rattle.std.specs.Prelude.{◌≡◌, ◌++◌, ◌∷◌, [], map, IfOk, OnOk};
 ghost use Rattle.std.specs.List.{filter_map};
 ghost use Rattle.ps_splitlog.specs.Lines.{stored_of_event, stored_of_line, stored_of};
-ghost use Rattle.ps_splitlog.specs.Entries.{held_of, held_of_lines};
+ghost use Rattle.ps_splitlog.specs.Entries.{log_entry_of, log_entry_of_lines};
 
 use crate::stored::{Stored, stored_of_event, stored_of_line};
 use ps_base::list::List;
@@ -49,7 +49,7 @@ pub struct Entry<'a> {
 
 /// What a log holds of an entry.
 #[derive(Debug, Drop)]
-pub struct Held {
+pub struct LogEntry {
     /// The connection that made it.
     pub conn: ConnNo,
     /// Its lines, those of its events first.
@@ -123,17 +123,17 @@ fn stored_of(
 
 /// What a log holds of an entry: of its events the lines that `line_for` gives, then its lines. The events' numbers are in the
 /// range of names and dex; another has the line that `line_for` says.
-pub fn held_of(
+pub fn log_entry_of(
     alloc: Global,
     names: &Names,
     dex: &Dex,
     entry: Entry<'_>,
-) -> Result<Held, AllocError>
-    ensures { IfOk result (λ h. h ≡ held_of names.now dex.now entry.entry.conn entry.entry.events.now entry.entry.lines.now entry.entry.join entry.entry.roles.now) }
+) -> Result<LogEntry, AllocError>
+    ensures { IfOk result (λ h. h ≡ log_entry_of names.now dex.now entry.entry.conn entry.entry.events.now entry.entry.lines.now entry.entry.join entry.entry.roles.now) }
 {
     let lines = stored_of(alloc, names, dex, entry.events, entry.lines)?;
     let roles = entry.roles.to_vec(alloc)?;
-    Ok(Held {
+    Ok(LogEntry {
         conn: entry.conn,
         lines,
         join: entry.join,
@@ -143,17 +143,17 @@ pub fn held_of(
 
 /// What a log holds of an entry that tells no event and gives no role: such is a refused one, and at first each of a room without
 /// a battle (`SplitLog::give_roles`).
-pub fn held_of_lines(
+pub fn log_entry_of_lines(
     alloc: Global,
     conn: ConnNo,
     lines: &[ChatLine<Text>],
     join: Option<Joined>,
-) -> Result<Held, AllocError>
-    ensures { IfOk result (λ h. h ≡ held_of_lines conn lines.now join) }
+) -> Result<LogEntry, AllocError>
+    ensures { IfOk result (λ h. h ≡ log_entry_of_lines conn lines.now join) }
 {
     let mut stored = Vec::with_capacity(alloc, lines.len())?;
     push_lines(alloc, &mut stored, lines)?;
-    Ok(Held {
+    Ok(LogEntry {
         conn,
         lines: List::from_vec(stored),
         join,

@@ -8,7 +8,7 @@ pub fn law_of_events()
     ensures logged { EventsAreLogged }
 {}
 
-/// Who reads a log and reads again when it has grown gets what who reads once gets, and stands at the same place; so does who
+/// Who reads a log and reads again when it has grown gets what who reads once gets, and stands at the same entry; so does who
 /// reads after each entry.
 pub fn law_of_reads()
     ensures twice { ReadsCompose }

@@ -1,12 +1,13 @@
 //! The log.
 ghost use Rattle.std.specs.Prelude.{◌≡◌, ◌++◌, ◌∷◌, [], length, map, None, IfOk, OnOk, OnErr};
 ghost use Rattle.std.specs.Prelude as prelude;
-ghost use Rattle.ps_splitlog.specs.declared.entry.Held.{Held};
-ghost use Rattle.ps_splitlog.specs.Entries.{held_of, logged_lines, message_of};
-ghost use Rattle.ps_splitlog.specs.Reads.{cursor_past, read_past, msg_lines};
+ghost use Rattle.ps_splitlog.specs.declared.entry.LogEntry.{LogEntry};
+ghost use Rattle.ps_splitlog.specs.Entries.{log_entry_of, logged_lines, message_of};
+ghost use Rattle.ps_splitlog.specs.Reads.{cursor_past, read_past};
+ghost use Rattle.ps_base.specs.Messages.{msg_lines};
 
 use crate::cursor::Cursor;
-use crate::entry::{Entry, Held, held_of};
+use crate::entry::{Entry, LogEntry, log_entry_of};
 use crate::index::{Index, forget, none, note};
 use crate::read::{message_next, push_messages};
 use ps_base::list::List;
@@ -24,25 +25,25 @@ use std::marker::Model;
 /// beside it, so that the last lines cost who joins as much as they are, however long the log is.
 #[derive(Drop)]
 pub struct SplitLog {
-    entries: Vec<Held>,
+    entries: Vec<LogEntry>,
     index: Index,
 }
 
 impl Model for SplitLog {
     ghost use Rattle.std.specs.Prelude as prelude;
-    ghost use Rattle.ps_splitlog.specs.declared.entry.Held.{Held};
+    ghost use Rattle.ps_splitlog.specs.declared.entry.LogEntry.{LogEntry};
     ghost use Rattle.ps_splitlog.specs.Indices.{IsIndex};
 
-    ghost Value = { prelude.List Held };
+    ghost Value = { prelude.List LogEntry };
 
     ghost view = { λ l. l.entries.items };
 
-    ghost invariant = { λ l. IsIndex l.entries.items l.index.starts.items l.index.places.items };
+    ghost invariant = { λ l. IsIndex l.entries.items l.index.starts.items l.index.line_indices.items };
 }
 
 // Gives the last entry these roles in place of its own.
-fn set_roles(entries: &mut Vec<Held>, roles: List<(ConnNo, Role)>)
-    ensures last { (log : prelude.List Held) (h : Held) → entries.old.items ≡ log ++ h ∷ [] → entries.new.items ≡ log ++ record h { roles = roles } ∷ [] }
+fn set_roles(entries: &mut Vec<LogEntry>, roles: List<(ConnNo, Role)>)
+    ensures last { (log : prelude.List LogEntry) (h : LogEntry) → entries.old.items ≡ log ++ h ∷ [] → entries.new.items ≡ log ++ record h { roles = roles } ∷ [] }
     ensures none { entries.old.items ≡ [] → entries.new.items ≡ [] }
 {
     let count = entries.len();
@@ -62,16 +63,16 @@ impl SplitLog {
         }
     }
 
-    /// Puts at the end what is held of an entry and is made already: for who shows it to others first. Where memory fails
+    /// Puts at the end what is logged of an entry and is made already: for who shows it to others first. Where memory fails
     /// nothing changes.
-    pub fn push(&mut self, held: Held) -> Result<(), AllocError>
-        ensures ok { OnOk result (self.new ≡ self.old ++ held ∷ []) }
+    pub fn push(&mut self, log_entry: LogEntry) -> Result<(), AllocError>
+        ensures ok { OnOk result (self.new ≡ self.old ++ log_entry ∷ []) }
         ensures err { OnErr result (self.new ≡ self.old) }
     {
         let entry = self.entries.len();
         self.entries.reserve(1)?;
-        note(&mut self.index, entry, held.lines.as_slice())?;
-        self.entries.push(held).unwrap();
+        note(&mut self.index, entry, log_entry.lines.as_slice())?;
+        self.entries.push(log_entry).unwrap();
         Ok(())
     }
 
@@ -84,11 +85,11 @@ impl SplitLog {
         names: &Names,
         dex: &Dex,
     ) -> Result<(), AllocError>
-        ensures ok { OnOk result (self.new ≡ self.old ++ held_of names.now dex.now entry.entry.conn entry.entry.events.now entry.entry.lines.now entry.entry.join entry.entry.roles.now ∷ []) }
+        ensures ok { OnOk result (self.new ≡ self.old ++ log_entry_of names.now dex.now entry.entry.conn entry.entry.events.now entry.entry.lines.now entry.entry.join entry.entry.roles.now ∷ []) }
         ensures err { OnErr result (self.new ≡ self.old) }
     {
-        let held = held_of(alloc, names, dex, entry)?;
-        self.push(held)
+        let log_entry = log_entry_of(alloc, names, dex, entry)?;
+        self.push(log_entry)
     }
 
     /// Puts an entry of events alone at the end. Where memory fails nothing changes.
@@ -100,7 +101,7 @@ impl SplitLog {
         names: &Names,
         dex: &Dex,
     ) -> Result<(), AllocError>
-        ensures ok { OnOk result (self.new ≡ self.old ++ held_of names.now dex.now conn events.now [] None [] ∷ []) }
+        ensures ok { OnOk result (self.new ≡ self.old ++ log_entry_of names.now dex.now conn events.now [] None [] ∷ []) }
         ensures err { OnErr result (self.new ≡ self.old) }
     {
         let entry = Entry {
@@ -117,7 +118,7 @@ impl SplitLog {
     /// memory.
     #[tactic(auto, using(crate::proofs::IndexLemmas::front))]
     pub fn take_back(&mut self)
-        ensures last { (log : prelude.List Held) (h : Held) → self.old ≡ log ++ h ∷ [] → self.new ≡ log }
+        ensures last { (log : prelude.List LogEntry) (h : LogEntry) → self.old ≡ log ++ h ∷ [] → self.new ≡ log }
         ensures none { self.old ≡ [] → self.new ≡ [] }
     {
         let rest = self.entries.len().saturating_sub(1);
@@ -128,21 +129,21 @@ impl SplitLog {
     /// Gives the last entry, if there is one, these roles in place of its own: for who learns them by a change that comes after
     /// all memory was taken. Takes no memory.
     pub fn give_roles(&mut self, roles: List<(ConnNo, Role)>)
-        ensures last { (log : prelude.List Held) (h : Held) → self.old ≡ log ++ h ∷ [] → self.new ≡ log ++ record h { roles = roles } ∷ [] }
+        ensures last { (log : prelude.List LogEntry) (h : LogEntry) → self.old ≡ log ++ h ∷ [] → self.new ≡ log ++ record h { roles = roles } ∷ [] }
         ensures none { self.old ≡ [] → self.new ≡ [] }
     {
         set_roles(&mut self.entries, roles);
     }
 
-    /// What a connection in this role is sent at an entry that comes next, of which this will be held.
+    /// What a connection in this role is sent at an entry that comes next, of which this will be logged.
     pub fn message_next(
         &self,
         alloc: Global,
         conn: ConnNo,
         role: Role,
-        held: &Held,
+        log_entry: &LogEntry,
     ) -> Result<List<Text>, AllocError>
-        ensures { IfOk result (λ v. v ≡ message_of conn role (logged_lines self.now) held.now) }
+        ensures { IfOk result (λ v. v ≡ message_of conn role (logged_lines self.now) log_entry.now) }
     {
         message_next(
             alloc,
@@ -150,7 +151,7 @@ impl SplitLog {
             &self.index,
             conn,
             role,
-            held,
+            log_entry,
         )
     }
 

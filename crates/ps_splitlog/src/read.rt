@@ -1,40 +1,24 @@
 //! What a connection is sent of the entries of a log.
 ghost use Rattle.std.specs.Prelude.{◌≡◌, ◌++◌, ◌∷◌, [], take, drop, map, get_or, IfOk, OnOk};
-ghost use Rattle.std.specs.Option.{option_copied};
+ghost use Rattle.std.specs.Option.{option_copied, option_to_list};
 ghost use Rattle.ps_splitlog.specs.Lines.{shown_lines};
-ghost use Rattle.ps_splitlog.specs.Entries.{changed, logged_lines, last_of, tail_texts, join_for, message_of, message_at};
-ghost use Rattle.ps_splitlog.specs.Reads.{sent, messages_of, role_past, msg_lines};
+ghost use Rattle.ps_splitlog.specs.Entries.{changed, logged_lines, last_of, join_for, message_of, message_at};
+ghost use Rattle.ps_splitlog.specs.Reads.{messages_of, role_past};
+ghost use Rattle.ps_base.specs.Messages.{sent, msg_lines};
 ghost use Rattle.ps_splitlog.specs.Indices.{shown_at, IsIndex};
 
-use crate::entry::{ALL, Held, Joined};
-use crate::index::{Index, Place, line_at, places_before};
+use crate::entry::{ALL, Joined, LogEntry};
+use crate::index::{Index, LineIndex, line_at, line_indices_before};
 use crate::stored::{Stored, shown};
 use ps_base::list::List;
-use ps_base::msg::Msg;
+use ps_base::msg::{Msg, push_message};
 use ps_base::number::ConnNo;
-use ps_base::text::Text;
+use ps_base::text::{Text, push_copies, push_copy};
 use ps_view::role::Role;
 use std::alloc::{AllocError, Global};
 
-fn push_copy(alloc: Global, texts: &mut Vec<Text>, text: &Text) -> Result<(), AllocError>
-    ensures { OnOk result (texts.new.items ≡ texts.old.items ++ text.now ∷ []) }
-{
-    let copy = text.copy(alloc)?;
-    texts.push(copy)?;
-    Ok(())
-}
-
-fn push_copies(alloc: Global, texts: &mut Vec<Text>, more: &[Text]) -> Result<(), AllocError>
-    ensures { OnOk result (texts.new.items ≡ texts.old.items ++ more.now) }
-{
-    for text in more {
-        push_copy(alloc, texts, text)?;
-    }
-    Ok(())
-}
-
 fn push_tail(alloc: Global, texts: &mut Vec<Text>, tail: &Option<Text>) -> Result<(), AllocError>
-    ensures { OnOk result (texts.new.items ≡ texts.old.items ++ tail_texts tail.now) }
+    ensures { OnOk result (texts.new.items ≡ texts.old.items ++ option_to_list tail.now) }
 {
     match tail {
         None => Ok(()),
@@ -79,18 +63,18 @@ fn push_shown_lines(
     Ok(())
 }
 
-// The same for the line in a place.
+// The same for the line at an index.
 fn push_shown_at(
     alloc: Global,
     texts: &mut Vec<Text>,
     conn: ConnNo,
     role: Role,
-    entries: &[Held],
-    place: Place,
+    entries: &[LogEntry],
+    line_index: LineIndex,
 ) -> Result<(), AllocError>
-    ensures { OnOk result (texts.new.items ≡ texts.old.items ++ shown_at conn role entries.now (place ∷ [])) }
+    ensures { OnOk result (texts.new.items ≡ texts.old.items ++ shown_at conn role entries.now (line_index ∷ [])) }
 {
-    match line_at(entries, place) {
+    match line_at(entries, line_index) {
         None => Ok(()),
         Some(line) => {
             push_shown(alloc, texts, conn, role, line)?;
@@ -104,26 +88,26 @@ fn push_all_shown_at(
     texts: &mut Vec<Text>,
     conn: ConnNo,
     role: Role,
-    entries: &[Held],
-    places: &[Place],
+    entries: &[LogEntry],
+    line_indices: &[LineIndex],
 ) -> Result<(), AllocError>
-    ensures { OnOk result (texts.new.items ≡ texts.old.items ++ shown_at conn role entries.now places.now) }
+    ensures { OnOk result (texts.new.items ≡ texts.old.items ++ shown_at conn role entries.now line_indices.now) }
 {
-    for i in 0..places.len() {
-        push_shown_at(alloc, texts, conn, role, entries, places[i])?;
+    for i in 0..line_indices.len() {
+        push_shown_at(alloc, texts, conn, role, entries, line_indices[i])?;
     }
     Ok(())
 }
 
-// The last so many of these places.
-fn last_of(keep: u32, places: &[Place]) -> &[Place]
-    ensures { result.now ≡ last_of keep places.now }
+// The last so many of these indices.
+fn last_of(keep: u32, line_indices: &[LineIndex]) -> &[LineIndex]
+    ensures { result.now ≡ last_of keep line_indices.now }
 {
     if keep == ALL {
-        return places;
+        return line_indices;
     }
-    let first = places.len().saturating_sub(keep as usize);
-    &places[first..]
+    let first = line_indices.len().saturating_sub(keep as usize);
+    &line_indices[first..]
 }
 
 // What who joins by an entry is sent, where these lines were logged before.
@@ -131,10 +115,10 @@ fn init(
     alloc: Global,
     conn: ConnNo,
     joined: &Joined,
-    entries: &[Held],
-    before: &[Place],
+    entries: &[LogEntry],
+    before: &[LineIndex],
 ) -> Result<List<Text>, AllocError>
-    ensures { IfOk result (λ v. v ≡ joined.now.head ++ shown_at conn joined.now.role entries.now (last_of joined.now.keep before.now) ++ tail_texts joined.now.tail) }
+    ensures { IfOk result (λ v. v ≡ joined.now.head ++ shown_at conn joined.now.role entries.now (last_of joined.now.keep before.now) ++ option_to_list joined.now.tail) }
 {
     let mut texts = Vec::new(alloc);
     push_copies(alloc, &mut texts, joined.head.as_slice())?;
@@ -159,33 +143,39 @@ fn shown_of(
 }
 
 /// What who joins is sent in the place of the entry's lines, where this connection is the one. Takes no memory.
-pub fn join_for(conn: ConnNo, held: &Held) -> Option<&Joined>
-    ensures { option_copied result ≡ join_for conn held.now }
+pub fn join_for(conn: ConnNo, log_entry: &LogEntry) -> Option<&Joined>
+    ensures { option_copied result ≡ join_for conn log_entry.now }
 {
-    if conn == held.conn {
-        held.join.as_ref()
+    if conn == log_entry.conn {
+        log_entry.join.as_ref()
     } else {
         None
     }
 }
 
-// What a connection in this role is sent at the entry in a place.
+// What a connection in this role is sent at the entry at an index.
 fn message(
     alloc: Global,
-    entries: &[Held],
+    entries: &[LogEntry],
     index: &Index,
-    place: usize,
+    entry_index: usize,
     conn: ConnNo,
     role: Role,
 ) -> Result<List<Text>, AllocError>
-    requires { IsIndex entries.now index.now.starts.items index.now.places.items }
-    ensures { IfOk result (λ v. v ≡ message_at conn role entries.now place) }
+    requires { IsIndex entries.now index.now.starts.items index.now.line_indices.items }
+    ensures { IfOk result (λ v. v ≡ message_at conn role entries.now entry_index) }
 {
-    match entries.get(place) {
+    match entries.get(entry_index) {
         None => Ok(List::from_vec(Vec::new(alloc))),
-        Some(held) => match join_for(conn, held) {
-            None => shown_of(alloc, conn, role, held.lines.as_slice()),
-            Some(joined) => init(alloc, conn, joined, entries, places_before(index, place)),
+        Some(log_entry) => match join_for(conn, log_entry) {
+            None => shown_of(alloc, conn, role, log_entry.lines.as_slice()),
+            Some(joined) => init(
+                alloc,
+                conn,
+                joined,
+                entries,
+                line_indices_before(index, entry_index),
+            ),
         },
     }
 }
@@ -194,18 +184,18 @@ fn message(
 #[tactic(auto, using(crate::proofs::IndexLemmas::whole_backlog_is))]
 pub(crate) fn message_next(
     alloc: Global,
-    entries: &[Held],
+    entries: &[LogEntry],
     index: &Index,
     conn: ConnNo,
     role: Role,
-    held: &Held,
+    log_entry: &LogEntry,
 ) -> Result<List<Text>, AllocError>
-    requires { IsIndex entries.now index.now.starts.items index.now.places.items }
-    ensures { IfOk result (λ v. v ≡ message_of conn role (logged_lines entries.now) held.now) }
+    requires { IsIndex entries.now index.now.starts.items index.now.line_indices.items }
+    ensures { IfOk result (λ v. v ≡ message_of conn role (logged_lines entries.now) log_entry.now) }
 {
-    match join_for(conn, held) {
-        None => shown_of(alloc, conn, role, held.lines.as_slice()),
-        Some(joined) => init(alloc, conn, joined, entries, index.places.as_slice()),
+    match join_for(conn, log_entry) {
+        None => shown_of(alloc, conn, role, log_entry.lines.as_slice()),
+        Some(joined) => init(alloc, conn, joined, entries, index.line_indices.as_slice()),
     }
 }
 
@@ -221,37 +211,27 @@ fn changed(conn: ConnNo, changes: &[(ConnNo, Role)], role: Role) -> Role
     role
 }
 
-// Puts a message behind the others, where it has lines.
-fn push_message(messages: &mut Vec<Msg>, lines: List<Text>) -> Result<(), AllocError>
-    ensures { OnOk result (map msg_lines messages.new.items ≡ map msg_lines messages.old.items ++ sent lines) }
-{
-    if !lines.as_slice().is_empty() {
-        messages.push(Msg { lines })?;
-    }
-    Ok(())
-}
-
-/// Puts the messages of the entries from a place on behind the others, for a connection in this role before. The answer is
+/// Puts the messages of the entries from an index on behind the others, for a connection in this role before. The answer is
 /// its role after.
 #[tactic(auto, using(crate::proofs::MessageLemmas::next_message))]
 pub(crate) fn push_messages(
     alloc: Global,
     messages: &mut Vec<Msg>,
-    entries: &[Held],
+    entries: &[LogEntry],
     index: &Index,
     conn: ConnNo,
     first: Role,
     from: usize,
 ) -> Result<Role, AllocError>
-    requires { IsIndex entries.now index.now.starts.items index.now.places.items }
+    requires { IsIndex entries.now index.now.starts.items index.now.line_indices.items }
     ensures messages { OnOk result (map msg_lines messages.new.items ≡ map msg_lines messages.old.items ++ messages_of conn first (take from entries.now) (drop from entries.now)) }
     ensures role { IfOk result (λ role. role ≡ role_past conn first (drop from entries.now)) }
 {
     let mut role = first;
-    for place in from..entries.len() {
-        let lines = message(alloc, entries, index, place, conn, role)?;
+    for entry_index in from..entries.len() {
+        let lines = message(alloc, entries, index, entry_index, conn, role)?;
         push_message(messages, lines)?;
-        role = changed(conn, entries[place].roles.as_slice(), role);
+        role = changed(conn, entries[entry_index].roles.as_slice(), role);
     }
     Ok(role)
 }

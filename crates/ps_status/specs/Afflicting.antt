@@ -1,5 +1,5 @@
 -- A status, by a strike or without one.
-use Rattle.std.specs.Prelude.{ℕ, Bool, true, false, ◌+◌, ◌&&◌, ◌||◌, not, nat_lt, ◌==◌, List, slice_index, bit_and}
+use Rattle.std.specs.Prelude.{ℕ, Bool, true, false, ◌+◌, ◌&&◌, ◌||◌, not, nat_lt, ◌==◌, List, slice_index}
 use Rattle.ps_event.specs.declared.event.Event.TheVariants as events
 use Rattle.ps_mon.specs.declared.duel.Fighter.{Fighter}
 use Rattle.ps_mon.specs.declared.duel.Duel.{Duel}
@@ -11,7 +11,8 @@ use Rattle.ps_mon.specs.declared.status.Status.{Status}
 use Rattle.ps_mon.specs.declared.status.Status.TheVariants.{Healthy, Slp, Brn, Psn, Tox, Frz}
 use Rattle.ps_mon.specs.Duels.{is_slp}
 use Rattle.ps_mon.specs.Moves.{move_of, move_factors}
-use Rattle.ps_hits.specs.Scenes.{Play, ◌>>=◌, ◌>>◌, give, look, tell, change, choose, draw}
+use Rattle.ps_mon.specs.Clauses.{has_clause}
+use Rattle.ps_hits.specs.Scenes.{Play, give, duel_now, tell, change, choose, draw, ◌>>=◌, ◌>>◌}
 use Rattle.ps_hits.specs.Told.{who_of, status_number}
 use Rattle.ps_hits.specs.Fighters.{types_now, is_of_type, is_paralysed}
 use Rattle.ps_hits.specs.Strikes.{accuracy_test, strike_with}
@@ -27,9 +28,6 @@ sleep_clause = 2
 
 abbrev pub freeze_clause : ℕ
 freeze_clause = 4
-
-abbrev pub has_clause : ℕ → ℕ → Bool
-has_clause clauses bit = not (bit_and clauses bit == 0)
 
 -- a clause bars sleep where another standing member of the foe's side sleeps, and not by Rest, and frost where one is frozen
 abbrev pub is_barred_by_clause : Status → Duel → Bool
@@ -86,13 +84,13 @@ unfoldable pub afflict : Status → Play (Unit {0})
 afflict status = do
   counter ← counter_of status
   change (λ d. record d { foe = afflicted status counter d.foe })
-  d ← look
+  d ← duel_now
   tell (events.Status (who_of d.foe) (status_number status))
 
 -- a status as the secondary of a strike
 unfoldable pub status_second : Status → MoveData → Play (Unit {0})
 status_second status used = do
-  d ← look
+  d ← duel_now
   choose (is_barred_second status used d) (give tt) (afflict status)
 
 -- a strike, and a status as its secondary
@@ -105,7 +103,7 @@ status_by_strike status chance facts mv = do
 unfoldable pub status_alone : Status → Figures → ℕ → Play (Unit {0})
 status_alone status facts mv = do
   lands ← accuracy_test (move_of facts mv).accuracy
-  d ← look
+  d ← duel_now
   choose lands
       (choose (is_barred_alone status (move_of facts mv) (move_factors facts mv (types_now d.foe)) d) (tell (events.Fail (who_of d.user))) (afflict status))
       (give tt)

@@ -13,7 +13,7 @@ use Rattle.ps_mon.specs.declared.effect.Effect.TheVariants as effects
 use Rattle.ps_mon.specs.Facts.{Figures}
 use Rattle.ps_mon.specs.declared.record.Stages.{Stages}
 use Rattle.ps_mon.specs.Moves.{move_of}
-use Rattle.ps_hits.specs.Scenes.{Play, ◌>>=◌, ◌>>◌, give, look, tell, change, choose}
+use Rattle.ps_hits.specs.Scenes.{Play, ◌>>=◌, ◌>>◌, give, duel_now, tell, change, choose}
 use Rattle.ps_hits.specs.Told.{who_of}
 use Rattle.ps_hits.specs.Strikes.{accuracy_test, strike_with}
 use Rattle.ps_status.specs.declared.boosting.Shift.{Shift}
@@ -57,7 +57,7 @@ abbrev pub boosted : Shift → Fighter → Fighter
 boosted shift f =
     record f { vol = record f.vol { stages = with_stage shift.stat (moved (stage_now shift.stat f) shift.by) f.vol.stages } }
 
--- a stage's place in the list of what has stages
+-- a stage's index in the list of what has stages
 abbrev pub stat_number : Stat → ℕ
 stat_number Atk = numbers.stat_atk
 stat_number Def = numbers.stat_def
@@ -79,14 +79,14 @@ boost_event shift f =
 -- the user's stages change
 unfoldable pub boost_user : Shift → Play (Unit {0})
 boost_user shift = do
-  d ← look
+  d ← duel_now
   change (λ d. record d { user = boosted shift d.user })
   tell (boost_event shift d.user)
 
 -- the foe's stages change
 unfoldable pub boost_foe : Shift → Play (Unit {0})
 boost_foe shift = do
-  d ← look
+  d ← duel_now
   change (λ d. record d { foe = boosted shift d.foe })
   tell (boost_event shift d.foe)
 
@@ -106,7 +106,7 @@ is_boost_barred shift d = is_barred_at shift.who shift d
 -- a change as the secondary of a strike
 unfoldable pub boost_second : Shift → Play (Unit {0})
 boost_second shift = do
-  d ← look
+  d ← duel_now
   choose (is_boost_barred shift d) (give tt) (boost_at shift.who shift)
 
 -- a strike, and a change as its secondary
@@ -118,7 +118,7 @@ boost_by_strike shift chance facts mv = do
 -- a change, or Fail where it can't be
 unfoldable pub boost_or_fail : Shift → Play (Unit {0})
 boost_or_fail shift = do
-  d ← look
+  d ← duel_now
   choose (is_boost_barred shift d) (tell (events.Fail (who_of d.user))) (boost_at shift.who shift)
 
 -- with power 0: the accuracy test is for a foe alone

@@ -2,10 +2,10 @@
 use Rattle.std.specs.Prelude.{false, None}
 use Rattle.ps_event.specs.declared.event.Event.TheVariants as events
 use Rattle.ps_mon.specs.declared.duel.Fighter.{Fighter}
-use Rattle.ps_mon.specs.declared.status.Status.{Status}
-use Rattle.ps_mon.specs.declared.status.Status.TheVariants.{Healthy, Tox, Psn}
+use Rattle.ps_mon.specs.declared.status.Status.TheVariants.{Healthy}
 use Rattle.ps_mon.specs.Reading.{no_stages}
-use Rattle.ps_hits.specs.Scenes.{Play, ◌>>=◌, ◌>>◌, give, look, tell, change, choose}
+use Rattle.ps_mon.specs.Switching.{milder}
+use Rattle.ps_hits.specs.Scenes.{Play, give, duel_now, tell, change, choose, ◌>>=◌, ◌>>◌}
 use Rattle.ps_hits.specs.Told.{who_of, status_number}
 use Rattle.ps_status.specs.Afflicting.{is_healthy}
 
@@ -21,15 +21,10 @@ cleared f =
 -- the foe's status ends, where it has one
 unfoldable pub cure_foe : Play (Unit {0})
 cure_foe = do
-  d ← look
+  d ← duel_now
   choose (is_healthy d.foe.status) (give tt) (do
     change (λ d. record d { foe = cured d.foe })
     tell (events.CureStatus (who_of d.foe) (status_number d.foe.status)))
-
--- bad poison becomes a plain one
-abbrev pub milder : Status → Status
-milder Tox = Psn
-milder status = status
 
 -- haze: both members lose what is above; the foe's status ends, and the user's bad poison becomes a plain one
 unfoldable pub haze_row : Play (Unit {0})

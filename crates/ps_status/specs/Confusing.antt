@@ -6,7 +6,7 @@ use Rattle.ps_mon.specs.declared.effect.Effect.{Effect}
 use Rattle.ps_mon.specs.declared.effect.Effect.TheVariants as effects
 use Rattle.ps_mon.specs.Facts.{Figures}
 use Rattle.ps_mon.specs.Moves.{move_of}
-use Rattle.ps_hits.specs.Scenes.{Play, ◌>>=◌, ◌>>◌, give, look, tell, change, choose, draw}
+use Rattle.ps_hits.specs.Scenes.{Play, ◌>>=◌, ◌>>◌, give, duel_now, tell, change, choose, draw}
 use Rattle.ps_hits.specs.Told.{who_of}
 use Rattle.ps_hits.specs.Strikes.{accuracy_test, strike_with}
 use Rattle.ps_event.specs.Numbers as numbers
@@ -24,13 +24,13 @@ unfoldable pub daze : Play (Unit {0})
 daze = do
   n ← draw 4
   change (λ d. record d { foe = confused (2 + n) d.foe })
-  d ← look
+  d ← duel_now
   tell (events.VolStart (who_of d.foe) numbers.effect_confusion None)
 
 -- confusion as the secondary of a strike
 unfoldable pub confuse_second : Play (Unit {0})
 confuse_second = do
-  d ← look
+  d ← duel_now
   choose (stays_sane d.foe) (give tt) daze
 
 -- a strike, and confusion as its secondary
@@ -43,7 +43,7 @@ confuse_by_strike chance facts mv = do
 unfoldable pub confuse_alone : Figures → ℕ → Play (Unit {0})
 confuse_alone facts mv = do
   lands ← accuracy_test (move_of facts mv).accuracy
-  d ← look
+  d ← duel_now
   choose lands (choose (stays_sane d.foe) (tell (events.Fail (who_of d.user))) daze) (give tt)
 
 -- confuse: by strike and secondary, or with power 0

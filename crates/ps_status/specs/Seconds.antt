@@ -3,7 +3,7 @@ use Rattle.std.specs.Prelude.{ℕ, Bool, false, ◌&&◌, nat_lt}
 use Rattle.ps_mon.specs.declared.duel.Duel.{Duel}
 use Rattle.ps_hits.specs.declared.strike.Struck.{Struck}
 use Rattle.ps_hits.specs.declared.strike.Struck.TheVariants.{NoEffect, Missed, Hit}
-use Rattle.ps_hits.specs.Scenes.{Play, ◌>>=◌, give, look, choose, draw}
+use Rattle.ps_hits.specs.Scenes.{Play, ◌>>=◌, give, duel_now, choose, draw}
 
 -- whether a strike took health from the foe itself, which stands
 abbrev pub has_hurt : Struck → Duel → Bool
@@ -11,12 +11,19 @@ has_hurt NoEffect d = false
 has_hurt Missed d = false
 has_hurt (Hit dealt) d = dealt.own && nat_lt 0 d.foe.hp
 
--- the secondary of a strike that has hurt the foe: it comes in so many of 256 cases, and a draw is made at 0 and at 256 too
-abbrev pub second : ℕ → Struck → Play (Unit {0}) → Play (Unit {0})
-second chance struck then_this = do
-  d ← look
+-- whether the secondary of a strike comes: the strike has hurt the foe, and a draw below 256 is below the chance. The draw is made at
+-- 0 and at 256 too
+unfoldable pub comes : ℕ → Struck → Play Bool
+comes chance struck = do
+  d ← duel_now
   choose (has_hurt struck d)
       (do
         n ← draw 256
-        choose (nat_lt n chance) then_this (give tt))
-      (give tt)
+        give (nat_lt n chance))
+      (give false)
+
+-- the secondary of a strike
+abbrev pub second : ℕ → Struck → Play (Unit {0}) → Play (Unit {0})
+second chance struck then_this = do
+  it_comes ← comes chance struck
+  choose it_comes then_this (give tt)

@@ -12,9 +12,10 @@ ghost use Rattle.ps_hits.specs.Courses.{played, course};
 ghost use Rattle.ps_hits.specs.Scenes.{Scene};
 ghost use Rattle.ps_mon.specs.Duels.{IsFighter};
 ghost use Rattle.ps_mon.specs.Known.{AreNamed};
-ghost use Rattle.ps_status.specs.Afflicting.{has_clause, is_barred_by_clause, is_shielded, is_barred_second, is_by_touch, has_no_effect, is_barred_alone, counter_of, toxic_after, afflicted, afflict, status_second, status_by_strike, status_alone, status_row, status_effect};
+ghost use Rattle.ps_status.specs.Afflicting.{is_barred_by_clause, is_shielded, is_barred_second, is_by_touch, has_no_effect, is_barred_alone, counter_of, toxic_after, afflicted, afflict, status_second, status_by_strike, status_alone, status_row, status_effect};
+ghost use Rattle.ps_mon.specs.Clauses.{has_clause};
 
-use crate::seconds::hurts;
+use crate::seconds::comes;
 use ps_event::event::{Event, Events};
 use ps_hits::fighters::{has_type, types};
 use ps_hits::scene::{draw, number_of, who};
@@ -175,10 +176,7 @@ fn strike_and_afflict(
     ensures room { array_vec_len out.new ≤ array_vec_len out.old + 7 }
 {
     let struck = strike_foe_with(duel, facts, mv, false, out);
-    if !hurts(struck, duel) {
-        return;
-    }
-    if draw(duel, 256) >= u32::from(chance) {
+    if !comes(duel, struck, chance) {
         return;
     }
     try_second(duel, status, &move_data(facts, mv), out);

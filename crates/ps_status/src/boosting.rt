@@ -14,10 +14,10 @@ ghost use Rattle.ps_mon.specs.Known.{AreNamed};
 ghost use Rattle.ps_mon.specs.Valid.{AreStages};
 ghost use Rattle.ps_status.specs.Boosting.{stat_number, IsShift, stage_of, with_stage, moved, is_at_end, boosted, steps_of, boost_event, boost_user, boost_foe, boost_at, is_boost_barred, boost_second, boost_by_strike, boost_or_fail, boost_alone, boost_row, boost_effect};
 
-use crate::seconds::hurts;
+use crate::seconds::comes;
 use ps_event::event::{Event, Events};
 use ps_event::numbers::{STAT_ACC, STAT_ATK, STAT_DEF, STAT_EVA, STAT_SPC, STAT_SPE};
-use ps_hits::scene::{draw, who};
+use ps_hits::scene::who;
 use ps_hits::strike::{lands, strike_foe_with};
 use ps_mon::duel::{Duel, Fighter};
 use ps_mon::effect::{Aim, Effect, Stat};
@@ -150,36 +150,7 @@ fn boost_told(f: &Fighter, shift: Shift) -> Event
     }
 }
 
-#[tactic(auto, unfolding(crate::specs::Boosting::boost_user))]
-fn raise_user(duel: &mut Duel, shift: Shift, out: &mut Events)
-    requires fit { IsFit duel.old }
-    requires by { IsShift shift }
-    requires room { array_vec_len out.old + 1 ≤ 160 }
-    ensures after { scene duel.new out.new ≡ (boost_user shift (scene duel.old out.old)).1 }
-    ensures fit { IsFit duel.new }
-    ensures known { (moves : ℕ) → IsDuelKnown moves duel.old → IsDuelKnown moves duel.new }
-    ensures room { array_vec_len out.new ≤ array_vec_len out.old + 1 }
-{
-    let user = duel.user;
-    duel.user = with_boost(&user, shift);
-    out.push(boost_told(&user, shift));
-}
-
-#[tactic(auto, unfolding(crate::specs::Boosting::boost_foe))]
-fn raise_foe(duel: &mut Duel, shift: Shift, out: &mut Events)
-    requires fit { IsFit duel.old }
-    requires by { IsShift shift }
-    requires room { array_vec_len out.old + 1 ≤ 160 }
-    ensures after { scene duel.new out.new ≡ (boost_foe shift (scene duel.old out.old)).1 }
-    ensures fit { IsFit duel.new }
-    ensures known { (moves : ℕ) → IsDuelKnown moves duel.old → IsDuelKnown moves duel.new }
-    ensures room { array_vec_len out.new ≤ array_vec_len out.old + 1 }
-{
-    let foe = duel.foe;
-    duel.foe = with_boost(&foe, shift);
-    out.push(boost_told(&foe, shift));
-}
-
+#[tactic(auto, unfolding(crate::specs::Boosting::boost_user, crate::specs::Boosting::boost_foe))]
 fn do_boost(duel: &mut Duel, shift: Shift, out: &mut Events)
     requires fit { IsFit duel.old }
     requires by { IsShift shift }
@@ -190,8 +161,16 @@ fn do_boost(duel: &mut Duel, shift: Shift, out: &mut Events)
     ensures room { array_vec_len out.new ≤ array_vec_len out.old + 1 }
 {
     match shift.who {
-        Aim::User => raise_user(duel, shift, out),
-        Aim::Foe => raise_foe(duel, shift, out),
+        Aim::User => {
+            let user = duel.user;
+            duel.user = with_boost(&user, shift);
+            out.push(boost_told(&user, shift));
+        }
+        Aim::Foe => {
+            let foe = duel.foe;
+            duel.foe = with_boost(&foe, shift);
+            out.push(boost_told(&foe, shift));
+        }
     }
 }
 
@@ -245,10 +224,7 @@ fn strike_and_boost(
     ensures room { array_vec_len out.new ≤ array_vec_len out.old + 7 }
 {
     let struck = strike_foe_with(duel, facts, mv, false, out);
-    if !hurts(struck, duel) {
-        return;
-    }
-    if draw(duel, 256) >= u32::from(chance) {
+    if !comes(duel, struck, chance) {
         return;
     }
     try_second(duel, shift, out);

@@ -11,7 +11,8 @@ ghost use Rattle.ps_hits.specs.Scenes.{scene};
 ghost use Rattle.ps_hits.specs.Courses.{played, course};
 ghost use Rattle.ps_mon.specs.Duels.{IsFighter};
 ghost use Rattle.ps_mon.specs.Known.{AreNamed};
-ghost use Rattle.ps_status.specs.Clearing.{cured, cleared, cure_foe, milder, haze_row};
+ghost use Rattle.ps_status.specs.Clearing.{cured, cleared, cure_foe, haze_row};
+ghost use Rattle.ps_mon.specs.Switching.{milder};
 
 use ps_event::event::{Event, Events};
 use ps_hits::scene::{number_of, who};

@@ -11,7 +11,7 @@ ghost use Rattle.ps_hits.specs.Scenes.{scene};
 ghost use Rattle.ps_hits.specs.Courses.{played, course};
 ghost use Rattle.ps_status.specs.Confusing.{stays_sane, daze, confuse_second, confuse_by_strike, confuse_alone, confuse_row, flinch_row, confuse_effect, flinch_effect};
 
-use crate::seconds::hurts;
+use crate::seconds::comes;
 use ps_event::event::{Event, Events};
 use ps_event::numbers::EFFECT_CONFUSION;
 use ps_hits::scene::{draw, who};
@@ -73,10 +73,7 @@ fn strike_and_confuse(duel: &mut Duel, chance: u16, facts: Facts<'_>, mv: u16, o
     ensures room { array_vec_len out.new ≤ array_vec_len out.old + 7 }
 {
     let struck = strike_foe_with(duel, facts, mv, false, out);
-    if !hurts(struck, duel) {
-        return;
-    }
-    if draw(duel, 256) >= u32::from(chance) {
+    if !comes(duel, struck, chance) {
         return;
     }
     try_second(duel, out);
@@ -152,10 +149,7 @@ fn flinch_duel(duel: &mut Duel, chance: u16, facts: Facts<'_>, mv: u16, out: &mu
     ensures room { array_vec_len out.new ≤ array_vec_len out.old + 6 }
 {
     let struck = strike_foe_with(duel, facts, mv, false, out);
-    if !hurts(struck, duel) {
-        return;
-    }
-    if draw(duel, 256) >= u32::from(chance) {
+    if !comes(duel, struck, chance) {
         return;
     }
     duel.foe.vol.flinch = true;

@@ -17,7 +17,7 @@ module _ {X : Type 0} where
   found_by q [] = refl
   found_by q (e ∷ es) = ap (cond (is_eq (nat_cmp q e.0)) (Some e.1)) (found_by q es)
 
-  -- a look-up in the tree is one in the map
+  -- a lookup in the tree is one in the map
   pub get_by_conn : (m : BTreeMap ℕ X) (q : ℕ) → get (by_conn m.entries) q ≡ tree.get nat_cmp m q
   get_by_conn m q = get-from_entries nat_cmp_total _ q ∙ found_by q m.entries
 

@@ -1,42 +1,30 @@
 -- Each step keeps it that an id is online where an open connection has the badge with the id.
-use Rattle.std.proofs.Common.{◌≡◌, ℕ, List, Bool, true, false, cond, refl, sym, ap, subst, ◌∙◌, Some, None}
-use Rattle.std.specs.Prelude.{Option, T, is_some, unwrap_or}
+use Rattle.std.proofs.Common.{◌≡◌, ℕ, List, Bool, true, false, cond, refl, sym, ap, ◌∙◌, Some, None}
+use Rattle.std.specs.Prelude.{Option}
 use Rattle.std.specs.Option.{option_and_then, option_map}
-use Rattle.std.specs.Ordering.{nat_cmp, eq_by_cmp, is_eq}
-use Rattle.std.proofs.Common.{Ordering, Less, Equal, Greater}
-use Rattle.std.specs.Cmp.{IsTotalOrder, eq_by_cmp_equiv, nat_cmp_total}
+use Rattle.std.specs.Ordering.{nat_cmp, eq_by_cmp}
+use Rattle.std.proofs.Common.{Ordering}
+use Rattle.std.specs.Cmp.{IsTotalOrder, eq_by_cmp_equiv, nat_cmp_total, Equal-is}
 use Rattle.std.specs.Cmp.Lexicographic.{slice_cmp, nat_list_cmp_total}
 use Rattle.std.specs.FinMap.{FinMap, IsAntisymmetric, get, empty, insert, remove, get-empty, get-insert, get-remove, slice_cmp-IsAntisymmetric, nat_cmp-IsAntisymmetric}
+use Rattle.std.proofs.lemmas.Option.{none-some, same_Some}
+use Rattle.std.proofs.lemmas.Bool.{true≢false}
 use Rattle.ps_base.specs.Ids.{id_of}
 use Rattle.ps_base.specs.declared.badge.Badge.{Badge}
-use Rattle.ps_roster.specs.ById.{ById}
+use Rattle.ps_base.specs.ById.{ById}
 use Rattle.ps_users.specs.Seats.{Seats, Agrees, badge_in, id_in, opened_by, without}
 
 by_cases : {P : Type 0} → (b : Bool) → (b ≡ true → P) → (b ≡ false → P) → P
 by_cases true p q = p refl
 by_cases false p q = q refl
 
-never : {P : Type 0} → true ≡ false → P
-never e = absurd (subst T e tt)
-
-not_both : {A P : Type 0} → (x : A) → None ≡ Some x → P
-not_both x e = absurd (subst (λ o. T (is_some o)) (sym e) tt)
-
-same_some : {A : Type 0} → (x y : A) → Some x ≡ Some y → x ≡ y
-same_some x y e = ap (λ o. unwrap_or o x) e
-
-equal : (r : Ordering) → is_eq r ≡ true → r ≡ Equal
-equal Less e = never (sym e)
-equal Equal e = refl
-equal Greater e = never (sym e)
-
 module _ {K : Type 0} {R : K → K → Ordering} (o : IsTotalOrder R) (alike : IsAntisymmetric R) where
   -- two keys are one or apart
   by_key : {P : Type 0} → (q k : K) → (q ≡ k → P) → (eq_by_cmp R q k ≡ false → P) → P
-  by_key q k p r = by_cases (eq_by_cmp R q k) (λ e. p (alike q k (equal (R q k) e))) r
+  by_key q k p r = by_cases (eq_by_cmp R q k) (λ e. p (alike q k ((Equal-is (R q k)).0 e))) r
 
   apart : {P : Type 0} → (q k : K) → eq_by_cmp R q k ≡ false → q ≡ k → P
-  apart q k e s = never (sym ((eq_by_cmp_equiv o).refl k) ∙ ap (λ x. eq_by_cmp R x k) (sym s) ∙ e)
+  apart q k e s = absurd (true≢false (sym ((eq_by_cmp_equiv o).refl k) ∙ ap (λ x. eq_by_cmp R x k) (sym s) ∙ e))
 
   module _ {X : Type 0} where
     put_here : (m : FinMap R X) (k : K) (v : X) → get (insert m k v) k ≡ Some v
@@ -70,8 +58,8 @@ same_ids old new online same a = record { seated = λ id q e. same q ∙ a.seate
 
 pub nobody : Agrees (record { seats = empty; online = empty })
 nobody = record {
-  seated = λ id q e. not_both q (sym (get-empty (slice_cmp nat_cmp) id) ∙ e);
-  found = λ id q e. not_both id (sym (ap seat_id (get-empty nat_cmp q)) ∙ e);
+  seated = λ id q e. absurd (none-some q (sym (get-empty (slice_cmp nat_cmp) id) ∙ e));
+  found = λ id q e. absurd (none-some id (sym (ap seat_id (get-empty nat_cmp q)) ∙ e));
 }
 
 pub opened_agrees : (seats : Seats) (online : ById ℕ) (k : ℕ) (seat : Option (Option Badge)) → get seats k ≡ seat → Agrees (record { seats = seats; online = online }) → Agrees (record { seats = opened_by seat seats k; online = online })
@@ -86,14 +74,14 @@ closed_agrees seats online k None is a = same_ids seats (remove seats k) online 
     (λ e. ap seat_id (gone_apart nat_cmp_total nat_cmp-IsAntisymmetric seats k q e))) a
 closed_agrees seats online k (Some b) is a = record {
   seated = λ id q e. by_id_key id (id_of b.name)
-      (λ s. not_both q (sym (ap (λ x. get (remove online (id_of b.name)) x) s ∙ gone_here nat_list_cmp_total ids_alike online (id_of b.name)) ∙ e))
+      (λ s. absurd (none-some q (sym (ap (λ x. get (remove online (id_of b.name)) x) s ∙ gone_here nat_list_cmp_total ids_alike online (id_of b.name)) ∙ e)))
       (λ n. let before = a.seated id q (sym (gone_apart nat_list_cmp_total ids_alike online (id_of b.name) id n) ∙ e) in by_conn_key q k
-      (λ s. apart nat_list_cmp_total ids_alike id (id_of b.name) n (same_some id (id_of b.name) (sym before ∙ ap (λ x. id_in seats x) s ∙ has)))
+      (λ s. apart nat_list_cmp_total ids_alike id (id_of b.name) n (same_Some id (id_of b.name) (sym before ∙ ap (λ x. id_in seats x) s ∙ has)))
       (λ m. ap seat_id (gone_apart nat_cmp_total nat_cmp-IsAntisymmetric seats k q m) ∙ before));
   found = λ id q e. by_conn_key q k
-      (λ s. not_both id (sym (ap (λ x. id_in (remove seats k) x) s ∙ ap seat_id (gone_here nat_cmp_total nat_cmp-IsAntisymmetric seats k)) ∙ e))
+      (λ s. absurd (none-some id (sym (ap (λ x. id_in (remove seats k) x) s ∙ ap seat_id (gone_here nat_cmp_total nat_cmp-IsAntisymmetric seats k)) ∙ e)))
       (λ m. let before = a.found id q (sym (ap seat_id (gone_apart nat_cmp_total nat_cmp-IsAntisymmetric seats k q m)) ∙ e) in by_id_key id (id_of b.name)
-      (λ s. apart nat_cmp_total nat_cmp-IsAntisymmetric q k m (same_some q k (sym before ∙ ap (λ x. get online x) s ∙ a.found (id_of b.name) k has)))
+      (λ s. apart nat_cmp_total nat_cmp-IsAntisymmetric q k m (same_Some q k (sym before ∙ ap (λ x. get online x) s ∙ a.found (id_of b.name) k has)))
       (λ n. gone_apart nat_list_cmp_total ids_alike online (id_of b.name) id n ∙ before));
 }
   where
@@ -103,16 +91,16 @@ closed_agrees seats online k (Some b) is a = record {
 pub named_agrees : (seats : Seats) (online : ById ℕ) (k : ℕ) (b : Badge) → get seats k ≡ Some None → get online (id_of b.name) ≡ None → Agrees (record { seats = seats; online = online }) → Agrees (record { seats = insert seats k (Some b); online = insert online (id_of b.name) k })
 named_agrees seats online k b nameless free a = record {
   seated = λ id q e. by_id_key id (id_of b.name)
-      (λ s. let is_k = same_some k q (sym (ap (λ x. get (insert online (id_of b.name) k) x) s ∙ online_here) ∙ e) in
+      (λ s. let is_k = same_Some k q (sym (ap (λ x. get (insert online (id_of b.name) k) x) s ∙ online_here) ∙ e) in
       ap (λ x. id_in (insert seats k (Some b)) x) (sym is_k) ∙ has ∙ ap (λ x. Some x) (sym s))
       (λ n. let before = a.seated id q (sym (put_apart nat_list_cmp_total ids_alike online (id_of b.name) k id n) ∙ e) in by_conn_key q k
-      (λ s. not_both id (sym (ap (λ x. id_in seats x) s ∙ ap seat_id nameless) ∙ before))
+      (λ s. absurd (none-some id (sym (ap (λ x. id_in seats x) s ∙ ap seat_id nameless) ∙ before)))
       (λ m. ap seat_id (put_apart nat_cmp_total nat_cmp-IsAntisymmetric seats k (Some b) q m) ∙ before));
   found = λ id q e. by_conn_key q k
-      (λ s. let is_id = same_some (id_of b.name) id (sym (ap (λ x. id_in (insert seats k (Some b)) x) s ∙ has) ∙ e) in
+      (λ s. let is_id = same_Some (id_of b.name) id (sym (ap (λ x. id_in (insert seats k (Some b)) x) s ∙ has) ∙ e) in
       ap (λ x. get (insert online (id_of b.name) k) x) (sym is_id) ∙ online_here ∙ ap (λ x. Some x) (sym s))
       (λ m. let before = a.found id q (sym (ap seat_id (put_apart nat_cmp_total nat_cmp-IsAntisymmetric seats k (Some b) q m)) ∙ e) in by_id_key id (id_of b.name)
-      (λ s. not_both q (sym (ap (λ x. get online x) s ∙ free) ∙ before))
+      (λ s. absurd (none-some q (sym (ap (λ x. get online x) s ∙ free) ∙ before)))
       (λ n. put_apart nat_list_cmp_total ids_alike online (id_of b.name) k id n ∙ before));
 }
   where

@@ -1,7 +1,7 @@
 -- The users of a hall.
 use Rattle.std.specs.Prelude.{ℕ, List}
 use Rattle.std.specs.FinMap.{empty}
-use Rattle.ps_roster.specs.ById.{ById}
+use Rattle.ps_base.specs.ById.{ById}
 use Rattle.ps_users.specs.Seats.{Seats, Seated}
 use Rattle.ps_users.specs.declared.account.Account.{Account}
 

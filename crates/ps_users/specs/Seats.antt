@@ -4,7 +4,7 @@ use Rattle.std.specs.Option.{option_and_then, option_map}
 use Rattle.std.specs.FinMap.{get, insert, remove}
 use Rattle.ps_base.specs.Ids.{id_of}
 use Rattle.ps_base.specs.declared.badge.Badge.{Badge}
-use Rattle.ps_roster.specs.ById.{ById}
+use Rattle.ps_base.specs.ById.{ById}
 use Rattle.ps_users.specs.ByConn.{ByConn}
 
 -- the open connections, each with its badge once it has a name

@@ -6,6 +6,6 @@ use ps_base::text::Text;
 pub struct Account {
     /// The text that its user has to know. It may be empty.
     pub secret: Text,
-    /// The place of its group in the list of groups.
+    /// The index of its group in the list of groups.
     pub rank: u8,
 }

@@ -58,8 +58,8 @@ impl<V: Drop> ConnMap<V> {
         requires { is_some (map.get self.old conn) ≡ true }
         ensures { self.new ≡ map.insert self.old conn value }
     {
-        let place = self.tree.get_mut(&conn.0).unwrap();
-        *place = value;
+        let slot = self.tree.get_mut(&conn.0).unwrap();
+        *slot = value;
     }
 
     /// Takes out what is at a connection, if there is something.

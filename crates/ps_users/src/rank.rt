@@ -1,4 +1,4 @@
-//! The ranks of users: places in the list of groups, 0 the highest.
+//! The ranks of users: indices in the list of groups, 0 the highest.
 ghost use Rattle.std.specs.Prelude.{◌≡◌};
 ghost use Rattle.std.specs.Option.{option_copied};
 ghost use Rattle.ps_users.specs.Ranks.{capped, registered_rank};

@@ -7,8 +7,8 @@ ghost use Rattle.ps_users.specs.Seats.{badge_in, is_seat, opened_by, without};
 
 use crate::conn_map::ConnMap;
 use ps_base::badge::Badge;
+use ps_base::id_map::IdMap;
 use ps_base::number::ConnNo;
-use ps_roster::id_map::IdMap;
 use std::alloc::{AllocError, Global};
 use std::marker::Model;
 
@@ -22,7 +22,7 @@ pub struct Seating {
 
 impl Model for Seating {
     ghost use Rattle.std.specs.Coded.{codes};
-    ghost use Rattle.ps_roster.specs.ById.{by_id_code};
+    ghost use Rattle.ps_base.specs.ById.{by_id_code};
     ghost use Rattle.ps_users.specs.ByConn.{by_conn_code};
     ghost use Rattle.ps_users.specs.Seats.{Seated, Agrees};
 

@@ -18,11 +18,11 @@ use crate::read::read_of;
 use crate::seating::Seating;
 use ps_base::badge::Badge;
 use ps_base::hall_why::HallWhy;
+use ps_base::id_map::IdMap;
 use ps_base::name::Name;
 use ps_base::number::ConnNo;
 use ps_base::text::Text;
 use ps_lines::command::HallCmd;
-use ps_roster::id_map::IdMap;
 use std::alloc::{AllocError, Global};
 use std::marker::Model;
 
@@ -38,7 +38,7 @@ pub struct Users {
 
 impl Model for Users {
     ghost use Rattle.std.specs.Coded.{codes};
-    ghost use Rattle.ps_roster.specs.ById.{by_id_code};
+    ghost use Rattle.ps_base.specs.ById.{by_id_code};
     ghost use Rattle.ps_users.specs.ByConn.{by_conn_code};
     ghost use Rattle.ps_users.specs.Records.{Record};
 
@@ -101,7 +101,7 @@ impl Users {
         challstr_of(alloc, &self.nonce, conn)
     }
 
-    /// The rank of an id, a place in the list of groups. Takes no memory.
+    /// The rank of an id, an index in the list of groups. Takes no memory.
     pub fn rank_of(&self, id: &str) -> u8
         ensures { result ≡ rank_of self.now id.now }
     {

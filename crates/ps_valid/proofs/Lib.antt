@@ -1,3 +1,1 @@
-pub mod FitLemmas
-pub mod StandardFile
 pub mod ReadyLemmas

@@ -11,9 +11,9 @@ use Rattle.ps_mon.specs.Facts.{IsFairMove}
 use Rattle.ps_mon.specs.Reading.{no_slot, no_member}
 use Rattle.ps_mon.specs.Valid.{AreStats, AreTypes}
 use Rattle.ps_packed.specs.declared.set.Set.{Set}
-use Rattle.ps_dex.specs.declared.row.MoveRow.{MoveRow}
-use Rattle.ps_dex.specs.declared.row.SpeciesRow.{SpeciesRow}
-use Rattle.ps_dex.specs.declared.row.Tables.{Tables}
+use Rattle.ps_dex.specs.declared.item.MoveItem.{MoveItem}
+use Rattle.ps_dex.specs.declared.item.SpeciesItem.{SpeciesItem}
+use Rattle.ps_dex.specs.declared.item.Tables.{Tables}
 use Rattle.ps_dex.specs.Fit.{AreFit, IsFitSpecies}
 use Rattle.ps_valid.specs.Members.{types_of, pp_of, slot_of, slot_at, slots_of, member_at, team_of}
 use Rattle.ps_valid.specs.TeamRows.{nick_of, legal_of}
@@ -26,22 +26,22 @@ zeros_fit zero lt = omega arith
 zeros_fit (suc zero) lt = omega arith
 zeros_fit (suc (suc k)) lt = absurd (omega (arith, lt))
 
-types_fit : (types moves : ℕ) (species : List SpeciesRow) (n : ℕ) → types ≤ 32 → All (IsFitSpecies types moves) species → AreTypes (types_of (slice_get species n))
+types_fit : (types moves : ℕ) (species : List SpeciesItem) (n : ℕ) → types ≤ 32 → All (IsFitSpecies types moves) species → AreTypes (types_of (slice_get species n))
 types_fit types moves [] n few all = zeros_fit
 types_fit types moves (s ∷ species) zero few all = λ k lt. omega (arith, few, (All-head (IsFitSpecies types moves) s species all).types k 0 lt)
 types_fit types moves (s ∷ species) (suc n) few all = types_fit types moves species n few (All-tail (IsFitSpecies types moves) s species all)
 
-abbrev IsFairRow : MoveRow → Type 0
-IsFairRow m = IsFairMove m.numbers
+abbrev IsFairItem : MoveItem → Type 0
+IsFairItem m = IsFairMove m.numbers
 
-some_pp : (moves : List MoveRow) (mv : ℕ) → mv < length moves → All IsFairRow moves → 1 ≤ pp_of (slice_get moves mv)
+some_pp : (moves : List MoveItem) (mv : ℕ) → mv < length moves → All IsFairItem moves → 1 ≤ pp_of (slice_get moves mv)
 some_pp [] mv lt all = absurd (omega (arith, lt))
-some_pp (m ∷ moves) zero lt all = (All-head IsFairRow m moves all).pp_low
-some_pp (m ∷ moves) (suc mv) lt all = some_pp moves mv (omega (arith, lt)) (All-tail IsFairRow m moves all)
+some_pp (m ∷ moves) zero lt all = (All-head IsFairItem m moves all).pp_low
+some_pp (m ∷ moves) (suc mv) lt all = some_pp moves mv (omega (arith, lt)) (All-tail IsFairItem m moves all)
 
 -- ---- members
 
-slot_is : (moves : List MoveRow) (known : List ℕ) (j : ℕ) → j < length known → j < 4 → slice_index_or (slots_of moves known) j no_slot ≡ slot_of moves (get_or known j 0)
+slot_is : (moves : List MoveItem) (known : List ℕ) (j : ℕ) → j < length known → j < 4 → slice_index_or (slots_of moves known) j no_slot ≡ slot_of moves (get_or known j 0)
 slot_is moves known zero lt four = ap (slot_at moves) (slice_get-get_or known 0 0 lt)
 slot_is moves known (suc zero) lt four = ap (slot_at moves) (slice_get-get_or known 1 0 lt)
 slot_is moves known (suc (suc zero)) lt four = ap (slot_at moves) (slice_get-get_or known 2 0 lt)

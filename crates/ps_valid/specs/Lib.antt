@@ -1,10 +1,3 @@
-pub mod Rooms
-pub mod Users
-pub mod Reading
-pub mod Ranges
-pub mod Standard
-pub mod Faults
-pub mod Seeds
 pub mod Verdicts
 pub mod MoveRows
 pub mod Members

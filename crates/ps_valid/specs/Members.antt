@@ -5,42 +5,39 @@ use Rattle.ps_mon.specs.declared.status.Status.TheVariants.{Healthy}
 use Rattle.ps_mon.specs.declared.team.MoveSlot.{MoveSlot}
 use Rattle.ps_mon.specs.declared.team.Member.{Member}
 use Rattle.ps_mon.specs.declared.team.BattleTeam.{BattleTeam}
+use Rattle.ps_mon.specs.Reading.{no_slot}
 use Rattle.ps_packed.specs.declared.set.Set.{Set}
-use Rattle.ps_dex.specs.declared.row.MoveRow.{MoveRow}
-use Rattle.ps_dex.specs.declared.row.SpeciesRow.{SpeciesRow}
-use Rattle.ps_dex.specs.declared.row.Tables.{Tables}
+use Rattle.ps_dex.specs.declared.item.MoveItem.{MoveItem}
+use Rattle.ps_dex.specs.declared.item.SpeciesItem.{SpeciesItem}
+use Rattle.ps_dex.specs.declared.item.Tables.{Tables}
 use Rattle.ps_valid.specs.declared.member.Numbers.{Numbers}
 
 -- ---- what the dex says of a species and of a move; of a number past them nothing
 
-abbrev pub stats_of : Option SpeciesRow → List ℕ
+abbrev pub stats_of : Option SpeciesItem → List ℕ
 stats_of None = 0 ∷ 0 ∷ 0 ∷ 0 ∷ 0 ∷ []
-stats_of (Some row) = row.stats
+stats_of (Some item) = item.stats
 
-abbrev pub types_of : Option SpeciesRow → List ℕ
+abbrev pub types_of : Option SpeciesItem → List ℕ
 types_of None = 0 ∷ 0 ∷ []
-types_of (Some row) = row.types
+types_of (Some item) = item.types
 
-abbrev pub pp_of : Option MoveRow → ℕ
+abbrev pub pp_of : Option MoveItem → ℕ
 pp_of None = 0
-pp_of (Some row) = row.numbers.pp
+pp_of (Some item) = item.numbers.pp
 
 -- ---- slots
 
--- a slot without a move
-abbrev pub blank_slot : MoveSlot
-blank_slot = record { mv = 0; pp = 0; max_pp = 0 }
-
 -- a move with all of its PP
-abbrev pub slot_of : List MoveRow → ℕ → MoveSlot
+abbrev pub slot_of : List MoveItem → ℕ → MoveSlot
 slot_of moves mv = record { mv = mv; pp = pp_of (slice_get moves mv); max_pp = pp_of (slice_get moves mv) }
 
-abbrev pub slot_at : List MoveRow → Option ℕ → MoveSlot
-slot_at moves None = blank_slot
+abbrev pub slot_at : List MoveItem → Option ℕ → MoveSlot
+slot_at moves None = no_slot
 slot_at moves (Some mv) = slot_of moves mv
 
 -- the moves in order, and blank slots up to four
-abbrev pub slots_of : List MoveRow → List ℕ → List MoveSlot
+abbrev pub slots_of : List MoveItem → List ℕ → List MoveSlot
 slots_of moves known = slot_at moves (slice_get known 0) ∷ slot_at moves (slice_get known 1) ∷ slot_at moves (slice_get known 2) ∷ slot_at moves (slice_get known 3) ∷ []
 
 -- ---- numbers
@@ -82,7 +79,7 @@ member_of dex species s moves =
 
 -- no member
 abbrev pub blank_member : Member
-blank_member = record { species = 0; level = 0; types = 0 ∷ 0 ∷ []; stats = 0 ∷ 0 ∷ 0 ∷ 0 ∷ []; base_speed = 0; hp = 0; max = 0; status = Healthy; counter = 0; rested = false; slots = blank_slot ∷ blank_slot ∷ blank_slot ∷ blank_slot ∷ []; slot_count = 0 }
+blank_member = record { species = 0; level = 0; types = 0 ∷ 0 ∷ []; stats = 0 ∷ 0 ∷ 0 ∷ 0 ∷ []; base_speed = 0; hp = 0; max = 0; status = Healthy; counter = 0; rested = false; slots = no_slot ∷ no_slot ∷ no_slot ∷ no_slot ∷ []; slot_count = 0 }
 
 abbrev pub member_at : Option Member → Member
 member_at None = blank_member

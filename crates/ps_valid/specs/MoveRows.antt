@@ -1,19 +1,22 @@
--- The rules of one move of a set, in their order. A set has its number from 1, and a move the id that the team has.
+-- The rules of one move of a set, in their order. A set has_clause its number from 1, and a move the id that the team has_clause.
 use Rattle.std.specs.Prelude.{ℕ, pos, ◌==◌, ◌&&◌, Bool, true, false, not, List, [], ◌∷◌, ◌++◌, slice_get, Option, Some, None, Result, Ok, ⊤, int_lt}
 use Rattle.std.specs.List.{list_any}
 use Rattle.ps_base.specs.declared.team_rule.TeamRule.TheVariants.{UnknownMove, BannedMove, NotLearned, RepeatedMove, OhkoClause, EvasionClause}
+use Rattle.ps_data.specs.Reading.{◌>>=◌}
 use Rattle.ps_mon.specs.declared.effect.Aim.TheVariants.{User}
 use Rattle.ps_mon.specs.declared.effect.Stat.TheVariants.{Eva}
 use Rattle.ps_mon.specs.declared.effect.Effect.{Effect}
 use Rattle.ps_mon.specs.declared.effect.Effect.TheVariants as effects
-use Rattle.ps_dex.specs.declared.row.MoveRow.{MoveRow}
-use Rattle.ps_dex.specs.declared.row.Tables.{Tables}
+use Rattle.ps_mon.specs.Clauses.{has_clause}
+use Rattle.ps_dex.specs.declared.item.MoveItem.{MoveItem}
+use Rattle.ps_dex.specs.declared.item.Tables.{Tables}
 use Rattle.ps_dex.specs.Lookups.{move_of, learns}
+use Rattle.ps_dex.specs.Species.{has_number}
 use Rattle.ps_rules.specs.declared.clause.Clause.TheVariants.{Ohko, Evasion}
-use Rattle.ps_rules.specs.declared.row.RuleTable.{RuleTable}
-use Rattle.ps_rules.specs.Clauses.{bit_of, has}
+use Rattle.ps_rules.specs.declared.table.RuleTable.{RuleTable}
+use Rattle.ps_rules.specs.Clauses.{bit_of}
 use Rattle.ps_valid.specs.declared.verdict.Verdict.{Verdict}
-use Rattle.ps_valid.specs.Verdicts.{◌>>=◌, keeps, known}
+use Rattle.ps_valid.specs.Verdicts.{keeps, require_known}
 
 -- what was looked up is this one
 abbrev pub is_number : Option ℕ → ℕ → Bool
@@ -24,13 +27,10 @@ is_number (Some other) number = other == number
 abbrev pub is_banned_move : Tables → List (List ℕ) → ℕ → Bool
 is_banned_move dex bans mv = list_any (λ ban. is_number (move_of ban dex) mv) bans
 
-unfoldable pub has_number : ℕ → List ℕ → Bool
-has_number number numbers = list_any (λ n. n == number) numbers
-
 -- what a move does; a number past the moves does nothing
-abbrev pub effect_of : Option MoveRow → Effect
+abbrev pub effect_of : Option MoveItem → Effect
 effect_of None = effects.Nothing
-effect_of (Some row) = row.numbers.effect
+effect_of (Some item) = item.numbers.effect
 
 abbrev pub is_ohko : Effect → Bool
 is_ohko effects.Ohko = true
@@ -43,9 +43,9 @@ raises_evasion other = false
 
 -- ---- the rows
 
--- the dex has the move, by its id or by an alias
+-- the dex has_clause the move, by its id or by an alias
 unfoldable pub unknown_move : Tables → ℕ → List ℕ → Result ℕ Verdict
-unknown_move dex set id = known set UnknownMove id (move_of id dex)
+unknown_move dex set id = require_known set UnknownMove id (move_of id dex)
 
 unfoldable pub banned_move : Tables → RuleTable → ℕ → List ℕ → ℕ → Result ⊤ Verdict
 banned_move dex rules set id mv = keeps set BannedMove id (not (is_banned_move dex rules.bans mv))
@@ -53,15 +53,15 @@ banned_move dex rules set id mv = keeps set BannedMove id (not (is_banned_move d
 unfoldable pub not_learned : Tables → ℕ → ℕ → List ℕ → ℕ → Result ⊤ Verdict
 not_learned dex set species id mv = keeps set NotLearned id (learns species mv dex)
 
--- no earlier move of the set is the same one, whatever id the team has for it
+-- no earlier move of the set is the same one, whatever id the team has_clause for it
 unfoldable pub repeated_move : ℕ → List ℕ → List ℕ → ℕ → Result ⊤ Verdict
 repeated_move set before id mv = keeps set RepeatedMove id (not (has_number mv before))
 
 unfoldable pub ohko_clause : Tables → RuleTable → ℕ → List ℕ → ℕ → Result ⊤ Verdict
-ohko_clause dex rules set id mv = keeps set OhkoClause id (not (has rules.clauses (bit_of Ohko) && is_ohko (effect_of (slice_get dex.moves mv))))
+ohko_clause dex rules set id mv = keeps set OhkoClause id (not (has_clause rules.clauses (bit_of Ohko) && is_ohko (effect_of (slice_get dex.moves mv))))
 
 unfoldable pub evasion_clause : Tables → RuleTable → ℕ → List ℕ → ℕ → Result ⊤ Verdict
-evasion_clause dex rules set id mv = keeps set EvasionClause id (not (has rules.clauses (bit_of Evasion) && raises_evasion (effect_of (slice_get dex.moves mv))))
+evasion_clause dex rules set id mv = keeps set EvasionClause id (not (has_clause rules.clauses (bit_of Evasion) && raises_evasion (effect_of (slice_get dex.moves mv))))
 
 -- ---- one move, and all of a set: their numbers
 

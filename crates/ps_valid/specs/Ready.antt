@@ -5,8 +5,8 @@ use Rattle.ps_mon.specs.declared.team.Member.{Member}
 use Rattle.ps_mon.specs.Known.{AreOwnKnown}
 use Rattle.ps_mon.specs.Reading.{no_member}
 use Rattle.ps_mon.specs.Teams.{IsFresh, IsFreshMember, IsTeamKnown}
-use Rattle.ps_dex.specs.declared.row.Tables.{Tables}
-use Rattle.ps_valid.specs.declared.start.Legal.{Legal}
+use Rattle.ps_dex.specs.declared.item.Tables.{Tables}
+use Rattle.ps_valid.specs.declared.legal.Legal.{Legal}
 
 -- the species of a team are among so many
 abbrev pub AreSpeciesKnown : ℕ → BattleTeam → Type 0

@@ -3,13 +3,14 @@ use Rattle.std.specs.Prelude.{ℕ, Bool, not, List, [], ◌∷◌, length, slice
 use Rattle.std.specs.List.{list_any}
 use Rattle.ps_base.specs.Ids.{id_of}
 use Rattle.ps_base.specs.declared.team_rule.TeamRule.TheVariants.{UnknownSpecies, BannedSpecies, LevelTooLow, LevelTooHigh, NoMoves, EvTooHigh}
+use Rattle.ps_data.specs.Reading.{◌>>=◌}
 use Rattle.ps_mon.specs.declared.team.Member.{Member}
 use Rattle.ps_packed.specs.declared.set.Set.{Set}
-use Rattle.ps_dex.specs.declared.row.Tables.{Tables}
+use Rattle.ps_dex.specs.declared.item.Tables.{Tables}
 use Rattle.ps_dex.specs.Lookups.{species_of}
-use Rattle.ps_rules.specs.declared.row.RuleTable.{RuleTable}
+use Rattle.ps_rules.specs.declared.table.RuleTable.{RuleTable}
 use Rattle.ps_valid.specs.declared.verdict.Verdict.{Verdict}
-use Rattle.ps_valid.specs.Verdicts.{◌>>=◌, keeps, known}
+use Rattle.ps_valid.specs.Verdicts.{keeps, require_known}
 use Rattle.ps_valid.specs.MoveRows.{is_number, each_move}
 use Rattle.ps_valid.specs.Members.{member_of}
 
@@ -21,7 +22,7 @@ is_banned_species dex bans species = list_any (λ ban. is_number (species_of ban
 
 -- the dex has the species, by its id or by an alias
 unfoldable pub unknown_species : Tables → ℕ → List ℕ → Result ℕ Verdict
-unknown_species dex number id = known number UnknownSpecies id (species_of id dex)
+unknown_species dex number id = require_known number UnknownSpecies id (species_of id dex)
 
 unfoldable pub banned_species : Tables → RuleTable → ℕ → List ℕ → ℕ → Result ⊤ Verdict
 banned_species dex rules number id species = keeps number BannedSpecies id (not (is_banned_species dex rules.bans species))

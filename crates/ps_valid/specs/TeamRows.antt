@@ -3,16 +3,18 @@ use Rattle.std.specs.Prelude.{ℕ, ◌+◌, ◌==◌, ◌&&◌, Bool, false, not
 use Rattle.std.specs.List.{list_any}
 use Rattle.ps_base.specs.Ids.{id_of}
 use Rattle.ps_base.specs.declared.team_rule.TeamRule.TheVariants.{TooFew, TooMany, SpeciesClause, NicknameClause}
+use Rattle.ps_data.specs.Reading.{◌>>=◌}
 use Rattle.ps_mon.specs.declared.team.Member.{Member}
+use Rattle.ps_mon.specs.Clauses.{has_clause}
 use Rattle.ps_packed.specs.declared.set.Set.{Set}
-use Rattle.ps_dex.specs.declared.row.Tables.{Tables}
+use Rattle.ps_dex.specs.declared.item.Tables.{Tables}
 use Rattle.ps_dex.specs.Lookups.{species_of}
 use Rattle.ps_rules.specs.declared.clause.Clause.TheVariants.{Species, Nickname}
-use Rattle.ps_rules.specs.declared.row.RuleTable.{RuleTable}
-use Rattle.ps_rules.specs.Clauses.{bit_of, has}
+use Rattle.ps_rules.specs.declared.table.RuleTable.{RuleTable}
+use Rattle.ps_rules.specs.Clauses.{bit_of}
 use Rattle.ps_valid.specs.declared.verdict.Verdict.{Verdict}
-use Rattle.ps_valid.specs.declared.start.Legal.{Legal}
-use Rattle.ps_valid.specs.Verdicts.{◌>>=◌, keeps}
+use Rattle.ps_valid.specs.declared.legal.Legal.{Legal}
+use Rattle.ps_valid.specs.Verdicts.{keeps}
 use Rattle.ps_valid.specs.SetRows.{member_in}
 use Rattle.ps_valid.specs.Members.{team_of}
 
@@ -24,7 +26,7 @@ too_few rules count = keeps 0 TooFew (decimal count) (nat_le rules.min count)
 unfoldable pub too_many : RuleTable → ℕ → Result ⊤ Verdict
 too_many rules count = keeps 0 TooMany (decimal count) (nat_le count rules.max)
 
--- ---- each set by itself, from the first, which has the number 1
+-- ---- each set by itself, from the first, which has_clause the number 1
 
 abbrev pub each_member : Tables → RuleTable → List Member → List Set → Result (List Member) Verdict
 each_member dex rules before [] = Ok before
@@ -41,19 +43,19 @@ is_same None b = false
 is_same (Some a) None = false
 is_same (Some a) (Some b) = a == b
 
--- one of the sets has the species
+-- one of the sets has_clause the species
 abbrev pub has_species : Tables → Option ℕ → List Set → Bool
 has_species dex number sets = list_any (λ s. is_same (species_number dex s) number) sets
 
--- one of the sets has the nickname; nicknames are compared as texts
+-- one of the sets has_clause the nickname; nicknames are compared as texts
 abbrev pub has_nick : List ℕ → List Set → Bool
 has_nick nick sets = list_any (λ s. bytes_eq s.nick nick) sets
 
 unfoldable pub species_clause : Tables → RuleTable → ℕ → List Set → Set → Result ⊤ Verdict
-species_clause dex rules number before s = keeps number SpeciesClause (id_of s.species) (not (has rules.clauses (bit_of Species) && has_species dex (species_number dex s) before))
+species_clause dex rules number before s = keeps number SpeciesClause (id_of s.species) (not (has_clause rules.clauses (bit_of Species) && has_species dex (species_number dex s) before))
 
 unfoldable pub nickname_clause : RuleTable → ℕ → List Set → Set → Result ⊤ Verdict
-nickname_clause rules number before s = keeps number NicknameClause s.nick (not (has rules.clauses (bit_of Nickname) && has_nick s.nick before))
+nickname_clause rules number before s = keeps number NicknameClause s.nick (not (has_clause rules.clauses (bit_of Nickname) && has_nick s.nick before))
 
 unfoldable pub pair_in : Tables → RuleTable → ℕ → List Set → Set → Result ⊤ Verdict
 pair_in dex rules number before s = do

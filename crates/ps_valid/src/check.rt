@@ -5,8 +5,8 @@ ghost use Rattle.ps_valid.specs.Verdicts.{Finds};
 ghost use Rattle.ps_valid.specs.Ready.{IsReady};
 ghost use Rattle.ps_valid.specs.TeamRows.{nick_of, legal_in};
 
+use crate::legal::Legal;
 use crate::member::team_of;
-use crate::start::Legal;
 use crate::team_rows::{each_later, each_member, too_few, too_many};
 use crate::verdict::TeamFault;
 use ps_base::list::List;
@@ -14,7 +14,7 @@ use ps_base::text::Text;
 use ps_dex::dex::Dex;
 use ps_packed::set::Set;
 use ps_packed::team::Team;
-use ps_rules::row::RuleTable;
+use ps_rules::table::RuleTable;
 use std::alloc::{AllocError, Global};
 
 /// The nicknames of the sets.

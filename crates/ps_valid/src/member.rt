@@ -2,12 +2,13 @@
 ghost use Rattle.std.specs.Prelude.{◌≡◌, ◌<◌, ◌≤◌, All, length, slice_get, IfOk};
 ghost use Rattle.ps_mon.specs.Valid.{AreStats};
 ghost use Rattle.ps_packed.specs.Ranges.{HasRanges};
-ghost use Rattle.ps_valid.specs.Members.{stats_of, types_of, pp_of, blank_slot, slot_of, slot_at, slots_of, numbers_of, member_of, blank_member, member_at, team_of};
+ghost use Rattle.ps_valid.specs.Members.{stats_of, types_of, pp_of, slot_of, slot_at, slots_of, numbers_of, member_of, blank_member, member_at, team_of};
+ghost use Rattle.ps_mon.specs.Reading.{no_slot};
 ghost use Rattle.ps_valid.specs.Ready.{IsReadyMember};
 
 use ps_calc::stats::{dv, hp_dv, hp_stat, stat};
 use ps_dex::dex::Dex;
-use ps_dex::row::{MoveRow, SpeciesRow};
+use ps_dex::item::{MoveItem, SpeciesItem};
 use ps_mon::status::Status;
 use ps_mon::team::{BattleTeam, Member, MoveSlot};
 use ps_packed::set::Set;
@@ -44,51 +45,51 @@ const BLANK_MEMBER: Member = Member {
     slot_count: 0,
 };
 
-fn stats_of(species: &[SpeciesRow], number: u16) -> [u8; 5]
+fn stats_of(species: &[SpeciesItem], number: u16) -> [u8; 5]
     ensures { result ≡ stats_of (slice_get species.now number) }
 {
     match species.get(usize::from(number)) {
         None => [0, 0, 0, 0, 0],
-        Some(row) => row.stats,
+        Some(item) => item.stats,
     }
 }
 
-fn types_of(species: &[SpeciesRow], number: u16) -> [u8; 2]
+fn types_of(species: &[SpeciesItem], number: u16) -> [u8; 2]
     ensures { result ≡ types_of (slice_get species.now number) }
 {
     match species.get(usize::from(number)) {
         None => [0, 0],
-        Some(row) => row.types,
+        Some(item) => item.types,
     }
 }
 
-fn pp_of(moves: &[MoveRow], mv: u16) -> u8
+fn pp_of(moves: &[MoveItem], mv: u16) -> u8
     ensures { result ≡ pp_of (slice_get moves.now mv) }
 {
     match moves.get(usize::from(mv)) {
         None => 0,
-        Some(row) => row.numbers.pp,
+        Some(item) => item.numbers.pp,
     }
 }
 
 /// A move with all of its PP.
-fn slot_of(moves: &[MoveRow], mv: u16) -> MoveSlot
+fn slot_of(moves: &[MoveItem], mv: u16) -> MoveSlot
     ensures { result ≡ slot_of moves.now mv }
 {
     let pp = pp_of(moves, mv);
     MoveSlot { mv, pp, max_pp: pp }
 }
 
-fn slot_at(moves: &[MoveRow], known: &[u16], place: usize) -> MoveSlot
-    ensures { result ≡ slot_at moves.now (slice_get known.now place) }
+fn slot_at(moves: &[MoveItem], known: &[u16], index: usize) -> MoveSlot
+    ensures { result ≡ slot_at moves.now (slice_get known.now index) }
 {
-    match known.get(place) {
+    match known.get(index) {
         None => BLANK_SLOT,
         Some(mv) => slot_of(moves, *mv),
     }
 }
 
-fn slots_of(moves: &[MoveRow], known: &[u16]) -> [MoveSlot; 4]
+fn slots_of(moves: &[MoveItem], known: &[u16]) -> [MoveSlot; 4]
     ensures { result ≡ slots_of moves.now known.now }
 {
     [
@@ -156,10 +157,10 @@ pub(crate) fn member_of(dex: &Dex, species: u16, set: &Set, moves: &[u16]) -> Me
     }
 }
 
-fn member_at(members: &[Member], place: usize) -> Member
-    ensures { result ≡ member_at (slice_get members.now place) }
+fn member_at(members: &[Member], index: usize) -> Member
+    ensures { result ≡ member_at (slice_get members.now index) }
 {
-    match members.get(place) {
+    match members.get(index) {
         None => BLANK_MEMBER,
         Some(member) => *member,
     }

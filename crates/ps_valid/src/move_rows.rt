@@ -2,16 +2,17 @@
 ghost use Rattle.std.specs.Prelude.{◌≡◌, ◌<◌, [], All, length, slice_get, IfOk, map};
 ghost use Rattle.ps_mon.specs.declared.facts.MoveData.{MoveData};
 ghost use Rattle.ps_valid.specs.Verdicts.{Finds, FindsBy};
-ghost use Rattle.ps_valid.specs.MoveRows.{is_number, is_banned_move, has_number, effect_of, is_ohko, raises_evasion, unknown_move, banned_move, not_learned, repeated_move, ohko_clause, evasion_clause, move_in, each_move};
+ghost use Rattle.ps_valid.specs.MoveRows.{is_number, is_banned_move, effect_of, is_ohko, raises_evasion, unknown_move, banned_move, not_learned, repeated_move, ohko_clause, evasion_clause, move_in, each_move};
+ghost use Rattle.ps_dex.specs.Species.{has_number};
 
-use crate::verdict::{TeamFault, keeps, known};
+use crate::verdict::{TeamFault, keeps, require_known};
 use ps_base::id::Id;
 use ps_base::team_rule::TeamRule;
 use ps_dex::dex::Dex;
-use ps_dex::row::MoveRow;
+use ps_dex::item::MoveItem;
 use ps_mon::effect::{Aim, Effect, Stat};
 use ps_rules::clause::Clause;
-use ps_rules::row::RuleTable;
+use ps_rules::table::RuleTable;
 use std::alloc::Global;
 
 /// Whether what was looked up is this one.
@@ -35,7 +36,7 @@ fn is_banned_move(dex: &Dex, bans: &[Id], mv: u16) -> bool
     false
 }
 
-#[tactic(auto, unfolding(crate::specs::MoveRows::has_number))]
+#[tactic(auto, unfolding(ps_dex::specs::Species::has_number))]
 fn has_number(numbers: &[u16], number: u16) -> bool
     ensures { result ≡ has_number number numbers.now }
 {
@@ -43,12 +44,12 @@ fn has_number(numbers: &[u16], number: u16) -> bool
 }
 
 /// What a move does; a number past the moves does nothing.
-fn effect_of(moves: &[MoveRow], mv: u16) -> Effect
+fn effect_of(moves: &[MoveItem], mv: u16) -> Effect
     ensures { result ≡ effect_of (slice_get moves.now mv) }
 {
     match moves.get(usize::from(mv)) {
         None => Effect::Nothing,
-        Some(row) => row.numbers.effect,
+        Some(item) => item.numbers.effect,
     }
 }
 
@@ -81,7 +82,7 @@ fn unknown_move(alloc: Global, dex: &Dex, set: u8, id: &Id) -> Result<u16, TeamF
     ensures finds { Finds result (unknown_move dex.now set id.now) }
     ensures within { IfOk result (λ mv. mv < length dex.now.moves) }
 {
-    known(
+    require_known(
         alloc,
         set,
         TeamRule::UnknownMove,

@@ -9,13 +9,13 @@ ghost use Rattle.ps_valid.specs.SetRows.{is_banned_species, unknown_species, ban
 
 use crate::member::member_of;
 use crate::move_rows::{is_number, moves_of};
-use crate::verdict::{TeamFault, keeps, keeps_number, known};
+use crate::verdict::{TeamFault, keeps, keeps_number, require_known};
 use ps_base::id::{Id, to_id};
 use ps_base::team_rule::TeamRule;
 use ps_dex::dex::Dex;
 use ps_mon::team::Member;
 use ps_packed::set::Set;
-use ps_rules::row::RuleTable;
+use ps_rules::table::RuleTable;
 use std::alloc::Global;
 
 fn is_banned_species(dex: &Dex, bans: &[Id], species: u16) -> bool
@@ -34,7 +34,7 @@ fn unknown_species(alloc: Global, dex: &Dex, number: u8, id: &Id) -> Result<u16,
     ensures finds { Finds result (unknown_species dex.now number id.now) }
     ensures within { IfOk result (λ s. s < length dex.now.species) }
 {
-    known(
+    require_known(
         alloc,
         number,
         TeamRule::UnknownSpecies,

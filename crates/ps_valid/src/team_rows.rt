@@ -16,7 +16,7 @@ use ps_dex::dex::Dex;
 use ps_mon::team::Member;
 use ps_packed::set::Set;
 use ps_rules::clause::Clause;
-use ps_rules::row::RuleTable;
+use ps_rules::table::RuleTable;
 use std::alloc::{AllocError, Global};
 
 #[tactic(auto, unfolding(crate::specs::TeamRows::too_few))]

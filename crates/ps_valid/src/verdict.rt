@@ -1,7 +1,7 @@
 //! The first rule that a team breaks.
 ghost use Rattle.std.specs.Prelude.{◌≡◌, true, Some, IfOk, decimal};
 ghost use Rattle.ps_valid.specs.declared.verdict.TeamFault.TheVariants.{NoMemory};
-ghost use Rattle.ps_valid.specs.Verdicts.{Finds, keeps, known};
+ghost use Rattle.ps_valid.specs.Verdicts.{Finds, keeps, require_known};
 
 use ps_base::team_rule::TeamRule;
 use ps_base::text::Text;
@@ -87,14 +87,14 @@ pub(crate) fn keeps_number(
 }
 
 /// The rule that the dex has something.
-pub(crate) fn known(
+pub(crate) fn require_known(
     alloc: Global,
     set: u8,
     rule: TeamRule,
     subject: &str,
     number: Option<u16>,
 ) -> Result<u16, TeamFault>
-    ensures finds { Finds result (known set rule subject.now number) }
+    ensures finds { Finds result (require_known set rule subject.now number) }
     ensures same { IfOk result (λ n. number ≡ Some n) }
 {
     match number {

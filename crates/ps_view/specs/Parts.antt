@@ -5,8 +5,8 @@ use Rattle.ps_calc.specs.Health.{hundredths_of}
 use Rattle.ps_event.specs.Numbers.{effect_mimic, effect_disable}
 use Rattle.ps_event.specs.declared.event.Who.{Who}
 use Rattle.ps_event.specs.declared.event.Health.{Health}
-use Rattle.ps_dex.specs.declared.row.SpeciesRow.{SpeciesRow}
-use Rattle.ps_dex.specs.declared.row.Tables.{Tables}
+use Rattle.ps_dex.specs.declared.item.SpeciesItem.{SpeciesItem}
+use Rattle.ps_dex.specs.declared.item.Tables.{Tables}
 use Rattle.ps_dex.specs.Lookups.{name_of_move}
 use Rattle.ps_view.specs.declared.names.Names.{Names}
 use Rattle.ps_view.specs.Named.{nick_of}
@@ -16,7 +16,7 @@ use Rattle.ps_view.specs.Words.{side_word, status_word, stat_word}
 abbrev pub position : Names → Who → List ℕ
 position names who = side_word who.side ++ codes "a: " ++ nick_of names who
 
-abbrev pub name_or_none : Option SpeciesRow → List ℕ
+abbrev pub name_or_none : Option SpeciesItem → List ℕ
 name_or_none None = codes ""
 name_or_none (Some s) = s.name
 

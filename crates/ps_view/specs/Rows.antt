@@ -4,7 +4,7 @@ use Rattle.std.specs.Fmt.{decimal}
 use Rattle.ps_event.specs.declared.side.Side.{Side}
 use Rattle.ps_event.specs.declared.event.Who.{Who}
 use Rattle.ps_event.specs.declared.event.Health.{Health}
-use Rattle.ps_dex.specs.declared.row.Tables.{Tables}
+use Rattle.ps_dex.specs.declared.item.Tables.{Tables}
 use Rattle.ps_dex.specs.Lookups.{name_of_move}
 use Rattle.ps_view.specs.declared.names.Names.{Names}
 use Rattle.ps_view.specs.Named.{player_of}

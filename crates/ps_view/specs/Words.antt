@@ -6,7 +6,7 @@ use Rattle.ps_event.specs.Numbers.{reason_slp, reason_frz, reason_partially_trap
 use Rattle.ps_event.specs.Numbers.{stat_atk, stat_def, stat_spc, stat_spe, stat_acc}
 use Rattle.ps_event.specs.declared.side.Side.{Side}
 use Rattle.ps_event.specs.declared.side.Side.TheVariants.{P1, P2}
-use Rattle.ps_dex.specs.declared.row.Tables.{Tables}
+use Rattle.ps_dex.specs.declared.item.Tables.{Tables}
 use Rattle.ps_dex.specs.Lookups.{name_of_move}
 
 abbrev pub side_word : Side → List ℕ

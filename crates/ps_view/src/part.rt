@@ -25,7 +25,7 @@ fn species_word(dex: &Dex, species: u16) -> &str
 {
     match dex.all_species().get(usize::from(species)) {
         None => "",
-        Some(row) => row.name.as_str(),
+        Some(item) => item.name.as_str(),
     }
 }
 

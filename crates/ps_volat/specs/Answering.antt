@@ -5,7 +5,7 @@ use Rattle.ps_mon.specs.declared.duel.Fighter.{Fighter}
 use Rattle.ps_mon.specs.Facts.{Figures}
 use Rattle.ps_mon.specs.declared.record.Taken.{Taken}
 use Rattle.ps_mon.specs.Moves.{move_of}
-use Rattle.ps_hits.specs.Scenes.{Play, ◌>>=◌, ◌>>◌, give, look, tell, change, choose}
+use Rattle.ps_hits.specs.Scenes.{Play, ◌>>=◌, ◌>>◌, give, duel_now, tell, change, choose}
 use Rattle.ps_hits.specs.Told.{who_of}
 use Rattle.ps_hits.specs.Fighters.{is_of_type}
 use Rattle.ps_hits.specs.Strikes.{accuracy_test}
@@ -19,7 +19,7 @@ seeded f = record f { vol = record f.vol { seeded = true } }
 unfoldable pub leechseed_row : Figures → ℕ → Play (Unit {0})
 leechseed_row facts mv = do
   lands ← accuracy_test (move_of facts mv).accuracy
-  d ← look
+  d ← duel_now
   choose lands
       (choose (d.foe.vol.seeded || is_of_type d.foe (move_of facts mv).kind) (tell (events.Fail (who_of d.user))) (do
         change (λ d. record d { foe = seeded d.foe })
@@ -37,18 +37,18 @@ answered facts (Some taken) = answer_to (move_of facts taken.mv).contact taken.d
 
 abbrev pub deal_answer : ℕ → Option ℕ → Play (Unit {0})
 deal_answer mv None = do
-  d ← look
+  d ← duel_now
   tell (events.Fail (who_of d.user))
 deal_answer mv (Some amount) = deal_alone mv amount
 
 -- counter: that is dealt, whatever the types, with no accuracy test; else Fail
 unfoldable pub counter_row : Figures → ℕ → Play (Unit {0})
 counter_row facts mv = do
-  d ← look
+  d ← duel_now
   deal_answer mv (answered facts d.user.vol.taken)
 
 -- nothing: Activate with the move's name
 unfoldable pub nothing_row : ℕ → Play (Unit {0})
 nothing_row mv = do
-  d ← look
+  d ← duel_now
   tell (events.Activate (who_of d.user) numbers.effect_move (Some mv))

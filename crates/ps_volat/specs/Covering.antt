@@ -6,7 +6,7 @@ use Rattle.ps_mon.specs.declared.effect.Effect.{Effect}
 use Rattle.ps_mon.specs.declared.effect.Effect.TheVariants as effects
 use Rattle.ps_mon.specs.declared.effect.ScreenKind.{ScreenKind}
 use Rattle.ps_mon.specs.declared.effect.ScreenKind.TheVariants as screens
-use Rattle.ps_hits.specs.Scenes.{Play, ◌>>=◌, ◌>>◌, give, look, tell, change, choose}
+use Rattle.ps_hits.specs.Scenes.{Play, ◌>>=◌, ◌>>◌, give, duel_now, tell, change, choose}
 use Rattle.ps_hits.specs.Told.{who_of}
 use Rattle.ps_event.specs.Numbers as numbers
 
@@ -25,7 +25,7 @@ with_substitute f = record f { hp = f.hp - cost_of f; vol = record f.vol { subst
 -- substitute: Fail where the user can't make one; else it loses the cost, with no event of the loss
 unfoldable pub substitute_row : Play (Unit {0})
 substitute_row = do
-  d ← look
+  d ← duel_now
   choose (cannot_make_one d.user) (tell (events.Fail (who_of d.user))) (do
     change (λ d. record d { user = with_substitute d.user })
     tell (events.VolStart (who_of d.user) numbers.effect_substitute None))
@@ -33,7 +33,7 @@ substitute_row = do
 -- Fail where it is on, else it starts, with the number of its name
 abbrev pub start : (Fighter → Bool) → (Fighter → Fighter) → ℕ → Play (Unit {0})
 start is_on turn_on number = do
-  d ← look
+  d ← duel_now
   choose (is_on d.user) (tell (events.Fail (who_of d.user))) (do
     change (λ d. record d { user = turn_on d.user })
     tell (events.VolStart (who_of d.user) number None))

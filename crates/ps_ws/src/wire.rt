@@ -25,12 +25,12 @@ type Stream = mio::net::TcpStream;
 
 type Socket = WebSocket<Stream, NoMask>;
 
-type Shaking = MidHandshake<ServerHandshake<Stream, NoCallback>>;
+type Handshaking = MidHandshake<ServerHandshake<Stream, NoCallback>>;
 
 #[derive(Drop)]
 enum Stage {
     // The handshake isn't done.
-    Shaking(Shaking),
+    Handshaking(Handshaking),
     // Messages go to and fro.
     Open(Socket),
     // The socket was let go.
@@ -96,7 +96,7 @@ impl<R: rt::Clock + Copy> Wire<R> {
             alloc,
             poll,
             events,
-            stage: Stage::Shaking(start(alloc, stream, NoCallback, Some(config()))),
+            stage: Stage::Handshaking(start(alloc, stream, NoCallback, Some(config()))),
             kept: None,
         })
     }
@@ -109,7 +109,7 @@ impl<R: rt::Clock + Copy> Wire<R> {
 
     /// What comes next, after one wait where there is nothing.
     pub(crate) fn next(&mut self) -> Next {
-        match self.shake() {
+        match self.shake_hands() {
             Ok(()) => {}
             Err(SendEnd::Failed) => return Next::Failed,
             Err(SendEnd::NoMemory) => return Next::NoMemory,
@@ -128,7 +128,7 @@ impl<R: rt::Clock + Copy> Wire<R> {
 
     /// Sends a text, and waits for room where there is none.
     pub(crate) fn send(&mut self, text: &str) -> Result<(), SendEnd> {
-        self.shake()?;
+        self.shake_hands()?;
         let Stage::Open(socket) = &mut self.stage else {
             return Err(SendEnd::Failed);
         };
@@ -149,10 +149,10 @@ impl<R: rt::Clock + Copy> Wire<R> {
     }
 
     // Ends the handshake, where it isn't done.
-    fn shake(&mut self) -> Result<(), SendEnd> {
+    fn shake_hands(&mut self) -> Result<(), SendEnd> {
         match mem::replace(&mut self.stage, Stage::Over) {
-            Stage::Shaking(shaking) => {
-                self.stage = Stage::Open(self.shaken(shaking)?);
+            Stage::Handshaking(handshaking) => {
+                self.stage = Stage::Open(self.finish_handshake(handshaking)?);
                 Ok(())
             }
             Stage::Open(socket) => {
@@ -164,14 +164,14 @@ impl<R: rt::Clock + Copy> Wire<R> {
     }
 
     // Goes on with a handshake until it is done, within its time.
-    fn shaken(&mut self, mut shaking: Shaking) -> Result<Socket, SendEnd> {
+    fn finish_handshake(&mut self, mut handshaking: Handshaking) -> Result<Socket, SendEnd> {
         let Ok(begun) = Instant::now(&self.host) else {
             return Err(SendEnd::Failed);
         };
         for _ in 0..u64::MAX {
-            match shaking.handshake() {
+            match handshaking.handshake() {
                 Ok(socket) => return Ok(socket),
-                Err(HandshakeError::Interrupted(rest)) => shaking = rest,
+                Err(HandshakeError::Interrupted(rest)) => handshaking = rest,
                 Err(HandshakeError::Failure(Error::OutOfMemory)) => return Err(SendEnd::NoMemory),
                 Err(HandshakeError::Failure(_)) => return Err(SendEnd::Failed),
             }

@@ -1,16 +1,20 @@
 //! The program.
 #![tactic(auto)]
 
+mod door;
+
+use crate::door::PrintingDoor;
+use program_commands::status::Status;
 use ps_outside::host_clock::HostClock;
 use ps_outside::host_files::HostFiles;
 use ps_outside::sink::StdSink;
 use ps_outside::source::StdSource;
 use ps_outside::spawner::ThreadSpawner;
 use ps_replay::run::run;
-use ps_server::serve::serve;
-use ps_setup::status::Status;
 use ps_ws::door::WsDoor;
+use server_accept::serve::serve;
 use std::alloc::Global;
+use std::io::Eprint;
 use std::net::{Net, TcpListener, TcpStream};
 use std::process::ExitCode;
 use std::sync::Wait;
@@ -21,18 +25,20 @@ const HELP: &str = "\
 psd, a battle server of the kind that Pokemon Showdown players connect to.
 
 Usage:
+  psd serve ADDRESS COUNT [--dex NAME] [--config NAME]
+      listens at the address, as 127.0.0.1:8000, and serves the next COUNT
+      connections over WebSocket, 1 to 1024; ends when all of them have ended.
+      Once it listens it prints `listening on ADDRESS:PORT` on standard error;
+      the port 0 lets the host choose one
   psd replay [--dex NAME] [--config NAME]
       reads a recorded script of connections from standard input, and writes what
       each connection is sent to standard output
-  psd drill N [--dex NAME] [--config NAME]
-      makes a script of N steps, 1 to 4000, runs it, and prints six lines that tell
-      what came of it: the same on every machine, as long as the files are
   psd check FORMAT TEAMFILE [--dex NAME] [--config NAME]
       checks the packed team of a file against the rules of a format, and prints
       `legal`, or ends with the first rule that the team breaks
-  psd serve ADDRESS COUNT [--dex NAME] [--config NAME]
-      listens at the address, as 127.0.0.1:8000, and serves the next COUNT
-      connections over WebSocket, 1 to 1024; ends when all of them have ended
+  psd drill N [--dex NAME] [--config NAME]
+      makes a script of N steps, 1 to 4000, runs it, and prints six lines that say
+      what came of it: the same on every machine, as long as the files are
   psd --help
       prints this help
   psd --version
@@ -43,9 +49,13 @@ Usage:
   --config NAME  the configuration: groups, rooms, users and formats; without one
                  there is no format
 
-README.md has the form of scripts and transcripts, docs/PROTOCOL.md every line,
-and docs/DATA.md every key of the files. A run that does not end well prints one
-line on standard error, and ends with the number of that line's status.
+A run that does not end well prints one line on standard error, as
+`psd: Usage word=1`, and ends with the number of that line's status. `word` is
+the first word that can't stand: it counts from 0, which is the command, and is
+the number of words if one is missing.
+
+docs/PROTOCOL.md has every line of scripts and transcripts, and docs/DATA.md every
+key of the files.
 ";
 
 const VERSION: &str = "\
@@ -71,33 +81,54 @@ fn words(rt: &HostRuntime) -> io::Result<Vec<String>> {
     Ok(words)
 }
 
-/// What is printed in place of a run, where the first word asks for it.
-fn told(words: &[String]) -> Option<&'static str> {
+/// What the words ask for.
+enum Asked {
+    /// A text, which is printed.
+    Text(&'static str),
+    /// A server, and the words are its own to read.
+    Server,
+    /// A run, and the words are its own to read.
+    Run,
+    /// Nothing: this word can't stand.
+    Nothing { word: u32 },
+}
+
+/// The text is asked for by its word alone.
+fn text_or_nothing(text: &'static str, rest: &[String]) -> Asked {
+    match rest {
+        [] => Asked::Text(text),
+        _ => Asked::Nothing { word: 1 },
+    }
+}
+
+/// What the first word asks for.
+fn asked_by(words: &[String]) -> Asked {
     match words {
-        [] => None,
-        [first, ..] => match first.as_str() {
-            "--help" => Some(HELP),
-            "--version" => Some(VERSION),
-            _ => None,
+        [] => Asked::Run,
+        [first, rest @ ..] => match first.as_str() {
+            "--help" => text_or_nothing(HELP, rest),
+            "--version" => text_or_nothing(VERSION, rest),
+            "serve" => Asked::Server,
+            _ => Asked::Run,
         },
     }
 }
 
-/// Whether the words are those of a server.
-fn is_serve(words: &[String]) -> bool {
-    match words {
-        [] => false,
-        [first, ..] => first.as_str() == "serve",
+/// Prints a text in the place of a run.
+fn text_status(rt: &HostRuntime, text: &str) -> Status {
+    match print!(rt; "{text}") {
+        Ok(()) => Status::Done,
+        Err(_) => Status::WriteFault,
     }
 }
 
 fn serve_status<R>(host: R, alloc: Global, words: &[String]) -> Status
 where
-    R: Threads + Wait + rt::Files + rt::Clock + Copy + Send + Drop + 'static,
+    R: Threads + Wait + rt::Files + rt::Clock + Eprint + Copy + Send + Drop + 'static,
     R: Net<Listener = TcpListener, Stream = TcpStream>,
 {
     let mut files = HostFiles::new(&host);
-    let mut door = WsDoor::new(host, alloc);
+    let mut door = PrintingDoor::new(host, WsDoor::new(host, alloc));
     let mut clock = HostClock::new(host);
     let mut spawner = ThreadSpawner::new();
     serve(
@@ -121,20 +152,11 @@ fn run_status(rt: &HostRuntime, words: &[String]) -> Status {
 fn main(rt: HostRuntime) -> ExitCode {
     let status = match words(&rt) {
         Err(why) => no_words(&why),
-        Ok(words) => match told(&words) {
-            Some(text) => {
-                return match print!(rt; "{text}") {
-                    Ok(()) => ExitCode::from(0),
-                    Err(_) => ExitCode::from(Status::WriteFault.number()),
-                };
-            }
-            None => {
-                if is_serve(&words) {
-                    serve_status(rt, rt.alloc(), &words)
-                } else {
-                    run_status(&rt, &words)
-                }
-            }
+        Ok(words) => match asked_by(&words) {
+            Asked::Text(text) => text_status(&rt, text),
+            Asked::Server => serve_status(rt, rt.alloc(), &words),
+            Asked::Run => run_status(&rt, &words),
+            Asked::Nothing { word } => Status::Usage { word },
         },
     };
     match &status {

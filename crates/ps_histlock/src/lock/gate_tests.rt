@@ -16,7 +16,7 @@ struct Tally {
 struct Gate {
     alloc: Global,
     limit: u64,
-    held: Box<Tally>,
+    tally: Box<Tally>,
 }
 
 impl Model for Gate {
@@ -24,9 +24,9 @@ impl Model for Gate {
 
     ghost Value = { ℕ × ℕ × List Bool };
 
-    ghost view = { λ g. (g.limit, g.held.value.let_in, g.held.value.verdicts.items) };
+    ghost view = { λ g. (g.limit, g.tally.value.let_in, g.tally.value.verdicts.items) };
 
-    ghost invariant = { λ g. g.held.value.let_in ≤ length g.held.value.verdicts.items };
+    ghost invariant = { λ g. g.tally.value.let_in ≤ length g.tally.value.verdicts.items };
 }
 
 impl Gate {
@@ -40,7 +40,7 @@ impl Gate {
         Ok(Gate {
             alloc,
             limit,
-            held: Box::new(alloc, tally)?,
+            tally: Box::new(alloc, tally)?,
         })
     }
 
@@ -51,12 +51,12 @@ impl Gate {
         ensures err { OnErr result (self.new ≡ self.old) }
     {
         let fits = number < self.limit;
-        if self.held.verdicts.len() >= 1 << 61 {
+        if self.tally.verdicts.len() >= 1 << 61 {
             return Err(AllocError);
         }
-        self.held.verdicts.push(fits)?;
+        self.tally.verdicts.push(fits)?;
         if fits {
-            self.held.let_in += 1;
+            self.tally.let_in += 1;
         }
         Ok(fits)
     }
@@ -89,7 +89,7 @@ impl Kept for Gate {
     }
 
     fn pull(&self, cursor: &mut usize) -> Result<Vec<bool>, AllocError> {
-        let verdicts = &self.held.verdicts;
+        let verdicts = &self.tally.verdicts;
         let from = verdicts.len().min(*cursor);
         let msgs = verdicts[from..].to_vec(self.alloc)?;
         *cursor = verdicts.len();

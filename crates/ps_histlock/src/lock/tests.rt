@@ -156,7 +156,7 @@ fn two_threads_leave_one_history(rt: HostRuntime) -> Result<(), Fail> {
 }
 
 #[test]
-fn a_held_lock_is_busy(rt: HostRuntime) -> Result<(), Fail> {
+fn a_taken_lock_is_busy(rt: HostRuntime) -> Result<(), Fail> {
     let (lock, first) = lock_of_numbers(rt.alloc())?;
     let mut second = lock.fresh();
     let mut cursor = 0;
@@ -165,8 +165,8 @@ fn a_held_lock_is_busy(rt: HostRuntime) -> Result<(), Fail> {
         Ok(kept) => kept,
         Err(_) => return Err("the turn".into()),
     };
-    let held = try_one(&lock, &mut second, &mut cursor, Some(7));
-    assert_eq!(rt; held, busy(1, Some(7)));
+    let taken = try_one(&lock, &mut second, &mut cursor, Some(7));
+    assert_eq!(rt; taken, busy(1, Some(7)));
     lock.release(&mut seat, kept);
     let free = try_one(&lock, &mut second, &mut cursor, Some(7));
     assert_eq!(rt; free, done(Some(0), 1));

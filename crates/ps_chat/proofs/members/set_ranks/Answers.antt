@@ -1,6 +1,6 @@
 use Rattle.std.proofs.Common.{◌<◌, ◌∙◌, ap, length, set, map, take, drop, ◌++◌, get_or, arith, add-one}
 use Rattle.ps_chat.specs.Rooms.{ranked}
-use Rattle.ps_chat.proofs.PlaceLemmas.{changed, unchanged}
+use Rattle.ps_chat.proofs.FindLemmas.{changed, unchanged}
 use Rattle.ps_chat.proofs.members.set_ranks.Goals as goal
 
 pub loop-i-preserved : goal.loop-i-preserved

@@ -3,7 +3,7 @@ use Rattle.std.specs.Ordering.{nat_cmp, is_eq}
 use Rattle.std.specs.Cmp.Lexicographic.{slice_cmp}
 use Rattle.std.specs.Map.{lookup}
 use Rattle.std.proofs.lemmas.Map.Made.{map_same_pairs, lookup-map_values}
-use Rattle.ps_chat.specs.Places.{shifted}
+use Rattle.ps_chat.specs.Finding.{shifted}
 use Rattle.ps_chat.proofs.members.shift_ids.Goals as goal
 
 pub returns : goal.returns

@@ -1,5 +1,5 @@
 use Rattle.std.proofs.Common.{◌≡◌, not, map, take, filter}
-use Rattle.ps_pms.specs.Looks.{is_by}
+use Rattle.ps_pms.specs.Lookups.{is_by}
 use Rattle.ps_hall.proofs.coming.asked_not_by.Given as goal
 
 abbrev pub invariant-loop-asked : goal.invariant-loop-asked

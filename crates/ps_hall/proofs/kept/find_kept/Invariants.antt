@@ -1,5 +1,5 @@
 use Rattle.std.proofs.Common.{◌≡◌, find, drop}
-use Rattle.ps_hall.specs.Looks.{is_kept}
+use Rattle.ps_hall.specs.Lookups.{is_kept}
 use Rattle.ps_hall.proofs.kept.find_kept.Given as goal
 
 abbrev pub invariant-loop-kept : goal.invariant-loop-kept

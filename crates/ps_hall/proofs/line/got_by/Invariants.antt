@@ -1,7 +1,7 @@
 use Rattle.std.proofs.Common.{◌≡◌, filter, map, drop}
 use Rattle.serde_json.specs.Data.{no_members}
 use Rattle.serde_json.specs.View.{members_view}
-use Rattle.ps_pms.specs.Looks.{is_to}
+use Rattle.ps_pms.specs.Lookups.{is_to}
 use Rattle.ps_hall.specs.Lines.{with_asked}
 use Rattle.ps_hall.proofs.line.got_by.Given as goal
 

@@ -1,5 +1,5 @@
 use Rattle.std.proofs.Common.{◌≡◌, find, map, drop}
-use Rattle.ps_pms.specs.Looks.{is_by}
+use Rattle.ps_pms.specs.Lookups.{is_by}
 use Rattle.ps_hall.proofs.line.made_by.Given as goal
 
 abbrev pub invariant-loop-challenge : goal.invariant-loop-challenge

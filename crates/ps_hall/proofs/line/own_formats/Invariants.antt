@@ -1,7 +1,7 @@
 use Rattle.std.proofs.Common.{◌≡◌, ◌++◌, map, drop}
 use Rattle.serde_json.specs.Data.{string}
 use Rattle.serde_json.specs.View.{view}
-use Rattle.ps_hall.specs.Looks.{searched}
+use Rattle.ps_hall.specs.Lookups.{searched}
 use Rattle.ps_hall.proofs.line.own_formats.Given as goal
 
 abbrev pub invariant-loop-search : goal.invariant-loop-search

@@ -1,7 +1,7 @@
 use Rattle.std.proofs.Common.{◌≡◌, map, drop}
 use Rattle.serde_json.specs.Data.{no_members}
 use Rattle.serde_json.specs.View.{members_view}
-use Rattle.ps_hall.specs.Looks.{games_of}
+use Rattle.ps_hall.specs.Lookups.{games_of}
 use Rattle.ps_hall.specs.Lines.{with_games}
 use Rattle.ps_hall.proofs.line.own_games.Given as goal
 

@@ -1,12 +1,12 @@
 use Rattle.std.proofs.Common.{rules, ◌≡◌, Option, IfSome}
 use Rattle.std.specs.Option.{option_copied}
 use Rattle.ps_base.specs.Ids.{id_of}
-use Rattle.ps_start.specs.Fits.{IsFit}
-use Rattle.ps_valid.specs.declared.start.Legal.{Legal}
-use Rattle.ps_valid.specs.declared.start.Start.{Start}
+use Rattle.rules_start.specs.Fits.{IsFit}
+use Rattle.ps_valid.specs.declared.legal.Legal.{Legal}
+use Rattle.rules_start.specs.declared.start.Start.{Start}
 use Rattle.ps_hall.specs.declared.kept.KeptTeam.{KeptTeam}
 use Rattle.ps_hall.specs.Records.{Record}
-use Rattle.ps_hall.specs.Looks.{kept_team, legal_team}
+use Rattle.ps_hall.specs.Lookups.{kept_team, legal_team}
 use Rattle.ps_hall.specs.States.{record_of}
 use Rattle.ps_hall.proofs.StartLemmas.{if_ok, fit_challenge}
 use Rattle.ps_hall.proofs.start.start_of_challenge.Goals as goal

@@ -1,7 +1,7 @@
 use Rattle.std.proofs.Common.{◌≡◌, ◌≢◌, ℕ, List, length, Some, refl, sym, ap, ◌∙◌, arith, rules, below_more}
 use Rattle.std.specs.Prelude.{slice_get}
 use Rattle.std.proofs.lemmas.Option.{slice_get_read}
-use Rattle.ps_valid.specs.declared.row.ChatRoom.{ChatRoom}
+use Rattle.rules_config.specs.declared.settings.ChatRoom.{ChatRoom}
 use Rattle.ps_hub.specs.Names.{IsChatId}
 use Rattle.ps_hub.proofs.NameLemmas.{first_chat, other_room, no_chat_room}
 use Rattle.ps_hub.proofs.name.chat_named.Goals as goal

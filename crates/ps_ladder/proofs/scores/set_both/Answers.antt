@@ -1,8 +1,9 @@
 use Rattle.std.proofs.Common.{◌≡◌, sym, ap, ◌∙◌, true, false, w32}
 use Rattle.std.specs.FinMap.{insert, remove, contains_key}
 use Rattle.std.proofs.lemmas.Int.{to_z-of_z}
+use Rattle.std.proofs.lemmas.Bool.{not-true, not-false}
 use Rattle.ps_ladder.specs.Ratings.{Ratings, rating}
-use Rattle.ps_ladder.proofs.MapLemmas.{kept, undone, forgotten, has_put, keeps_put, fresh_is, known_is}
+use Rattle.ps_ladder.proofs.MapLemmas.{kept, undone, forgotten, has_put, keeps_put}
 use Rattle.ps_ladder.proofs.scores.set_both.Goals as goal
 
 pub set-requires : goal.set-requires
@@ -18,12 +19,12 @@ set-requires-in-Ok c =
 
 pub returns-then-fresh-clause-err : goal.returns-then-fresh-clause-err
 returns-then-fresh-clause-err c =
-    let absent : contains_key c.args.scores.now c.args.winner.now ≡ false = fresh_is _ (sym c.in_ok-fresh.ensures.fresh ∙ c.if-fresh.true) in
+    let absent : contains_key c.args.scores.now c.args.winner.now ≡ false = not-true _ (sym c.in_ok-fresh.ensures.fresh ∙ c.if-fresh.true) in
     c.remove.ensures ∙ ap (λ (m : Ratings). remove m c.args.winner.now) (c.in-Err.ensures.err ∙ c.in_ok-fresh.ensures.ok) ∙ undone c.args.scores.now c.args.winner.now _ absent
 
 pub returns-else-fresh-clause-err : goal.returns-else-fresh-clause-err
 returns-else-fresh-clause-err c =
-    let present : contains_key c.args.scores.now c.args.winner.now ≡ true = known_is _ (sym c.in_ok-fresh.ensures.fresh ∙ c.if-fresh.false) in
+    let present : contains_key c.args.scores.now c.args.winner.now ≡ true = not-false _ (sym c.in_ok-fresh.ensures.fresh ∙ c.if-fresh.false) in
     c.in-Err.ensures.err ∙ c.in_ok-fresh.ensures.ok ∙ kept c.args.scores.now c.args.winner.now present
 
 pub returns-in-Ok-clause-ok : goal.returns-in-Ok-clause-ok

@@ -1,7 +1,7 @@
 use Rattle.std.proofs.Common.{◌≡◌, ◌<◌, ℕ, [], map, get_or, encode_utf8_all, not, ap, ◌∙◌, arith}
 use Rattle.ps_packed.specs.Forms.{ids_of}
 use Rattle.ps_packed.specs.Packed.{field, evs_of, gender_of, ivs_of, level_of, is_nil}
-use Rattle.ps_packed.proofs.Reading.{piece_fits, mapped_at, set_is, same_other, nil_tells}
+use Rattle.ps_packed.proofs.Reading.{piece_fits, mapped_at, set_is, same_other, nil_shows}
 use Rattle.ps_packed.proofs.read.set_from.Goals as goal
 
 pub evs-requires : goal.evs-requires
@@ -27,6 +27,6 @@ returns c =
     (c.in_ok-evs-in-len12.ensures ∙ ap evs_of (at 6 (omega arith)))
     (c.gender.ensures ∙ ap gender_of (at 7 (omega arith)))
     (c.in_ok-ivs-in-len12.ensures ∙ ap ivs_of (at 8 (omega arith)))
-    (ap not (c.is_empty.ensures ∙ nil_tells _ ∙ ap is_nil (at 9 (omega arith))))
+    (ap not (c.is_empty.ensures ∙ nil_shows _ ∙ ap is_nil (at 9 (omega arith))))
     (c.level.ensures ∙ ap level_of (at 10 (omega arith)))
     (c.in_ok-misc-in-len12.ensures ∙ ap encode_utf8_all (at 11 (omega arith)))

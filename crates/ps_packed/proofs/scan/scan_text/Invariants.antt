@@ -6,5 +6,5 @@ use Rattle.ps_packed.proofs.scan.scan_text.Given as goal
 abbrev pub invariant-loop-next : goal.invariant-loop-next
 invariant-loop-next l = record {
   alive : IsAlive l.text l.next-index l.scan;
-  place : l.at ≡ bytes_of (take l.next-index l.text);
+  offset : l.at ≡ bytes_of (take l.next-index l.text);
 }

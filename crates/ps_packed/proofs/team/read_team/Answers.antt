@@ -2,7 +2,7 @@ use Rattle.std.proofs.Common.{◌≡◌, List, ℕ, sym, ap, subst, ◌∙◌, c
 use Rattle.std.specs.List.{AllByRecursion}
 use Rattle.std.specs.Str.{all_scalars}
 use Rattle.std.proofs.lemmas.Str.{scalars-chars}
-use Rattle.ps_packed.specs.Packed.{IsRow, IsTeam, rows_of}
+use Rattle.ps_packed.specs.Packed.{AreFieldTexts, IsTeam, team_texts_of}
 use Rattle.ps_packed.specs.Scan.{team_of}
 use Rattle.ps_packed.proofs.Unique.{fits_of, is_found, one_team}
 use Rattle.ps_packed.proofs.team.read_team.Goals as goal
@@ -14,7 +14,7 @@ pub sets_of-requires : goal.sets_of-requires
 sets_of-requires c =
     let some = c.in_ok-scan_text.ensures in
     let same : c.as_slice.result.now ≡ c.as_slice-2.result.now = c.as_slice.ensures.value ∙ sym c.as_slice-2.ensures.value in
-    subst (λ (t : List ℕ). AllByRecursion IsRow (rows_of t)) same (fits_of c.as_slice.result.now some.0 some.1)
+    subst (λ (t : List ℕ). AllByRecursion AreFieldTexts (team_texts_of t)) same (fits_of c.as_slice.result.now some.0 some.1)
 
 pub invariant_of-result : goal.invariant_of-result
 invariant_of-result c =

@@ -1,5 +1,5 @@
 use Rattle.std.proofs.Common.{◌≡◌, filter, take}
-use Rattle.ps_pms.specs.Looks.{is_to}
+use Rattle.ps_pms.specs.Lookups.{is_to}
 use Rattle.ps_pms.proofs.challenges.got.Given as goal
 
 abbrev pub invariant-loop-asked : goal.invariant-loop-asked

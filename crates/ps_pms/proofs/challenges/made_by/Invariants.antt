@@ -1,5 +1,5 @@
 use Rattle.std.proofs.Common.{◌≡◌, find, drop}
-use Rattle.ps_pms.specs.Looks.{is_by}
+use Rattle.ps_pms.specs.Lookups.{is_by}
 use Rattle.ps_pms.proofs.challenges.made_by.Given as goal
 
 abbrev pub invariant-loop-asked : goal.invariant-loop-asked

@@ -1,5 +1,5 @@
 use Rattle.std.proofs.Common.{◌≡◌, find, drop}
-use Rattle.ps_pms.specs.Looks.{is_of}
+use Rattle.ps_pms.specs.Lookups.{is_of}
 use Rattle.ps_pms.proofs.challenges.made_to.Given as goal
 
 abbrev pub invariant-loop-asked : goal.invariant-loop-asked

@@ -1,5 +1,5 @@
 use Rattle.std.proofs.Common.{◌≡◌, [], drop}
-use Rattle.ps_pms.specs.Looks.{partners_of}
+use Rattle.ps_pms.specs.Lookups.{partners_of}
 use Rattle.ps_pms.proofs.challenges.partners.Given as goal
 
 abbrev pub invariant-loop-asked : goal.invariant-loop-asked

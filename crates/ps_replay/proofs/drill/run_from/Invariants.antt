@@ -1,5 +1,5 @@
 use Rattle.std.proofs.Common.{◌≡◌, drop, string_bytes, []}
-use Rattle.ps_world.specs.Tables.{text_from, no_counts, counts_from}
+use Rattle.replay_state.specs.Tables.{text_from, no_counts, counts_from}
 use Rattle.ps_replay.proofs.RunLemmas.{Ran}
 use Rattle.ps_replay.proofs.drill.run_from.Given as goal
 

@@ -1,6 +1,6 @@
 use Rattle.std.proofs.Common.{◌≡◌, string_bytes, ap, sym, ◌∙◌, List, ℕ}
 use Rattle.ps_group.specs.declared.group.Group.{Group}
-use Rattle.ps_drill.specs.Drills.{drill_text}
+use Rattle.replay_drill.specs.Drills.{drill_text}
 use Rattle.ps_replay.specs.Outcomes.{symbols_of}
 use Rattle.ps_replay.proofs.RunLemmas.{no_fault}
 use Rattle.ps_replay.proofs.drill.summarize.Goals as goal

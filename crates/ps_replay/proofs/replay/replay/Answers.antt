@@ -1,9 +1,9 @@
 use Rattle.std.proofs.Common.{◌≡◌, ℕ, List, ap, ◌∙◌}
 use Rattle.std.specs.Arc.{arc_value}
-use Rattle.ps_world.specs.Setup.{setup_of}
-use Rattle.ps_world.specs.Transcript.{output}
-use Rattle.ps_world.specs.Tables.{Desk, text_from}
-use Rattle.ps_world.proofs.TextLemmas.{output_is}
+use Rattle.replay_state.specs.Setup.{setup_of}
+use Rattle.replay_state.specs.Transcript.{output}
+use Rattle.replay_state.specs.Tables.{Desk, text_from}
+use Rattle.replay_state.proofs.TextLemmas.{output_is}
 use Rattle.ps_replay.proofs.replay.replay.Goals as goal
 
 pub returns-in-Ok-clause-wrote : goal.returns-in-Ok-clause-wrote

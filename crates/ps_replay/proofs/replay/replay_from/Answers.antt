@@ -1,7 +1,7 @@
 use Rattle.std.proofs.Common.{◌≡◌, ◌+◌, ◌∷◌, [], drop, string_bytes, arith, ap, sym, ◌∙◌}
 use Rattle.std.proofs.lemmas.List.{drop_more, drop_all}
-use Rattle.ps_script.specs.declared.item.Item.{Item}
-use Rattle.ps_world.specs.Tables.{text_from}
+use Rattle.replay_script.specs.declared.item.Item.{Item}
+use Rattle.replay_state.specs.Tables.{text_from}
 use Rattle.ps_replay.proofs.FlowLemmas.{Came-start, Came-more, Came-stopped, Came-last, Came-all}
 use Rattle.ps_replay.proofs.replay.replay_from.Goals as goal
 

@@ -1,5 +1,5 @@
 use Rattle.std.proofs.Common.{◌≤◌, drop, string_bytes}
-use Rattle.ps_world.specs.Tables.{text_from}
+use Rattle.replay_state.specs.Tables.{text_from}
 use Rattle.ps_replay.proofs.FlowLemmas.{Came}
 use Rattle.ps_replay.proofs.replay.replay_from.Given as goal
 

@@ -1,9 +1,9 @@
 use Rattle.std.specs.Arc.{arc_value}
-use Rattle.ps_world.specs.Setup.{setup_of}
-use Rattle.ps_world.proofs.BlockLemmas.{blocks_of}
-use Rattle.ps_world.proofs.OneEntryLemmas.{one_entry_each}
-use Rattle.ps_world.proofs.PlaceLemmas.{are_histories}
-use Rattle.ps_world.proofs.TwoWorldLemmas.{equal_blocks}
+use Rattle.replay_state.specs.Setup.{setup_of}
+use Rattle.replay_state.proofs.BlockLemmas.{blocks_of}
+use Rattle.replay_state.proofs.OneEntryLemmas.{one_entry_each}
+use Rattle.replay_state.proofs.PlaceLemmas.{are_histories}
+use Rattle.replay_state.proofs.TwoWorldLemmas.{equal_blocks}
 use Rattle.ps_replay.specs.Outcomes.{symbols_of}
 use Rattle.ps_replay.proofs.run.run_items.Goals as goal
 

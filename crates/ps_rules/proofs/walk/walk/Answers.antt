@@ -1,7 +1,7 @@
 use Rattle.std.proofs.Common.{◌≡◌, ◌∙◌, ◌<◌, ℕ, List, [], length, replicate, Option, Some, None, Ok, IfSome, sym, ap, subst, arith}
 use Rattle.std.proofs.lemmas.List.{nil_from_length}
-use Rattle.ps_rules.specs.declared.row.Rule.{Rule}
-use Rattle.ps_rules.specs.declared.row.Ruleset.{Ruleset}
+use Rattle.ps_rules.specs.declared.table.Rule.{Rule}
+use Rattle.ps_rules.specs.declared.table.Ruleset.{Ruleset}
 use Rattle.ps_rules.specs.declared.walk.Mark.{Mark}
 use Rattle.ps_rules.specs.declared.walk.Mark.TheVariants.{New}
 use Rattle.ps_rules.specs.declared.walk.Frame.{Frame}
@@ -44,19 +44,19 @@ steps-preserved-in-Ok-Further c =
 
 pub set_mark-requires : goal.set_mark-requires
 set_mark-requires c =
-    let step = is_step c.args.sets.now c.steps.marks.items c.deref.result.now c.args.rules.now c.steps.frame c.in-Ok-Inner.field-0 (Inner c.in-Ok-Inner.place) c.deref.ensures.value c.in-Ok-Inner.ensures c.in-Ok-Inner.field-0-is in
-    inner_within c.args.sets.now c.args.rules.now c.steps.marks.items c.steps.frame c.in-Ok-Inner.place step
+    let step = is_step c.args.sets.now c.steps.marks.items c.deref.result.now c.args.rules.now c.steps.frame c.in-Ok-Inner.field-0 (Inner c.in-Ok-Inner.index) c.deref.ensures.value c.in-Ok-Inner.ensures c.in-Ok-Inner.field-0-is in
+    inner_within c.args.sets.now c.args.rules.now c.steps.marks.items c.steps.frame c.in-Ok-Inner.index step
 
 pub steps-smaller-in-Ok-Inner : goal.steps-smaller-in-Ok-Inner
 steps-smaller-in-Ok-Inner c =
-    let step = is_step c.args.sets.now c.steps.marks.items c.deref.result.now c.args.rules.now c.steps.frame c.in-Ok-Inner.field-0 (Inner c.in-Ok-Inner.place) c.deref.ensures.value c.in-Ok-Inner.ensures c.in-Ok-Inner.field-0-is in
-    let less = inner_less c.args.sets.now c.args.rules.now c.steps.marks.items c.steps.frame c.steps.waiting.items c.in-Ok-Inner.place c.steps.invariant.sized step in
+    let step = is_step c.args.sets.now c.steps.marks.items c.deref.result.now c.args.rules.now c.steps.frame c.in-Ok-Inner.field-0 (Inner c.in-Ok-Inner.index) c.deref.ensures.value c.in-Ok-Inner.ensures c.in-Ok-Inner.field-0-is in
+    let less = inner_less c.args.sets.now c.args.rules.now c.steps.marks.items c.steps.frame c.steps.waiting.items c.in-Ok-Inner.index c.steps.invariant.sized step in
     rw (c.set_mark.ensures, c.frame_at-frame-in-Ok-Inner.ensures, c.in_ok-push_front-in-Ok-Inner.ensures.items) less
 
 pub steps-preserved-in-Ok-Inner : goal.steps-preserved-in-Ok-Inner
 steps-preserved-in-Ok-Inner c =
-    let step = is_step c.args.sets.now c.steps.marks.items c.deref.result.now c.args.rules.now c.steps.frame c.in-Ok-Inner.field-0 (Inner c.in-Ok-Inner.place) c.deref.ensures.value c.in-Ok-Inner.ensures c.in-Ok-Inner.field-0-is in
-    rw (c.set_mark.ensures, c.frame_at-frame-in-Ok-Inner.ensures, c.in_ok-push_front-in-Ok-Inner.ensures.items) (inner_stands c.args.sets.now c.args.rules.now c.steps.marks.items c.steps.frame c.steps.waiting.items c.steps.invariant c.in-Ok-Inner.place step)
+    let step = is_step c.args.sets.now c.steps.marks.items c.deref.result.now c.args.rules.now c.steps.frame c.in-Ok-Inner.field-0 (Inner c.in-Ok-Inner.index) c.deref.ensures.value c.in-Ok-Inner.ensures c.in-Ok-Inner.field-0-is in
+    rw (c.set_mark.ensures, c.frame_at-frame-in-Ok-Inner.ensures, c.in_ok-push_front-in-Ok-Inner.ensures.items) (inner_stands c.args.sets.now c.args.rules.now c.steps.marks.items c.steps.frame c.steps.waiting.items c.steps.invariant c.in-Ok-Inner.index step)
 
 pub returns-in_default : goal.returns-in_default
 unfolding walk
@@ -69,7 +69,7 @@ pub close-requires : goal.close-requires
 close-requires c =
     let stands = subst (λ (fs : List Frame). Stands c.args.sets.now c.args.rules.now c.steps.marks.items c.steps.frame fs) c.in-Some.ensures.items c.steps.invariant in
     let w = over_within c.args.sets.now c.args.rules.now c.steps.marks.items c.steps.frame c.in-Some.outer c.pop_front.new.self.items stands in
-    within c.steps.frame.place w.0 (length c.steps.marks.items) w.1 w.2
+    within c.steps.frame.index w.0 (length c.steps.marks.items) w.1 w.2
 
 pub steps-smaller : goal.steps-smaller
 steps-smaller c =

@@ -1,15 +1,15 @@
 use Rattle.std.proofs.Common.{◌≡◌, ◌==◌, ◌∙◌, sym, None, rules}
-use Rattle.ps_chat.proofs.PlaceLemmas.{place_below, place_passes, filter_remove, filter_none, length_remove}
+use Rattle.ps_chat.proofs.FindLemmas.{index_below, index_passes, filter_remove, filter_none, length_remove}
 use Rattle.ps_chat.proofs.members.Members.leave.Goals as goal
 
 pub remove_at-requires : goal.remove_at-requires
-remove_at-requires c = place_below (λ p. p.conn == c.args.conn) c.loop-place.self c.in-Some.place (sym c.in-Some.ensures)
+remove_at-requires c = index_below (λ p. p.conn == c.args.conn) c.loop-index.self c.in-Some.index (sym c.in-Some.ensures)
 
-pub loop-place-smaller : goal.loop-place-smaller
-loop-place-smaller c = rw c.remove_at.ensures (length_remove c.loop-place.self c.in-Some.place (place_below (λ p. p.conn == c.args.conn) c.loop-place.self c.in-Some.place (sym c.in-Some.ensures)))
+pub loop-index-smaller : goal.loop-index-smaller
+loop-index-smaller c = rw c.remove_at.ensures (length_remove c.loop-index.self c.in-Some.index (index_below (λ p. p.conn == c.args.conn) c.loop-index.self c.in-Some.index (sym c.in-Some.ensures)))
 
-pub loop-place-preserved : goal.loop-place-preserved
-loop-place-preserved c = rw c.remove_at.ensures (filter_remove (λ p. p.conn == c.args.conn) c.loop-place.self c.in-Some.place (place_below (λ p. p.conn == c.args.conn) c.loop-place.self c.in-Some.place (sym c.in-Some.ensures)) (λ d. place_passes (λ p. p.conn == c.args.conn) c.loop-place.self c.in-Some.place d (sym c.in-Some.ensures)) ∙ c.loop-place.invariant)
+pub loop-index-preserved : goal.loop-index-preserved
+loop-index-preserved c = rw c.remove_at.ensures (filter_remove (λ p. p.conn == c.args.conn) c.loop-index.self c.in-Some.index (index_below (λ p. p.conn == c.args.conn) c.loop-index.self c.in-Some.index (sym c.in-Some.ensures)) (λ d. index_passes (λ p. p.conn == c.args.conn) c.loop-index.self c.in-Some.index d (sym c.in-Some.ensures)) ∙ c.loop-index.invariant)
 
 pub returns : goal.returns
-returns c = let none : c.place.result ≡ None = search rules in sym (filter_none (λ p. p.conn == c.args.conn) c.loop-place.self (sym c.place.ensures ∙ none)) ∙ c.loop-place.invariant
+returns c = let none : c.index.result ≡ None = search rules in sym (filter_none (λ p. p.conn == c.args.conn) c.loop-index.self (sym c.index.ensures ∙ none)) ∙ c.loop-index.invariant

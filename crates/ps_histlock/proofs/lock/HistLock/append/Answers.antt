@@ -9,9 +9,9 @@ pub fetch_add-requires : goal.fetch_add-requires
 fetch_add-requires g c =
     let words = c.self.invariant.0 in
     let v = c.args.seat.now.me.0 in
-    let is = c.exchange.ensures.3 ∙ ap (λ l. (v, (0, Some c.args.kept) ∷ rest l)) c.requires.place.1 in
+    let is = c.exchange.ensures.3 ∙ ap (λ l. (v, (0, Some c.args.kept) ∷ rest l)) c.requires.seat_state.1 in
     let entry = c.requires.entry in
-    (c.exchange.ensures.0 ∙ c.requires.place.0 ∙ sym (ap (λ p. p.0) c.self.view_is), omega arith, appends_as g.K.Kept.origin g.K.Kept.stands _ _ _ _ v c.args.kept entry.0 g.W.Writes.written c.self.invariant.1 is c.requires.turn.0 c.requires.turn.1 c.requires.value entry.1 entry.2 entry.3)
+    (c.exchange.ensures.0 ∙ c.requires.seat_state.0 ∙ sym (ap (λ p. p.0) c.self.view_is), omega arith, appends_as g.K.Kept.origin g.K.Kept.stands _ _ _ _ v c.args.kept entry.0 g.W.Writes.written c.self.invariant.1 is c.requires.turn.0 c.requires.turn.1 c.requires.value entry.1 entry.2 entry.3)
 
 pub returns-clause-rest : goal.returns-clause-rest
 returns-clause-rest g c =

@@ -6,7 +6,7 @@ use Rattle.ps_histlock.specs.declared.view.View.{View}
 use Rattle.ps_histlock.specs.Seated.{TableId}
 use Rattle.ps_histlock.specs.Views.{newcomer}
 use Rattle.ps_lines.specs.declared.command.HallCmd.TheVariants.{Open}
-use Rattle.ps_places.specs.declared.site.Root.{Root}
+use Rattle.server_places.specs.declared.site.Root.{Root}
 use Rattle.ps_hub.specs.Hubs.{root_of}
 use Rattle.ps_hub.specs.Passes.{IsHallPass, IsRoomPass, numbers, IsRising}
 use Rattle.ps_hub.specs.declared.pass.RoomPass.{RoomPass}

@@ -1,5 +1,5 @@
-use Rattle.ps_places.specs.declared.command.RoomCmd.TheVariants.{Begin}
-use Rattle.ps_places.specs.Rooms.{Answers, Pulls}
+use Rattle.server_places.specs.declared.command.RoomCmd.TheVariants.{Begin}
+use Rattle.server_places.specs.Rooms.{Answers, Pulls}
 use Rattle.ps_hub.specs.Hubs.{site_of}
 use Rattle.ps_hub.proofs.ShortLemmas.{last_short_at_late, last_short_at_limit, last_short_at_no_memory}
 use Rattle.ps_hub.proofs.hub.Hub.begin.Goals as goal

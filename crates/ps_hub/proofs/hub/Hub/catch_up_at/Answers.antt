@@ -1,6 +1,6 @@
 use Rattle.std.proofs.Common.{length, refl}
 use Rattle.std.proofs.lemmas.Option.{slice_get_read}
-use Rattle.ps_hub.proofs.RowLemmas.{are_set, read_pass}
+use Rattle.ps_hub.proofs.PassListLemmas.{are_set, read_pass}
 use Rattle.ps_hub.proofs.CallLemmas.{caught_room}
 use Rattle.ps_hub.proofs.hub.Hub.catch_up_at.Goals as goal
 

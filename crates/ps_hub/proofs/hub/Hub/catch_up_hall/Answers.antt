@@ -1,5 +1,5 @@
 use Rattle.std.proofs.Common.{refl}
-use Rattle.ps_hub.proofs.RowLemmas.{hall_of}
+use Rattle.ps_hub.proofs.PassListLemmas.{hall_of}
 use Rattle.ps_hub.proofs.OrderLemmas.{are_hall}
 use Rattle.ps_hub.proofs.CallLemmas.{caught_hall}
 use Rattle.ps_hub.proofs.hub.Hub.catch_up_hall.Goals as goal

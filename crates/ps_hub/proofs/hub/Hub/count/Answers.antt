@@ -1,7 +1,7 @@
 use Rattle.std.proofs.Common.{List, ℕ, Option, refl, ap, Bor}
 use Rattle.ps_hub.specs.declared.pass.RoomPass.{RoomPass}
 use Rattle.std.specs.Option.{option_copied}
-use Rattle.ps_hub.proofs.RowLemmas.{hall_of, are_set, read_there, read_pass}
+use Rattle.ps_hub.proofs.PassListLemmas.{hall_of, are_set, read_there, read_pass}
 use Rattle.ps_hub.proofs.OrderLemmas.{are_hall}
 use Rattle.ps_hub.proofs.CallLemmas.{counted_hall, counted_room}
 use Rattle.ps_hub.proofs.hub.Hub.count.Goals as goal

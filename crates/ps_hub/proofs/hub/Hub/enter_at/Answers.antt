@@ -1,7 +1,7 @@
 use Rattle.std.proofs.Common.{ℕ, refl, sym, subst, ◌∙◌}
 use Rattle.ps_hub.specs.Names.{Names}
 use Rattle.ps_hub.specs.Calls.{Held}
-use Rattle.ps_hub.proofs.RowLemmas.{are_as_before, kept_pass, kept_read, kept_at, get_set}
+use Rattle.ps_hub.proofs.PassListLemmas.{are_as_before, kept_pass, kept_read, kept_at, get_set}
 use Rattle.ps_hub.proofs.EnterLemmas.{entered, entered_fault, entered_are, held_id}
 use Rattle.ps_hub.proofs.hub.Hub.enter_at.Goals as goal
 

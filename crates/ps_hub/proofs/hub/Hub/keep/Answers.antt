@@ -1,4 +1,4 @@
-use Rattle.ps_hub.proofs.RowLemmas.{keeps_there, keeps_added, if_ok_then}
+use Rattle.ps_hub.proofs.PassListLemmas.{keeps_there, keeps_added, if_ok_then}
 use Rattle.ps_hub.proofs.hub.Hub.keep.Goals as goal
 
 pub returns-in-Some-clause-ok : goal.returns-in-Some-clause-ok

@@ -6,7 +6,7 @@ use Rattle.ps_hub.specs.Calls.{Held, EntersAt, EnterFails}
 use Rattle.ps_hub.specs.declared.out.EnterFault.{EnterFault}
 use Rattle.ps_hub.specs.declared.out.EnterFault.TheVariants.{NoSuchRoom, Busy}
 use Rattle.ps_hub.specs.declared.pass.RoomPass.{RoomPass}
-use Rattle.ps_hub.proofs.RowLemmas.{are_set, read_there, read_pass}
+use Rattle.ps_hub.proofs.PassListLemmas.{are_set, read_there, read_pass}
 use Rattle.ps_hub.proofs.OrderLemmas.{room_orders}
 use Rattle.ps_hub.proofs.hub.Hub.order_room.Goals as goal
 

@@ -4,7 +4,7 @@ use Rattle.std.specs.List.{AllZip}
 use Rattle.ps_hub.specs.Passes.{IsRoomPass, numbers}
 use Rattle.ps_hub.specs.Calls.{QuitsRoom, QuitsUpTo}
 use Rattle.ps_hub.specs.declared.pass.RoomPass.{RoomPass}
-use Rattle.ps_hub.proofs.RowLemmas.{are_rooms, lent}
+use Rattle.ps_hub.proofs.PassListLemmas.{are_rooms, lent}
 use Rattle.ps_hub.proofs.CallLemmas.{quits_all, quits_stopped, quit_numbers, quit_numbers_up_to}
 use Rattle.ps_hub.proofs.hub.Hub.quit.Goals as goal
 

@@ -1,8 +1,8 @@
 use Rattle.std.proofs.Common.{refl}
-use Rattle.ps_places.specs.Halls.{HallAnswers, HallPulls}
+use Rattle.server_places.specs.Halls.{HallAnswers, HallPulls}
 use Rattle.ps_hub.specs.Hubs.{root_of}
 use Rattle.ps_hub.specs.Calls.{QuitsHall, QuitsHallAtMost}
-use Rattle.ps_hub.proofs.RowLemmas.{hall_of}
+use Rattle.ps_hub.proofs.PassListLemmas.{hall_of}
 use Rattle.ps_hub.proofs.OrderLemmas.{are_hall}
 use Rattle.ps_hub.proofs.CallLemmas.{hall_only}
 use Rattle.ps_hub.proofs.ShortLemmas.{last_short_at_late, last_short_at_limit, last_short_at_no_memory}

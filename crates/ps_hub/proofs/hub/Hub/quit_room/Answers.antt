@@ -1,6 +1,6 @@
 use Rattle.std.proofs.Common.{◌≡◌, Some, sym, ap, ◌∙◌}
 use Rattle.ps_base.specs.declared.badge.Badge.{Badge}
-use Rattle.ps_places.specs.Rooms.{Answers, Pulls}
+use Rattle.server_places.specs.Rooms.{Answers, Pulls}
 use Rattle.ps_hub.specs.Hubs.{site_of}
 use Rattle.ps_hub.proofs.CallLemmas.{quits_by, quits_short}
 use Rattle.ps_hub.proofs.ShortLemmas.{last_short_at_late, last_short_at_limit, last_short_at_no_memory}

@@ -3,7 +3,7 @@ use Rattle.std.proofs.lemmas.Option.{slice_get-get_or}
 use Rattle.ps_hub.specs.Passes.{IsRoomPass}
 use Rattle.ps_hub.specs.Calls.{QuitsRoom}
 use Rattle.ps_hub.specs.declared.pass.RoomPass.{RoomPass}
-use Rattle.ps_hub.proofs.RowLemmas.{at_place, after_set, on_err_is}
+use Rattle.ps_hub.proofs.PassListLemmas.{at_place, after_set, on_err_is}
 use Rattle.ps_hub.proofs.QuitLemmas.{done_there, done_next}
 use Rattle.ps_hub.proofs.CallLemmas.{quits_up_to}
 use Rattle.ps_hub.proofs.hub.Hub.quit_rooms.Goals as goal

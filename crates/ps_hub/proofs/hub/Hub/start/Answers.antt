@@ -1,5 +1,5 @@
 use Rattle.std.proofs.Common.{refl}
-use Rattle.ps_hub.proofs.RowLemmas.{are_as_before, kept_pass, kept_read}
+use Rattle.ps_hub.proofs.PassListLemmas.{are_as_before, kept_pass, kept_read}
 use Rattle.ps_hub.proofs.EnterLemmas.{entered_are}
 use Rattle.ps_hub.proofs.CallLemmas.{started}
 use Rattle.ps_hub.proofs.hub.Hub.start.Goals as goal

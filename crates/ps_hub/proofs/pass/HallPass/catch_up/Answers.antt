@@ -2,12 +2,12 @@ use Rattle.std.proofs.Common.{sym, ap, subst, ◌∙◌}
 use Rattle.ps_histlock.specs.declared.view.View.{View}
 use Rattle.ps_histlock.specs.Seated.{TableId}
 use Rattle.ps_hall.specs.declared.entry.HallEntry.{HallEntry}
-use Rattle.ps_places.specs.declared.site.Root.{Root}
-use Rattle.ps_places.specs.declared.cursor.HallCursor.{HallCursor}
+use Rattle.server_places.specs.declared.site.Root.{Root}
+use Rattle.server_places.specs.declared.cursor.HallCursor.{HallCursor}
 use Rattle.ps_hub.specs.Calls.{LooksAtMost}
 use Rattle.ps_hub.proofs.ToldLemmas.{looks_and_less}
 use Rattle.ps_hub.proofs.CatchLemmas.{hall_caught}
-use Rattle.ps_hub.proofs.RowLemmas.{if_ok_both, on_err_then}
+use Rattle.ps_hub.proofs.PassListLemmas.{if_ok_both, on_err_then}
 use Rattle.ps_hub.proofs.pass.HallPass.catch_up.Goals as goal
 
 pub returns-clause-of : goal.returns-clause-of

@@ -1,13 +1,13 @@
 use Rattle.std.proofs.Common.{sym, ap, subst, ◌∙◌}
 use Rattle.ps_histlock.specs.declared.view.View.{View}
 use Rattle.ps_histlock.specs.Seated.{TableId}
-use Rattle.ps_places.specs.declared.command.RoomCmd.{RoomCmd}
-use Rattle.ps_places.specs.declared.site.Site.{Site}
-use Rattle.ps_places.specs.declared.cursor.RoomCursor.{RoomCursor}
+use Rattle.server_places.specs.declared.command.RoomCmd.{RoomCmd}
+use Rattle.server_places.specs.declared.site.Site.{Site}
+use Rattle.server_places.specs.declared.cursor.RoomCursor.{RoomCursor}
 use Rattle.ps_hub.specs.Calls.{LooksAtMost}
 use Rattle.ps_hub.proofs.ToldLemmas.{looks_and_less}
 use Rattle.ps_hub.proofs.CatchLemmas.{room_caught}
-use Rattle.ps_hub.proofs.RowLemmas.{if_ok_both, on_err_then}
+use Rattle.ps_hub.proofs.PassListLemmas.{if_ok_both, on_err_then}
 use Rattle.ps_hub.proofs.pass.RoomPass.catch_up.Goals as goal
 
 pub returns-clause-of : goal.returns-clause-of

@@ -1,6 +1,6 @@
 use Rattle.std.proofs.Common.{◌≡◌, sym, ap, ◌∙◌, is_some, true, false, not, ℕ, List, string_bytes, pos}
 use Rattle.std.specs.FinMap.{get, insert, contains_key}
-use Rattle.ps_roster.proofs.ByIdLemmas.{get_by_id, inserted}
+use Rattle.ps_base.proofs.ByIdLemmas.{get_by_id, inserted}
 use Rattle.ps_ladder.proofs.MapLemmas.{kept, unrated}
 use Rattle.ps_ladder.proofs.scores.Scores.enter.Goals as goal
 

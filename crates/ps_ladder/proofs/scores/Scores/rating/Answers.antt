@@ -1,7 +1,7 @@
 use Rattle.std.proofs.Common.{sym, ap, ◌∙◌, unwrap_or, pos, w32, SFits, rules}
 use Rattle.std.specs.FinMap.{get}
 use Rattle.std.proofs.lemmas.Int.{to_z-of_z}
-use Rattle.ps_roster.proofs.ByIdLemmas.{get_by_id}
+use Rattle.ps_base.proofs.ByIdLemmas.{get_by_id}
 use Rattle.ps_ladder.proofs.scores.Scores.rating.Goals as goal
 
 pub returns : goal.returns

@@ -1,6 +1,6 @@
 use Rattle.std.proofs.Common.{ap, ◌∙◌}
 use Rattle.std.specs.FinMap.{remove}
-use Rattle.ps_roster.proofs.ByIdLemmas.{removed}
+use Rattle.ps_base.proofs.ByIdLemmas.{removed}
 use Rattle.ps_ladder.proofs.scores.Scores.remove.Goals as goal
 
 pub returns : goal.returns

@@ -2,7 +2,7 @@ use Rattle.std.proofs.Common.{◌≡◌, sym, ap, ◌∙◌, is_some, true, w32,
 use Rattle.std.specs.FinMap.{get, insert}
 use Rattle.std.proofs.lemmas.Int.{to_z-of_z}
 use Rattle.std.specs.BTreeMap.{get_by_text}
-use Rattle.ps_roster.proofs.ByIdLemmas.{get_by_id, inserted}
+use Rattle.ps_base.proofs.ByIdLemmas.{get_by_id, inserted}
 use Rattle.ps_ladder.proofs.scores.Scores.set.Goals as goal
 
 pub unwrap-score-requires : goal.unwrap-score-requires

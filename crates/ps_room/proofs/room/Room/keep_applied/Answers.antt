@@ -1,9 +1,9 @@
 use Rattle.std.proofs.Common.{◌≡◌, List, ◌++◌, ◌∷◌, [], ◌∙◌, ap, sym, subst, map, None, Option}
 use Rattle.ps_chat.specs.Steps.{Seen as ChatSeen}
-use Rattle.ps_chat.specs.Looks.{member}
+use Rattle.ps_chat.specs.Lookups.{member}
 use Rattle.ps_chat.specs.Rooms.{presents}
-use Rattle.ps_bout.specs.Fights.{Fight}
-use Rattle.ps_splitlog.specs.declared.entry.Held.{Held}
+use Rattle.battle_rounds.specs.Fights.{Fight}
+use Rattle.ps_splitlog.specs.declared.entry.LogEntry.{LogEntry}
 use Rattle.ps_room.specs.Records.{cast_in}
 use Rattle.ps_room.specs.Rooms.{verdict, battle_after}
 use Rattle.ps_room.specs.Logs.{Seen, record_in, seen_after, change_in, changed_conn, touched_by, given, Goes}
@@ -28,7 +28,7 @@ returns-clause-ok c =
     let next : Option Fight = c.set_bout.new.battle in
     let changes : c.from_vec.result ≡ map (λ x. change_in (cast_in next) new.opening new.state (changed_conn x)) c.in_ok-changes.changes.items =
     c.from_vec.ensures ∙ c.set_all_roles.ensures ∙ ap (λ cast. map (λ x. change_in cast new.opening new.state (changed_conn x)) c.in_ok-changes.changes.items) (c.cast_in.ensures ∙ ap cast_in c.as_ref.ensures.value) in
-    let logged : c.give_roles.new.self ≡ c.self.inside.log ++ with_roles c.args.held c.from_vec.result ∷ [] = c.give_roles.ensures.last c.self.inside.log c.args.held c.in_ok-push_and_change.ensures.log in
+    let logged : c.give_roles.new.self ≡ c.self.inside.log ++ with_roles c.args.log_entry c.from_vec.result ∷ [] = c.give_roles.ensures.last c.self.inside.log c.args.log_entry c.in_ok-push_and_change.ensures.log in
     let touch : map changed_conn c.in_ok-changes.changes.items ≡ touched_by c.args.entry.now.cmd (presents c.self.inside.chat.opening c.self.inside.chat.state) c.args.entry.now.conn =
     c.in_ok-changes.ensures ∙ ap (λ ps. touched_by c.args.entry.now.cmd ps c.args.entry.now.conn) c.members.ensures in
     let here : Seen = room_with c.self.inside.no c.self.inside.id c.self.inside.chat c.self.inside.battle c.self.inside.log in
@@ -36,8 +36,8 @@ returns-clause-ok c =
     let goes : Goes here c.args.entry.now c.args.bout = subst (λ (s : Seen). Goes s c.args.entry.now c.args.bout) (sym c.self.view_is) c.requires.goes in
     let went : next ≡ battle_after c.self.inside.battle (member c.args.entry.now.conn (presents c.self.inside.chat.opening c.self.inside.chat.state)) c.args.entry.now.cmd =
     c.set_bout.ensures ∙ goes.after allowed in
-    ap (λ (log : List Held). room_with c.self.inside.no c.self.inside.id new next log) logged
-    ∙ parts_applied c.self.inside.no c.self.inside.id c.self.inside.chat new c.self.inside.battle next c.self.inside.log c.args.entry.now c.args.held c.in_ok-changes.changes.items c.from_vec.result
+    ap (λ (log : List LogEntry). room_with c.self.inside.no c.self.inside.id new next log) logged
+    ∙ parts_applied c.self.inside.no c.self.inside.id c.self.inside.chat new c.self.inside.battle next c.self.inside.log c.args.entry.now c.args.log_entry c.in_ok-changes.changes.items c.from_vec.result
     allowed
     (c.requires.given ∙ ap (λ (s : Seen). given (record_in s) c.args.entry.now) (sym c.self.view_is))
     c.in_ok-push_and_change.ensures.chat went touch changes

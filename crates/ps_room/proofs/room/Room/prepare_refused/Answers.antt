@@ -7,5 +7,5 @@ use Rattle.ps_room.proofs.room.Room.prepare_refused.Goals as goal
 pub returns-clause-out : goal.returns-clause-out
 returns-clause-out c = out_refused (record_in c.args.self.now) c.args.entry.now c.args.why c.requires
 
-pub returns-clause-held : goal.returns-clause-held
-returns-clause-held c = c.in_ok-refused_held.ensures ∙ given_refused (record_in c.args.self.now) c.args.entry.now c.args.why c.requires
+pub returns-clause-log_entry : goal.returns-clause-log_entry
+returns-clause-log_entry c = c.in_ok-refused_log_entry.ensures ∙ given_refused (record_in c.args.self.now) c.args.entry.now c.args.why c.requires

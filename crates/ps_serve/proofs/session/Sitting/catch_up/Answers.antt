@@ -27,7 +27,7 @@ loop-place-preserved g c =
       e.of,
       e.session ∙ i.1,
       e.badge ∙ i.2,
-      e.row ∙ i.3,
+      e.pass_list ∙ i.3,
       e.counts ∙ i.4,
       room_has_told c.args.hub.now c.args.self.now.session c.loop-place.place c.args.self.now.passes c.loop-place.self.passes c.tell_room.new.self.passes (g.L.Link.talk c.args.link.now) (g.L.Link.talk c.loop-place.link) (g.L.Link.talk c.tell_room.new.link) i.5 e.told,
     )

@@ -1,6 +1,6 @@
 use Rattle.std.proofs.Common.{◌+◌, ℕ, Option, sym, ap, subst, ◌∙◌, unwrap_or}
 use Rattle.std.specs.FinMap.{get}
-use Rattle.ps_roster.specs.ById.{ById}
+use Rattle.ps_base.specs.ById.{ById}
 use Rattle.ps_session.specs.Counts.{Counts}
 use Rattle.ps_session.specs.Kept.{HasNoZero}
 use Rattle.ps_session.proofs.KeptLemmas.{no_zero-risen, rises}

@@ -6,4 +6,4 @@ use Rattle.ps_session.proofs.room_counts.RoomCounts.uncount.Goals as goal
 
 pub returns : goal.returns
 returns c =
-    ap (λ (held : ℕ). counts_of c.self.inside.settled held None) c.held_without-self-inside.ensures ∙ without_risen c.self.inside.settled c.self.inside.held c.self.inside.last c.self.invariant.1 ∙ ap (λ (x : Counts). without_last x.last x) c.self.view_is
+    ap (λ (joined : ℕ). counts_of c.self.inside.settled joined None) c.joined_without-self-inside.ensures ∙ without_risen c.self.inside.settled c.self.inside.joined c.self.inside.last c.self.invariant.1 ∙ ap (λ (x : Counts). without_last x.last x) c.self.view_is

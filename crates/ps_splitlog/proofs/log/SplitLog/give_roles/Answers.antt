@@ -3,4 +3,4 @@ use Rattle.ps_splitlog.proofs.log.SplitLog.give_roles.Goals as goal
 
 pub invariant_of-self : goal.invariant_of-self
 invariant_of-self c =
-    kept_index c.self.inside.entries.items c.set_roles.new.entries.items c.args.roles c.self.inside.index.starts.items c.self.inside.index.places.items c.self.invariant c.set_roles.ensures.last c.set_roles.ensures.none
+    kept_index c.self.inside.entries.items c.set_roles.new.entries.items c.args.roles c.self.inside.index.starts.items c.self.inside.index.line_indices.items c.self.invariant c.set_roles.ensures.last c.set_roles.ensures.none

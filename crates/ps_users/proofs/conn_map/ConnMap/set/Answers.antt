@@ -4,8 +4,8 @@ use Rattle.std.specs.FinMap.{get, insert}
 use Rattle.ps_users.proofs.ConnLemmas.{inserted, is_there}
 use Rattle.ps_users.proofs.conn_map.ConnMap.set.Goals as goal
 
-pub unwrap-place-requires : goal.unwrap-place-requires
-unwrap-place-requires g c =
+pub unwrap-slot-requires : goal.unwrap-slot-requires
+unwrap-slot-requires g c =
     let known = ap (λ m. is_some (get m c.conn.inside.0)) c.self.view_is ∙ ap (λ k. is_some (get c.args.self.now k)) c.conn.view_is ∙ c.requires in
     let there = ap is_some c.get_mut.ensures.value ∙ is_there c.self.inside.tree c.conn.inside.0 known in
     search (rules, there)

@@ -1,0 +1,77 @@
+-- What choices, undos and forfeits do to a battle, and what is told of it.
+use Rattle.std.specs.Prelude.{ℕ, ◌+◌, ◌-◌, ◌^◌, min, Bool, not, ◌||◌, ◌&&◌, List, [], ◌∷◌, Option, Some, None, is_some, if◌then◌else◌}
+use Rattle.arrayvec.specs.ArrayVec.{ArrayVec}
+use Rattle.ps_event.specs.declared.event.Event.{Event}
+use Rattle.ps_event.specs.declared.event.Event.TheVariants as events
+use Rattle.ps_mon.specs.declared.choice.Choice.{Choice}
+use Rattle.ps_mon.specs.declared.choice.Choice.TheVariants as choices
+use Rattle.ps_mon.specs.declared.record.Phase.{Phase}
+use Rattle.ps_mon.specs.declared.record.Phase.TheVariants as phases
+use Rattle.ps_mon.specs.declared.team.BattleTeam.{BattleTeam}
+use Rattle.ps_mon.specs.Facts.{Figures}
+use Rattle.ps_mon.specs.Choices.{is_asked}
+use Rattle.ps_mon.specs.Valid.{is_over}
+use Rattle.ps_hits.specs.Courses.{Course, untold}
+use Rattle.ps_hits.specs.Told.{side_name}
+use Rattle.ps_battle.specs.Openings.{open_course, give_up}
+use Rattle.ps_battle.specs.Turns.{turn}
+use Rattle.battle_rounds.specs.declared.bout.Bout.{Bout}
+use Rattle.battle_rounds.specs.Bouts.{waiting, with_waiting}
+
+-- the battle in its rounds after something, and the events of it
+pub record Outcome : Type 0 where
+  pub bout : Bout
+  pub told : List Event
+
+abbrev pub outcome : Bout → ArrayVec Event → Outcome
+outcome b events = record { bout = b; told = events.items }
+
+-- a round is open, and nothing waits
+abbrev pub in_round : ℕ → Course → Outcome
+in_round round c = record { bout = record { battle = c.battle; round = round; first = None; second = None }; told = c.told }
+
+-- the opening: the first round is open
+unfoldable pub opened : List BattleTeam → ℕ → ℕ → Outcome
+opened teams clauses seed = in_round 1 (open_course teams clauses seed)
+
+-- the number of the round after one; it stands still at the last
+abbrev pub next_round : ℕ → ℕ
+next_round round = min (round + 1) (2 ^ 32 - 1)
+
+-- a side has chosen, or isn't asked
+abbrev pub is_ready : Bout → ℕ → Bool
+is_ready b s = not (is_asked b.battle.phase s) || is_some (waiting b s)
+
+abbrev pub choice_or_pass : Option Choice → Choice
+choice_or_pass (Some choice) = choice
+choice_or_pass None = choices.Pass
+
+-- what waits is committed, and the next round opens
+unfoldable pub committed : Figures → Bout → Outcome
+committed facts b = in_round (next_round b.round) (turn facts (choice_or_pass b.first) (choice_or_pass b.second) (untold b.battle))
+
+-- the round is completed where both sides are ready; else the choice waits, and nothing is told
+unfoldable pub completed : Figures → Bout → Outcome
+completed facts b = if is_ready b 0 && is_ready b 1 then committed facts b else record { bout = b; told = [] }
+
+-- a side chooses
+abbrev pub chose : Figures → ℕ → Choice → Bout → Outcome
+chose facts s choice b = completed facts (with_waiting s (Some choice) b)
+
+-- a side takes its choice back, and is asked again
+abbrev pub undone : ℕ → Bout → Outcome
+undone s b = record { bout = with_waiting s None b; told = events.Request (side_name s) ∷ [] }
+
+-- a side gives up: the other one wins, and nothing waits
+unfoldable pub gave_up : ℕ → Bout → Outcome
+gave_up s b = in_round b.round (give_up s (untold b.battle))
+
+-- who won, or nobody at a tie; None where the battle goes on
+abbrev pub result_of : Phase → Option (Option ℕ)
+result_of (phases.Won s) = Some (Some s)
+result_of phases.Tied = Some None
+result_of other = None
+
+-- how a battle ended between two phases
+abbrev pub ended : Phase → Phase → Option (Option ℕ)
+ended before after = if is_over before then None else result_of after

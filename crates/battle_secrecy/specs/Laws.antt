@@ -1,0 +1,52 @@
+-- Two worlds of a battle: what is hidden changes nothing that is told.
+use Rattle.std.specs.Prelude.{◌≡◌, ℕ, zero, suc, ◌-◌, ◌==◌, ◌&&◌, Bool, true, false, not, slice_index}
+use Rattle.ps_mon.specs.declared.record.Battle.{Battle}
+use Rattle.ps_mon.specs.declared.record.SideState.{SideState}
+use Rattle.ps_mon.specs.declared.choice.Choice.{Choice}
+use Rattle.ps_mon.specs.declared.choice.Choice.TheVariants as choices
+use Rattle.ps_mon.specs.Choices.{IsChoiceOf}
+use Rattle.ps_mon.specs.Facts.{Figures}
+use Rattle.ps_mon.specs.Reading.{side_of, active_index}
+use Rattle.ps_hits.specs.Courses.{Course, untold}
+use Rattle.ps_battle.specs.Turns.{turn}
+use Rattle.battle_secrecy.specs.Places.{Hidden}
+use Rattle.battle_secrecy.specs.Alike.{AreAlike}
+use Rattle.battle_secrecy.specs.Showing.{ShowsNoHidden, NamesNoHidden}
+use Rattle.battle_secrecy.specs.Courses.{has_copied}
+
+-- alike battles after the same events, none of which names a hidden member
+pub record AreToldAlike (hidden : Hidden) (a b : Course) : Type 0 where
+  pub battle : AreAlike hidden a.battle b.battle
+  pub told : a.told ≡ b.told
+  pub names : NamesNoHidden hidden a.told
+
+-- a choice that a side may be committed with, and that shows no hidden place: its slot isn't hidden, and the member that it sends in isn't
+abbrev pub IsChoiceUnhidden : Hidden → ℕ → SideState → Choice → Type 0
+IsChoiceUnhidden hidden s side (choices.Move n) = hidden.slot s (active_index side) (n - 1) ≡ false
+IsChoiceUnhidden hidden s side (choices.Switch position) = hidden.member s (slice_index side.order (position - 1)) ≡ false
+IsChoiceUnhidden hidden s side choice = Unit {0}
+
+-- the place of the active member of each side
+abbrev pub fronts : Battle → ℕ → ℕ
+fronts b s = active_index (side_of b s)
+
+-- a choice that sends in a member
+abbrev pub is_switch : Choice → Bool
+is_switch (choices.Switch position) = true
+is_switch other = false
+
+-- whether member k of side s is active, stays so by the side's choice, and has another's form: a member that is sent in has its own
+abbrev pub has_form : Battle → Choice → ℕ → ℕ → Bool
+has_form b choice s k = not (is_switch choice) && (active_index (side_of b s) == k && has_copied b s)
+
+-- which members have another's form as the acts of a round begin: of side 0 with the first choice, of the other side with the second
+abbrev pub forms : Battle → Choice → Choice → ℕ → ℕ → Bool
+forms b one two zero k = has_form b one zero k
+forms b one two (suc s) k = has_form b two (suc s) k
+
+-- A turn is the same in two alike battles, where neither its choices nor what is told of it show a hidden place.
+abbrev pub TurnKeepsAlike : Type 0
+TurnKeepsAlike = (facts : Figures) (one two : Choice) (hidden : Hidden) (a b : Battle) → AreAlike hidden a b →
+    IsChoiceOf a 0 one → IsChoiceOf a 1 two → IsChoiceUnhidden hidden 0 (side_of a 0) one → IsChoiceUnhidden hidden 1 (side_of a 1) two →
+    ShowsNoHidden hidden (fronts (turn facts one two (untold a)).battle) (forms a one two) (turn facts one two (untold a)).told →
+    AreToldAlike hidden (turn facts one two (untold a)) (turn facts one two (untold b))

@@ -1,0 +1,6 @@
+pub mod Words
+pub mod Statuses
+pub mod Steps
+pub mod Setups
+pub mod Checks
+pub mod Ends

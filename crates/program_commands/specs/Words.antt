@@ -1,0 +1,231 @@
+-- The words of a command.
+use Rattle.std.specs.Prelude.{ℕ, ◌+◌, Bool, false, not, ◌&&◌, nat_le, ◌≤◌, List, [], ◌∷◌, codes, Option, Some, None, Result, Ok, Err, ◌==◌, if◌then◌else◌}
+use Rattle.std.specs.Option.{option_copied}
+use Rattle.std.specs.Str.{bytes_eq}
+use Rattle.ps_base.specs.Numbers.{number_in}
+use Rattle.program_commands.specs.declared.words.CheckWords.{CheckWords}
+use Rattle.program_commands.specs.declared.words.DrillWords.{DrillWords}
+use Rattle.program_commands.specs.declared.words.OptionWords.{OptionWords}
+use Rattle.program_commands.specs.declared.words.ServeWords.{ServeWords}
+use Rattle.program_commands.specs.declared.words.Command.{Command}
+use Rattle.program_commands.specs.declared.words.Command.TheVariants as commands
+
+-- the files that options name
+pub record Options : Type 0 where
+  pub dex : Option (List ℕ)
+  pub config : Option (List ℕ)
+
+-- what a check is asked for
+pub record Checked : Type 0 where
+  pub format : List ℕ
+  pub team : List ℕ
+  pub dex : Option (List ℕ)
+  pub config : Option (List ℕ)
+
+-- what a drill is asked for: so many steps, with these files
+pub record Drilled : Type 0 where
+  pub steps : ℕ
+  pub options : Options
+
+-- what a server is asked for: so many connections at an address, with these files
+pub record Serves : Type 0 where
+  pub address : List ℕ
+  pub count : ℕ
+  pub options : Options
+
+-- what the words of `run` ask for
+pub data Asked : Type 0 where
+  Replays : Options → Asked
+  Drills : Drilled → Asked
+  Checks : Checked → Asked
+
+-- a word that names something: it isn't empty and doesn't begin with `-`
+abbrev pub is_name : List ℕ → Bool
+is_name [] = false
+is_name (b ∷ bytes) = not (b == 45)
+
+-- Everywhere here the answer `Err` is the index of the first word that can't stand, counted from 0, or how many words there are
+-- where one is missing. The words are those from the index `at` on.
+
+-- behind the last option: one name, and nothing more
+abbrev pub last_name : ℕ → List (List ℕ) → Result (Option (List ℕ)) ℕ
+last_name at [] = Err at
+last_name at (name ∷ []) = if is_name name then Ok (Some name) else Err at
+last_name at (name ∷ more ∷ words) = if is_name name then Err (at + 1) else Err at
+
+-- one option with its name, or nothing
+abbrev pub last_option : List ℕ → ℕ → List (List ℕ) → Result (Option (List ℕ)) ℕ
+last_option option at [] = Ok None
+last_option option at (word ∷ words) = if bytes_eq word option then last_name (at + 1) words else Err at
+
+-- ---- the options, each at most once, in either order
+
+abbrev pub with_config : Option (List ℕ) → Result (Option (List ℕ)) ℕ → Result Options ℕ
+with_config dex (Ok config) = Ok (record { dex = dex; config = config })
+with_config dex (Err at) = Err at
+
+abbrev pub with_dex : Option (List ℕ) → Result (Option (List ℕ)) ℕ → Result Options ℕ
+with_dex config (Ok dex) = Ok (record { dex = dex; config = config })
+with_dex config (Err at) = Err at
+
+-- behind `--dex`: its name, and then `--config` with its own, or nothing
+abbrev pub dex_first : ℕ → List (List ℕ) → Result Options ℕ
+dex_first at [] = Err at
+dex_first at (name ∷ words) = if is_name name then with_config (Some name) (last_option (codes "--config") (at + 1) words) else Err at
+
+-- behind `--config`: its name, and then `--dex` with its own, or nothing
+abbrev pub config_first : ℕ → List (List ℕ) → Result Options ℕ
+config_first at [] = Err at
+config_first at (name ∷ words) = if is_name name then with_dex (Some name) (last_option (codes "--dex") (at + 1) words) else Err at
+
+abbrev pub options_in : ℕ → List (List ℕ) → Result Options ℕ
+options_in at [] = Ok (record { dex = None; config = None })
+options_in at (word ∷ words) = if bytes_eq word (codes "--dex") then dex_first (at + 1) words else (if bytes_eq word (codes "--config") then config_first (at + 1) words else Err at)
+
+-- ---- replay
+
+abbrev pub replays : Result Options ℕ → Result Asked ℕ
+replays (Ok options) = Ok (Replays options)
+replays (Err at) = Err at
+
+-- behind `replay`: the options
+abbrev pub replay_in : List (List ℕ) → Result Asked ℕ
+replay_in words = replays (options_in 1 words)
+
+-- ---- drill
+
+abbrev pub most_steps : ℕ
+most_steps = 4000
+
+abbrev pub within_steps : Option ℕ → Option ℕ
+within_steps None = None
+within_steps (Some n) = if nat_le 1 n && nat_le n most_steps then Some n else None
+
+-- the number of steps, 1 to 4,000, as its one decimal text
+abbrev pub steps_in : List ℕ → Option ℕ
+steps_in word = within_steps (number_in word)
+
+abbrev pub drills : ℕ → Result Options ℕ → Result Asked ℕ
+drills steps (Ok options) = Ok (Drills (record { steps = steps; options = options }))
+drills steps (Err at) = Err at
+
+abbrev pub drill_of : Option ℕ → List (List ℕ) → Result Asked ℕ
+drill_of None words = Err 1
+drill_of (Some steps) words = drills steps (options_in 2 words)
+
+-- behind `drill`: the number of steps
+abbrev pub drill_in : List (List ℕ) → Result Asked ℕ
+drill_in [] = Err 1
+drill_in (number ∷ words) = drill_of (steps_in number) words
+
+-- ---- check
+
+abbrev pub checks : List ℕ → List ℕ → Result Options ℕ → Result Asked ℕ
+checks format team (Ok options) = Ok (Checks (record { format = format; team = team; dex = options.dex; config = options.config }))
+checks format team (Err at) = Err at
+
+-- behind the format: the team's file
+abbrev pub team_in : List ℕ → List (List ℕ) → Result Asked ℕ
+team_in format [] = Err 2
+team_in format (team ∷ words) = if is_name team then checks format team (options_in 3 words) else Err 2
+
+-- behind `check`: the format
+abbrev pub check_in : List (List ℕ) → Result Asked ℕ
+check_in [] = Err 1
+check_in (format ∷ words) = if is_name format then team_in format words else Err 1
+
+-- ---- serve
+
+abbrev pub most_count : ℕ
+most_count = 1024
+
+abbrev pub within_count : Option ℕ → Option ℕ
+within_count None = None
+within_count (Some n) = if nat_le 1 n && nat_le n most_count then Some n else None
+
+-- the number of connections, 1 to 1,024, as its one decimal text
+abbrev pub count_in : List ℕ → Option ℕ
+count_in word = within_count (number_in word)
+
+abbrev pub serves : List ℕ → ℕ → Result Options ℕ → Result Serves ℕ
+serves address count (Ok options) = Ok (record { address = address; count = count; options = options })
+serves address count (Err at) = Err at
+
+abbrev pub serves_so_many : List ℕ → Option ℕ → List (List ℕ) → Result Serves ℕ
+serves_so_many address None words = Err 2
+serves_so_many address (Some count) words = serves address count (options_in 3 words)
+
+-- behind the address: the number of connections
+abbrev pub counted_in : List ℕ → List (List ℕ) → Result Serves ℕ
+counted_in address [] = Err 2
+counted_in address (number ∷ words) = serves_so_many address (count_in number) words
+
+-- behind `serve`: the address
+abbrev pub serve_in : List (List ℕ) → Result Serves ℕ
+serve_in [] = Err 1
+serve_in (address ∷ words) = if is_name address then counted_in address words else Err 1
+
+-- ---- all of it
+
+-- the words of `serve`
+abbrev pub serve_words_in : List (List ℕ) → Result Serves ℕ
+serve_words_in [] = Err 0
+serve_words_in (word ∷ words) = if bytes_eq word (codes "serve") then serve_in words else Err 0
+
+-- the words of `run`, which doesn't take `serve`
+abbrev pub words_in : List (List ℕ) → Result Asked ℕ
+words_in [] = Err 0
+words_in (word ∷ words) =
+    if bytes_eq word (codes "replay") then replay_in words
+    else (if bytes_eq word (codes "drill") then drill_in words
+    else (if bytes_eq word (codes "check") then check_in words
+    else Err 0))
+
+-- ---- what holds where the words ask for one of these
+
+abbrev pub IfReplay : Result Asked ℕ → (Options → Type 0) → Type 0
+IfReplay (Ok (Replays options)) holds = holds options
+IfReplay (Ok (Drills words)) holds = Unit {0}
+IfReplay (Ok (Checks words)) holds = Unit {0}
+IfReplay (Err at) holds = Unit {0}
+
+abbrev pub IfDrill : Result Asked ℕ → (Drilled → Type 0) → Type 0
+IfDrill (Ok (Replays options)) holds = Unit {0}
+IfDrill (Ok (Drills words)) holds = holds words
+IfDrill (Ok (Checks words)) holds = Unit {0}
+IfDrill (Err at) holds = Unit {0}
+
+abbrev pub IfCheck : Result Asked ℕ → (Checked → Type 0) → Type 0
+IfCheck (Ok (Replays options)) holds = Unit {0}
+IfCheck (Ok (Drills words)) holds = Unit {0}
+IfCheck (Ok (Checks words)) holds = holds words
+IfCheck (Err at) holds = Unit {0}
+
+-- ---- for the code: what was read, as contracts see it
+
+abbrev pub options_of : OptionWords → Options
+options_of o = record { dex = option_copied o.dex; config = option_copied o.config }
+
+abbrev pub drilled_of : DrillWords → Drilled
+drilled_of w = record { steps = w.steps; options = options_of w.options }
+
+abbrev pub checked_of : CheckWords → Checked
+checked_of w = record { format = w.format.now; team = w.team.now; dex = option_copied w.dex; config = option_copied w.config }
+
+abbrev pub serves_of : ServeWords → Serves
+serves_of w = record { address = w.address.now; count = w.count; options = options_of w.options }
+
+abbrev pub asked_of : Command → Asked
+asked_of (commands.Replay options) = Replays (options_of options)
+asked_of (commands.Drill words) = Drills (drilled_of words)
+asked_of (commands.Check words) = Checks (checked_of words)
+
+-- a drill has at most 4,000 steps
+abbrev pub HasFewSteps : Command → Type 0
+HasFewSteps (commands.Replay options) = Unit {0}
+HasFewSteps (commands.Drill words) = words.steps ≤ most_steps
+HasFewSteps (commands.Check words) = Unit {0}
+
+-- a server takes 1 to 1,024 connections
+abbrev pub IsCount : ℕ → Type 0
+IsCount n = (1 ≤ n) × (n ≤ most_count)

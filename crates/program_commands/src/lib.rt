@@ -1,0 +1,10 @@
+//! The commands of the program: their words, the files that these name, the statuses that a run ends with, and the check of a
+//! team against the rules of a format.
+#![tactic(auto)]
+
+pub mod check;
+pub mod config;
+pub mod dex;
+pub mod file;
+pub mod status;
+pub mod words;

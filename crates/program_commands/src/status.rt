@@ -1,0 +1,133 @@
+//! How a run ends.
+ghost use Rattle.std.specs.Prelude.{◌≡◌};
+ghost use Rattle.program_commands.specs.Statuses.{number_of};
+
+use ps_base::id::Id;
+use ps_base::pack_kind::PackKind;
+use ps_base::team_rule::TeamRule;
+use ps_base::text::Text;
+use ps_data::fault::DataKind;
+use replay_script::script::ScriptKind;
+use std::fmt;
+
+/// How a run ended. Its `Display` is the name of the variant, and for each field in order a space,
+/// the field's name, `=` and its value.
+#[derive(Debug, Drop)]
+pub enum Status {
+    /// The command did its work. A replay read its input to the end.
+    Done,
+    /// The words aren't a command: the index of the first that can't stand, counted from 0, or how many
+    /// there are where one is missing.
+    Usage {
+        word: u32,
+    },
+    /// There is no file of that name.
+    FileMissing {
+        name: Text,
+    },
+    /// The file could not be read.
+    FileFault {
+        name: Text,
+    },
+    /// The file is over its limit: 16,777,216 bytes for a dex, 1,048,576 for a configuration, 8,192 for a team.
+    FileLong {
+        name: Text,
+    },
+    /// The dex file has no value: the path of its first fault, and the kind.
+    BadDex {
+        path: Text,
+        kind: DataKind,
+    },
+    /// The configuration has no value: the path of its first fault, and the kind.
+    BadConfig {
+        path: Text,
+        kind: DataKind,
+    },
+    /// The input is no script: the first line that can't stand in one, counted from 1, and what is wrong
+    /// with it.
+    BadScript {
+        line: u32,
+        kind: ScriptKind,
+    },
+    /// The input has more than 200,000 lines or 16,777,216 bytes: the count that passed first.
+    ScriptLong {
+        count: u32,
+    },
+    /// The source failed.
+    ReadFault,
+    /// The sink failed; a front of the output was written.
+    WriteFault,
+    /// The team breaks a rule: the set that does, counted from 1, or 0 where the number of sets does, the
+    /// first rule that it breaks, and what breaks it.
+    BadTeam {
+        set: u8,
+        rule: TeamRule,
+        subject: Text,
+    },
+    /// Memory was refused; a front of the output was written.
+    NoMemory,
+    /// The door failed: it could not listen, or hand out a connection.
+    DoorFault,
+    /// No format of the configuration has the id.
+    UnknownFormat {
+        id: Id,
+    },
+    /// The team's file is no packed team (TEAMS.md of the simulator): the byte at which its longest part
+    /// ends that some packed text begins with, and the kind. A file that isn't UTF-8 is reported at 0, of the
+    /// kind `Text`.
+    BadPack {
+        at: u32,
+        kind: PackKind,
+    },
+}
+
+impl Status {
+    /// The number that the program ends with.
+    pub fn number(&self) -> u8
+        ensures { result ≡ number_of self.now }
+    {
+        match self {
+            Status::Done => 0,
+            Status::Usage { .. } => 2,
+            Status::FileMissing { .. } => 3,
+            Status::FileFault { .. } => 4,
+            Status::FileLong { .. } => 5,
+            Status::BadDex { .. } => 6,
+            Status::BadConfig { .. } => 7,
+            Status::BadScript { .. } => 8,
+            Status::ScriptLong { .. } => 9,
+            Status::ReadFault => 10,
+            Status::WriteFault => 11,
+            Status::BadTeam { .. } => 12,
+            Status::NoMemory => 13,
+            Status::DoorFault => 14,
+            Status::UnknownFormat { .. } => 15,
+            Status::BadPack { .. } => 16,
+        }
+    }
+}
+
+impl fmt::Display for Status {
+    fn fmt<W: fmt::Write>(&self, f: &mut fmt::Formatter<W>) -> fmt::Result {
+        match self {
+            Status::Done => write!(f, "Done"),
+            Status::Usage { word } => write!(f, "Usage word={word}"),
+            Status::FileMissing { name } => write!(f, "FileMissing name={name}"),
+            Status::FileFault { name } => write!(f, "FileFault name={name}"),
+            Status::FileLong { name } => write!(f, "FileLong name={name}"),
+            Status::BadDex { path, kind } => write!(f, "BadDex path={path} kind={kind:?}"),
+            Status::BadConfig { path, kind } => write!(f, "BadConfig path={path} kind={kind:?}"),
+            Status::BadScript { line, kind } => write!(f, "BadScript line={line} kind={kind:?}"),
+            Status::ScriptLong { count } => write!(f, "ScriptLong count={count}"),
+            Status::ReadFault => write!(f, "ReadFault"),
+            Status::WriteFault => write!(f, "WriteFault"),
+            Status::BadTeam { set, rule, subject } => {
+                write!(f, "BadTeam set={set} rule={rule:?} subject={subject}")
+            }
+            Status::NoMemory => write!(f, "NoMemory"),
+            Status::DoorFault => write!(f, "DoorFault"),
+            Status::UnknownFormat { id } => write!(f, "UnknownFormat id={id}"),
+            Status::BadPack { at, kind } => write!(f, "BadPack at={at} kind={kind:?}"),
+        }
+    }
+}

@@ -1,6 +1,0 @@
-use Rattle.std.proofs.Common.{◌≡◌, take}
-use Rattle.ps_bout.specs.Fights.{requests}
-use Rattle.ps_bout.proofs.room_battle.requests.Given as goal
-
-abbrev pub invariant-loop-event : goal.invariant-loop-event
-invariant-loop-event l = l.lines.items ≡ requests l.cast l.bout (take l.event-index l.events)

@@ -1,4 +1,0 @@
-//! The check of a team against the rules of a format.
-#![tactic(auto)]
-
-pub mod check;

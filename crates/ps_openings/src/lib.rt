@@ -1,4 +1,0 @@
-//! What the rooms of a server are opened with.
-#![tactic(auto)]
-
-pub mod opening;

@@ -1,9 +1,0 @@
-use Rattle.ps_places.proofs.GoOnLemmas.{pulls_go_on}
-use Rattle.ps_places.proofs.HallLemmas.{hall_goes_on}
-use Rattle.ps_places.proofs.law.law_of_places.Goals as goal
-
-pub returns-clause-hall : goal.returns-clause-hall
-returns-clause-hall c = hall_goes_on
-
-pub returns-clause-room : goal.returns-clause-room
-returns-clause-room c = pulls_go_on

@@ -1,8 +1,0 @@
-use Rattle.ps_places.proofs.TellLemmas.{one_story, tells_more}
-use Rattle.ps_places.proofs.law.law_of_stories.Goals as goal
-
-pub returns-clause-one : goal.returns-clause-one
-returns-clause-one c = one_story
-
-pub returns-clause-more : goal.returns-clause-more
-returns-clause-more c = tells_more

@@ -1,3 +1,0 @@
-pub mod ById
-pub mod SentTexts
-pub mod ShownNames

@@ -1,5 +1,0 @@
-use Rattle.ps_script.proofs.OneScript as laws
-use Rattle.ps_script.proofs.law.law_of_scripts.Goals as goal
-
-pub returns : goal.returns
-returns c = laws.law_of_scripts

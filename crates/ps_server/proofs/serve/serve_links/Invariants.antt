@@ -1,7 +1,0 @@
-use Rattle.std.proofs.Common.{◌≡◌}
-use Rattle.ps_server.specs.Servers.{given_by}
-use Rattle.ps_server.proofs.serve.serve_links.Given as goal
-
--- each link so far was handed out, and the door didn't fail
-abbrev pub invariant-loop-begun : goal.invariant-loop-begun
-invariant-loop-begun g l = (g.D.Door.given l.door ≡ given_by l.begun (g.D.Door.given l.initial.door)) × (g.D.Door.faults l.door ≡ g.D.Door.faults l.initial.door)

@@ -1,9 +1,0 @@
-use Rattle.ps_drill.proofs.PlainLemmas.{plain_formats}
-use Rattle.ps_valid.proofs.FitLemmas.{file_fit}
-use Rattle.ps_setup.proofs.config.read_config.Goals as goal
-
-pub returns-in-Ok-read-clause-few : goal.returns-in-Ok-read-clause-few
-returns-in-Ok-read-clause-few g c = (file_fit c.in-Ok-read.config (_, _, c.in-Ok-read.ensures)).few_rooms
-
-pub returns-in-Ok-read-clause-plain : goal.returns-in-Ok-read-clause-plain
-returns-in-Ok-read-clause-plain g c = plain_formats c.in-Ok-read.config (_, _, c.in-Ok-read.ensures)

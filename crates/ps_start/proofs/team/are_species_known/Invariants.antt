@@ -1,7 +1,0 @@
-use Rattle.std.proofs.Common.{ℕ, ◌<◌}
-use Rattle.std.specs.Prelude.{slice_index_or}
-use Rattle.ps_mon.specs.Reading.{no_member}
-use Rattle.ps_start.proofs.team.are_species_known.Given as goal
-
-abbrev pub invariant-loop-place : goal.invariant-loop-place
-invariant-loop-place l = (k : ℕ) → k < l.place → (slice_index_or l.team.members k no_member).species < l.species

@@ -1,5 +1,0 @@
-use Rattle.ps_valid.proofs.FitLemmas.{file_fit}
-use Rattle.ps_valid.proofs.config.Config.staff.Goals as goal
-
-pub returns-clause-within : goal.returns-clause-within
-returns-clause-within c = rw (← c.self.view_is) (file_fit c.self.inside.settings c.self.invariant).staff

@@ -1,6 +1,0 @@
-use Rattle.std.proofs.Common.{◌≡◌, ◌++◌, drop, map}
-use Rattle.ps_world.specs.Houses.{told_conn}
-use Rattle.ps_world.proofs.hearers.push_told.Given as goal
-
-abbrev pub invariant-loop-notice : goal.invariant-loop-notice
-invariant-loop-notice l = l.conns.items ++ map told_conn (drop l.notice-index l.notices) ≡ l.fn.conns.items ++ map told_conn l.notices

@@ -1,5 +1,0 @@
-use Rattle.std.proofs.Common.{length}
-use Rattle.ps_world.proofs.print.+push_more_notices.Given as goal
-
-abbrev pub decreases-push_more_notices : goal.decreases-push_more_notices
-decreases-push_more_notices l = length l.notices.now

@@ -1,5 +1,0 @@
-use Rattle.std.proofs.Common.{length}
-use Rattle.ps_world.proofs.print.+push_shown.Given as goal
-
-abbrev pub decreases-push_shown : goal.decreases-push_shown
-decreases-push_shown l = length l.lines.now

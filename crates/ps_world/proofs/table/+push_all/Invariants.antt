@@ -1,5 +1,0 @@
-use Rattle.std.proofs.Common.{length}
-use Rattle.ps_world.proofs.table.+push_all.Given as goal
-
-abbrev pub decreases-push_all : goal.decreases-push_all
-decreases-push_all l = length l.entries.now

@@ -1,0 +1,56 @@
+//! The door of a server, which prints where it listens.
+
+use ps_outside::Failed;
+use ps_outside::door::{Door, DoorEnd};
+use ps_ws::door::WsDoor;
+use ps_ws::link::WsLink;
+use std::io::Eprint;
+use std::net::{Net, TcpListener, TcpStream};
+use std::rt;
+
+/// A door over WebSocket. Once it listens it prints one line on standard error, `listening on ADDRESS:PORT`: the address as it
+/// was given, with the port that the host chose where that was 0.
+#[derive(Drop)]
+pub(crate) struct PrintingDoor<
+    R: Net<Listener = TcpListener, Stream = TcpStream> + rt::Clock + Copy,
+> {
+    host: R,
+    door: WsDoor<R>,
+}
+
+impl<R: Net<Listener = TcpListener, Stream = TcpStream> + rt::Clock + Copy> PrintingDoor<R> {
+    /// Prints for this door, which isn't open.
+    pub(crate) fn new(host: R, door: WsDoor<R>) -> PrintingDoor<R> {
+        PrintingDoor { host, door }
+    }
+}
+
+// An address without its port.
+fn without_port(address: &str) -> &str {
+    match address.rsplit_once(':') {
+        None => address,
+        Some((host, _port)) => host,
+    }
+}
+
+impl<R: Net<Listener = TcpListener, Stream = TcpStream> + rt::Clock + Eprint + Copy> Door
+    for PrintingDoor<R> {
+    type Link = WsLink<R>;
+
+    ghost faults = { λ d. d.door.faults };
+
+    ghost given = { λ d. d.door.given };
+
+    /// Where the line can't be written the door listens all the same.
+    fn open(&mut self, address: &str) -> Result<(), Failed> {
+        self.door.open(address)?;
+        if let Some(port) = self.door.port() {
+            let _ = eprintln!(self.host; "listening on {}:{port}", without_port(address));
+        }
+        Ok(())
+    }
+
+    fn accept(&mut self) -> Result<WsLink<R>, DoorEnd> {
+        self.door.accept()
+    }
+}

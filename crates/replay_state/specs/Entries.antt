@@ -1,0 +1,256 @@
+-- What the lines of a script bring about, each decided by the lines before it.
+use Rattle.std.specs.Prelude.{◌≡◌, ℕ, suc, ◌-◌, Bool, List, [], ◌∷◌, ◌++◌, map, slice_get, slice_set, Option, Some, None, Result, Ok, Err, if◌then◌else◌}
+use Rattle.std.specs.FinMap.{get}
+use Rattle.std.specs.List.{filter_map}
+use Rattle.ps_base.specs.declared.badge.Badge.{Badge}
+use Rattle.ps_lines.specs.declared.command.Command.{Command}
+use Rattle.ps_lines.specs.declared.command.Command.TheVariants as commands
+use Rattle.ps_lines.specs.declared.command.HallCmd.{HallCmd}
+use Rattle.ps_lines.specs.declared.command.HallCmd.TheVariants as hall_commands
+use Rattle.ps_lines.specs.declared.order.Order.{Order}
+use Rattle.ps_lines.specs.declared.order.Order.TheVariants as orders
+use Rattle.ps_users.specs.Seats.{is_seat}
+use Rattle.ps_session.specs.Sessions.{Record as Session, begun, with_badge}
+use Rattle.ps_session.specs.Routes.{taken, after_take, no_room, after_no_room}
+use Rattle.ps_session.specs.declared.session.TakeFault.{TakeFault}
+use Rattle.ps_hall.specs.declared.entry.HallEntry.{HallEntry}
+use Rattle.ps_hall.specs.Records.{Record as HallRecord}
+use Rattle.ps_hall.specs.Lookups.{badge_of}
+use Rattle.ps_hall.specs.Halls as halls
+use Rattle.ps_room.specs.declared.entry.Entry.{Entry as RoomEntry}
+use Rattle.ps_room.specs.declared.outcome.Ending.{Ending}
+use Rattle.ps_room.specs.declared.outcome.RoomOut.{RoomOut}
+use Rattle.ps_room.specs.Records.{Record}
+use Rattle.ps_room.specs.Rooms.{role}
+use Rattle.ps_room.specs.Logs.{out_of, ended_in}
+use Rattle.replay_script.specs.declared.item.Item.{Item}
+use Rattle.replay_script.specs.declared.item.Item.TheVariants.{Nothing, Moment, Group, Open, Send, Close}
+use Rattle.replay_state.specs.declared.place.Placed.{Placed}
+use Rattle.replay_state.specs.declared.place.Placed.TheVariants.{Hall, Room}
+use Rattle.replay_state.specs.declared.place.Happening.{Happening}
+use Rattle.replay_state.specs.declared.place.Happening.TheVariants.{Entry, Ended}
+use Rattle.ps_room.specs.Openings.{first_battle}
+use Rattle.ps_view.specs.Roles as roles
+use Rattle.replay_state.specs.Setup.{Setup}
+use Rattle.replay_state.specs.Worlds.{World, world_opening, world_after}
+use Rattle.replay_state.specs.Nows.{Standing, Now, now_of, record_at}
+
+-- ---- the end of a session
+
+-- whether a connection is a member of a room
+abbrev pub is_member : ℕ → Record → Bool
+is_member conn r = roles.is_member (role conn r)
+
+abbrev pub quit_of : ℕ → ℕ → Badge → ℕ → Placed
+quit_of moment conn badge number = Room number (record { conn = conn; badge = badge; moment = moment; cmd = commands.Quit })
+
+abbrev pub quit_in : ℕ → ℕ → Badge → ℕ → Standing → List Placed
+quit_in moment conn badge number r = if is_member conn r.state then quit_of moment conn badge number ∷ [] else []
+
+-- a Quit in each of these rooms of which the connection is a member, in ascending number
+abbrev pub room_quits : ℕ → ℕ → Badge → ℕ → List Standing → List Placed
+room_quits moment conn badge number [] = []
+room_quits moment conn badge number (r ∷ rs) = quit_in moment conn badge number r ++ room_quits moment conn badge (suc number) rs
+
+-- who has no name is a member of no room
+abbrev pub named_quits : ℕ → Now → ℕ → Option Badge → List Placed
+named_quits moment n conn None = []
+named_quits moment n conn (Some badge) = room_quits moment conn badge 0 n.chats ++ room_quits moment conn badge first_battle n.battles
+
+abbrev pub hall_entry : ℕ → ℕ → HallCmd → Placed
+hall_entry moment conn cmd = Hall (record { conn = conn; moment = moment; cmd = cmd })
+
+-- a Quit in each room of which the connection is a member, and then in the hall
+abbrev pub quits : ℕ → Now → ℕ → List Placed
+quits moment n conn = named_quits moment n conn (badge_of n.hall conn) ++ hall_entry moment conn hall_commands.Quit ∷ []
+
+-- ---- what a text brings about
+
+-- the end of a session
+abbrev pub ended : ℕ → Now → ℕ → List Happening
+ended moment n conn = map Entry (quits moment n conn) ++ Ended conn ∷ []
+
+abbrev pub room_entry : ℕ → ℕ → Badge → Command → RoomEntry
+room_entry moment conn badge cmd = record { conn = conn; badge = badge; moment = moment; cmd = cmd }
+
+-- an order for a room comes of a connection with a badge alone
+abbrev pub entry_in_room : ℕ → ℕ → ℕ → Command → Option Badge → Option Placed
+entry_in_room moment conn number cmd None = None
+entry_in_room moment conn number cmd (Some badge) = Some (Room number (room_entry moment conn badge cmd))
+
+abbrev pub entry_in_hall : ℕ → ℕ → Option Order → Option Placed
+entry_in_hall moment conn (Some (orders.Hall cmd)) = Some (hall_entry moment conn cmd)
+entry_in_hall moment conn other = None
+
+-- a text for a room that isn't there is an entry of the hall, which says so, as long as the hall takes texts
+abbrev pub numbered_entry : ℕ → ℕ → Option ℕ → Command → Session → Option Placed
+numbered_entry moment conn None cmd s = entry_in_hall moment conn (no_room s)
+numbered_entry moment conn (Some number) cmd s = entry_in_room moment conn number cmd s.badge
+
+-- The one entry that a text makes which was taken so; None at the limit of its place. The session is that after the take.
+abbrev pub order_entry : ℕ → Now → ℕ → Result Order TakeFault → Session → Option Placed
+order_entry moment n conn (Ok (orders.Hall cmd)) s = Some (hall_entry moment conn cmd)
+order_entry moment n conn (Ok (orders.Room id cmd)) s = numbered_entry moment conn (get n.numbers id) cmd s
+order_entry moment n conn (Err fault) s = None
+
+-- the one entry that a text of a connection makes
+abbrev pub text_entry : ℕ → Now → ℕ → List ℕ → Session → Option Placed
+text_entry moment n conn text s = order_entry moment n conn (taken s text) (after_take (taken s text) s)
+
+-- the end of a battle is reported to the hall by the connection whose entry ended it
+abbrev pub report_of : ℕ → ℕ → Option Ending → List Happening
+report_of moment conn None = []
+report_of moment conn (Some end) = Entry (hall_entry moment conn (hall_commands.Report end.number end.winner)) ∷ []
+
+-- what comes of an entry in a room, if it is there
+abbrev pub out_at : Option Record → RoomEntry → Option RoomOut
+out_at None e = None
+out_at (Some r) e = Some (out_of r e)
+
+abbrev pub ending_at : Option Record → RoomEntry → Option Ending
+ending_at r e = ended_in (out_at r e)
+
+abbrev pub reports : ℕ → Now → ℕ → Placed → List Happening
+reports moment n conn (Hall e) = []
+reports moment n conn (Room number e) = report_of moment conn (ending_at (record_at number n) e)
+
+-- an entry, and the report of the battle that it ended; a text that makes none ends the session
+abbrev pub entry_happenings : ℕ → Now → ℕ → Option Placed → List Happening
+entry_happenings moment n conn None = ended moment n conn
+entry_happenings moment n conn (Some p) = Entry p ∷ reports moment n conn p
+
+-- ---- what is known of a connection after its text
+
+-- the badge that a connection has from an entry of the hall on
+abbrev pub badged : Option Badge → Session → Session
+badged None s = s
+badged (Some badge) s = with_badge badge s
+
+abbrev pub session_past_hall : HallRecord → HallEntry → Session → Session
+session_past_hall h e s = badged (halls.out_of h e).badge s
+
+abbrev pub session_past_room : Option ℕ → Session → Session
+session_past_room None s = after_no_room s
+session_past_room (Some number) s = s
+
+-- the session after a text that was taken so, from the one after the take
+abbrev pub order_session : ℕ → Now → ℕ → Result Order TakeFault → Session → Session
+order_session moment n conn (Ok (orders.Hall cmd)) s = session_past_hall n.hall (record { conn = conn; moment = moment; cmd = cmd }) s
+order_session moment n conn (Ok (orders.Room id cmd)) s = session_past_room (get n.numbers id) s
+order_session moment n conn (Err fault) s = s
+
+abbrev pub text_session : ℕ → Now → ℕ → List ℕ → Session → Session
+text_session moment n conn text s = order_session moment n conn (taken s text) (after_take (taken s text) s)
+
+-- ---- what a line brings about
+
+abbrev pub session_of : ℕ → List Session → Option Session
+session_of conn ss = slice_get ss (conn - 1)
+
+abbrev pub is_open : ℕ → Now → Bool
+is_open conn n = is_seat n.hall.users.seats conn
+
+-- What the lines before a line leave: the moment, the hall and the rooms, and what is known of each connection, in order from 1.
+pub record State : Type 0 where
+  pub moment : ℕ
+  pub now : Now
+  pub sessions : List Session
+
+-- what a line brings about, and the sessions after it
+pub record Line : Type 0 where
+  pub happenings : List Happening
+  pub sessions : List Session
+
+abbrev pub idle : List Session → Line
+idle ss = record { happenings = []; sessions = ss }
+
+abbrev pub sent_by : State → ℕ → List ℕ → Option Session → Line
+sent_by s conn text None = idle s.sessions
+sent_by s conn text (Some session) = record {
+  happenings = entry_happenings s.moment s.now conn (text_entry s.moment s.now conn text session);
+  sessions = slice_set s.sessions (conn - 1) (text_session s.moment s.now conn text session);
+}
+
+-- a text of a connection whose session is over does nothing
+abbrev pub sent : State → ℕ → List ℕ → Line
+sent s conn text = if is_open conn s.now then sent_by s conn text (session_of conn s.sessions) else idle s.sessions
+
+-- and neither does its end
+abbrev pub closed : State → ℕ → Line
+closed s conn = if is_open conn s.now then record { happenings = map Entry (quits s.moment s.now conn); sessions = s.sessions } else idle s.sessions
+
+abbrev pub opening : ℕ → ℕ → Happening
+opening moment conn = Entry (hall_entry moment conn hall_commands.Open)
+
+abbrev pub line_at : State → Item → Line
+line_at s Nothing = idle s.sessions
+line_at s (Moment n) = idle s.sessions
+line_at s (Group symbol id) = idle s.sessions
+line_at s (Open conn) = record { happenings = opening s.moment conn ∷ []; sessions = s.sessions ++ begun conn ∷ [] }
+line_at s (Send conn text) = sent s conn text
+line_at s (Close conn) = closed s conn
+
+-- the moment after a line
+abbrev pub moment_after : ℕ → Item → ℕ
+moment_after moment (Moment n) = n
+moment_after moment other = moment
+
+-- ---- scripts
+
+-- what the lines before a line leave, with the whole history of each place
+pub record Run : Type 0 where
+  pub moment : ℕ
+  pub world : World
+  pub sessions : List Session
+
+abbrev pub state_of : Run → State
+state_of r = record { moment = r.moment; now = now_of r.world; sessions = r.sessions }
+
+-- before the first line
+abbrev pub run_opening : Setup → Run
+run_opening s = record { moment = 0; world = world_opening s; sessions = [] }
+
+abbrev pub entry_in : Happening → Option Placed
+entry_in (Entry p) = Some p
+entry_in (Ended conn) = None
+
+abbrev pub entries_in : List Happening → List Placed
+entries_in xs = filter_map entry_in xs
+
+abbrev pub worlds_after : World → List Placed → World
+worlds_after w [] = w
+worlds_after w (p ∷ ps) = worlds_after (world_after w p) ps
+
+-- what a line brings about behind others
+abbrev pub line_in : Run → Item → Line
+line_in r i = line_at (state_of r) i
+
+abbrev pub run_after : Run → Item → Run
+run_after r i = record { moment = moment_after r.moment i; world = worlds_after r.world (entries_in (line_in r i).happenings); sessions = (line_in r i).sessions }
+
+abbrev pub run_past : Run → List Item → Run
+run_past r [] = r
+run_past r (i ∷ is) = run_past (run_after r i) is
+
+-- what these lines bring about behind others
+abbrev pub happenings_from : Run → List Item → List Happening
+happenings_from r [] = []
+happenings_from r (i ∷ is) = (line_in r i).happenings ++ happenings_from (run_after r i) is
+
+-- all that a script brings about, in order
+abbrev pub happenings : Setup → List Item → List Happening
+happenings s items = happenings_from (run_opening s) items
+
+-- all entries of a script, each with its place, in order
+abbrev pub entries : Setup → List Item → List Placed
+entries s items = entries_in (happenings s items)
+
+-- the world of a script: the opening and the history of each place
+abbrev pub world_of : Setup → List Item → World
+world_of s items = (run_past (run_opening s) items).world
+
+-- ---- for the code: an order for a room was counted to it last
+
+abbrev pub IsCounted : Order → Session → Type 0
+IsCounted (orders.Hall cmd) s = Unit {0}
+IsCounted (orders.Room id cmd) s = s.last ≡ Some id

@@ -1,0 +1,129 @@
+-- What a replay prints and counts line by line, by the state that its code keeps in the place of histories. No statement of the top call
+-- rests on this file.
+use Rattle.std.specs.Prelude.{ℕ, ◌+◌, ◌&&◌, Bool, List, [], ◌∷◌, ◌++◌, length, codes, nat_lt, nat_le, if◌then◌else◌}
+use Rattle.std.specs.Fmt.{decimal}
+use Rattle.replay_script.specs.declared.item.Item.{Item}
+use Rattle.replay_state.specs.declared.place.Placed.{Placed}
+use Rattle.replay_state.specs.declared.place.Happening.{Happening}
+use Rattle.replay_state.specs.declared.place.Happening.TheVariants.{Entry, Ended}
+use Rattle.replay_state.specs.declared.transcript.Counts.{Counts}
+use Rattle.replay_state.specs.Setup.{Setup}
+use Rattle.ps_session.specs.Sessions.{Record as Session}
+use Rattle.replay_state.specs.Houses.{House, now_in, house_opening, house_after, house_message, house_id}
+use Rattle.replay_state.specs.Entries.{State, Line, line_at, moment_after}
+use Rattle.replay_state.specs.Counts.{is_refused, one_if}
+use Rattle.replay_state.specs.Transcript.{printed, with_id, over_line}
+use Rattle.ps_base.specs.Lists.{each_to}
+
+-- the moment, the hall and the rooms as the code keeps them, and what is known of each connection, in order from 1
+pub record Desk : Type 0 where
+  pub moment : ℕ
+  pub house : House
+  pub sessions : List Session
+
+-- what decides what a line brings about
+abbrev pub state_in : Desk → State
+state_in d = record { moment = d.moment; now = now_in d.house; sessions = d.sessions }
+
+-- before the first line
+abbrev pub fresh : Setup → Desk
+fresh s = record { moment = 0; house = house_opening s; sessions = [] }
+
+-- whether a number comes behind the last one, and up to n
+abbrev pub is_next : ℕ → ℕ → ℕ → Bool
+is_next last n conn = nat_lt last conn && nat_le conn n
+
+-- f of those of these numbers that each come behind the last one that was taken, up to n
+abbrev pub each_of : (ℕ → List ℕ) → ℕ → ℕ → List ℕ → List ℕ
+each_of f n last [] = []
+each_of f n last (conn ∷ conns) = if is_next last n conn then f conn ++ each_of f n conn conns else each_of f n last conns
+
+-- a line behind the digits of its connection: the first of a message, and a further one
+abbrev pub first_behind : List ℕ → List ℕ → List ℕ
+first_behind digits line = digits ++ codes "< " ++ line ++ 10 ∷ []
+
+abbrev pub further_behind : List ℕ → List ℕ → List ℕ
+further_behind digits line = digits ++ codes ". " ++ line ++ 10 ∷ []
+
+-- the lines of a message of two, each of which ends so behind the digits of its connection
+abbrev pub both_behind : List ℕ → List ℕ → ℕ → List ℕ
+both_behind first second conn = decimal conn ++ first ++ decimal conn ++ second
+
+-- what of them is the same for all connections: behind no digits, the line of a room's id, and a further line
+abbrev pub place_end : List ℕ → List ℕ
+place_end id = first_behind [] (codes ">" ++ id)
+
+abbrev pub further_end : List ℕ → List ℕ
+further_end line = further_behind [] line
+
+-- what is printed for a connection at an entry
+abbrev pub printed_for : House → Placed → ℕ → List ℕ
+printed_for k p conn = printed conn (with_id (house_id k p) (house_message conn k p))
+
+-- what is printed at an entry, where so many connections have opened
+abbrev pub entry_text : ℕ → House → Placed → List ℕ
+entry_text count k p = each_to (printed_for k p) count
+
+abbrev pub happening_text : ℕ → House → Happening → List ℕ
+happening_text count k (Entry p) = entry_text count k p
+happening_text count k (Ended conn) = over_line conn
+
+abbrev pub happening_after : House → Happening → House
+happening_after k (Entry p) = house_after k p
+happening_after k (Ended conn) = k
+
+-- what is printed of these happenings
+abbrev pub happenings_text : ℕ → House → List Happening → List ℕ
+happenings_text count k [] = []
+happenings_text count k (x ∷ xs) = happening_text count k x ++ happenings_text count (happening_after k x) xs
+
+-- the hall and the rooms after them
+abbrev pub happenings_after : House → List Happening → House
+happenings_after k [] = k
+happenings_after k (x ∷ xs) = happenings_after (happening_after k x) xs
+
+abbrev pub line_text : Desk → Line → List ℕ
+line_text d l = happenings_text (length l.sessions) d.house l.happenings
+
+-- what is printed at a line
+abbrev pub item_text : Desk → Item → List ℕ
+item_text d i = line_text d (line_at (state_in d) i)
+
+abbrev pub line_after : Desk → Item → Line → Desk
+line_after d i l = record { moment = moment_after d.moment i; house = happenings_after d.house l.happenings; sessions = l.sessions }
+
+-- what a line leaves
+abbrev pub item_after : Desk → Item → Desk
+item_after d i = line_after d i (line_at (state_in d) i)
+
+-- what is printed at these lines
+abbrev pub text_from : Desk → List Item → List ℕ
+text_from d [] = []
+text_from d (i ∷ is) = item_text d i ++ text_from (item_after d i) is
+
+-- ---- counts
+
+abbrev pub no_counts : Counts
+no_counts = record { entries = 0; refused = 0 }
+
+-- with an entry more
+abbrev pub one_more : Bool → Counts → Counts
+one_more refused c = record { entries = c.entries + 1; refused = c.refused + one_if refused }
+
+abbrev pub happening_counts : House → Happening → Counts → Counts
+happening_counts k (Entry p) c = one_more (is_refused (now_in k) p) c
+happening_counts k (Ended conn) c = c
+
+-- with the entries of these happenings
+abbrev pub happenings_counts : House → List Happening → Counts → Counts
+happenings_counts k [] c = c
+happenings_counts k (x ∷ xs) c = happenings_counts (happening_after k x) xs (happening_counts k x c)
+
+-- with the entries of a line
+abbrev pub item_counts : Desk → Item → Counts → Counts
+item_counts d i c = happenings_counts d.house (line_at (state_in d) i).happenings c
+
+-- with the entries of these lines
+abbrev pub counts_from : Desk → List Item → Counts → Counts
+counts_from d [] c = c
+counts_from d (i ∷ is) c = counts_from (item_after d i) is (item_counts d i c)

@@ -1,0 +1,107 @@
+-- The messages of a script's entries, and how they are printed.
+use Rattle.std.specs.Prelude.{ℕ, zero, suc, Bool, true, false, ◌&&◌, List, [], ◌∷◌, ◌++◌, length, map, codes, Option, Some, None, ◌==◌, if◌then◌else◌}
+use Rattle.std.specs.List.{flat_map, filter_map}
+use Rattle.std.specs.Fmt.{decimal}
+use Rattle.replay_script.specs.declared.item.Item.{Item}
+use Rattle.ps_session.specs.Texts.{headed}
+use Rattle.replay_state.specs.declared.place.Placed.{Placed}
+use Rattle.replay_state.specs.declared.place.Happening.{Happening}
+use Rattle.replay_state.specs.declared.place.Happening.TheVariants.{Entry, Ended}
+use Rattle.replay_state.specs.Setup.{Setup}
+use Rattle.replay_state.specs.Worlds.{Place, in_hall, in_room, place_of, World, world_after, world_message, room_id}
+use Rattle.replay_state.specs.Entries.{Run, run_opening, run_after, line_in}
+
+-- ---- messages
+
+-- what one connection is sent from one place at one entry, with the id of the room, if it is one
+pub record Message : Type 0 where
+  pub conn : ℕ
+  pub place : Place
+  pub id : Option (List ℕ)
+  pub lines : List (List ℕ)
+
+abbrev pub message_if : ℕ → Place → Option (List ℕ) → List (List ℕ) → List Message
+message_if conn place id [] = []
+message_if conn place id (line ∷ lines) = record { conn = conn; place = place; id = id; lines = line ∷ lines } ∷ []
+
+-- the messages of an entry to the connections 1 to n
+abbrev pub messages_to : ℕ → World → Placed → List Message
+messages_to zero w p = []
+messages_to (suc n) w p = messages_to n w p ++ message_if (suc n) (place_of p) (room_id w p) (world_message (suc n) w p)
+
+-- what is printed: a message, or that a connection's session ended
+pub data Sign : Type 0 where
+  told : Message → Sign
+  over : ℕ → Sign
+
+-- what is printed of these happenings in a world, where n connections have opened
+abbrev pub signs_from : ℕ → World → List Happening → List Sign
+signs_from n w [] = []
+signs_from n w (Entry p ∷ xs) = map told (messages_to n w p) ++ signs_from n (world_after w p) xs
+signs_from n w (Ended conn ∷ xs) = over conn ∷ signs_from n w xs
+
+-- what is printed of these lines behind others: for each entry in order its messages, to each connection that has opened, in
+-- ascending number; and that a session ended, after the messages of its last entries
+abbrev pub signs_in : Run → List Item → List Sign
+signs_in r [] = []
+signs_in r (i ∷ is) = signs_from (length (line_in r i).sessions) r.world (line_in r i).happenings ++ signs_in (run_after r i) is
+
+-- all that is printed of a script
+abbrev pub signs : Setup → List Item → List Sign
+signs s items = signs_in (run_opening s) items
+
+abbrev pub message_in : Sign → Option Message
+message_in (told m) = Some m
+message_in (over conn) = None
+
+-- all messages of a script
+abbrev pub messages : Setup → List Item → List Message
+messages s items = filter_map message_in (signs s items)
+
+-- ---- printing
+
+abbrev pub first_line : ℕ → List ℕ → List ℕ
+first_line conn line = decimal conn ++ codes "< " ++ line ++ 10 ∷ []
+
+abbrev pub further_line : ℕ → List ℕ → List ℕ
+further_line conn line = decimal conn ++ codes ". " ++ line ++ 10 ∷ []
+
+-- the lines of a message to a connection
+abbrev pub printed : ℕ → List (List ℕ) → List ℕ
+printed conn [] = []
+printed conn (line ∷ lines) = first_line conn line ++ flat_map (further_line conn) lines
+
+-- a room's message begins with its id
+abbrev pub with_id : Option (List ℕ) → List (List ℕ) → List (List ℕ)
+with_id id [] = []
+with_id id (line ∷ lines) = headed id (line ∷ lines)
+
+abbrev pub print : Message → List ℕ
+print m = printed m.conn (with_id m.id m.lines)
+
+-- the line of a session that ended
+abbrev pub over_line : ℕ → List ℕ
+over_line conn = decimal conn ++ codes "! OwnLimit" ++ 10 ∷ []
+
+abbrev pub print_sign : Sign → List ℕ
+print_sign (told m) = print m
+print_sign (over conn) = over_line conn
+
+-- all that is written for a script
+abbrev pub output : Setup → List Item → List ℕ
+output s items = flat_map print_sign (signs s items)
+
+-- ---- blocks
+
+abbrev pub same_place : Place → Place → Bool
+same_place in_hall in_hall = true
+same_place in_hall (in_room number) = false
+same_place (in_room number) in_hall = false
+same_place (in_room number) (in_room other) = number == other
+
+abbrev pub picked : ℕ → Place → Message → List (List (List ℕ))
+picked conn place m = if m.conn == conn && same_place place m.place then m.lines ∷ [] else []
+
+-- a connection's messages from a place, in order, as the view of that place has them
+abbrev pub block : ℕ → Place → List Message → List (List (List ℕ))
+block conn place ms = flat_map (picked conn place) ms

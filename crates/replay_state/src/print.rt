@@ -1,0 +1,231 @@
+//! Messages as they are printed.
+ghost use Rattle.std.specs.Prelude.{◌≡◌, ◌++◌, OnOk, IfOk, codes, string_bytes, None, Some};
+ghost use Rattle.std.specs.List.{flat_map};
+ghost use Rattle.ps_splitlog.specs.Lines.{shown_lines};
+ghost use Rattle.ps_hall.specs.Halls.{message_of};
+ghost use Rattle.replay_state.specs.Transcript.{further_line, printed, with_id, over_line};
+ghost use Rattle.replay_state.specs.Tables.{first_behind, further_behind, both_behind, place_end, further_end};
+
+use itoa::Buffer;
+use ps_base::number::ConnNo;
+use ps_base::text::Text;
+use ps_hall::notice::Notice;
+use ps_splitlog::stored::{Stored, shown};
+use ps_view::role::Role;
+use std::alloc::{AllocError, Global};
+use std::fmt::Write;
+
+// ---- lines behind the digits of their connection, which are made once for a message
+
+fn push_first(out: &mut String, digits: &str, line: &str) -> Result<(), AllocError>
+    ensures { OnOk result (string_bytes out.new ≡ string_bytes out.old ++ first_behind digits.now line.now) }
+{
+    out.push_str(digits)?;
+    out.push_str("< ")?;
+    out.push_str(line)?;
+    out.push_str("\n")
+}
+
+// The line of a room's id, which begins a message of it.
+fn push_place(out: &mut String, digits: &str, id: &str) -> Result<(), AllocError>
+    ensures { OnOk result (string_bytes out.new ≡ string_bytes out.old ++ first_behind digits.now (codes ">" ++ id.now)) }
+{
+    out.push_str(digits)?;
+    out.push_str("< >")?;
+    out.push_str(id)?;
+    out.push_str("\n")
+}
+
+fn push_further(out: &mut String, digits: &str, line: &str) -> Result<(), AllocError>
+    ensures { OnOk result (string_bytes out.new ≡ string_bytes out.old ++ further_behind digits.now line.now) }
+{
+    out.push_str(digits)?;
+    out.push_str(". ")?;
+    out.push_str(line)?;
+    out.push_str("\n")
+}
+
+fn push_rest(out: &mut String, digits: &str, lines: &[Text]) -> Result<(), AllocError>
+    ensures { OnOk result (string_bytes out.new ≡ string_bytes out.old ++ flat_map (further_behind digits.now) lines.now) }
+{
+    for line in lines {
+        push_further(out, digits, line.as_str())?;
+    }
+    Ok(())
+}
+
+// ---- messages
+
+fn push_lines(out: &mut String, conn: ConnNo, lines: &[Text]) -> Result<(), AllocError>
+    ensures { OnOk result (string_bytes out.new ≡ string_bytes out.old ++ printed conn lines.now) }
+{
+    match lines {
+        [] => Ok(()),
+        [first, rest @ ..] => {
+            let mut buffer = Buffer::new();
+            let digits = buffer.format(conn.0);
+            push_first(out, digits, first.as_str())?;
+            push_rest(out, digits, rest)
+        }
+    }
+}
+
+fn push_more_lines(out: &mut String, conn: ConnNo, lines: &[Text]) -> Result<(), AllocError>
+    ensures { OnOk result (string_bytes out.new ≡ string_bytes out.old ++ flat_map (further_line conn) lines.now) }
+{
+    let mut buffer = Buffer::new();
+    push_rest(out, buffer.format(conn.0), lines)
+}
+
+// The first notice for a connection with lines begins the message, and the others follow.
+fn push_more_notices(out: &mut String, conn: ConnNo, notices: &[Notice]) -> Result<(), AllocError>
+    ensures { OnOk result (string_bytes out.new ≡ string_bytes out.old ++ flat_map (further_line conn) (message_of conn notices.now)) }
+{
+    match notices {
+        [] => Ok(()),
+        [notice, rest @ ..] => {
+            if notice.conn == conn {
+                push_more_lines(out, conn, notice.lines.as_slice())?;
+                push_more_notices(out, conn, rest)
+            } else {
+                push_more_notices(out, conn, rest)
+            }
+        }
+    }
+}
+
+/// Prints what notices of the hall tell a connection, if they tell it something.
+pub fn push_notices(out: &mut String, conn: ConnNo, notices: &[Notice]) -> Result<(), AllocError>
+    ensures { OnOk result (string_bytes out.new ≡ string_bytes out.old ++ printed conn (with_id None (message_of conn notices.now))) }
+{
+    match notices {
+        [] => Ok(()),
+        [notice, rest @ ..] => {
+            if notice.conn != conn {
+                return push_notices(out, conn, rest);
+            }
+            match notice.lines.as_slice() {
+                [] => push_notices(out, conn, rest),
+                [_, ..] => {
+                    push_lines(out, conn, notice.lines.as_slice())?;
+                    push_more_notices(out, conn, rest)
+                }
+            }
+        }
+    }
+}
+
+/// Prints a message of the room with an id to a connection, if it has lines.
+pub fn push_room_message(
+    out: &mut String,
+    conn: ConnNo,
+    id: &str,
+    lines: &[Text],
+) -> Result<(), AllocError>
+    ensures { OnOk result (string_bytes out.new ≡ string_bytes out.old ++ printed conn (with_id (Some id.now) lines.now)) }
+{
+    match lines {
+        [] => Ok(()),
+        [_, ..] => {
+            let mut buffer = Buffer::new();
+            let digits = buffer.format(conn.0);
+            push_place(out, digits, id)?;
+            push_rest(out, digits, lines)
+        }
+    }
+}
+
+// Prints the lines that a connection in this role is shown.
+fn push_shown_rest(
+    out: &mut String,
+    conn: ConnNo,
+    digits: &str,
+    role: Role,
+    lines: &[Stored],
+) -> Result<(), AllocError>
+    ensures { OnOk result (string_bytes out.new ≡ string_bytes out.old ++ flat_map (further_behind digits.now) (shown_lines conn role lines.now)) }
+{
+    match lines {
+        [] => Ok(()),
+        [line, rest @ ..] => match shown(conn, role, line) {
+            Some(text) => {
+                push_further(out, digits, text.as_str())?;
+                push_shown_rest(out, conn, digits, role, rest)
+            }
+            None => push_shown_rest(out, conn, digits, role, rest),
+        },
+    }
+}
+
+/// Prints to a connection in this role the lines of the room with an id that it is shown, if there are any.
+pub fn push_shown(
+    out: &mut String,
+    conn: ConnNo,
+    id: &str,
+    role: Role,
+    lines: &[Stored],
+) -> Result<(), AllocError>
+    ensures { OnOk result (string_bytes out.new ≡ string_bytes out.old ++ printed conn (with_id (Some id.now) (shown_lines conn role lines.now))) }
+{
+    match lines {
+        [] => Ok(()),
+        [line, rest @ ..] => match shown(conn, role, line) {
+            Some(text) => {
+                let mut buffer = Buffer::new();
+                let digits = buffer.format(conn.0);
+                push_place(out, digits, id)?;
+                push_further(out, digits, text.as_str())?;
+                push_shown_rest(out, conn, digits, role, rest)
+            }
+            None => push_shown(out, conn, id, role, rest),
+        },
+    }
+}
+
+// ---- a message of two lines that many are sent, each line once but for the digits before it
+
+/// The end of the line of a room's id, behind the digits of who is sent it.
+pub fn place_end(alloc: Global, id: &str) -> Result<String, AllocError>
+    ensures { IfOk result (λ s. string_bytes s ≡ place_end id.now) }
+{
+    let mut end = String::new(alloc);
+    end.push_str("< >")?;
+    end.push_str(id)?;
+    end.push_str("\n")?;
+    Ok(end)
+}
+
+/// The end of a further line, behind the digits of who is sent it.
+pub fn further_end(alloc: Global, line: &str) -> Result<String, AllocError>
+    ensures { IfOk result (λ s. string_bytes s ≡ further_end line.now) }
+{
+    let mut end = String::new(alloc);
+    end.push_str(". ")?;
+    end.push_str(line)?;
+    end.push_str("\n")?;
+    Ok(end)
+}
+
+/// Prints to a connection two lines that end so.
+pub fn push_both(
+    out: &mut String,
+    conn: ConnNo,
+    first: &str,
+    second: &str,
+) -> Result<(), AllocError>
+    ensures { OnOk result (string_bytes out.new ≡ string_bytes out.old ++ both_behind first.now second.now conn) }
+{
+    let mut buffer = Buffer::new();
+    let digits = buffer.format(conn.0);
+    out.push_str(digits)?;
+    out.push_str(first)?;
+    out.push_str(digits)?;
+    out.push_str(second)
+}
+
+/// Prints that a connection's session ended, since it gave too many texts to one place.
+pub fn push_over(out: &mut String, conn: ConnNo) -> Result<(), AllocError>
+    ensures { OnOk result (string_bytes out.new ≡ string_bytes out.old ++ over_line conn) }
+{
+    writeln!(out, "{conn}! OwnLimit")
+}

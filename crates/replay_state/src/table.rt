@@ -1,0 +1,474 @@
+//! A replay's state.
+ghost use Rattle.std.specs.Prelude.{◌≡◌, ◌++◌, ◌∷◌, [], ◌-◌, ◌≤◌, IfOk, OnOk, map, string_bytes, length, is_some, true, Some, Ok};
+ghost use Rattle.std.specs.Arc.{arc_value};
+ghost use Rattle.ps_hall.specs.Halls as halls;
+ghost use Rattle.ps_session.specs.Routes.{no_room, after_no_room};
+ghost use Rattle.replay_state.specs.declared.place.Placed.TheVariants as placed;
+ghost use Rattle.replay_state.specs.declared.place.Happening.TheVariants as happening;
+ghost use Rattle.replay_state.specs.Houses.{now_in};
+ghost use Rattle.ps_session.specs.Sessions.{begun};
+ghost use Rattle.replay_state.specs.Entries.{quits, ended, badged, report_of, entry_happenings, entry_in_room, entry_in_hall, text_entry, text_session, order_entry, order_session, sent_by, session_of, opening, IsCounted};
+ghost use Rattle.replay_state.specs.Tables.{happenings_text, happenings_after, happenings_counts};
+
+use crate::place::Placed;
+use crate::places::Places;
+use crate::print;
+use crate::transcript::Transcript;
+use ps_base::badge::Badge;
+use ps_base::id_map::IdMap;
+use ps_base::number::{ConnNo, Moment, RoomNo};
+use ps_dex::dex::Dex;
+use ps_hall::entry::HallEntry;
+use ps_lines::command::{Command, HallCmd};
+use ps_lines::order::Order;
+use ps_room::entry::Entry;
+use ps_room::outcome::Ending;
+use ps_session::session::{Session, TakeFault};
+use replay_script::item::Item;
+use rules_config::config::Config;
+use std::alloc::{AllocError, Global};
+use std::marker::Model;
+use std::sync::Arc;
+
+/// A replay's state: the moment, the hall and the rooms, and what is known of each connection, in order from 1.
+#[derive(Drop)]
+pub struct Table {
+    moment: Moment,
+    places: Places,
+    sessions: Vec<Session>,
+}
+
+impl Model for Table {
+    ghost use Rattle.std.specs.Prelude.{◌≤◌, length};
+    ghost use Rattle.std.specs.Coded.{codes, coded_ℕ, coded_ℤ};
+    ghost use base.Stored.{coded_unit};
+    ghost use Rattle.ps_base.specs.ById.{by_id_code};
+    ghost use Rattle.ps_users.specs.ByConn.{by_conn_code};
+    ghost use Rattle.replay_state.specs.Tables.{Desk};
+
+    ghost Value = { Desk };
+
+    ghost coded = { Prim.hlevel (codes, by_id_code, by_conn_code, coded_ℕ, coded_ℤ, coded_unit) };
+
+    ghost view = { λ t. record { moment = t.moment; house = t.places; sessions = t.sessions.items } };
+
+    ghost invariant = { λ t. length t.sessions.items ≤ 65536 };
+}
+
+/// As many connections as a replay has room for, far more than a script may open. Past them memory is said to be wanting.
+const MOST_SESSIONS: usize = 65_536;
+
+// ---- entries
+
+fn push_placed(
+    alloc: Global,
+    places: &mut Places,
+    count: u32,
+    entry: &Placed,
+    out: &mut Transcript,
+) -> Result<(), AllocError>
+    ensures state { OnOk result (places.new ≡ happenings_after places.old (happening.Entry entry.now ∷ [])) }
+    ensures text { OnOk result (string_bytes out.new.text ≡ string_bytes out.old.text ++ happenings_text count places.old (happening.Entry entry.now ∷ [])) }
+    ensures counts { OnOk result (out.new.counts ≡ happenings_counts places.old (happening.Entry entry.now ∷ []) out.old.counts) }
+{
+    match entry {
+        Placed::Hall(entry) => {
+            places.push_hall(alloc, count, entry, out)?;
+            Ok(())
+        }
+        Placed::Room(no, entry) => {
+            places.push_room(alloc, count, *no, entry, out)?;
+            Ok(())
+        }
+    }
+}
+
+fn push_all(
+    alloc: Global,
+    places: &mut Places,
+    count: u32,
+    entries: &[Placed],
+    out: &mut Transcript,
+) -> Result<(), AllocError>
+    ensures state { OnOk result (places.new ≡ happenings_after places.old (map happening.Entry entries.now)) }
+    ensures text { OnOk result (string_bytes out.new.text ≡ string_bytes out.old.text ++ happenings_text count places.old (map happening.Entry entries.now)) }
+    ensures counts { OnOk result (out.new.counts ≡ happenings_counts places.old (map happening.Entry entries.now) out.old.counts) }
+{
+    match entries {
+        [] => Ok(()),
+        [first, rest @ ..] => {
+            push_placed(alloc, places, count, first, out)?;
+            push_all(alloc, places, count, rest, out)
+        }
+    }
+}
+
+// The Quits of a connection.
+fn push_quits(
+    alloc: Global,
+    places: &mut Places,
+    moment: Moment,
+    count: u32,
+    conn: ConnNo,
+    out: &mut Transcript,
+) -> Result<(), AllocError>
+    ensures state { OnOk result (places.new ≡ happenings_after places.old (map happening.Entry (quits moment (now_in places.old) conn))) }
+    ensures text { OnOk result (string_bytes out.new.text ≡ string_bytes out.old.text ++ happenings_text count places.old (map happening.Entry (quits moment (now_in places.old) conn))) }
+    ensures counts { OnOk result (out.new.counts ≡ happenings_counts places.old (map happening.Entry (quits moment (now_in places.old) conn)) out.old.counts) }
+{
+    let quits = places.quits(alloc, moment, conn)?;
+    push_all(alloc, places, count, &quits, out)
+}
+
+// The end of a session.
+#[tactic(auto, using(crate::proofs::EndLemmas::ended_after, crate::proofs::EndLemmas::ended_text, crate::proofs::EndLemmas::ended_counts))]
+fn push_ended(
+    alloc: Global,
+    places: &mut Places,
+    moment: Moment,
+    count: u32,
+    conn: ConnNo,
+    out: &mut Transcript,
+) -> Result<(), AllocError>
+    ensures state { OnOk result (places.new ≡ happenings_after places.old (ended moment (now_in places.old) conn)) }
+    ensures text { OnOk result (string_bytes out.new.text ≡ string_bytes out.old.text ++ happenings_text count places.old (ended moment (now_in places.old) conn)) }
+    ensures counts { OnOk result (out.new.counts ≡ happenings_counts places.old (ended moment (now_in places.old) conn) out.old.counts) }
+{
+    push_quits(alloc, places, moment, count, conn, out)?;
+    print::push_over(&mut out.text, conn)?;
+    Ok(())
+}
+
+// ---- texts
+
+// Keeps the badge that a connection has from an entry of the hall on.
+fn set_badge(session: &mut Session, badge: Option<Badge>)
+    ensures { session.new ≡ badged badge session.old }
+{
+    match badge {
+        None => {}
+        Some(badge) => session.named(badge),
+    }
+}
+
+// The end of a battle is reported to the hall.
+fn push_report(
+    alloc: Global,
+    places: &mut Places,
+    moment: Moment,
+    count: u32,
+    conn: ConnNo,
+    end: Option<Ending>,
+    out: &mut Transcript,
+) -> Result<(), AllocError>
+    ensures state { OnOk result (places.new ≡ happenings_after places.old (report_of moment conn end)) }
+    ensures text { OnOk result (string_bytes out.new.text ≡ string_bytes out.old.text ++ happenings_text count places.old (report_of moment conn end)) }
+    ensures counts { OnOk result (out.new.counts ≡ happenings_counts places.old (report_of moment conn end) out.old.counts) }
+{
+    match end {
+        None => Ok(()),
+        Some(end) => {
+            let entry = HallEntry {
+                conn,
+                moment,
+                cmd: HallCmd::Report {
+                    number: end.number,
+                    winner: end.winner,
+                },
+            };
+            places.push_hall(alloc, count, &entry, out)?;
+            Ok(())
+        }
+    }
+}
+
+// An entry of a room, and the report of the battle that it ended.
+fn push_in_room(
+    alloc: Global,
+    places: &mut Places,
+    moment: Moment,
+    count: u32,
+    no: u32,
+    entry: &Entry,
+    out: &mut Transcript,
+) -> Result<(), AllocError>
+    ensures state { OnOk result (places.new ≡ happenings_after places.old (entry_happenings moment (now_in places.old) entry.now.conn (Some (placed.Room no entry.now)))) }
+    ensures text { OnOk result (string_bytes out.new.text ≡ string_bytes out.old.text ++ happenings_text count places.old (entry_happenings moment (now_in places.old) entry.now.conn (Some (placed.Room no entry.now)))) }
+    ensures counts { OnOk result (out.new.counts ≡ happenings_counts places.old (entry_happenings moment (now_in places.old) entry.now.conn (Some (placed.Room no entry.now))) out.old.counts) }
+{
+    let end = places.push_room(alloc, count, RoomNo(no), entry, out)?;
+    push_report(alloc, places, moment, count, entry.conn, end, out)
+}
+
+// An entry of the hall.
+fn push_in_hall(
+    alloc: Global,
+    places: &mut Places,
+    moment: Moment,
+    count: u32,
+    entry: &HallEntry,
+    out: &mut Transcript,
+) -> Result<Option<Badge>, AllocError>
+    ensures state { OnOk result (places.new ≡ happenings_after places.old (entry_happenings moment (now_in places.old) entry.now.conn (Some (placed.Hall entry.now)))) }
+    ensures text { OnOk result (string_bytes out.new.text ≡ string_bytes out.old.text ++ happenings_text count places.old (entry_happenings moment (now_in places.old) entry.now.conn (Some (placed.Hall entry.now)))) }
+    ensures counts { OnOk result (out.new.counts ≡ happenings_counts places.old (entry_happenings moment (now_in places.old) entry.now.conn (Some (placed.Hall entry.now))) out.old.counts) }
+    ensures badge { IfOk result (λ b. b ≡ (halls.out_of places.old.hall entry.now).badge) }
+{
+    places.push_hall(alloc, count, entry, out)
+}
+
+// A text of a connection for the room with a number.
+fn push_to_room(
+    alloc: Global,
+    places: &mut Places,
+    session: &Session,
+    moment: Moment,
+    count: u32,
+    conn: ConnNo,
+    no: u32,
+    cmd: Command,
+    out: &mut Transcript,
+) -> Result<(), AllocError>
+    ensures state { OnOk result (places.new ≡ happenings_after places.old (entry_happenings moment (now_in places.old) conn (entry_in_room moment conn no cmd session.now.badge))) }
+    ensures text { OnOk result (string_bytes out.new.text ≡ string_bytes out.old.text ++ happenings_text count places.old (entry_happenings moment (now_in places.old) conn (entry_in_room moment conn no cmd session.now.badge))) }
+    ensures counts { OnOk result (out.new.counts ≡ happenings_counts places.old (entry_happenings moment (now_in places.old) conn (entry_in_room moment conn no cmd session.now.badge)) out.old.counts) }
+{
+    match session.badge() {
+        None => push_ended(alloc, places, moment, count, conn, out),
+        Some(badge) => {
+            let badge = badge.copy(alloc)?;
+            let entry = Entry {
+                conn,
+                badge,
+                moment,
+                cmd,
+            };
+            push_in_room(alloc, places, moment, count, no, &entry, out)
+        }
+    }
+}
+
+// A text of a connection for a room that isn't there.
+fn push_to_none(
+    alloc: Global,
+    places: &mut Places,
+    session: &mut Session,
+    moment: Moment,
+    count: u32,
+    conn: ConnNo,
+    out: &mut Transcript,
+) -> Result<(), AllocError>
+    requires { is_some session.old.last ≡ true }
+    ensures state { OnOk result (places.new ≡ happenings_after places.old (entry_happenings moment (now_in places.old) conn (entry_in_hall moment conn (no_room session.old)))) }
+    ensures session { session.new ≡ after_no_room session.old }
+    ensures text { OnOk result (string_bytes out.new.text ≡ string_bytes out.old.text ++ happenings_text count places.old (entry_happenings moment (now_in places.old) conn (entry_in_hall moment conn (no_room session.old)))) }
+    ensures counts { OnOk result (out.new.counts ≡ happenings_counts places.old (entry_happenings moment (now_in places.old) conn (entry_in_hall moment conn (no_room session.old))) out.old.counts) }
+{
+    match session.no_room() {
+        Some(Order::Hall(cmd)) => {
+            let entry = HallEntry { conn, moment, cmd };
+            push_in_hall(alloc, places, moment, count, &entry, out)?;
+            Ok(())
+        }
+        _ => push_ended(alloc, places, moment, count, conn, out),
+    }
+}
+
+// An order that a text was taken for.
+fn push_order(
+    alloc: Global,
+    places: &mut Places,
+    session: &mut Session,
+    moment: Moment,
+    count: u32,
+    conn: ConnNo,
+    order: Order,
+    out: &mut Transcript,
+) -> Result<(), AllocError>
+    requires { IsCounted order session.old }
+    ensures state { OnOk result (places.new ≡ happenings_after places.old (entry_happenings moment (now_in places.old) conn (order_entry moment (now_in places.old) conn (Ok order) session.old))) }
+    ensures session { OnOk result (session.new ≡ order_session moment (now_in places.old) conn (Ok order) session.old) }
+    ensures text { OnOk result (string_bytes out.new.text ≡ string_bytes out.old.text ++ happenings_text count places.old (entry_happenings moment (now_in places.old) conn (order_entry moment (now_in places.old) conn (Ok order) session.old))) }
+    ensures counts { OnOk result (out.new.counts ≡ happenings_counts places.old (entry_happenings moment (now_in places.old) conn (order_entry moment (now_in places.old) conn (Ok order) session.old)) out.old.counts) }
+{
+    match order {
+        Order::Hall(cmd) => {
+            let entry = HallEntry { conn, moment, cmd };
+            let badge = push_in_hall(alloc, places, moment, count, &entry, out)?;
+            set_badge(session, badge);
+            Ok(())
+        }
+        Order::Room { id, cmd } => match places.number(id.as_str()) {
+            None => push_to_none(alloc, places, session, moment, count, conn, out),
+            Some(no) => push_to_room(alloc, places, session, moment, count, conn, no, cmd, out),
+        },
+    }
+}
+
+// A text of a connection.
+#[tactic(auto, using(crate::proofs::OrderLemmas::counted_is))]
+fn push_text(
+    alloc: Global,
+    places: &mut Places,
+    session: &mut Session,
+    moment: Moment,
+    count: u32,
+    conn: ConnNo,
+    text: &str,
+    out: &mut Transcript,
+) -> Result<(), AllocError>
+    ensures state { OnOk result (places.new ≡ happenings_after places.old (entry_happenings moment (now_in places.old) conn (text_entry moment (now_in places.old) conn text.now session.old))) }
+    ensures session { OnOk result (session.new ≡ text_session moment (now_in places.old) conn text.now session.old) }
+    ensures text { OnOk result (string_bytes out.new.text ≡ string_bytes out.old.text ++ happenings_text count places.old (entry_happenings moment (now_in places.old) conn (text_entry moment (now_in places.old) conn text.now session.old))) }
+    ensures counts { OnOk result (out.new.counts ≡ happenings_counts places.old (entry_happenings moment (now_in places.old) conn (text_entry moment (now_in places.old) conn text.now session.old)) out.old.counts) }
+{
+    match session.take(alloc, text.as_bytes()) {
+        Err(TakeFault::NoMemory) => Err(AllocError),
+        Err(TakeFault::BadText) => push_ended(alloc, places, moment, count, conn, out),
+        Err(TakeFault::Limit { .. }) => push_ended(alloc, places, moment, count, conn, out),
+        Ok(order) => push_order(alloc, places, session, moment, count, conn, order, out),
+    }
+}
+
+fn index_of_conn(conn: ConnNo) -> usize
+    ensures { result ≡ conn - 1 }
+{
+    conn.0.saturating_sub(1) as usize
+}
+
+// A text of a connection that is open.
+fn push_sent(
+    alloc: Global,
+    places: &mut Places,
+    sessions: &mut [Session],
+    moment: Moment,
+    count: u32,
+    conn: ConnNo,
+    text: &str,
+    out: &mut Transcript,
+) -> Result<(), AllocError>
+    requires { count ≡ length sessions.old }
+    ensures state { OnOk result (places.new ≡ happenings_after places.old (sent_by (record { moment = moment; now = now_in places.old; sessions = sessions.old }) conn text.now (session_of conn sessions.old)).happenings) }
+    ensures sessions { OnOk result (sessions.new ≡ (sent_by (record { moment = moment; now = now_in places.old; sessions = sessions.old }) conn text.now (session_of conn sessions.old)).sessions) }
+    ensures text { OnOk result (string_bytes out.new.text ≡ string_bytes out.old.text ++ happenings_text count places.old (sent_by (record { moment = moment; now = now_in places.old; sessions = sessions.old }) conn text.now (session_of conn sessions.old)).happenings) }
+    ensures counts { OnOk result (out.new.counts ≡ happenings_counts places.old (sent_by (record { moment = moment; now = now_in places.old; sessions = sessions.old }) conn text.now (session_of conn sessions.old)).happenings out.old.counts) }
+{
+    let place = index_of_conn(conn);
+    if place >= sessions.len() {
+        return Ok(());
+    }
+    push_text(
+        alloc,
+        places,
+        &mut sessions[place],
+        moment,
+        count,
+        conn,
+        text,
+        out,
+    )
+}
+
+// A connection opens.
+fn push_opened(
+    alloc: Global,
+    places: &mut Places,
+    sessions: &mut Vec<Session>,
+    moment: Moment,
+    conn: ConnNo,
+    out: &mut Transcript,
+) -> Result<(), AllocError>
+    requires { length sessions.old.items ≤ 65536 }
+    ensures state { OnOk result (places.new ≡ happenings_after places.old (opening moment conn ∷ [])) }
+    ensures sessions { OnOk result (sessions.new.items ≡ sessions.old.items ++ begun conn ∷ []) }
+    ensures few { length sessions.new.items ≤ 65536 }
+    ensures text { OnOk result (string_bytes out.new.text ≡ string_bytes out.old.text ++ happenings_text (length sessions.new.items) places.old (opening moment conn ∷ [])) }
+    ensures counts { OnOk result (out.new.counts ≡ happenings_counts places.old (opening moment conn ∷ []) out.old.counts) }
+{
+    if sessions.len() >= MOST_SESSIONS {
+        return Err(AllocError);
+    }
+    sessions.push(Session::new(alloc, conn))?;
+    let entry = HallEntry {
+        conn,
+        moment,
+        cmd: HallCmd::Open,
+    };
+    places.push_hall(alloc, sessions.len() as u32, &entry, out)?;
+    Ok(())
+}
+
+impl Table {
+    ghost use Rattle.replay_state.specs.Entries.{moment_after};
+    ghost use Rattle.replay_state.specs.Tables.{fresh, item_text, item_after, item_counts};
+
+    /// Before the first line, with the ranks that the script gives.
+    pub fn new(
+        alloc: Global,
+        config: Arc<Config>,
+        dex: Arc<Dex>,
+        ranks: IdMap<u8>,
+    ) -> Result<Table, AllocError>
+        ensures { IfOk result (λ t. t ≡ fresh (record { config = arc_value config; dex = arc_value dex; ranks = ranks })) }
+    {
+        Ok(Table {
+            moment: Moment(0),
+            places: Places::new(alloc, config, dex, ranks)?,
+            sessions: Vec::new(alloc),
+        })
+    }
+
+    /// Prints what a line prints, counts its entries, and goes on to the state after it.
+    pub fn play(
+        &mut self,
+        alloc: Global,
+        item: &Item,
+        out: &mut Transcript,
+    ) -> Result<(), AllocError>
+        ensures state { OnOk result (self.new ≡ item_after self.old item.now) }
+        ensures text { OnOk result (string_bytes out.new.text ≡ string_bytes out.old.text ++ item_text self.old item.now) }
+        ensures counts { OnOk result (out.new.counts ≡ item_counts self.old item.now out.old.counts) }
+    {
+        match item {
+            Item::Nothing => Ok(()),
+            Item::Group(_, _) => Ok(()),
+            Item::Moment(moment) => {
+                self.moment = *moment;
+                Ok(())
+            }
+            Item::Open(conn) => {
+                push_opened(
+                    alloc,
+                    &mut self.places,
+                    &mut self.sessions,
+                    self.moment,
+                    *conn,
+                    out,
+                )
+            }
+            Item::Send(conn, text) => {
+                if !self.places.is_open(*conn) {
+                    return Ok(());
+                }
+                let count = self.sessions.len() as u32;
+                push_sent(
+                    alloc,
+                    &mut self.places,
+                    &mut self.sessions,
+                    self.moment,
+                    count,
+                    *conn,
+                    text.as_str(),
+                    out,
+                )
+            }
+            Item::Close(conn) => {
+                if !self.places.is_open(*conn) {
+                    return Ok(());
+                }
+                let count = self.sessions.len() as u32;
+                push_quits(alloc, &mut self.places, self.moment, count, *conn, out)
+            }
+        }
+    }
+}

@@ -1,0 +1,6 @@
+pub mod Rooms
+pub mod Users
+pub mod Reading
+pub mod Ranges
+pub mod Standard
+pub mod Seeds

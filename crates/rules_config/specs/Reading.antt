@@ -1,0 +1,70 @@
+-- What a configuration says.
+use Rattle.std.specs.Prelude.{◌≡◌, ℕ, ◌&&◌, ◌||◌, Bool, List, [], length, codes, Result, Ok, nat_le}
+use Rattle.std.specs.List.{list_all}
+use Rattle.serde_json.specs.Data.{Data}
+use Rattle.ps_data.specs.declared.fault.DataKind.TheVariants.{Range}
+use Rattle.ps_data.specs.declared.fault.Fault.{Fault}
+use Rattle.ps_data.specs.Reading.{◌>>=◌, ensure, optional}
+use Rattle.ps_data.specs.Forms.{json_in, object_in, text_in, array_in, number_in}
+use Rattle.ps_data.specs.Lists.{each}
+use Rattle.ps_dex.specs.declared.item.Tables.{Tables}
+use Rattle.ps_group.specs.Reading.{groups_in}
+use Rattle.ps_group.specs.Defaults.{default_groups}
+use Rattle.ps_rules.specs.Reading.{said_in}
+use Rattle.rules_config.specs.declared.settings.Settings.{Settings}
+use Rattle.rules_config.specs.Rooms.{rooms_at}
+use Rattle.rules_config.specs.Users.{staff_at, users_in}
+
+-- ---- nonce
+
+-- an ASCII letter or digit
+abbrev pub is_plain : ℕ → Bool
+is_plain b = (nat_le 48 b && nat_le b 57) || (nat_le 65 b && nat_le b 90) || (nat_le 97 b && nat_le b 122)
+
+unfoldable pub are_plain : List ℕ → Bool
+are_plain text = list_all is_plain text
+
+-- one to thirty-two letters and digits
+unfoldable pub is_nonce : List ℕ → Bool
+is_nonce text = are_plain text && nat_le 1 (length text) && nat_le (length text) 32
+
+unfoldable pub nonce_in : Data → Result (List ℕ) Fault
+nonce_in d = do
+  text ← text_in d
+  _ ← ensure Range (is_nonce text)
+  Ok text
+
+-- ---- seeds
+
+-- the greatest number of 64 bits
+abbrev pub greatest_seed : ℕ
+greatest_seed = 18446744073709551615
+
+unfoldable pub seeds_in : Data → Result (List ℕ) Fault
+seeds_in d = do
+  items ← array_in d
+  each (λ before after. number_in 0 greatest_seed) [] items
+
+-- ---- the whole
+
+-- the keys of a configuration in their order, each of which may be missing; `said_in` reads `rulesets` and `formats`
+unfoldable pub config_in : Tables → Data → Result Settings Fault
+config_in dex d = do
+  _ ← object_in d
+  groups ← optional (codes "groups") default_groups groups_in d
+  staff ← staff_at groups d
+  rooms ← rooms_at d
+  users ← optional (codes "users") [] (users_in groups) d
+  formats ← said_in dex d
+  nonce ← optional (codes "nonce") (codes "0") nonce_in d
+  seed ← optional (codes "seed") 0 (number_in 0 greatest_seed) d
+  seeds ← optional (codes "seeds") [] seeds_in d
+  Ok (record { groups = groups; staff = staff; rooms = rooms; users = users; formats = formats; nonce = nonce; seed = seed; seeds = seeds })
+
+-- the bytes of a configuration over a dex
+unfoldable pub config_of : Tables → List ℕ → Result Settings Fault
+config_of dex bytes = json_in bytes >>= config_in dex
+
+-- some file says this over some dex
+abbrev pub HasFile : Settings → Type 0
+HasFile settings = (bytes : List ℕ) × (dex : Tables) × (config_of dex bytes ≡ Ok settings)

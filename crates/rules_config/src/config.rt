@@ -1,0 +1,137 @@
+//! The configuration.
+ghost use Rattle.std.specs.Prelude.{◌≡◌, ◌<◌, ◌≤◌, All, length, IfOk};
+ghost use Rattle.ps_data.specs.FileFaults.{GivesFile};
+ghost use Rattle.rules_config.specs.Reading.{config_of};
+ghost use Rattle.rules_config.specs.Standard.{standard};
+
+use crate::fault::ConfigFault;
+use crate::read::read_settings;
+use crate::room::lobby_alone;
+use crate::settings::{ChatRoom, Registered, Settings};
+use ps_base::list::List;
+use ps_base::text::Text;
+use ps_data::file_fault::reported;
+use ps_dex::dex::Dex;
+use ps_group::groups::Groups;
+use ps_rules::formats::Formats;
+use std::alloc::{AllocError, Global};
+use std::marker::Model;
+
+/// What a server is set up with: groups, chat rooms, registered names, formats and seeds, as some
+/// configuration file says them over some dex. Contracts see what the file says.
+#[derive(Debug, Drop)]
+pub struct Config {
+    settings: Settings,
+}
+
+impl Model for Config {
+    ghost use Rattle.rules_config.specs.declared.settings.Settings.{Settings as Said};
+    ghost use Rattle.rules_config.specs.Reading.{HasFile};
+
+    ghost Value = { Said };
+
+    ghost view = { λ c. c.settings };
+
+    ghost invariant = { λ c. HasFile c.settings };
+}
+
+fn standard_settings(alloc: Global) -> Result<Settings, AllocError>
+    ensures { IfOk result (λ s. s ≡ standard) }
+{
+    Ok(Settings {
+        groups: Groups::standard(alloc)?,
+        staff: 3,
+        rooms: lobby_alone(alloc)?,
+        users: List::from_vec(Vec::new(alloc)),
+        formats: Formats::none(alloc),
+        nonce: Text::copy_of(alloc, "0")?,
+        seed: 0,
+        seeds: List::from_vec(Vec::new(alloc)),
+    })
+}
+
+impl Config {
+    ghost use Rattle.rules_config.specs.Reading.{HasFile};
+
+    /// The configuration that the bytes of a file stand for: a JSON object with the keys `groups`,
+    /// `staff`, `rooms`, `users`, `rulesets`, `formats`, `nonce`, `seed` and `seeds`, each of which
+    /// may be missing. Bans are looked up in the dex. `Fault` comes exactly where the file has no
+    /// configuration, at its first fault.
+    pub fn read(alloc: Global, bytes: &[u8], dex: &Dex) -> Result<Config, ConfigFault>
+        ensures { GivesFile result (config_of dex.now bytes.now) }
+    {
+        match read_settings(alloc, bytes, dex) {
+            Ok(settings) => Ok(Config { settings }),
+            Err(refusal) => Err(reported(alloc, refusal)),
+        }
+    }
+
+    /// The configuration where no file is named: the default of each key, as a file says that is an
+    /// object without keys.
+    pub fn standard(alloc: Global) -> Result<Config, AllocError>
+        ensures { IfOk result (λ c. c ≡ standard) }
+    {
+        let settings = standard_settings(alloc)?;
+        Ok(Config { settings })
+    }
+
+    /// The groups.
+    pub fn groups(&self) -> &Groups
+        ensures { result.now ≡ self.now.groups }
+    {
+        &self.settings.groups
+    }
+
+    /// The lowest rank that counts as staff.
+    pub fn staff(&self) -> u8
+        ensures value { result ≡ self.now.staff }
+        ensures within { result < length self.now.groups }
+    {
+        self.settings.staff
+    }
+
+    /// The chat rooms, in the order of the file.
+    pub fn rooms(&self) -> &[ChatRoom]
+        ensures value { result.now ≡ self.now.rooms }
+        ensures some { 1 ≤ length result.now }
+        ensures few { length result.now ≤ 16 }
+    {
+        self.settings.rooms.as_slice()
+    }
+
+    /// The registered names, in the order of the file.
+    pub fn users(&self) -> &[Registered]
+        ensures value { result.now ≡ self.now.users }
+        ensures ranks { All (λ u. u.rank < length self.now.groups) result.now }
+    {
+        self.settings.users.as_slice()
+    }
+
+    /// The rulesets and the formats.
+    pub fn formats(&self) -> &Formats
+        ensures { result.now ≡ self.now.formats }
+    {
+        &self.settings.formats
+    }
+
+    /// The text that the texts begin with which log-ins sign: 1 to 32 letters and digits.
+    pub fn nonce(&self) -> &str
+        ensures { result.now ≡ self.now.nonce }
+    {
+        self.settings.nonce.as_str()
+    }
+
+    /// What the seeds of battles are drawn from.
+    pub fn seed(&self) -> u64
+        ensures { result ≡ self.now.seed }
+    {
+        self.settings.seed
+    }
+
+    /// The seeds of the first battles.
+    pub fn seeds(&self) -> &[u64]
+        ensures { result.now ≡ self.now.seeds }
+    {
+        self.settings.seeds.as_slice()
+    }
+}

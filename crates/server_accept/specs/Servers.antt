@@ -1,0 +1,75 @@
+-- How a server ends.
+use Rattle.std.specs.Prelude.{◌≡◌, ℕ, zero, suc, List, Option, Result, Ok, Err}
+use Rattle.ps_outside.specs.Causes.{Rose}
+use Rattle.ps_outside.specs.Counts.{one_more}
+use Rattle.ps_outside.specs.Files.{FileCounts}
+use Rattle.program_commands.specs.declared.status.Status.{Status}
+use Rattle.program_commands.specs.declared.status.Status.TheVariants.{Done, Usage, FileMissing, FileFault, FileLong, BadDex, BadConfig, BadScript, ScriptLong, ReadFault, WriteFault, BadTeam, NoMemory, DoorFault, UnknownFormat, BadPack}
+use Rattle.program_commands.specs.Words.{Options, Serves}
+use Rattle.program_commands.specs.Setups.{HasSetup, IsGood, Stops, IsOption, AreGood, IsSettled}
+
+-- what holds where the words ask for a server
+abbrev pub IfServe : Result Serves ℕ → (Serves → Type 0) → Type 0
+IfServe (Ok words) holds = holds words
+IfServe (Err at) holds = Unit {0}
+
+-- how many links a door has handed out, after so many more
+abbrev pub given_by : ℕ → ℕ → ℕ
+given_by zero given = given
+given_by (suc n) given = one_more (given_by n given)
+
+-- What has shown each status. That of a file names one of the files of the words, and its count rose; at the last three the
+-- files are good.
+abbrev pub ServeCause : Option (List ℕ → Option (List ℕ)) → Options → FileCounts → FileCounts → Status → Type 0
+ServeCause contents o old new (FileMissing name) = Stops contents o (FileMissing name) × IsOption o name × Rose old.missing new.missing
+ServeCause contents o old new (FileFault name) = Stops contents o (FileFault name) × IsOption o name × Rose old.faults new.faults
+ServeCause contents o old new (FileLong name) = Stops contents o (FileLong name) × IsOption o name × Rose old.long new.long
+ServeCause contents o old new (BadDex path kind) = Stops contents o (BadDex path kind)
+ServeCause contents o old new (BadConfig path kind) = Stops contents o (BadConfig path kind)
+ServeCause contents o old new NoMemory = Unit {0}
+ServeCause contents o old new Done = HasSetup contents o IsGood
+ServeCause contents o old new DoorFault = HasSetup contents o IsGood
+ServeCause contents o old new (Usage word) = ⊥
+ServeCause contents o old new (BadScript line kind) = ⊥
+ServeCause contents o old new (ScriptLong count) = ⊥
+ServeCause contents o old new ReadFault = ⊥
+ServeCause contents o old new WriteFault = ⊥
+ServeCause contents o old new (BadTeam set rule subject) = ⊥
+ServeCause contents o old new (UnknownFormat id) = ⊥
+ServeCause contents o old new (BadPack at kind) = ⊥
+
+-- where the words or the files ended it, the door was asked nothing: of its faults and of the links that it handed out, the
+-- counts before and after
+abbrev pub KeepsDoor : ℕ → ℕ → ℕ → ℕ → Status → Type 0
+KeepsDoor faults later given now (Usage word) = (later ≡ faults) × (now ≡ given)
+KeepsDoor faults later given now (FileMissing name) = (later ≡ faults) × (now ≡ given)
+KeepsDoor faults later given now (FileFault name) = (later ≡ faults) × (now ≡ given)
+KeepsDoor faults later given now (FileLong name) = (later ≡ faults) × (now ≡ given)
+KeepsDoor faults later given now (BadDex path kind) = (later ≡ faults) × (now ≡ given)
+KeepsDoor faults later given now (BadConfig path kind) = (later ≡ faults) × (now ≡ given)
+KeepsDoor faults later given now other = Unit {0}
+
+-- good files, with no fault of the files or the door, settle a server
+abbrev pub SettlesServe : Option (List ℕ → Option (List ℕ)) → Options → Type 0 → Type 0 → Status → Type 0
+SettlesServe contents o file_fault door_fault status = AreGood contents o → (file_fault → ⊥) → (door_fault → ⊥) → IsSettled status
+
+-- ---- for the code alone
+
+-- a status that the words and the files have no part in
+abbrev pub IsOfDoor : Status → Type 0
+IsOfDoor Done = Unit {0}
+IsOfDoor DoorFault = Unit {0}
+IsOfDoor NoMemory = Unit {0}
+IsOfDoor (Usage word) = ⊥
+IsOfDoor (FileMissing name) = ⊥
+IsOfDoor (FileFault name) = ⊥
+IsOfDoor (FileLong name) = ⊥
+IsOfDoor (BadDex path kind) = ⊥
+IsOfDoor (BadConfig path kind) = ⊥
+IsOfDoor (BadScript line kind) = ⊥
+IsOfDoor (ScriptLong count) = ⊥
+IsOfDoor ReadFault = ⊥
+IsOfDoor WriteFault = ⊥
+IsOfDoor (BadTeam set rule subject) = ⊥
+IsOfDoor (UnknownFormat id) = ⊥
+IsOfDoor (BadPack at kind) = ⊥

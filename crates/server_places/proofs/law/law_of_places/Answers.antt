@@ -1,0 +1,9 @@
+use Rattle.server_places.proofs.GoOnLemmas.{pulls_go_on}
+use Rattle.server_places.proofs.HallLemmas.{hall_goes_on}
+use Rattle.server_places.proofs.law.law_of_places.Goals as goal
+
+pub returns-clause-hall : goal.returns-clause-hall
+returns-clause-hall c = hall_goes_on
+
+pub returns-clause-room : goal.returns-clause-room
+returns-clause-room c = pulls_go_on

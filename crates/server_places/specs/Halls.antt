@@ -1,0 +1,68 @@
+-- The hall, as it stands behind a lock.
+use Rattle.std.specs.Prelude.{◌≡◌, ◌≤◌, ℕ, List, ◌++◌, map, length, IfSome}
+use Rattle.std.specs.FinMap.{empty}
+use Rattle.ps_base.specs.declared.msg.Msg.{Msg}
+use Rattle.rules_start.specs.Fits.{IsFit}
+use Rattle.ps_hall.specs.declared.entry.HallEntry.{HallEntry}
+use Rattle.ps_hall.specs.declared.outcome.HallOut.{HallOut}
+use Rattle.ps_hall.specs.Records.{Record, opened}
+use Rattle.ps_base.specs.Limits.{most_battles}
+use Rattle.ps_base.specs.Messages.{msg_lines}
+use Rattle.ps_hall.specs.Halls.{Seen, seen_opened, run_seen, run_record, out_of, view, pulled_past, cursor_past}
+use Rattle.server_places.specs.declared.cursor.HallCursor.{HallCursor}
+use Rattle.server_places.specs.declared.site.Root.{Root}
+
+-- the hall before the first entry: no rank goes before those of registered names
+abbrev pub hall_opened : Root → Record
+hall_opened r = opened r.config r.dex empty
+
+-- the hall after its entries
+abbrev pub hall_after : Root → List HallEntry → Record
+hall_after r es = run_record (hall_opened r) es
+
+-- with what it keeps for those who look later
+abbrev pub hall_seen : Root → List HallEntry → Seen
+hall_seen r es = run_seen (seen_opened (hall_opened r)) es
+
+pub record HallHome : Type 0 where
+  pub root : Root
+  pub hall : Seen
+  pub count : ℕ
+
+-- it stands for the entries that it has applied
+pub record HallStands (es : List HallEntry) (p : HallHome) : Type 0 where
+  pub hall : p.hall ≡ hall_seen p.root es
+  pub count : p.count ≡ length es
+
+-- what an entry is answered after these; a battle that it starts can start, and has a number of a battle
+pub record HallAnswers (r : Root) (es : List HallEntry) (e : HallEntry) (out : HallOut) : Type 0 where
+  pub is : out ≡ out_of (hall_after r es) e
+  pub fit : IfSome out.start (λ s. IsFit s r.config r.dex)
+  pub above : IfSome out.start (λ s. 1 ≤ s.number)
+  pub below : IfSome out.start (λ s. s.number ≤ most_battles)
+
+-- what is pulled past a cursor after these entries, and the cursor after it
+pub record HallPulls (r : Root) (es : List HallEntry) (x : HallCursor) (msgs : List Msg) (y : HallCursor) : Type 0 where
+  pub messages : map msg_lines msgs ≡ pulled_past x.hall (hall_seen r es)
+  pub cursor : y ≡ record { hall = cursor_past x.hall (hall_seen r es); passed = length es }
+
+-- the cursor of a connection behind so many entries
+abbrev pub hall_cursor : ℕ → ℕ → HallCursor
+hall_cursor conn count = record { hall = record { conn = conn; at = count }; passed = count }
+
+-- ---- what a connection is told
+
+-- all that a connection is sent over these entries, message by message
+abbrev pub HallShows : ℕ → Root → List HallEntry → List (List (List ℕ)) → Type 0
+HallShows conn r es ms = ms ≡ view conn (hall_opened r) es
+
+-- the cursor stands behind these entries
+abbrev pub HallStandsAt : ℕ → Root → List HallEntry → HallCursor → Type 0
+HallStandsAt conn r es x = x ≡ hall_cursor conn (length es)
+
+-- What who has passed the entries `before` is given, where `later` came since: what it was sent, with that, is all that it is
+-- sent over both, and the cursor stands behind both.
+abbrev pub HallPullsGoOn : Type 0
+HallPullsGoOn = (conn : ℕ) (r : Root) (before later : List HallEntry) (x y : HallCursor) (ms : List (List (List ℕ))) (msgs : List Msg)
+    → HallStandsAt conn r before x → HallShows conn r before ms → HallPulls r (before ++ later) x msgs y
+    → HallShows conn r (before ++ later) (ms ++ map msg_lines msgs) × HallStandsAt conn r (before ++ later) y

@@ -1,0 +1,106 @@
+-- The room of a place, as it stands behind a lock.
+use Rattle.std.specs.Prelude.{◌≡◌, ◌⊎◌, ℕ, List, [], ◌++◌, map, length, Option, Some, None}
+use Rattle.std.specs.Option.{option_map}
+use Rattle.std.specs.declared.boxed.Box.{Box}
+use Rattle.std.specs.declared.alloc.Global.{Global}
+use Rattle.ps_base.specs.declared.msg.Msg.{Msg}
+use Rattle.ps_base.specs.Messages.{msg_lines}
+use Rattle.rules_start.specs.declared.start.Start.{Start}
+use Rattle.ps_splitlog.specs.Reads.{first_cursor, cursor_past, read_past}
+use Rattle.ps_room.specs.declared.entry.Entry.{Entry}
+use Rattle.ps_room.specs.declared.outcome.RoomOut.{RoomOut}
+use Rattle.ps_room.specs.declared.room.Room.{Room}
+use Rattle.ps_room.specs.Records.{opened}
+use Rattle.ps_room.specs.Rooms.{run_record}
+use Rattle.ps_room.specs.Logs.{Seen, record_in, seen_opened, seen_after, out_of, cursor_at}
+use Rattle.ps_room.specs.Stories.{Story, seen_of}
+use Rattle.server_places.specs.declared.command.RoomCmd.{RoomCmd}
+use Rattle.server_places.specs.declared.command.RoomCmd.TheVariants.{Begin, Play}
+use Rattle.server_places.specs.declared.cursor.RoomCursor.{RoomCursor}
+use Rattle.server_places.specs.declared.site.Site.{Site}
+use Rattle.server_places.specs.Sites.{Opens, battle_at, Tells, view_told}
+
+-- the place, its room, if there is one, and how many commands there were
+pub record Place : Type 0 where
+  pub site : Site
+  pub room : Option Seen
+  pub count : ℕ
+
+-- A place stands for the commands that it has applied: it has the room that they tell of, and their number.
+pub record Stands (cmds : List RoomCmd) (p : Place) : Type 0 where
+  pub told : Option Story
+  pub tells : Tells p.site cmds told
+  pub room : p.room ≡ option_map seen_of told
+  pub count : p.count ≡ length cmds
+
+-- what comes of a command: of an entry of a room what the room answers; nothing of a Begin, and nothing where there is no room
+abbrev pub out_after : Option Story → RoomCmd → Option RoomOut
+out_after None cmd = None
+out_after (Some s) (Begin start) = None
+out_after (Some s) (Play e) = Some (out_of (run_record (opened s.opening) s.history) e)
+
+-- what a command is answered after these
+pub record Answers (site : Site) (cmds : List RoomCmd) (cmd : RoomCmd) (out : Option RoomOut) : Type 0 where
+  pub told : Option Story
+  pub tells : Tells site cmds told
+  pub is : out ≡ out_after told cmd
+
+abbrev pub read_from : RoomCursor → Option Story → List (List (List ℕ))
+read_from x None = []
+read_from x (Some s) = read_past x.room (seen_of s).log
+
+-- the cursor past so many commands, which tell this
+abbrev pub cursor_from : RoomCursor → Option Story → ℕ → RoomCursor
+cursor_from x None count = record { room = x.room; id = x.id; passed = count }
+cursor_from x (Some s) count = record { room = cursor_past x.room (seen_of s).log; id = Some s.opening.id; passed = count }
+
+-- what is pulled past a cursor after these commands, and the cursor after it
+pub record Pulls (site : Site) (cmds : List RoomCmd) (x : RoomCursor) (msgs : List Msg) (y : RoomCursor) : Type 0 where
+  pub told : Option Story
+  pub tells : Tells site cmds told
+  pub messages : map msg_lines msgs ≡ read_from x told
+  pub cursor : y ≡ cursor_from x told (length cmds)
+
+-- the cursor of a connection that was told all that so many commands tell
+abbrev pub cursor_of : ℕ → Option Story → ℕ → RoomCursor
+cursor_of conn None count = record { room = first_cursor conn; id = None; passed = count }
+cursor_of conn (Some s) count = record { room = cursor_at conn s.opening s.history; id = Some s.opening.id; passed = count }
+
+-- ---- what a connection is told
+
+-- All that a connection is sent over these commands, message by message
+abbrev pub Shows : ℕ → Site → List RoomCmd → List (List (List ℕ)) → Type 0
+Shows conn site cmds ms = (told : Option Story) × Tells site cmds told × (ms ≡ view_told conn told)
+
+-- the cursor stands behind these commands: it is new, or that of who was told all that they tell
+abbrev pub StandsAt : ℕ → Site → List RoomCmd → RoomCursor → Type 0
+StandsAt conn site cmds x = ((cmds ≡ []) × (x ≡ cursor_of conn None 0)) ⊎ ((told : Option Story) × Tells site cmds told × (x ≡ cursor_of conn told (length cmds)))
+
+-- What who has passed the commands `before` is given, where `later` came since: what it was sent, with that, is all that it is
+-- sent over both, and the cursor stands behind both.
+abbrev pub PullsGoOn : Type 0
+PullsGoOn = (conn : ℕ) (site : Site) (before later : List RoomCmd) (x y : RoomCursor) (ms : List (List (List ℕ))) (msgs : List Msg)
+    → StandsAt conn site before x → Shows conn site before ms → Pulls site (before ++ later) x msgs y
+    → Shows conn site (before ++ later) (ms ++ map msg_lines msgs) × StandsAt conn site (before ++ later) y
+
+-- ---- for the code
+
+-- the room in its box
+abbrev pub in_box : Option (Box Room Global) → Option Seen
+in_box None = None
+in_box (Some b) = Some b.value
+
+-- what a Begin makes of a place, but for the count: nothing of one that has a room
+abbrev pub BeginsBy : Option Seen → Place → Start → Place → Type 0
+BeginsBy (Some s) old start new = new ≡ old
+BeginsBy None old start new = (Opens old.site start × (new ≡ record old { room = Some (seen_opened (battle_at old.site start)) })) ⊎ ((Opens old.site start → ⊥) × (new ≡ old))
+
+abbrev pub Begins : Place → Start → Place → Type 0
+Begins old start new = BeginsBy old.room old start new
+
+-- the room after an entry, and what it answers; nothing where there is none
+abbrev pub room_after : Option Seen → Entry → Option Seen
+room_after room e = option_map (λ s. seen_after s e) room
+
+abbrev pub room_out : Option Seen → Entry → Option RoomOut
+room_out room e = option_map (λ s. out_of (record_in s) e) room

@@ -1,0 +1,77 @@
+-- The places of a server, and what the commands of a place tell.
+use Rattle.std.specs.Prelude.{◌≡◌, ◌⊎◌, ◌≤◌, ℕ, ◌+◌, List, [], ◌∷◌, ◌++◌, slice_get, nat_lt, Option, Some, None, if◌then◌else◌}
+use Rattle.std.specs.Option.{option_map}
+use Rattle.std.specs.List.{filter_map}
+use Rattle.rules_start.specs.declared.start.Start.{Start}
+use Rattle.rules_start.specs.Fits.{IsFit}
+use Rattle.ps_base.specs.Limits.{most_battles}
+use Rattle.ps_room.specs.declared.entry.Entry.{Entry}
+use Rattle.ps_room.specs.Openings.{Opening}
+use Rattle.ps_room.specs.Records.{opened}
+use Rattle.ps_room.specs.Rooms.{view}
+use Rattle.ps_room.specs.Openings.{chat_opening, battle_opening, first_battle, room_of_battle}
+use Rattle.ps_room.specs.Stories.{story, Story}
+use Rattle.server_places.specs.declared.site.Site.{Site}
+use Rattle.server_places.specs.declared.command.RoomCmd.{RoomCmd}
+use Rattle.server_places.specs.declared.command.RoomCmd.TheVariants.{Begin, Play}
+
+-- the opening of the chat room at a place, if the place is a chat room's
+abbrev pub chat_at : Site → Option Opening
+chat_at site = if nat_lt site.number first_battle then option_map (chat_opening site.config site.dex site.number) (slice_get site.config.rooms site.number) else None
+
+-- the opening of a battle
+abbrev pub battle_at : Site → Start → Opening
+battle_at site start = battle_opening site.config site.dex start
+
+-- a Begin opens the battle of a place: the battle's number is one of battles, the place has the number of its room, and it can start there
+pub record Opens (site : Site) (start : Start) : Type 0 where
+  pub number : room_of_battle start.number ≡ site.number
+  pub above : 1 ≤ start.number
+  pub below : start.number ≤ most_battles
+  pub fit : IsFit start site.config site.dex
+
+-- ---- stories
+
+-- the entry of a room that a command is; a Begin is none
+abbrev pub play_of : RoomCmd → Option Entry
+play_of (Begin start) = None
+play_of (Play e) = Some e
+
+-- the entries of a room among the commands of its place
+abbrev pub plays : List RoomCmd → List Entry
+plays cmds = filter_map play_of cmds
+
+-- What the commands of a battle's place tell: nothing, until the first Begin that opens the battle; from then on the battle's
+-- room, with the entries after that Begin. What stands before it does nothing, and neither does a later Begin.
+abbrev pub BattleTells : Site → List RoomCmd → Option Story → Type 0
+BattleTells site [] t = t ≡ None
+BattleTells site (Play e ∷ cmds) t = BattleTells site cmds t
+BattleTells site (Begin start ∷ cmds) t = (Opens site start × (t ≡ Some (story (battle_at site start) (plays cmds)))) ⊎ ((Opens site start → ⊥) × BattleTells site cmds t)
+
+abbrev pub TellsBy : Option Opening → Site → List RoomCmd → Option Story → Type 0
+TellsBy (Some chat) site cmds t = t ≡ Some (story chat (plays cmds))
+TellsBy None site cmds t = BattleTells site cmds t
+
+-- What the commands of a place tell: of a chat room its opening and its entries.
+abbrev pub Tells : Site → List RoomCmd → Option Story → Type 0
+Tells site cmds t = TellsBy (chat_at site) site cmds t
+
+-- the commands of a place tell one story at the most
+abbrev pub OneStory : Type 0
+OneStory = (site : Site) (cmds : List RoomCmd) (one two : Option Story) → Tells site cmds one → Tells site cmds two → one ≡ two
+
+-- more commands go on with it: the entries among them follow its own
+abbrev pub StoriesGoOn : Type 0
+StoriesGoOn = (site : Site) (before later : List RoomCmd) (s : Story) → Tells site before (Some s) → Tells site (before ++ later) (Some (story s.opening (s.history ++ plays later)))
+
+-- ---- what a connection is sent
+
+-- all that a connection is sent from a place, message by message; nothing where there is no room
+abbrev pub view_told : ℕ → Option Story → List (List (List ℕ))
+view_told conn None = []
+view_told conn (Some s) = view conn (opened s.opening) s.history
+
+-- the id of a place's room, if there is one
+abbrev pub id_told : Option Story → Option (List ℕ)
+id_told None = None
+id_told (Some s) = Some s.opening.id

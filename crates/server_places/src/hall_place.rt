@@ -1,0 +1,100 @@
+//! The hall behind its lock.
+ghost use Rattle.std.specs.Prelude.{◌≡◌, ◌<◌, ◌^◌, [], IfOk};
+ghost use Rattle.std.specs.Arc.{arc_value};
+ghost use Rattle.server_places.specs.Halls.{HallStands};
+
+use crate::cursor::HallCursor;
+use crate::site::Root;
+use ps_base::id_map::IdMap;
+use ps_base::msg::Msg;
+use ps_dex::dex::Dex;
+use ps_hall::entry::HallEntry;
+use ps_hall::hall::Hall;
+use ps_hall::outcome::HallOut;
+use ps_histlock::Kept;
+use rules_config::config::Config;
+use std::alloc::{AllocError, Global};
+use std::marker::Model;
+use std::sync::Arc;
+
+/// How many commands a place takes. Past them memory is said to be wanting.
+pub(crate) const MOST_COMMANDS: u64 = (1 << 62) - 2;
+
+/// The hall of a server, with what it was opened with.
+#[derive(Drop)]
+pub struct HallPlace {
+    alloc: Global,
+    config: Arc<Config>,
+    dex: Arc<Dex>,
+    hall: Hall,
+    count: u64,
+}
+
+impl Model for HallPlace {
+    ghost use Rattle.std.specs.Coded.{codes, coded_ℕ, coded_ℤ};
+    ghost use base.Stored.{coded_unit};
+    ghost use Rattle.std.specs.Arc.{arc_value};
+    ghost use Rattle.ps_base.specs.ById.{by_id_code};
+    ghost use Rattle.ps_users.specs.ByConn.{by_conn_code};
+    ghost use Rattle.server_places.specs.Halls.{HallHome};
+
+    ghost Value = { HallHome };
+
+    ghost coded = { Prim.hlevel (codes, by_id_code, by_conn_code, coded_ℕ, coded_ℤ, coded_unit) };
+
+    ghost view = { λ p. record { root = record { config = arc_value p.config; dex = arc_value p.dex }; hall = p.hall; count = p.count } };
+}
+
+impl HallPlace {
+    /// The hall, in which nobody is connected. `AllocError` where memory is wanting.
+    pub fn new(alloc: Global, config: Arc<Config>, dex: Arc<Dex>) -> Result<HallPlace, AllocError>
+        ensures root { IfOk result (λ p. p.root ≡ record { config = arc_value config; dex = arc_value dex }) }
+        ensures stands { IfOk result (λ p. HallStands [] p) }
+    {
+        let hall = Hall::new(alloc, config.clone()?, dex.clone()?, IdMap::new(alloc))?;
+        Ok(HallPlace {
+            alloc,
+            config,
+            dex,
+            hall,
+            count: 0,
+        })
+    }
+}
+
+impl Kept for HallPlace {
+    ghost use Rattle.server_places.specs.Halls.{HallStands, HallAnswers, HallPulls};
+
+    type Origin = Root;
+
+    type Cmd = HallEntry;
+
+    type Out = HallOut;
+
+    type Cursor = HallCursor;
+
+    type Msg = Msg;
+
+    ghost origin = { λ p. p.root };
+
+    ghost stands = { HallStands };
+
+    ghost answers = { HallAnswers };
+
+    ghost pulls = { HallPulls };
+
+    fn apply(&mut self, entry: HallEntry) -> Result<HallOut, AllocError> {
+        if self.count >= MOST_COMMANDS {
+            return Err(AllocError);
+        }
+        let out = self.hall.apply(self.alloc, &entry)?;
+        self.count += 1;
+        Ok(out)
+    }
+
+    fn pull(&self, cursor: &mut HallCursor) -> Result<Vec<Msg>, AllocError> {
+        let msgs = self.hall.pull(self.alloc, &mut cursor.hall)?;
+        cursor.passed = self.count;
+        Ok(msgs)
+    }
+}

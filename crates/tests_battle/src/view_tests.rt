@@ -1,0 +1,668 @@
+//! The line of each event of a battle, for each role.
+use crate::arena::{ANN, ANN_2, BOB, nicks, small_dex, text_of};
+use ps_base::name::Name;
+use ps_base::text::Text;
+use ps_dex::dex::Dex;
+use ps_event::event::{Event, Health};
+use ps_event::side::Side;
+use ps_view::line::line_for;
+use ps_view::names::Names;
+use ps_view::role::Role;
+use std::alloc::{AllocError, Global};
+use std::process::Abort;
+use std::test::Fail;
+
+const BODY_SLAM: u16 = 0;
+
+const HYPER_BEAM: u16 = 1;
+
+const TACKLE: u16 = 5;
+
+const REST: u16 = 6;
+
+/// Struggle's number, past every dex.
+const STRUGGLE: u16 = 1024;
+
+/// What lines are made over.
+#[derive(Drop)]
+struct Stage {
+    names: Names,
+    dex: Dex,
+}
+
+/// An event, and its line.
+type Case = (Event, &'static str);
+
+/// A number of an event, and the event's line.
+type NumberCase = (u8, &'static str);
+
+/// Health, the greatest health and the number of a status, and how its owner and all others read it.
+type HealthCase = (u16, u16, u8, &'static str, &'static str);
+
+/// A number of an event, and its line with exact health and in hundredths.
+type SplitCase = (u8, &'static str, &'static str);
+
+fn player(rt: &impl Abort, alloc: Global, name: &str) -> Name {
+    Name::new(alloc, name).expect(rt, "memory")
+}
+
+/// Ann with two members against Bob with one.
+fn names(rt: &impl Abort, alloc: Global) -> Names {
+    let players = [player(rt, alloc, "Ann"), player(rt, alloc, "Bob")];
+    let nicks = [
+        nicks(rt, alloc, &["Tauros", "Bull"]),
+        nicks(rt, alloc, &["Snorlax"]),
+    ];
+    Names {
+        players,
+        nicks,
+        format: text_of(rt, alloc, "[Gen 1] OU"),
+    }
+}
+
+/// What an event shows a role: its line, or `nothing`.
+fn shown(alloc: Global, stage: &Stage, role: Role, event: &Event) -> Result<Text, AllocError> {
+    match line_for(alloc, event, role, &stage.names, &stage.dex)? {
+        None => Text::copy_of(alloc, "nothing"),
+        Some(line) => Ok(line),
+    }
+}
+
+/// An event shows a role that line.
+fn shows(rt: &impl Abort, alloc: Global, stage: &Stage, role: Role, case: &Case) {
+    let (event, wanted) = case;
+    let line = shown(alloc, stage, role, event).expect(rt, "memory");
+    assert_eq!(rt; line.as_str(), *wanted);
+}
+
+const SPECTATOR: Role = Role::Spectator { rank: 5 };
+
+/// The highest rank.
+const STAFF: Role = Role::Spectator { rank: 0 };
+
+const PLAYER_1: Role = Role::Player {
+    side: Side::P1,
+    rank: 5,
+};
+
+const PLAYER_2: Role = Role::Player {
+    side: Side::P2,
+    rank: 5,
+};
+
+/// The second player, of the highest rank.
+const PLAYER_2_AND_STAFF: Role = Role::Player {
+    side: Side::P2,
+    rank: 0,
+};
+
+const MEMBERS: &[Role] = &[SPECTATOR, STAFF, PLAYER_1, PLAYER_2, PLAYER_2_AND_STAFF];
+
+/// An event shows each role that line.
+fn shows_each(rt: &impl Abort, alloc: Global, stage: &Stage, roles: &[Role], case: &Case) {
+    for role in roles {
+        shows(rt, alloc, stage, *role, case);
+    }
+}
+
+/// All members are shown that line, and who is outside nothing.
+fn shows_all(rt: &impl Abort, alloc: Global, stage: &Stage, case: &Case) {
+    shows(rt, alloc, stage, Role::Outside, &(case.0, "nothing"));
+    shows_each(rt, alloc, stage, MEMBERS, case);
+}
+
+fn cases_hold(rt: &impl Abort, alloc: Global, stage: &Stage, cases: &[Case]) {
+    for case in cases {
+        shows_all(rt, alloc, stage, case);
+    }
+}
+
+/// The opening but for the switches.
+const OPENING: &[Case] = &[
+    (Event::Player { side: Side::P1 }, "|player|p1|Ann||"),
+    (Event::Player { side: Side::P2 }, "|player|p2|Bob||"),
+    (
+        Event::TeamSize {
+            side: Side::P1,
+            count: 2,
+        },
+        "|teamsize|p1|2",
+    ),
+    (
+        Event::TeamSize {
+            side: Side::P2,
+            count: 1,
+        },
+        "|teamsize|p2|1",
+    ),
+    (Event::GameType, "|gametype|singles"),
+    (Event::Gen, "|gen|1"),
+    (Event::Tier, "|tier|[Gen 1] OU"),
+    (Event::Rule { clause: 0 }, "|rule|Species Clause"),
+    (Event::Rule { clause: 6 }, "|rule|HP Percentage Mod"),
+    (Event::Start, "|start"),
+];
+
+/// The turns and the end.
+const TURNS: &[Case] = &[
+    (Event::ClearAll, "|-clearallboost"),
+    (Event::Faint { who: BOB }, "|faint|p2a: Snorlax"),
+    (Event::Upkeep, "|upkeep"),
+    (Event::Turn { turn: 1 }, "|turn|1"),
+    (Event::Turn { turn: 999 }, "|turn|999"),
+    (
+        Event::Forfeit { side: Side::P1 },
+        "|-message|Ann forfeited.",
+    ),
+    (Event::Win { side: Side::P2 }, "|win|Bob"),
+    (Event::Win { side: Side::P1 }, "|win|Ann"),
+    (Event::Tie, "|tie"),
+    (Event::Request { side: Side::P1 }, "nothing"),
+    (Event::Request { side: Side::P2 }, "nothing"),
+];
+
+/// Moves: at the foe, at oneself, only prepared, called or going on, both, and Struggle.
+const MOVES: &[Case] = &[
+    (
+        Event::Move {
+            who: ANN,
+            mv: BODY_SLAM,
+            target: BOB,
+            still: false,
+            from: None,
+        },
+        "|move|p1a: Tauros|Body Slam|p2a: Snorlax",
+    ),
+    (
+        Event::Move {
+            who: BOB,
+            mv: REST,
+            target: BOB,
+            still: false,
+            from: None,
+        },
+        "|move|p2a: Snorlax|Rest|p2a: Snorlax",
+    ),
+    (
+        Event::Move {
+            who: ANN,
+            mv: HYPER_BEAM,
+            target: BOB,
+            still: true,
+            from: None,
+        },
+        "|move|p1a: Tauros|Hyper Beam|p2a: Snorlax|[still]",
+    ),
+    (
+        Event::Move {
+            who: ANN_2,
+            mv: BODY_SLAM,
+            target: BOB,
+            still: false,
+            from: Some(TACKLE),
+        },
+        "|move|p1a: Bull|Body Slam|p2a: Snorlax|[from]Tackle",
+    ),
+    (
+        Event::Move {
+            who: ANN,
+            mv: HYPER_BEAM,
+            target: BOB,
+            still: true,
+            from: Some(TACKLE),
+        },
+        "|move|p1a: Tauros|Hyper Beam|p2a: Snorlax|[still]|[from]Tackle",
+    ),
+    (
+        Event::Move {
+            who: BOB,
+            mv: STRUGGLE,
+            target: ANN,
+            still: false,
+            from: None,
+        },
+        "|move|p2a: Snorlax|Struggle|p1a: Tauros",
+    ),
+];
+
+/// What tells a member alone, and what two members.
+const OTHERS: &[Case] = &[
+    (Event::Crit { who: BOB }, "|-crit|p2a: Snorlax"),
+    (Event::Super { who: BOB }, "|-supereffective|p2a: Snorlax"),
+    (Event::Resisted { who: BOB }, "|-resisted|p2a: Snorlax"),
+    (Event::Immune { who: BOB }, "|-immune|p2a: Snorlax"),
+    (Event::Miss { who: ANN }, "|-miss|p1a: Tauros"),
+    (Event::Fail { who: ANN }, "|-fail|p1a: Tauros"),
+    (
+        Event::MustRecharge { who: ANN },
+        "|-mustrecharge|p1a: Tauros",
+    ),
+    (
+        Event::Prepare {
+            who: ANN,
+            mv: HYPER_BEAM,
+        },
+        "|-prepare|p1a: Tauros|Hyper Beam",
+    ),
+    (
+        Event::Transform {
+            who: ANN,
+            target: BOB,
+        },
+        "|-transform|p1a: Tauros|p2a: Snorlax",
+    ),
+    (
+        Event::HitCount { who: BOB, hits: 5 },
+        "|-hitcount|p2a: Snorlax|5",
+    ),
+];
+
+/// What starts or does something beside a number's own name.
+const NAMED: &[Case] = &[
+    (
+        Event::VolStart {
+            who: ANN,
+            effect: 7,
+            mv: Some(REST),
+        },
+        "|-start|p1a: Tauros|Mimic|Rest",
+    ),
+    (
+        Event::VolStart {
+            who: BOB,
+            effect: 8,
+            mv: Some(BODY_SLAM),
+        },
+        "|-start|p2a: Snorlax|Disable|Body Slam",
+    ),
+    (
+        Event::Activate {
+            who: ANN,
+            effect: 11,
+            mv: Some(TACKLE),
+        },
+        "|-activate|p1a: Tauros|Tackle",
+    ),
+];
+
+const TABLES: [&[Case]; 5] = [OPENING, TURNS, MOVES, OTHERS, NAMED];
+
+fn new_stage(rt: &impl Abort, alloc: Global) -> Stage {
+    let dex = small_dex(rt, alloc);
+    Stage {
+        names: names(rt, alloc),
+        dex,
+    }
+}
+
+/// All members read the same line of what tells no health, and who is outside nothing.
+#[test]
+fn events_have_the_lines_of_the_table(rt: HostRuntime) -> Result<(), Fail> {
+    let stage = new_stage(&rt, rt.alloc());
+    for cases in TABLES {
+        cases_hold(&rt, rt.alloc(), &stage, cases);
+    }
+    Ok(())
+}
+
+/// The kinds of events that say a number by a word.
+#[derive(Clone, Copy)]
+enum Kind {
+    Rule,
+    Cant,
+    Status,
+    CureStatus,
+    Boost,
+    Unboost,
+    Start,
+    End,
+    Activate,
+}
+
+/// The event of a kind with a number, of Ann's first member.
+fn numbered(kind: Kind, number: u8) -> Event {
+    let who = ANN;
+    match kind {
+        Kind::Rule => Event::Rule { clause: number },
+        Kind::Cant => Event::Cant {
+            who,
+            reason: number,
+        },
+        Kind::Status => Event::Status {
+            who,
+            status: number,
+        },
+        Kind::CureStatus => Event::CureStatus {
+            who,
+            status: number,
+        },
+        Kind::Boost => Event::Boost {
+            who,
+            stat: number,
+            by: 2,
+        },
+        Kind::Unboost => Event::Unboost {
+            who,
+            stat: number,
+            by: 12,
+        },
+        Kind::Start => Event::VolStart {
+            who,
+            effect: number,
+            mv: None,
+        },
+        Kind::End => Event::VolEnd {
+            who,
+            effect: number,
+        },
+        Kind::Activate => Event::Activate {
+            who,
+            effect: number,
+            mv: None,
+        },
+    }
+}
+
+const RULES: &[NumberCase] = &[
+    (0, "|rule|Species Clause"),
+    (1, "|rule|Sleep Clause Mod"),
+    (2, "|rule|Freeze Clause Mod"),
+    (3, "|rule|OHKO Clause"),
+    (4, "|rule|Evasion Moves Clause"),
+    (5, "|rule|Nickname Clause"),
+    (6, "|rule|HP Percentage Mod"),
+];
+
+const REASONS: &[NumberCase] = &[
+    (0, "|cant|p1a: Tauros|slp"),
+    (1, "|cant|p1a: Tauros|frz"),
+    (2, "|cant|p1a: Tauros|partiallytrapped"),
+    (3, "|cant|p1a: Tauros|flinch"),
+    (4, "|cant|p1a: Tauros|recharge"),
+    (5, "|cant|p1a: Tauros|Disable"),
+    (6, "|cant|p1a: Tauros|par"),
+];
+
+const STATUSES: &[NumberCase] = &[
+    (1, "|-status|p1a: Tauros|slp"),
+    (2, "|-status|p1a: Tauros|par"),
+    (3, "|-status|p1a: Tauros|brn"),
+    (4, "|-status|p1a: Tauros|psn"),
+    (5, "|-status|p1a: Tauros|tox"),
+    (6, "|-status|p1a: Tauros|frz"),
+];
+
+const CURES: &[NumberCase] = &[
+    (1, "|-curestatus|p1a: Tauros|slp"),
+    (5, "|-curestatus|p1a: Tauros|tox"),
+];
+
+const BOOSTS: &[NumberCase] = &[
+    (0, "|-boost|p1a: Tauros|atk|2"),
+    (1, "|-boost|p1a: Tauros|def|2"),
+    (2, "|-boost|p1a: Tauros|spc|2"),
+    (3, "|-boost|p1a: Tauros|spe|2"),
+    (4, "|-boost|p1a: Tauros|acc|2"),
+    (5, "|-boost|p1a: Tauros|eva|2"),
+];
+
+const UNBOOSTS: &[NumberCase] = &[
+    (0, "|-unboost|p1a: Tauros|atk|12"),
+    (5, "|-unboost|p1a: Tauros|eva|12"),
+];
+
+const STARTS: &[NumberCase] = &[
+    (0, "|-start|p1a: Tauros|confusion"),
+    (1, "|-start|p1a: Tauros|Substitute"),
+    (2, "|-start|p1a: Tauros|Leech Seed"),
+    (3, "|-start|p1a: Tauros|Reflect"),
+    (4, "|-start|p1a: Tauros|Light Screen"),
+    (5, "|-start|p1a: Tauros|Mist"),
+    (6, "|-start|p1a: Tauros|Focus Energy"),
+    (9, "|-start|p1a: Tauros|typechange"),
+];
+
+const ENDS: &[NumberCase] = &[
+    (0, "|-end|p1a: Tauros|confusion"),
+    (1, "|-end|p1a: Tauros|Substitute"),
+    (8, "|-end|p1a: Tauros|Disable"),
+    (10, "|-end|p1a: Tauros|Bide"),
+];
+
+const ACTIVATIONS: &[NumberCase] = &[
+    (0, "|-activate|p1a: Tauros|confusion"),
+    (1, "|-activate|p1a: Tauros|Substitute"),
+    (10, "|-activate|p1a: Tauros|Bide"),
+];
+
+const NUMBERS: [(Kind, &[NumberCase]); 9] = [
+    (Kind::Rule, RULES),
+    (Kind::Cant, REASONS),
+    (Kind::Status, STATUSES),
+    (Kind::CureStatus, CURES),
+    (Kind::Boost, BOOSTS),
+    (Kind::Unboost, UNBOOSTS),
+    (Kind::Start, STARTS),
+    (Kind::End, ENDS),
+    (Kind::Activate, ACTIVATIONS),
+];
+
+fn numbers_hold(rt: &impl Abort, alloc: Global, stage: &Stage, kind: Kind, cases: &[NumberCase]) {
+    for (number, wanted) in cases {
+        shows_all(rt, alloc, stage, &(numbered(kind, *number), *wanted));
+    }
+}
+
+#[test]
+fn numbers_are_told_by_their_words(rt: HostRuntime) -> Result<(), Fail> {
+    let stage = new_stage(&rt, rt.alloc());
+    for (kind, cases) in NUMBERS {
+        numbers_hold(&rt, rt.alloc(), &stage, kind, cases);
+    }
+    Ok(())
+}
+
+/// The player of the side reads the one line, the other player, spectators and staff the other one, and who is outside
+/// nothing.
+fn splits(
+    rt: &impl Abort,
+    alloc: Global,
+    stage: &Stage,
+    event: Event,
+    exact: &'static str,
+    public: &'static str,
+) {
+    shows(rt, alloc, stage, Role::Outside, &(event, "nothing"));
+    shows(rt, alloc, stage, PLAYER_1, &(event, exact));
+    let others = [SPECTATOR, STAFF, PLAYER_2, PLAYER_2_AND_STAFF];
+    shows_each(rt, alloc, stage, &others, &(event, public));
+}
+
+/// A loss of health that leaves 331 of 353, by what has that number.
+fn hurt(from: u8) -> Event {
+    let health = Health {
+        hp: 331,
+        max: 353,
+        status: 0,
+    };
+    Event::Damage {
+        who: ANN,
+        health,
+        from,
+    }
+}
+
+/// 331 of 353 are 94 hundredths, rounded up.
+const LOSSES: &[SplitCase] = &[
+    (
+        0,
+        "|-damage|p1a: Tauros|331/353",
+        "|-damage|p1a: Tauros|94/100",
+    ),
+    (
+        1,
+        "|-damage|p1a: Tauros|331/353|[from] psn",
+        "|-damage|p1a: Tauros|94/100|[from] psn",
+    ),
+    (
+        2,
+        "|-damage|p1a: Tauros|331/353|[from] brn",
+        "|-damage|p1a: Tauros|94/100|[from] brn",
+    ),
+    (
+        3,
+        "|-damage|p1a: Tauros|331/353|[from] Leech Seed",
+        "|-damage|p1a: Tauros|94/100|[from] Leech Seed",
+    ),
+    (
+        4,
+        "|-damage|p1a: Tauros|331/353|[from] Recoil",
+        "|-damage|p1a: Tauros|94/100|[from] Recoil",
+    ),
+    (
+        5,
+        "|-damage|p1a: Tauros|331/353|[from] confusion",
+        "|-damage|p1a: Tauros|94/100|[from] confusion",
+    ),
+    (
+        6,
+        "|-damage|p1a: Tauros|331/353|[from] crash",
+        "|-damage|p1a: Tauros|94/100|[from] crash",
+    ),
+];
+
+#[test]
+fn losses_name_what_they_are_from(rt: HostRuntime) -> Result<(), Fail> {
+    let stage = new_stage(&rt, rt.alloc());
+    for (from, exact, public) in LOSSES {
+        splits(&rt, rt.alloc(), &stage, hurt(*from), *exact, *public);
+    }
+    Ok(())
+}
+
+/// Ann's second member comes in at a level.
+fn comes_in(level: u8) -> Event {
+    let health = Health {
+        hp: 1,
+        max: 703,
+        status: 6,
+    };
+    Event::Switch {
+        who: ANN_2,
+        species: 0,
+        level,
+        health,
+    }
+}
+
+/// The level is told where it isn't 100.
+const SWITCHES: &[SplitCase] = &[
+    (
+        100,
+        "|switch|p1a: Bull|Tauros|1/703 frz",
+        "|switch|p1a: Bull|Tauros|1/100 frz",
+    ),
+    (
+        50,
+        "|switch|p1a: Bull|Tauros, L50|1/703 frz",
+        "|switch|p1a: Bull|Tauros, L50|1/100 frz",
+    ),
+    (
+        1,
+        "|switch|p1a: Bull|Tauros, L1|1/703 frz",
+        "|switch|p1a: Bull|Tauros, L1|1/100 frz",
+    ),
+];
+
+#[test]
+fn switches_tell_species_and_level(rt: HostRuntime) -> Result<(), Fail> {
+    let stage = new_stage(&rt, rt.alloc());
+    for (level, exact, public) in SWITCHES {
+        splits(&rt, rt.alloc(), &stage, comes_in(*level), *exact, *public);
+    }
+    Ok(())
+}
+
+/// Bob's member gains health.
+const HEALTHS: &[HealthCase] = &[
+    (
+        523,
+        523,
+        0,
+        "|-heal|p2a: Snorlax|523/523",
+        "|-heal|p2a: Snorlax|100/100",
+    ),
+    (
+        523,
+        523,
+        1,
+        "|-heal|p2a: Snorlax|523/523 slp",
+        "|-heal|p2a: Snorlax|100/100 slp",
+    ),
+    (
+        382,
+        523,
+        0,
+        "|-heal|p2a: Snorlax|382/523",
+        "|-heal|p2a: Snorlax|74/100",
+    ),
+    (
+        403,
+        523,
+        5,
+        "|-heal|p2a: Snorlax|403/523 tox",
+        "|-heal|p2a: Snorlax|78/100 tox",
+    ),
+    (
+        352,
+        353,
+        4,
+        "|-heal|p2a: Snorlax|352/353 psn",
+        "|-heal|p2a: Snorlax|99/100 psn",
+    ),
+    (
+        1,
+        703,
+        2,
+        "|-heal|p2a: Snorlax|1/703 par",
+        "|-heal|p2a: Snorlax|1/100 par",
+    ),
+    (
+        0,
+        353,
+        0,
+        "|-heal|p2a: Snorlax|0 fnt",
+        "|-heal|p2a: Snorlax|0 fnt",
+    ),
+    (
+        0,
+        353,
+        3,
+        "|-heal|p2a: Snorlax|0 fnt",
+        "|-heal|p2a: Snorlax|0 fnt",
+    ),
+];
+
+fn heals(hp: u16, max: u16, status: u8) -> Event {
+    let health = Health { hp, max, status };
+    Event::Heal { who: BOB, health }
+}
+
+/// What is split is read exactly by the player of its side, of whatever rank, and by nobody else.
+fn health_holds(rt: &impl Abort, alloc: Global, stage: &Stage, case: &HealthCase) {
+    let (hp, max, status, exact, public) = case;
+    let event = heals(*hp, *max, *status);
+    let own = [PLAYER_2, PLAYER_2_AND_STAFF];
+    shows_each(rt, alloc, stage, &own, &(event, *exact));
+    let others = [SPECTATOR, STAFF, PLAYER_1];
+    shows_each(rt, alloc, stage, &others, &(event, *public));
+}
+
+#[test]
+fn health_is_read_exactly_by_its_side(rt: HostRuntime) -> Result<(), Fail> {
+    let stage = new_stage(&rt, rt.alloc());
+    for case in HEALTHS {
+        health_holds(&rt, rt.alloc(), &stage, case);
+    }
+    Ok(())
+}

@@ -1,0 +1,46 @@
+//! The server of a test.
+use program_commands::status::Status;
+use ps_base::number::Moment;
+use ps_outside::clock::MemClock;
+use ps_outside::door::MemDoor;
+use ps_outside::files::MemFiles;
+use ps_outside::link::Link;
+use ps_outside::spawner::Spawner;
+use server_accept::serve::serve;
+use std::alloc::Global;
+use std::process::Abort;
+use std::sync::Wait;
+use std::thread::Threads;
+
+/// The words of a server at an address, of so many links.
+pub(crate) fn words_at(rt: &impl Abort, alloc: Global, address: &str, count: &str) -> Vec<String> {
+    let mut words = Vec::new(alloc);
+    for word in ["serve", address, count] {
+        let word = String::from_str(alloc, word).expect(rt, "memory");
+        words.push(word).expect(rt, "memory");
+    }
+    words
+}
+
+/// The words of a server of so many links, whose door is in memory.
+pub(crate) fn words(rt: &impl Abort, alloc: Global, count: &str) -> Vec<String> {
+    words_at(rt, alloc, "127.0.0.1:0", count)
+}
+
+/// How a server ends that has no files.
+pub(crate) fn status_of<R, L, P>(
+    rt: R,
+    alloc: Global,
+    words: &[String],
+    door: &mut MemDoor<L>,
+    spawner: &mut P,
+) -> Status
+where
+    R: Threads + Wait + Copy + Send + Drop + 'static,
+    L: Link + Send + Drop + 'static,
+    P: Spawner,
+{
+    let mut files = MemFiles::new(Vec::new(alloc), Vec::new(alloc));
+    let mut clock = MemClock::new(alloc, Moment(0), Vec::new(alloc));
+    serve(rt, alloc, words, &mut files, door, &mut clock, spawner)
+}

@@ -1,0 +1,14 @@
+//! Tests of texts: what a client's text says, packed teams, lists of groups, the log of a room, and the scripts of drills. It has
+//! tests alone, and no crate stands on it.
+#![tactic(auto)]
+
+#[cfg(test)]
+mod client_tests;
+#[cfg(test)]
+mod drill_tests;
+#[cfg(test)]
+mod group_tests;
+#[cfg(test)]
+mod log_tests;
+#[cfg(test)]
+mod pack_tests;
