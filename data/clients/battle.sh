@@ -1,15 +1,33 @@
 #!/bin/sh
 # A server for two connections, and two clients of other people's libraries that chat and play a battle to its end. Their
-# packages in Debian are python3-websockets and node-ws.
+# packages in Debian are python3-websockets and node-ws. It listens at a free port of this machine, or at the address given.
 top=$(cd "$(dirname "$0")/../.." && pwd) || exit 1
-address=${1:-127.0.0.1:8000}
-"$top/psd" serve "$address" 2 --dex "$top/data/row/dex.json" --config "$top/data/row/config.json" &
+folder=$(mktemp -d) || exit 1
+trap 'rm -rf "$folder"' EXIT
+mkfifo "$folder/errors" || exit 1
+address=${1:-127.0.0.1:0}
+"$top/psd" serve "$address" 2 --dex "$top/data/small/dex.json" --config "$top/data/small/config.json" 2>"$folder/errors" &
 server=$!
-sleep 1
+exec 3<"$folder/errors"
+# The server says where it listens. What comes before that line is of a build, or says why it ended.
+address=
+while [ -z "$address" ] && IFS= read -r line <&3; do
+    case $line in
+    "listening on "*) address=${line#listening on } ;;
+    *) echo "$line" >&2 ;;
+    esac
+done
+if [ -z "$address" ]; then
+    wait "$server"
+    exit
+fi
+cat <&3 >&2 &
+errors=$!
 NODE_PATH=/usr/share/nodejs node "$top/data/clients/player.js" "$address" Bob 'Snorlax||||bodyslam,rest|||||||' &
 bob=$!
 /usr/bin/python3 "$top/data/clients/player.py" "$address" Ann 'Tauros||||bodyslam,hyperbeam,blizzard,earthquake|||||||' Bob
 ann=$?
 wait "$bob" || ann=1
 wait "$server" || ann=1
+wait "$errors"
 exit "$ann"

@@ -1,19 +1,25 @@
 // A player over WebSocket, with node's `ws` (Debian's node-ws).
 //
-// player.js ADDRESS NAME TEAM [FOE]: as player.py.
+// player.js ADDRESS NAME TEAM [FOE [SECRET]]: as player.py.
 "use strict";
+const crypto = require("crypto");
 const WebSocket = require("ws");
 
-const [address, name, team, foe] = process.argv.slice(2);
+const [address, name, team, foe, secret] = process.argv.slice(2);
 const socket = new WebSocket(`ws://${address}/showdown/websocket`);
 let asked = false;
 let answered = false;
+let game = "";
+
+function assertion(challstr) {
+  return secret ? crypto.createHash("sha256").update(`${challstr}:${secret}`).digest("hex") : "";
+}
 
 function hear(room, line) {
   const parts = line.split("|");
   switch (parts[1]) {
     case "challstr":
-      socket.send(`|/trn ${name},0,`);
+      socket.send(`|/trn ${name},0,${assertion(parts[2])}`);
       break;
     case "updateuser":
       if (parts[3] === "1") {
@@ -40,13 +46,13 @@ function hear(room, line) {
       }
       break;
     case "updatesearch":
-      for (const game of Object.keys(JSON.parse(parts[2]).games || {})) {
+      for (game of Object.keys(JSON.parse(parts[2]).games || {})) {
         socket.send(`|/join ${game}`);
       }
       break;
     case "popup":
       // The battle has been agreed on, and begins in a moment.
-      if (line.includes("[NoSuchRoom]")) socket.send("|/join battle-gen1ou-1");
+      if (line.includes("[NoSuchRoom]")) socket.send(`|/join ${game}`);
       break;
     case "request": {
       const request = JSON.parse(line.slice("|request|".length));

@@ -1,23 +1,25 @@
 """A player over WebSocket, with Python's `websockets` (Debian's python3-websockets).
 
-player.py ADDRESS NAME TEAM [FOE]: logs in, says hi in the lobby, and challenges FOE when FOE has said hi, or accepts who
-challenges. Plays by `/choose default` to the end of the battle, and prints each text that it is sent, a line each time it
-ends one, with NAME before it.
+player.py ADDRESS NAME TEAM [FOE [SECRET]]: logs in, with SECRET if NAME is registered, says hi in the lobby, and challenges
+FOE when FOE has said hi, or accepts a challenge if FOE is missing or empty. Plays by `/choose default` to the end of the
+battle, and prints each text that it is sent, a line each time it ends one, with NAME before it.
 """
 import asyncio
+import hashlib
 import json
 import sys
 
 import websockets
 
 
-def to_id(name):
-    return "".join(sign for sign in name.lower() if sign.isascii() and sign.isalnum())
+def assertion(challstr, secret):
+    return hashlib.sha256(f"{challstr}:{secret}".encode()).hexdigest() if secret else ""
 
 
-async def play(address, name, team, foe):
-    async with websockets.connect(f"ws://{address}/showdown/websocket") as socket:
-        asked, answered = False, False
+async def play(address, name, team, foe="", secret=""):
+    # The message of a join has all of a battle: there is no limit to its size.
+    async with websockets.connect(f"ws://{address}/showdown/websocket", max_size=None) as socket:
+        asked, answered, game = False, False, ""
         async for text in socket:
             for line in text.split("\n"):
                 print(f"{name}: {line}", flush=True)
@@ -26,7 +28,7 @@ async def play(address, name, team, foe):
                 parts = line.split("|")
                 kind = parts[1] if len(parts) > 1 else ""
                 if kind == "challstr":
-                    await socket.send(f"|/trn {name},0,")
+                    await socket.send(f"|/trn {name},0,{assertion(parts[2], secret)}")
                 elif kind == "updateuser" and parts[3] == "1":
                     await socket.send(f"|/utm {team}")
                     await socket.send("|/join lobby")
@@ -45,7 +47,7 @@ async def play(address, name, team, foe):
                         await socket.send(f"|/join {game}")
                 elif kind == "popup" and "[NoSuchRoom]" in line:
                     # The battle has been agreed on, and begins in a moment.
-                    await socket.send("|/join battle-gen1ou-1")
+                    await socket.send(f"|/join {game}")
                 elif kind == "request":
                     request = json.loads(line[len("|request|"):])
                     if not request.get("wait"):
@@ -54,4 +56,4 @@ async def play(address, name, team, foe):
                     return
 
 
-asyncio.run(play(*sys.argv[1:4], sys.argv[4] if len(sys.argv) > 4 else None))
+asyncio.run(play(*sys.argv[1:]))
