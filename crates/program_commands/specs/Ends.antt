@@ -46,7 +46,7 @@ IsOfText ReadFault = ⊥
 IsOfText DoorFault = ⊥
 IsOfText (UnknownFormat id) = ⊥
 
--- why the bytes of a text have no team; want of memory may come in its place
+-- why the bytes of a text have no team; out of memory may come in its place
 abbrev pub Unpacks : List ℕ → PackFault → Type 0
 Unpacks text (pack_faults.Fault at kind) = IsUnpacked text at kind
 Unpacks text pack_faults.NoMemory = Unit {0}

@@ -87,7 +87,7 @@ abbrev pub Then : {A : Type 0} → Result A Status → (A → Status → Type 0)
 Then (Ok x) next status = next x status
 Then (Err ended) next status = status ≡ ended
 
--- it ends so, if the files are known; want of memory may end it anywhere
+-- it ends so, if the files are known; out of memory may end it anywhere
 abbrev pub EndsIfKnown : Option (List ℕ → Option (List ℕ)) → ((List ℕ → Option (List ℕ)) → Status → Type 0) → Status → Type 0
 EndsIfKnown contents ends status = (status ≡ NoMemory) ⊎ IfSome contents (λ lookup. ends lookup status)
 
@@ -130,7 +130,7 @@ pub record AreGood (contents : Option (List ℕ → Option (List ℕ))) (options
 abbrev pub Gave : {A : Type 0} → Option (List ℕ → Option (List ℕ)) → ((List ℕ → Option (List ℕ)) → Result A Status) → A → Type 0
 Gave contents step x = IfSome contents (λ lookup. step lookup ≡ Ok x)
 
--- a step ended a command: memory was wanting, its file failed, or it gives the status
+-- a step ended a command: it ran out of memory, its file failed, or it gives the status
 abbrev pub Ended : {A : Type 0} → Option (List ℕ → Option (List ℕ)) → Option (List ℕ) → ((List ℕ → Option (List ℕ)) → Result A Status) → Status → Type 0
 Ended contents named step status = (status ≡ NoMemory) ⊎ IfSome contents (λ lookup. IsFaultOf named status ⊎ (step lookup ≡ Err status))
 
@@ -172,7 +172,7 @@ StepCause named old new DoorFault = ⊥
 StepCause named old new (UnknownFormat id) = ⊥
 StepCause named old new (BadPack at kind) = ⊥
 
--- the status of a file that was not read, or want of memory
+-- the status of a file that was not read, or out of memory
 abbrev pub IsFileStatus : List ℕ → FileEnd → Status → Type 0
 IsFileStatus name end NoMemory = Unit {0}
 IsFileStatus name file_ends.Missing status = status ≡ FileMissing name

@@ -45,7 +45,7 @@ left_name text = clean (position is_bad (chars text)) text
 unfoldable pub name_in : List ℕ → Result (List ℕ) NameFault
 name_in text = left_name (between_spaces text)
 
--- What a call that found this fault was to find: this fault, but want of memory may come at any text.
+-- What a call that found this fault was to find: this fault, but out of memory may come at any text.
 abbrev pub IsNameFault : NameFault → Result (List ℕ) NameFault → Type 0
 IsNameFault (BadChar at) name = name ≡ Err (BadChar at)
 IsNameFault (Long count) name = name ≡ Err (Long count)

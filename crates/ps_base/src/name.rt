@@ -88,7 +88,7 @@ pub enum NameFault {
     /// The id would be empty.
     #[error("a name without letter and digit")]
     Empty,
-    /// Want of memory.
+    /// Out of memory.
     #[error("no memory")]
     NoMemory,
 }

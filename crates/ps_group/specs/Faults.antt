@@ -6,7 +6,7 @@ use Rattle.ps_group.specs.declared.group.Group.{Group}
 use Rattle.ps_group.specs.declared.read.GroupFault.{GroupFault}
 use Rattle.ps_group.specs.declared.read.GroupFault.TheVariants as faults
 
--- The groups, or else the index of the first that isn't in its form, 0 for the list itself, and why. Want of memory may
+-- The groups, or else the index of the first that isn't in its form, 0 for the list itself, and why. Out of memory may
 -- come in the place of either.
 abbrev pub GivesGroups : Result (List Group) GroupFault → Result (List Group) Fault → Type 0
 GivesGroups (Ok groups) read = read ≡ Ok groups

@@ -3,12 +3,12 @@ ghost use Rattle.std.specs.Prelude.{◌≡◌, ◌++◌, ◌∷◌, [], not, map
 ghost use Rattle.std.specs.List.{filter};
 ghost use Rattle.std.specs.Option.{option_copied};
 ghost use Rattle.ps_pms.specs.Lookups.{is_by, is_of, is_with};
-ghost use Rattle.ps_ladder.specs.Waiting.{has_user, suits, without, added, cancelled};
+ghost use Rattle.ps_ladder.specs.Waiting.{without, added, cancelled};
 ghost use Rattle.ps_hall.specs.Steps.{without_game};
 
 use crate::game::Game;
 use ps_base::id::Id;
-use ps_ladder::searches::{Search, Searches, is_near};
+use ps_ladder::searches::{Search, Searches, has_user, suits};
 use ps_pms::asked::Asked;
 use std::alloc::{AllocError, Global};
 
@@ -106,12 +106,6 @@ pub(crate) fn all_searches<'a>(
     Ok(found)
 }
 
-fn has_user(entry: &Search, user: &Id) -> bool
-    ensures { result ≡ has_user user.now entry.now }
-{
-    entry.user.as_str() == user.as_str()
-}
-
 /// The searches without those of a user.
 pub(crate) fn searches_not_of<'a>(
     alloc: Global,
@@ -129,15 +123,6 @@ pub(crate) fn searches_not_of<'a>(
     Ok(found)
 }
 
-// Whether a search suits who begins to search.
-fn suits(entry: &Search, new: &Search) -> bool
-    ensures { result ≡ suits new.now.user new.now.format new.now.rating entry.now }
-{
-    !has_user(entry, &new.user)
-        && entry.format.as_str() == new.format.as_str()
-        && is_near(entry.rating, new.rating)
-}
-
 // The searches without the one that has waited longest of those that suit.
 fn searches_but<'a>(
     alloc: Global,
@@ -153,7 +138,7 @@ fn searches_but<'a>(
             found.push(entry)?;
             continue;
         }
-        if suits(entry, new) {
+        if suits(entry, &new.user, &new.format, new.rating) {
             is_out = true;
             continue;
         }

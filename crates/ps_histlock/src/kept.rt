@@ -36,7 +36,7 @@ pub trait Kept: Drop {
     /// Which messages `pull` may give for an origin, a list of commands and a cursor, and the cursor after it.
     ghost pulls: { Self.Origin → List Self.Cmd → Self.Cursor → List Self.Msg → Self.Cursor → Type 0 };
 
-    /// Appends one entry. `AllocError` where memory is wanting: then there is no entry.
+    /// Appends one entry. `AllocError` if out of memory: then there is no entry.
     fn apply(&mut self, cmd: Self::Cmd) -> Result<Self::Out, AllocError>
         ensures origin { origin self.new ≡ origin self.old }
         ensures entry { IfOk result (λ out. (log : List Self.Cmd) → stands log self.old → stands (log ++ cmd ∷ []) self.new) }
@@ -44,7 +44,7 @@ pub trait Kept: Drop {
         ensures short { IfOk result (λ out. (log : List Self.Cmd) → stands log self.old → length (log ++ cmd ∷ []) < 2 ^ 62) }
         ensures err { OnErr result ((log : List Self.Cmd) → stands log self.old → stands log self.new) };
 
-    /// The messages past the cursor, which it moves. `AllocError` where memory is wanting: then the cursor stays.
+    /// The messages past the cursor, which it moves. `AllocError` if out of memory: then the cursor stays.
     fn pull(&self, cursor: &mut Self::Cursor) -> Result<Vec<Self::Msg>, AllocError>
         ensures ok { IfOk result (λ msgs. (log : List Self.Cmd) → stands log self.now → pulls (origin self.now) log cursor.old msgs.items cursor.new) }
         ensures err { OnErr result (cursor.new ≡ cursor.old) };

@@ -69,7 +69,7 @@ impl<K: Kept> Model for Pass<K> {
 }
 
 impl<K: Kept> HistLock<K> {
-    /// A lock round a value that stands for no entry, and its first pass. `AllocError` where memory is wanting.
+    /// A lock round a value that stands for no entry, and its first pass. `AllocError` if out of memory.
     pub fn new(alloc: Global, kept: K) -> Result<(HistLock<K>, Pass<K>), AllocError>
         requires { K.stands [] kept }
         ensures lock { IfOk result (λ r. r.0.1 ≡ K.origin kept) }
@@ -220,7 +220,7 @@ impl<K: Kept> HistLock<K> {
     /// pulls the messages past the cursor. It waits for nobody.
     ///
     /// `Busy` only where it met an odd word, or two words that differ; `OwnLimit` exactly where there is a command and
-    /// the pass has made `OWN_LIMIT` entries. `Late` and `NoMemory` are want of memory, with the entry and without it;
+    /// the pass has made `OWN_LIMIT` entries. `Late` and `NoMemory` are out of memory, with the entry and without it;
     /// a turn that asks for no entry never answers NoMemory.
     pub fn try_turn(
         &self,

@@ -58,7 +58,7 @@ hall_failed hub cmd moment old new h k (Busy word order) p was is at pass_lists 
 hall_failed hub cmd moment old new h k NoMemory p was is at pass_lists conn badge t =
     (badge, hall_goes _ old new h k was is at pass_lists conn (subst (λ (r : Root). FallsShort (HallAnswers r) h.pass.1 h.cursor (hall_entry old.conn moment cmd) k.pass.1 k.cursor) p.origin t))
 
--- memory was wanting before the turn
+-- out of memory before the turn
 pub hall_untried : (hub : Hub) (cmd : HallCmd) (moment : ℕ) (old : Passes) → AreOf hub old → HallFails hub cmd moment old NoMemory old
 hall_untried hub cmd moment old are = (refl, hall_goes _ old old are.hall_pass are.hall_pass are.hall are.hall refl refl refl (refl, inl refl))
 

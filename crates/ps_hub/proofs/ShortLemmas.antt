@@ -1,4 +1,4 @@
--- What an entry leaves for which memory was wanting, from what its turn tells.
+-- What an entry leaves that ran out of memory, from what its turn tells.
 use Rattle.std.proofs.Common.{◌≡◌, ◌⊎◌, List, ◌++◌, Option, Some, None, inl, inr, ⊎_elim, subst}
 use Rattle.ps_base.specs.declared.msg.Msg.{Msg}
 use Rattle.ps_histlock.specs.declared.view.View.{View}

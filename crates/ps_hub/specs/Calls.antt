@@ -80,7 +80,7 @@ NotHeld hub id h k = (first_battle ≤ h.number)
 abbrev pub HeldUp : ℕ → RoomPass → RoomPass → Type 0
 HeldUp word h k = (first_battle ≤ h.number) × (h.id ≡ None) × (k.id ≡ None) × (k.at ≡ h.at) × IsBusy h.pass.1 word k.pass.1
 
--- Memory was wanting: at the most the pass took a turn without an entry, and that only at the place of a battle which isn't
+-- Out of memory: at the most the pass took a turn without an entry, and that only at the place of a battle which isn't
 -- held. No message was pulled, so the cursor stands where it stood.
 abbrev pub Unheld : RoomPass → RoomPass → Type 0
 Unheld h k = (k.id ≡ h.id) × (k.at ≡ h.at) × (k.cursor ≡ h.cursor) × ((k.pass.1 ≡ h.pass.1) ⊎ ((first_battle ≤ h.number) × (h.id ≡ None) × Turns h.pass.1 None k.pass.1))
@@ -226,7 +226,7 @@ pub record BeginsAt (hub : Hub) (start : Start) (does : RoomPass → RoomPass �
   pub but : ButFor hub old before behind new
   pub done : does before behind
 
--- where memory was wanting, or the pass had made as many entries as it may
+-- if out of memory, or the pass had made as many entries as it may
 abbrev pub BeginsAtMost : Hub → Start → RoomPass → RoomPass → Type 0
 BeginsAtMost hub start h k = FallsShortAtLast (Answers (site_of hub h.number)) h.pass.1 h.cursor (Begin start) k.pass.1 k.cursor
 
@@ -353,7 +353,7 @@ QuitsBy (Some id) badge conn moment h k = (b : Badge) × (badge ≡ Some b) × T
 abbrev pub QuitsRoom : Option Badge → ℕ → ℕ → RoomPass → RoomPass → Type 0
 QuitsRoom badge conn moment h k = QuitsBy h.id badge conn moment h k
 
--- the Quit in a room that is held, where memory was wanting, or the pass had made as many entries as it may
+-- the Quit in a room that is held, if out of memory, or the pass had made as many entries as it may
 abbrev pub QuitsRoomAtMost : Hub → Option Badge → ℕ → ℕ → RoomPass → RoomPass → Type 0
 QuitsRoomAtMost hub badge conn moment h k =
     IsSome h.id × (b : Badge) × (badge ≡ Some b) × FallsShortAtLast (Answers (site_of hub h.number)) h.pass.1 h.cursor (Play (room_entry conn b moment room_commands.Quit)) k.pass.1 k.cursor × (k.at ≡ h.at) × (k.number ≡ h.number) × (k.id ≡ h.id)

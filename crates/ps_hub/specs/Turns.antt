@@ -28,7 +28,7 @@ module _ {O C U : Type 0} (answers : List C → C → U → Type 0) where
   abbrev pub GivesAtLast : View O C → C → View O C → Type 0
   GivesAtLast v c w = (words : List ℕ) × Gives (record v { met = v.met ++ words }) c w
 
-  -- Of the view, the cursor and the entry before, the view and the cursor after, where memory was wanting: there was no turn, or
+  -- Of the view, the cursor and the entry before, the view and the cursor after, if out of memory: there was no turn, or
   -- one without the entry; or the entry stands, what it gave is told, and its messages are still to come. So in each case the
   -- cursor stands where it stood.
   abbrev pub FallsShort : {X : Type 0} → View O C → X → C → View O C → X → Type 0
@@ -55,7 +55,7 @@ module _ {O C U X : Type 0} (answers : O → List C → C → U → Type 0) (pul
   TakesAtLast v x kept cmd NoMemory w y more = ((w ≡ v) ⊎ TurnsAtLast v None w) × (y ≡ x) × (more ≡ kept)
 
 module _ {C U : Type 0} where
-  -- no entry was made, since the pass may make no more, or since memory was wanting
+  -- no entry was made, since the pass may make no more, or for being out of memory
   abbrev pub IsLimited : Taken C U → Type 0
   IsLimited (OwnLimit back) = Unit {0}
   IsLimited NoMemory = Unit {0}

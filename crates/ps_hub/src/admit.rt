@@ -15,8 +15,8 @@ use std::sync::Wait;
 
 impl Hub {
     /// Opens a connection: makes its Open in the hall by a new pass, which makes nothing else, and splits the connection's pass
-    /// from that one. What the Open tells stays in the passes until `catch_up` hands it out. `AllocError` where memory is
-    /// wanting; the Open may stand then.
+    /// from that one. What the Open tells stays in the passes until `catch_up` hands it out. `AllocError` if out of memory;
+    /// the Open may stand then.
     pub fn admit<R: Wait>(&self, rt: &R, conn: ConnNo, moment: Moment) -> Result<Passes, AllocError>
         ensures of { IfOk result (λ p. AreOf self.now p) }
         ensures told { IfOk result (λ p. Admits self.now conn moment p) }

@@ -101,7 +101,7 @@ impl RoomPass {
 impl Hub {
     /// What the connection wasn't told yet of the hall (`None`), or of the room that it holds by this id: the messages that
     /// are kept, and where a look shows that there is more, what a turn pulls then. They are handed out once. `AllocError`
-    /// where memory is wanting: then nothing was handed out, and what was pulled stays.
+    /// if out of memory: then nothing was handed out, and what was pulled stays.
     pub fn catch_up<R: Wait>(
         &self,
         rt: &R,

@@ -100,7 +100,7 @@ fn lock_at(locks: &[HistLock<RoomPlace>], place: usize) -> Option<&HistLock<Room
 
 impl Hub {
     /// The hub of a server with this configuration and this dex. Nobody is connected, the chat rooms are open and no battle
-    /// has begun. `AllocError` where memory is wanting.
+    /// has begun. `AllocError` if out of memory.
     pub fn new(alloc: Global, config: Arc<Config>, dex: Arc<Dex>) -> Result<Hub, AllocError>
         ensures config { IfOk result (λ h. h.config ≡ arc_value config) }
         ensures dex { IfOk result (λ h. h.dex ≡ arc_value dex) }

@@ -23,7 +23,7 @@ pub enum EnterFault {
     NoSuchRoom,
     /// Somebody else has the turn at that place, or took one in between. `word` is the last word that was met.
     Busy { word: u64 },
-    /// Want of memory.
+    /// Out of memory.
     NoMemory,
 }
 
@@ -37,6 +37,6 @@ pub enum HubFault {
     /// Somebody else has the turn at that place, or took one in between. `word` is the last word that was met, and the order
     /// is the one that was handed in.
     Busy { word: u64, order: Order },
-    /// Want of memory.
+    /// Out of memory.
     NoMemory,
 }

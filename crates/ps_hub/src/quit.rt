@@ -19,8 +19,8 @@ use std::sync::Wait;
 
 impl Hub {
     /// Makes the entries of the end of a connection: a Quit in each room that it holds, by rising numbers, and then one in the
-    /// hall. `AllocError` where memory is wanting, or a pass has made as many entries as it may: then the Quits before that one
-    /// stand, and there is none behind it. That one stands only where memory was wanting for its messages.
+    /// hall. `AllocError` if out of memory, or a pass has made as many entries as it may: then the Quits before that one
+    /// stand, and there is none behind it. That one stands only if memory ran out for its messages.
     pub fn quit<R: Wait>(
         &self,
         rt: &R,

@@ -17,8 +17,8 @@ use std::alloc::AllocError;
 use std::sync::Wait;
 
 impl Hub {
-    /// Begins a battle at the place of its number, by the connection's pass of it, which is kept or made. `AllocError` where
-    /// memory is wanting; the Begin then stands only where it was wanting for the messages. The same is answered where the pass
+    /// Begins a battle at the place of its number, by the connection's pass of it, which is kept or made. `AllocError` if
+    /// out of memory; the Begin then stands only if memory ran out for the messages. The same is answered where the pass
     /// has made as many entries as it may, and then there is no Begin.
     pub fn start<R: Wait>(
         &self,

@@ -5,12 +5,12 @@
 pub(crate) enum Taken<C, U> {
     /// The turn was taken.
     Done { out: Option<U> },
-    /// Memory was wanting for the messages. The entry stands.
+    /// Out of memory for the messages. The entry stands.
     Late { out: Option<U> },
     /// Somebody else has the turn. The command comes back.
     Busy { word: u64, cmd: Option<C> },
     /// The pass has made as many entries as it may. The command comes back.
     OwnLimit { cmd: Option<C> },
-    /// Memory was wanting: there is no entry.
+    /// Out of memory: there is no entry.
     NoMemory,
 }

@@ -37,7 +37,7 @@ pub enum AddFault {
     /// The user waits for that format already.
     #[error("the user waits for that format already")]
     Already,
-    /// Want of memory.
+    /// Out of memory.
     #[error("no memory")]
     NoMemory,
 }
@@ -65,7 +65,8 @@ impl Model for Searches {
     ghost view = { λ s. s.list.items };
 }
 
-fn has_user(entry: &Search, user: &Id) -> bool
+/// Whether a search is of this user.
+pub fn has_user(entry: &Search, user: &Id) -> bool
     ensures { result ≡ has_user user.now entry.now }
 {
     entry.user.as_str() == user.as_str()
@@ -81,13 +82,14 @@ fn is_for(entry: &Search, user: &Id, format: &Id) -> bool
 pub const REACH: u32 = 300;
 
 /// Whether two ratings are near: at most `REACH` points apart.
-pub fn is_near(one: i32, two: i32) -> bool
+fn is_near(one: i32, two: i32) -> bool
     ensures { result ≡ is_near one two }
 {
     distance(one, two) <= REACH
 }
 
-fn suits(entry: &Search, user: &Id, format: &Id, rating: i32) -> bool
+/// Whether a search suits a user who begins to search: another user's, in the same format, near in rating.
+pub fn suits(entry: &Search, user: &Id, format: &Id, rating: i32) -> bool
     ensures { result ≡ suits user.now format.now rating entry.now }
 {
     !has_user(entry, user)

@@ -9,13 +9,13 @@ abbrev pub ◌>>=◌ : {A B : Type 0} → Result A CommandFault → (A → Resul
 (Ok x) >>= f = f x
 (Err e) >>= f = Err e
 
--- What a call that found this fault was to find: this fault, but want of memory may come at any text.
+-- What a call that found this fault was to find: this fault, but out of memory may come at any text.
 abbrev pub IsFault : {A : Type 0} → CommandFault → Result A CommandFault → Type 0
 IsFault UnknownCommand read = read ≡ Err UnknownCommand
 IsFault (BadArgs which) read = read ≡ Err (BadArgs which)
 IsFault NoMemory read = Unit {0}
 
--- What a call answered is what reading gives, but want of memory may come at any text.
+-- What a call answered is what reading gives, but out of memory may come at any text.
 abbrev pub Gives : {A : Type 0} → Result A CommandFault → Result A CommandFault → Type 0
 Gives (Ok x) read = read ≡ Ok x
 Gives (Err fault) read = IsFault fault read

@@ -117,7 +117,7 @@ pub enum CommandFault {
     /// The first argument that isn't of its form, counted from 1, or 0 for a control character in the text.
     #[error("argument {which} isn't of its form")]
     BadArgs { which: u8 },
-    /// Want of memory.
+    /// Out of memory.
     #[error("no memory")]
     NoMemory,
 }

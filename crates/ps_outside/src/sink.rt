@@ -42,7 +42,7 @@ pub fn write_all<K: Sink>(sink: &mut K, bytes: &[u8]) -> Result<(), Failed>
     Ok(())
 }
 
-/// A sink in memory, whose calls fail at the numbers of a list, counted from 1, and for want of memory.
+/// A sink in memory, whose calls fail at the numbers of a list, counted from 1, and if out of memory.
 #[derive(Drop)]
 pub struct MemSink {
     bytes: Vec<u8>,

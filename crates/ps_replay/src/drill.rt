@@ -37,7 +37,7 @@ use rules_config::config::Config;
 use std::alloc::{AllocError, Global};
 use std::sync::Arc;
 
-/// The most bytes of a script, which is far more than a drill has. Past them memory is said to be wanting.
+/// The most bytes of a script, which is far more than a drill has. Past them the answer is out of memory.
 const MOST_SCRIPT: usize = 16_777_216;
 
 /// What came of the lines of a script.
@@ -101,7 +101,7 @@ fn run_from(alloc: Global, table: Table, items: &[Item], tally: Tally) -> Result
     })
 }
 
-// A count that doesn't stand still. Past the others memory is said to be wanting.
+// A count that doesn't stand still. Past the others the answer is out of memory.
 fn exact(count: u64) -> Result<u64, AllocError>
     ensures { IfOk result (λ n. (m : ℕ) → count ≡ counted m → n ≡ m) }
 {

@@ -110,7 +110,7 @@ pub fn room_of_battle(number: u32) -> u32
 }
 
 /// What the chat room with the number `no` is opened with: the id and the title that its item of the configuration gives,
-/// and no battle. Rooms are numbered from 0, in the order of the configuration. Fails for want of memory.
+/// and no battle. Rooms are numbered from 0, in the order of the configuration. Fails if out of memory.
 pub fn chat_opening(
     alloc: Global,
     config: &Arc<Config>,
@@ -126,7 +126,7 @@ pub fn chat_opening(
 }
 
 /// What the room of a battle is opened with: the number that `room_of_battle` gives, the id `battle-FORMAT-N` of PROTOCOL.md,
-/// and the names of both players as its title. Fails for want of memory.
+/// and the names of both players as its title. Fails if out of memory.
 pub fn battle_opening(
     alloc: Global,
     config: Arc<Config>,

@@ -559,7 +559,7 @@ impl Room {
         )
     }
 
-    /// Works out what comes of an entry that comes next, for `keep`. Fails for want of memory alone.
+    /// Works out what comes of an entry that comes next, for `keep`. Fails only if out of memory.
     pub fn prepare(&self, alloc: Global, entry: &Entry) -> Result<Prepared, AllocError>
         ensures out { IfOk result (λ p. p.out ≡ out_of (record_in self.now) entry.now) }
         ensures log_entry { IfOk result (λ p. p.log_entry ≡ given (record_in self.now) entry.now) }

@@ -69,7 +69,7 @@ name_in before d = do
 
 -- ---- the rules of a format
 
--- the kind under which a configuration tells the first fault of a walk, which is never want of memory
+-- the kind under which a configuration tells the first fault of a walk, which is never out of memory
 abbrev pub kind_of : RuleFault → DataKind
 kind_of (rule_faults.UnknownRule id) = Unknown
 kind_of (rule_faults.Cycle id) = Repeat

@@ -71,7 +71,7 @@ talks_first (Some t) = record { given = refl; answers = omega arith; sent = sym 
 pub stands_first : (hub : Hub) (conn moment : ℕ) (p : Passes) (session : Record) (talk : Option Talk) (counts : LinkCounts) (hours : Hours) → AreOf hub p → Admits hub conn moment p → session ≡ begun conn → Stands hub conn moment [] [] session p talk talk counts counts hours hours
 stands_first hub conn moment p session talk counts hours are a begins = record { sits = admitted hub conn moment p session are a begins; up = inl refl; talks = talks_first talk; faults = refl; ends_is = refl; asked = refl }
 
--- ---- memory was wanting for it
+-- ---- memory ran out for it
 
 abbrev nothing_told : ℕ → Account
 nothing_told moment = record { acts = []; sendings = []; rest = []; opened = moment; extra = []; left = 0 }

@@ -223,7 +223,7 @@ one_each hub conn number done (heard bytes moment (in_hall cmd badge (Some s)) �
 one_each hub conn number done (heard bytes moment (in_room other id cmd badge ended) ∷ later) h rooms g = one_each hub conn number (done ++ heard bytes moment (in_room other id cmd badge ended) ∷ []) later h rooms g.1
 one_each hub conn number done (heard bytes moment (nowhere asked id cmd) ∷ later) h rooms g = one_each hub conn number (done ++ heard bytes moment (nowhere asked id cmd) ∷ []) later h rooms g.1
 
--- ---- where memory was wanting
+-- ---- if out of memory
 
 nothing_begun : (number : ℕ) (a : Act) (rooms : List RoomPass) → SaysNothing a rooms → begins_by number a ≡ []
 nothing_begun number quiet rooms n = refl

@@ -91,7 +91,7 @@ module _ (hub : Hub) (conn open_at : ℕ) (acts : List Act) (ss : List Sending) 
       let sit = sitting_on hub conn ss acts None (IsUpToDate old) (heard bytes moment (in_hall cmd None None)) rooms (amid rooms e) (λ number. quiet_hall conn number bytes moment cmd None) (λ o id is not_one named. absurd (none-some id not_one)) in
       All-weaker (HasPlace hub conn ss (acts ++ heard bytes moment (in_hall cmd None None) ∷ []) (length acts)) (PlaceLeft false hub conn acts (acts ++ heard bytes moment (in_hall cmd None None) ∷ []) ss) (λ k p. left_whole hub conn ss acts (heard bytes moment (in_hall cmd None None)) k p) rooms sit.places
 
-  -- memory was wanting for it
+  -- memory ran out for it
   pub hall_breaks : (bytes : List ℕ) (moment : ℕ) (cmd : HallCmd) (new : Passes) → AreOf hub new → HallBroken hub conn open_at acts ss s.hall_pass old cmd moment new → Breaks hub conn open_at acts ss r old s (acts ++ heard bytes moment (in_hall cmd None None) ∷ []) new
   hall_breaks bytes moment cmd new are d = record {
     are = are;
@@ -162,7 +162,7 @@ module _ (hub : Hub) (conn open_at : ℕ) (acts : List Act) (ss : List Sending) 
       gave = d.gave;
     }
 
-    -- memory was wanting for the Begin: it is there, or it isn't
+    -- memory ran out for the Begin: it is there, or it isn't
     begun_left : (h k : RoomPass) → IsPlace hub conn ss acts None (IsUpToDate old) h → h.number ≡ 15 + start.number → k.id ≡ h.id → (more : List RoomCmd) → (more ≡ []) ⊎ (more ≡ Begin start ∷ []) → IsMoved h more k → PlaceLeft false hub conn acts (acts ++ heard bytes moment (in_hall cmd badge (Some start)) ∷ []) ss k
     begun_left h k p number same_id more part m =
         let near : length (acts ++ heard bytes moment (in_hall cmd badge (Some start)) ∷ []) ≡ length acts + 1 = length-append acts (heard bytes moment (in_hall cmd badge (Some start)) ∷ []) in

@@ -80,7 +80,7 @@ module _ (hub : Hub) (conn open_at : ℕ) (acts : List Act) (ss : List Sending) 
         };
       }
 
-  -- it wasn't, or memory was wanting for what it tells
+  -- it wasn't, or memory ran out for what it tells
   pub record HallBroken (cmd : HallCmd) (moment : ℕ) (new : Passes) : Type 0 where
     pub conn_is : new.conn ≡ conn
     pub rooms : new.rooms.items ≡ old.rooms.items

@@ -125,7 +125,7 @@ pub given_grows : (hub : Hub) (conn : ℕ) (done acts : List Act) (h k : HallPas
 given_grows hub conn done [] h k old new kin grows g = tt
 given_grows hub conn done (a ∷ acts) h k old new kin grows g = (gave_grows hub conn done h k old new kin grows a g.0, given_grows hub conn (done ++ a ∷ []) acts h k old new kin grows g.1)
 
--- ---- where memory was wanting
+-- ---- if out of memory
 
 nothing_grows : (a : Act) (old new : List RoomPass) → Grows old new → SaysNothing a old → SaysNothing a new
 nothing_grows quiet old new grows n = tt

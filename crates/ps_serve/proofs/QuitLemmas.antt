@@ -225,7 +225,7 @@ by_quit (Some id) b s hub conn badge t h k held q le r =
 pub quits_room : (b s : Bool) (hub : Hub) (conn : ℕ) (badge : Option Badge) (t : Account) (h k : RoomPass) → QuitsRoom badge conn t.left h k → h.at ≤ length h.pass.1.seen → RoomRests b s hub conn t h → RoomQuit b s hub conn badge t h k
 quits_room b s hub conn badge t h k q le r = by_quit h.id b s hub conn badge t h k refl q le r
 
--- ---- where memory was wanting
+-- ---- if out of memory
 
 without_quit : (id : Option (List ℕ)) (conn : ℕ) (badge : Option Badge) (t : Account) (k : RoomPass) → (IsSome id → IsSome badge) → IsPrefix (commands k.pass.1.mine) (room_cmds conn k.number t.acts) → RoomMadeBy id true conn badge t k
 without_quit None conn badge t k named made = made

@@ -328,7 +328,7 @@ rests_failed hub conn early t passes talk0 talk counts0 counts hours0 hours l to
   asked_for = asked_for;
 }
 
--- memory was wanting
+-- memory ran out
 pub rests_short : (hub : Hub) (conn : ℕ) (early last : List Act) (t : Account) (passes : Passes) (talk0 talk : Option Talk) (counts0 counts : LinkCounts) (hours0 hours : Hours)
     → Left false hub conn t.opened early t.acts t.sendings passes → t.acts ≡ early ++ last → length last ≤ 1 → IsAccount conn t talk0 talk → HasCause ends.NoMemory hub conn t passes.rooms.items talk counts0 counts → HasExtraAt ends.NoMemory conn t → Asked hours0 (moments_of t.acts ++ t.extra) hours → Rests ends.NoMemory hub conn t passes talk0 talk counts0 counts hours0 hours
 rests_short hub conn early last t passes talk0 talk counts0 counts hours0 hours l parts one told cause extra asked_for = record {

@@ -127,7 +127,7 @@ module _ (hub : Hub) (conn open_at : ℕ) (acts : List Act) (ss : List Sending) 
     gave = subst (λ (l : List RoomPass). Gave hub conn acts a d.hall_pass l) (sym d.rooms) (t.gave d.hall_pass);
   }
 
-  -- memory was wanting for it
+  -- memory ran out for it
   pub break_hall : (a : Act) (cmd : HallCmd) (moment : ℕ) (mid new : Passes) → IsSome old.badge → AreOf hub new → hall_of conn a ≡ hall_entry conn moment cmd ∷ [] → (after_act r a).badge ≡ r.badge → RoomsReach a mid → HallBroken hub conn open_at acts ss s.hall_pass mid cmd moment new → Breaks hub conn open_at acts ss r old s (acts ++ a ∷ []) new
   break_hall a cmd moment mid new has are is same t d = record {
     are = are;
@@ -297,7 +297,7 @@ module _ (hub : Hub) (conn open_at : ℕ) (acts : List Act) (ss : List Sending) 
       e.done.1)
       f
 
-  -- ---- memory was wanting
+  -- ---- memory ran out
 
   -- before the place was held
   pub entry_breaks : (id : List ℕ) (mid new : Passes) → IsSome old.badge → AreOf hub new → AtRoom id mid → EnterFails hub id mid enter_faults.NoMemory new → Breaks hub conn open_at acts ss r old s acts new

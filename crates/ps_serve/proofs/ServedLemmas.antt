@@ -242,7 +242,7 @@ served end hub conn t old new talk0 talk counts0 counts start hours0 hours1 hour
       complete = complete_of end hub conn t new.rooms.items talk0 talk counts0 counts r.told cause;
     }
 
--- ---- where memory was wanting
+-- ---- if out of memory
 
 hall_weak : (b s : Bool) (hub : Hub) (conn : ℕ) (t : Account) (h : HallPass) → HallRests b s hub conn t h → HallRests true true hub conn t h
 hall_weak b s hub conn t h r = record {
@@ -313,7 +313,7 @@ extra_weak (ends.OwnLimit room) conn t e = e
 extra_weak (ends.BadText bytes) conn t e = inl e
 extra_weak ends.NoMemory conn t e = e
 
--- what holds at any end holds where memory was wanting then
+-- what holds at any end holds if out of memory then
 pub rests_weak : (end : End) (hub : Hub) (conn : ℕ) (t : Account) (passes : Passes) (talk0 talk : Option Talk) (counts0 counts : LinkCounts) (hours0 hours1 : Hours) → Rests end hub conn t passes talk0 talk counts0 counts hours0 hours1 → Rests ends.NoMemory hub conn t passes talk0 talk counts0 counts hours0 hours1
 rests_weak end hub conn t passes talk0 talk counts0 counts hours0 hours1 r = record {
   are = r.are;

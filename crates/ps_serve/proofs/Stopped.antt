@@ -53,7 +53,7 @@ never_none : {P : Type 0} → (stop : Stop) → Some stop ≡ None → P
 never_none stop e = absurd (true≢false (ap is_some e))
 
 module _ (hub : Hub) (conn open_at : ℕ) (acts : List Act) (ss : List Sending) (r : Record) (old : Passes) (s : Sits hub conn open_at acts (length acts) ss r old) (bytes : List ℕ) (hours now : Hours) where
-  -- memory was wanting for the text
+  -- memory ran out for the text
   pub short_at_once : now ≡ hours → AreOf hub old → StopsShort hub conn open_at acts ss bytes r hours now old
   short_at_once same are = record {
     last = [];
@@ -140,7 +140,7 @@ module _ (hub : Hub) (conn open_at : ℕ) (acts : List Act) (ss : List Sending) 
         short_is stop f.0 (short_in (in_room t.3.2.goes.before.number id cmd t.3.2.badge (Some ending)) (take, sym (b.badge ∙ s.badge_is) ∙ t.3.2.badge_is)
         (break_hall hub conn open_at acts ss r old s (heard bytes moment (in_room t.3.2.goes.before.number id cmd t.3.2.badge (Some ending))) (report ending) moment mid new has are refl refl d broke))
 
-    -- no such room, and the hall takes no text more, or memory was wanting for the Bad
+    -- no such room, and the hall takes no text more, or memory ran out for the Bad
     nowhere_stops : (stop : Stop) (id : List ℕ) (cmd : Command) (mid : Passes) → taken r bytes ≡ Ok (Room id cmd) → IsSome old.badge → OrdersAtLast hub (Room id cmd) moment old (Err hub_faults.NoSuchRoom) mid
         → (full : Bool) → is_full None (counted (Some id) r) ≡ full → TellsNowhereIf full hub moment mid (Some stop) new → Stopping stop
     nowhere_stops stop id cmd mid take has t true e f =

@@ -242,7 +242,7 @@ module _ (hub : Hub) (conn open_at left : ℕ) (acts : List Act) (ss : List Send
       (λ (f : (room ≡ None) × StopsFull hub conn open_at acts ss bytes.items s p h h1 p1). rest_full room s p p1 bytes was mid c0 c1 h h1 st is front cause f.0 f.1)
       stop
 
-  -- ---- memory was wanting for a text
+  -- ---- memory ran out for a text
 
   short_before : (s : Record) (p p1 : Passes) (bytes : Vec ℕ Global) (was mid : Option Talk) (c0 c1 : LinkCounts) (h h1 : Hours) → Stands hub conn open_at acts ss s p talk0 was counts0 c0 hours0 h → mid ≡ after_next (nexts.Text bytes) was → IsNext was (nexts.Text bytes)
       → (q : StopsShort hub conn open_at acts ss bytes.items s h h1 p1) → q.last ≡ [] → ComesToRest ends.NoMemory hub conn open_at left p1 talk0 mid counts0 c1 hours0 h1

@@ -61,7 +61,7 @@ pub record Account : Type 0 where
   pub extra : List ℕ
   pub left : ℕ
 
--- memory was wanting
+-- memory ran out
 abbrev pub is_short : End → Bool
 is_short ends.NoMemory = true
 is_short other = false
@@ -147,7 +147,7 @@ hall_quit conn moment = hall_entry conn moment hall_commands.Quit ∷ []
 abbrev pub room_quit : ℕ → Badge → ℕ → List RoomCmd
 room_quit conn badge moment = Play (room_entry conn badge moment room_commands.Quit) ∷ []
 
--- All entries, and then the Quit; where memory was wanting, a prefix of the entries, with a Quit behind it or without.
+-- All entries, and then the Quit; if out of memory, a prefix of the entries, with a Quit behind it or without.
 abbrev pub AllThenQuit : {C : Type 0} → Bool → List C → List C → List C → Type 0
 AllThenQuit {C} true made all quit = (part : List C) × IsPrefix part all × ((made ≡ part) ⊎ (made ≡ part ++ quit))
 AllThenQuit {C} false made all quit = made ≡ all ++ quit
@@ -191,7 +191,7 @@ pub record EntriesAreMade (end : End) (conn : ℕ) (t : Account) (passes : Passe
 -- ---- answers
 
 -- What each act made is what its place answered: the badge of the connection's own Name, the battle that an entry started, the end
--- of a battle, and that no such room was there. Where memory was wanting the last act may say of no answer.
+-- of a battle, and that no such room was there. If memory ran out the last act may say of no answer.
 abbrev pub AreAnswers : Bool → Hub → ℕ → Account → List RoomPass → HallPass → Type 0
 AreAnswers true hub conn t rooms h = (sure : List Act) × AreAlmostGiven hub conn sure t.acts h rooms
 AreAnswers false hub conn t rooms h = AreGiven hub conn [] t.acts h rooms
@@ -227,7 +227,7 @@ pub record AnswersAreKept (end : End) (hub : Hub) (conn : ℕ) (t : Account) (pa
   pub rightly : AreRightly hub [] t.acts passes.rooms.items
   pub asked : All (IsAsked end hub t) passes.rooms.items
 
--- The hall is held, and the Open stands in it. Where memory was wanting for the Open, nothing is held, and nothing came of the link.
+-- The hall is held, and the Open stands in it. If memory ran out for the Open, nothing is held, and nothing came of the link.
 abbrev pub IsOpen : Bool → ℕ → Account → Passes → Option HallPass → Type 0
 IsOpen short conn t passes (Some h) = HasOpen conn t.opened h
 IsOpen true conn t passes None = (passes.rooms.items ≡ []) × (t.acts ≡ []) × (t.rest ≡ []) × (t.sendings ≡ [])
@@ -243,7 +243,7 @@ moments_in t = t.opened ∷ (moments_of t.acts ++ (t.extra ++ t.left ∷ []))
 abbrev pub HasExtra : ℕ → Account → Type 0
 HasExtra conn t = (t.extra ≡ []) ⊎ ((bytes : List ℕ) × (order : Order) × (t.rest ≡ bytes ∷ []) × (taken (after_acts (begun conn) t.acts) bytes ≡ Ok order) × (length t.extra ≡ 1))
 
--- where memory was wanting, also for the Open alone, if that wasn't made
+-- if out of memory, also for the Open alone, if that wasn't made
 abbrev pub TellsMoments : End → ℕ → Account → Option HallPass → Hours → Hours → Type 0
 TellsMoments ends.NoMemory conn t None old new = Asked old (t.opened ∷ []) new
 TellsMoments ends.NoMemory conn t (Some h) old new = HasExtra conn t × Asked old (moments_in t) new
@@ -318,7 +318,7 @@ pub record IsBegunBy (rooms : List RoomPass) (start : Start) : Type 0 where
   pub place : pass.number ≡ room_of_battle start.number
   pub begin : starts_in (commands pass.pass.1.mine) ≡ start ∷ []
 
--- all acts; where memory was wanting, all, or all but the last
+-- all acts; if out of memory, all, or all but the last
 abbrev pub AreSure : Bool → List Act → List Act → Type 0
 AreSure true sure acts = (last : List Act) × (acts ≡ sure ++ last) × (length last ≤ 1)
 AreSure false sure acts = sure ≡ acts
@@ -328,7 +328,7 @@ pub record IsOwnStart (t : Account) (number : ℕ) (start : Start) : Type 0 wher
   pub started : Contains (all_begun t.acts) start
   pub place : number ≡ room_of_battle start.number
 
--- Each battle that an entry of the connection started was begun, once, and no pass has another Begin. Where memory was wanting, the
+-- Each battle that an entry of the connection started was begun, once, and no pass has another Begin. If memory ran out, the
 -- last Begin may be missing.
 pub record OneBegin (end : End) (t : Account) (rooms : List RoomPass) : Type 0 where
   pub sure : List Act
@@ -359,7 +359,7 @@ pub record TwoWorlds (end : End) (hub : Hub) (conn : ℕ) (t : Account) (passes 
 
 -- ---- the ends
 
--- Closed only where the link's count of End rose, and LinkFault only where its count of faults rose; no other end but want of memory
+-- Closed only where the link's count of End rose, and LinkFault only where its count of faults rose; no other end but out of memory
 -- raises any of both
 abbrev pub HasCountCause : End → LinkCounts → LinkCounts → Type 0
 HasCountCause ends.Closed old new = Rose old.ends new.ends × (new.faults ≡ old.faults)
@@ -378,7 +378,7 @@ IsTooMany room hub conn t rooms bytes =
     ((taken (after_acts (begun conn) t.acts) bytes ≡ Err (take_faults.Limit room)) × (t.extra ≡ []))
     ⊎ ((room ≡ None) × (id : List ℕ) × (cmd : Command) × (asked : Option ℕ) × (taken (after_acts (begun conn) t.acts) bytes ≡ Ok (Room id cmd)) × (is_full None (counted (Some id) (after_acts (begun conn) t.acts)) ≡ true) × IsNowhere hub conn t.acts asked id rooms × (length t.extra ≡ 1))
 
--- BadText and OwnLimit only by the text that came last, and what it is taken for after the acts; at the other ends but want of memory
+-- BadText and OwnLimit only by the text that came last, and what it is taken for after the acts; at the other ends but out of memory
 -- each text that came is an act.
 abbrev pub HasTextCause : End → Hub → ℕ → Account → List RoomPass → Type 0
 HasTextCause (ends.BadText bytes) hub conn t rooms = (t.rest ≡ bytes.items ∷ []) × (taken (after_acts (begun conn) t.acts) bytes.items ≡ Err take_faults.BadText)
@@ -405,7 +405,7 @@ texts_in inbox = filter_map text_in inbox
 abbrev pub IsReadable : List ℕ → Type 0
 IsReadable bytes = (client bytes ≢ Err client_faults.NotUtf8) × ((size : ℕ) → client bytes ≢ Err (client_faults.Long size))
 
--- the client ended the session, or memory was wanting
+-- the client ended the session, or memory ran out
 abbrev pub EndsWell : End → Type 0
 EndsWell ends.Closed = Unit {0}
 EndsWell ends.NoMemory = Unit {0}

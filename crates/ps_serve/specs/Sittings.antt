@@ -156,7 +156,7 @@ abbrev pub AreGiven : Hub → ℕ → List Act → List Act → HallPass → Lis
 AreGiven hub conn done [] h rooms = Unit {0}
 AreGiven hub conn done (a ∷ rest) h rooms = Gave hub conn done a h rooms × AreGiven hub conn (done ++ a ∷ []) rest h rooms
 
--- An act that was going on when memory was wanting says of no answer. An entry of a room stands at the place that is held by the
+-- An act that was going on when memory ran out says of no answer. An entry of a room stands at the place that is held by the
 -- id of its text.
 abbrev pub SaysNothing : Act → List RoomPass → Type 0
 SaysNothing quiet rooms = Unit {0}
@@ -277,7 +277,7 @@ abbrev pub AreGivenSo : Bool → Hub → ℕ → List Act → List Act → HallP
 AreGivenSo true hub conn early acts h rooms = AreGiven hub conn [] acts h rooms
 AreGivenSo false hub conn early acts h rooms = AreAlmostGiven hub conn early acts h rooms
 
--- What a session leaves that broke off, where its link failed (`whole`) or memory was wanting: the acts, of which all but the
+-- What a session leaves that broke off, where its link failed (`whole`) or memory ran out: the acts, of which all but the
 -- `early` ones may be there in part.
 pub record Left (whole : Bool) (hub : Hub) (conn open_at : ℕ) (early acts : List Act) (ss : List Sending) (passes : Passes) : Type 0 where
   pub are : AreOf hub passes

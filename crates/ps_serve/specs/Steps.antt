@@ -37,7 +37,7 @@ pub record Hears (hub : Hub) (conn open_at : ℕ) (acts : List Act) (ss : List S
   pub sits : Sits hub conn open_at (acts ++ heard bytes moment made ∷ []) (length acts) ss session passes
 
 -- it wasn't: it is no text; it is one more than its place takes, where the place may be that of the order, or the hall since no
--- such room was there; or memory was wanting, and its entries may be there in part
+-- such room was there; or memory ran out, and its entries may be there in part
 pub record StopsFull (hub : Hub) (conn open_at : ℕ) (acts : List Act) (ss : List Sending) (bytes : List ℕ) (r : Record) (old_passes : Passes) (old new : Hours) (passes : Passes) : Type 0 where
   pub id : List ℕ
   pub cmd : Command
@@ -88,14 +88,14 @@ abbrev pub is_fault : End → Bool
 is_fault ends.LinkFault = true
 is_fault other = false
 
--- the link failed, or memory was wanting: what wasn't told yet was sent in part
+-- the link failed, or memory ran out: what wasn't told yet was sent in part
 pub record TellsPart (end : End) (hub : Hub) (conn open_at : ℕ) (acts : List Act) (a : Act) (ss : List Sending) (old new : Option Talk) (passes : Passes) : Type 0 where
   pub more : List Sending
   pub now : All (λ (s : Sending). s.after ≡ length acts + 1) more
   pub sent : new ≡ after_sendings more old
   pub left : Left (is_fault end) hub conn open_at acts (acts ++ a ∷ []) (ss ++ more) passes
 
--- the end by a send that failed, or by want of memory
+-- the end by a send that failed, or if out of memory
 abbrev pub IsBreak : End → LinkCounts → LinkCounts → Type 0
 IsBreak ends.LinkFault old new = OnlyRose old.faults new.faults old.quiets new.quiets old.ends new.ends
 IsBreak ends.NoMemory old new = new ≡ old

@@ -128,9 +128,9 @@ fn serve<R: Wait, L: Link, C: Clock>(
 /// the link what happened in the hall and in the rooms that it holds, and makes its Quits at the end.
 ///
 /// `served` says all that follows of one and the same account of the session: what came of each answer of the link, what was
-/// sent, and the moments. The passes come from the hub where they hold the hall, which they do but where memory was wanting
-/// for the Open; so its calls take them. `LinkFault` and `Closed` come only where the link's count of them rose, `BadText` and `OwnLimit` only
-/// by the text that came last, and `NoMemory` where memory was wanting, for the Quits too. A link that doesn't fail, and whose
+/// sent, and the moments. The passes come from the hub if they hold the hall, as they do unless memory ran
+/// out for the Open; so its calls take them. `LinkFault` and `Closed` come only where the link's count of them rose, `BadText` and `OwnLimit` only
+/// by the text that came last, and `NoMemory` if out of memory, for the Quits too. A link that doesn't fail, and whose
 /// texts are UTF-8 and within the limits of bytes and of texts for a place, gives `Closed` or `NoMemory`; with 4,096 texts in all
 /// they are within the latter whatever becomes of them.
 pub fn serve_session<R: Wait, L: Link, C: Clock>(

@@ -84,7 +84,7 @@ within_limit r (Some order) = limited (is_full (place_of order) r) order
 abbrev pub taken : Record → List ℕ → Result Order TakeFault
 taken r bytes = within_limit r (order_of r.badge r bytes)
 
--- What a call that found this fault was to find: this fault, but want of memory may come at any text.
+-- What a call that found this fault was to find: this fault, but out of memory may come at any text.
 abbrev pub IsTakeFault : TakeFault → Result Order TakeFault → Type 0
 IsTakeFault BadText take = take ≡ Err BadText
 IsTakeFault (Limit room) take = take ≡ Err (Limit room)

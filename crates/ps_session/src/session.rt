@@ -37,7 +37,7 @@ pub enum TakeFault {
     /// A text more than 4,096 to one room, which is named, or to the hall.
     #[error("a text more than a place takes")]
     Limit { room: Option<Text> },
-    /// Want of memory.
+    /// Out of memory.
     #[error("no memory")]
     NoMemory,
 }

@@ -124,7 +124,7 @@ fn begin(
     ensures count { length battles.new.items ≤ most_battles }
     ensures numbers { OnOk result (numbers.new ≡ with_number numbers.old (battle_opening (arc_value config) (arc_value dex) start)) }
 {
-    // The hall starts no more; past them memory is said to be wanting.
+    // The hall starts no more; past them the answer is out of memory.
     if battles.len() >= MOST_BATTLES as usize || start.number > MOST_BATTLES {
         return Err(AllocError);
     }

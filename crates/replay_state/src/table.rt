@@ -55,7 +55,7 @@ impl Model for Table {
     ghost invariant = { λ t. length t.sessions.items ≤ 65536 };
 }
 
-/// As many connections as a replay has room for, far more than a script may open. Past them memory is said to be wanting.
+/// As many connections as a replay has room for, far more than a script may open. Past them the answer is out of memory.
 const MOST_SESSIONS: usize = 65_536;
 
 // ---- entries

@@ -17,7 +17,7 @@ use std::alloc::{AllocError, Global};
 use std::marker::Model;
 use std::sync::Arc;
 
-/// How many commands a place takes. Past them memory is said to be wanting.
+/// How many commands a place takes. Past them the answer is out of memory.
 pub(crate) const MOST_COMMANDS: u64 = (1 << 62) - 2;
 
 /// The hall of a server, with what it was opened with.
@@ -46,7 +46,7 @@ impl Model for HallPlace {
 }
 
 impl HallPlace {
-    /// The hall, in which nobody is connected. `AllocError` where memory is wanting.
+    /// The hall, in which nobody is connected. `AllocError` if out of memory.
     pub fn new(alloc: Global, config: Arc<Config>, dex: Arc<Dex>) -> Result<HallPlace, AllocError>
         ensures root { IfOk result (λ p. p.root ≡ record { config = arc_value config; dex = arc_value dex }) }
         ensures stands { IfOk result (λ p. HallStands [] p) }

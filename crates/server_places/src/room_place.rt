@@ -71,7 +71,7 @@ fn enter(alloc: Global, room: &mut Room, entry: Entry) -> Result<RoomOut, AllocE
 
 impl RoomPlace {
     /// The place of a chat room, with its room, in which nobody is. `number` is the room's place in the configuration, from
-    /// 0. `AllocError` where memory is wanting.
+    /// 0. `AllocError` if out of memory.
     pub fn chat(
         alloc: Global,
         config: Arc<Config>,
