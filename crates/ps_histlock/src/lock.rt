@@ -108,7 +108,7 @@ impl<K: Kept> HistLock<K> {
     /// for nobody.
     pub fn look(&self, pass: &mut Pass<K>) -> u64
         requires { pass.old.0 ≡ self.now.0 }
-        ensures told { pass.new ≡ (pass.old.0, after_look pass.old.1 result) }
+        ensures does { pass.new ≡ (pass.old.0, after_look pass.old.1 result) }
         ensures seen { length pass.old.1.seen ≤ result }
         ensures rest { IsAtRest pass.new.1 }
     {
@@ -170,7 +170,7 @@ impl<K: Kept> HistLock<K> {
         requires value { (K.origin kept ≡ seat.old.me.0.origin) × K.stands (commands seat.old.me.0.seen) kept }
         ensures same { (seat.new.table_id ≡ seat.old.table_id) × (seat.new.id ≡ seat.old.id) }
         ensures released { seat.new.me ≡ (after_turn seat.old.me.0, []) }
-        ensures told { Read K.answers K.pulls seat.old.me.0 cursor.old result cursor.new }
+        ensures does { Read K.answers K.pulls seat.old.me.0 cursor.old result cursor.new }
     {
         let msgs = kept.pull(cursor);
         self.release(seat, kept);
@@ -194,7 +194,7 @@ impl<K: Kept> HistLock<K> {
         requires value { (K.origin kept ≡ seat.old.me.0.origin) × K.stands (commands seat.old.me.0.seen) kept }
         requires entry { W.written ≡ Some cmd }
         ensures same { (seat.new.table_id ≡ seat.old.table_id) × (seat.new.id ≡ seat.old.id) × (seat.new.me.1 ≡ []) }
-        ensures told { Written K.answers K.pulls seat.old.me.0 cursor.old cmd result seat.new.me.0 cursor.new }
+        ensures does { Written K.answers K.pulls seat.old.me.0 cursor.old cmd result seat.new.me.0 cursor.new }
         ensures rest { IsAtRest seat.new.me.0 }
     {
         match kept.apply(cmd) {
@@ -230,7 +230,7 @@ impl<K: Kept> HistLock<K> {
     ) -> Turn<K>
         requires { pass.old.0 ≡ self.now.0 }
         ensures lock { pass.new.0 ≡ pass.old.0 }
-        ensures told { Turned K.answers K.pulls pass.old.1 cursor.old cmd result pass.new.1 cursor.new }
+        ensures does { Turned K.answers K.pulls pass.old.1 cursor.old cmd result pass.new.1 cursor.new }
         ensures limit { IsSome cmd → length pass.old.1.mine ≡ OWN_LIMIT → (result ≡ OwnLimit cmd) × (pass.new ≡ pass.old) × (cursor.new ≡ cursor.old) }
         ensures rest { IsAtRest pass.new.1 }
     {
@@ -263,7 +263,7 @@ impl<K: Kept> HistLock<K> {
     ) -> Turn<K>
         requires { pass.old.0 ≡ self.now.0 }
         ensures lock { pass.new.0 ≡ pass.old.0 }
-        ensures told { TurnedAtLast K.answers K.pulls pass.old.1 cursor.old cmd result pass.new.1 cursor.new }
+        ensures does { TurnedAtLast K.answers K.pulls pass.old.1 cursor.old cmd result pass.new.1 cursor.new }
         ensures taken { IsNotBusy result }
         ensures limit { IsSome cmd → length pass.old.1.mine ≡ OWN_LIMIT → (result ≡ OwnLimit cmd) × (pass.new ≡ pass.old) × (cursor.new ≡ cursor.old) }
         ensures rest { IsAtRest pass.new.1 }

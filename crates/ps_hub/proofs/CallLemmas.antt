@@ -25,16 +25,16 @@ use Rattle.ps_hub.proofs.ShortLemmas.{short_turns_at_last}
 
 -- ---- the begin of a battle
 
-begun : (hub : Hub) (start : Start) (number place : ℕ) (does : RoomPass → RoomPass → Type 0) (old : Passes) (h : RoomPass) (mid : Passes) (k : RoomPass) (new : Passes) → number ≡ 15 + start.number → Keeps hub number place old h mid
-    → new ≡ record mid { rooms = new.rooms } → new.rooms.items ≡ slice_set mid.rooms.items place k → (k.at ≡ h.at) × (k.number ≡ h.number) × (k.id ≡ h.id) → does h k → BeginsAt hub start does old new
-begun hub start number place does old h mid k new is keeps rest pass_list same done =
-    record { before = h; behind = k; number = keeps.number_is ∙ is; id = same.2; at = same.0; but = kept_then hub number place old h mid k new keeps rest pass_list same.1; done = done }
+begun : (hub : Hub) (start : Start) (number pass_index : ℕ) (does : RoomPass → RoomPass → Type 0) (old : Passes) (h : RoomPass) (mid : Passes) (k : RoomPass) (new : Passes) → number ≡ 15 + start.number → Keeps hub number pass_index old h mid
+    → new ≡ record mid { rooms = new.rooms } → new.rooms.items ≡ slice_set mid.rooms.items pass_index k → (k.at ≡ h.at) × (k.number ≡ h.number) × (k.id ≡ h.id) → does h k → BeginsAt hub start does old new
+begun hub start number pass_index does old h mid k new is keeps rest pass_list same done =
+    record { before = h; behind = k; number = keeps.number_is ∙ is; id = same.2; at = same.0; but = kept_then hub number pass_index old h mid k new keeps rest pass_list same.1; done = done }
 
-pub started : {T E : Type 0} (hub : Hub) (start : Start) (number place : ℕ) (old : Passes) (h : RoomPass) (mid : Passes) (k : RoomPass) (new : Passes) (result : Result T E) → number ≡ 15 + start.number → Keeps hub number place old h mid
-    → new ≡ record mid { rooms = new.rooms } → new.rooms.items ≡ slice_set mid.rooms.items place k → (k.at ≡ h.at) × (k.number ≡ h.number) × (k.id ≡ h.id)
+pub started : {T E : Type 0} (hub : Hub) (start : Start) (number pass_index : ℕ) (old : Passes) (h : RoomPass) (mid : Passes) (k : RoomPass) (new : Passes) (result : Result T E) → number ≡ 15 + start.number → Keeps hub number pass_index old h mid
+    → new ≡ record mid { rooms = new.rooms } → new.rooms.items ≡ slice_set mid.rooms.items pass_index k → (k.at ≡ h.at) × (k.number ≡ h.number) × (k.id ≡ h.id)
     → OnOk result (TurnsAtLast h.pass.1 (Some (Begin start)) k.pass.1) → OnErr result (BeginsAtMost hub start h k) → Starts hub start old result new
-started hub start number place old h mid k new (Ok done) is keeps rest pass_list same ok err = begun hub start number place _ old h mid k new is keeps rest pass_list same ok
-started hub start number place old h mid k new (Err e) is keeps rest pass_list same ok err = inr (begun hub start number place (BeginsAtMost hub start) old h mid k new is keeps rest pass_list same err)
+started hub start number pass_index old h mid k new (Ok done) is keeps rest pass_list same ok err = begun hub start number pass_index _ old h mid k new is keeps rest pass_list same ok
+started hub start number pass_index old h mid k new (Err e) is keeps rest pass_list same ok err = inr (begun hub start number pass_index (BeginsAtMost hub start) old h mid k new is keeps rest pass_list same err)
 
 -- ---- catching up
 
@@ -43,11 +43,11 @@ pub caught_hall : {E : Type 0} (hub : Hub) (old new : Passes) (h k : HallPass) (
 caught_hall hub old new h k (Ok msgs) p was is pass_lists conn badge ok err = record { before = h; behind = k; was = was; is = is; done = ok hub old.conn p; rooms = pass_lists; conn = conn; badge = badge }
 caught_hall hub old new h k (Err e) p was is pass_lists conn badge ok err = record { before = h; behind = k; was = was; is = is; done = err; rooms = pass_lists; conn = conn; badge = badge }
 
-pub caught_room : {E : Type 0} (hub : Hub) (place : ℕ) (old new : Passes) (h k : RoomPass) (result : Result (Vec Msg Global) E) → IsRoomPass hub old.conn h → slice_get old.rooms.items place ≡ Some h → new ≡ record old { rooms = new.rooms } → new.rooms.items ≡ slice_set old.rooms.items place k
-    → (k.number ≡ h.number) × (k.id ≡ h.id) → IfOk result (λ msgs. (hub : Hub) (conn : ℕ) → IsRoomPass hub conn h → Caught hub conn msgs.items h k) → OnErr result (LooksAtMost h.pass.1 k.pass.1 × (k.at ≡ h.at)) → CatchesUp hub place old result new
-caught_room hub place old new h k (Ok msgs) p was rest pass_list same ok err =
+pub caught_room : {E : Type 0} (hub : Hub) (pass_index : ℕ) (old new : Passes) (h k : RoomPass) (result : Result (Vec Msg Global) E) → IsRoomPass hub old.conn h → slice_get old.rooms.items pass_index ≡ Some h → new ≡ record old { rooms = new.rooms } → new.rooms.items ≡ slice_set old.rooms.items pass_index k
+    → (k.number ≡ h.number) × (k.id ≡ h.id) → IfOk result (λ msgs. (hub : Hub) (conn : ℕ) → IsRoomPass hub conn h → Caught hub conn msgs.items h k) → OnErr result (LooksAtMost h.pass.1 k.pass.1 × (k.at ≡ h.at)) → CatchesUp hub pass_index old result new
+caught_room hub pass_index old new h k (Ok msgs) p was rest pass_list same ok err =
     record { before = h; behind = k; was = was; rooms = pass_list; number = same.0; id = same.1; done = ok hub old.conn p; conn = ap (λ (q : Passes). q.conn) rest; badge = ap (λ (q : Passes). q.badge) rest; hall = ap (λ (q : Passes). q.hall) rest }
-caught_room hub place old new h k (Err e) p was rest pass_list same ok err =
+caught_room hub pass_index old new h k (Err e) p was rest pass_list same ok err =
     record { before = h; behind = k; was = was; rooms = pass_list; number = same.0; id = same.1; done = err; conn = ap (λ (q : Passes). q.conn) rest; badge = ap (λ (q : Passes). q.badge) rest; hall = ap (λ (q : Passes). q.hall) rest }
 
 -- ---- counting
@@ -55,9 +55,9 @@ caught_room hub place old new h k (Err e) p was rest pass_list same ok err =
 pub counted_hall : (old new : Passes) (h k : HallPass) (n : ℕ) → old.hall ≡ Some h → new.hall ≡ Some k → new.rooms.items ≡ old.rooms.items → new.conn ≡ old.conn → new.badge ≡ old.badge → LooksHall n h k → (room : Option (List ℕ)) → room ≡ None → Counts room old n new
 counted_hall old new h k n was is pass_lists conn badge done room none = subst (λ (o : Option (List ℕ)). Counts o old n new) (sym none) (record { before = h; behind = k; was = was; is = is; done = done; rooms = pass_lists; conn = conn; badge = badge })
 
-pub counted_room : (place : ℕ) (old new : Passes) (h k : RoomPass) (n : ℕ) (id : List ℕ) (there : (held : RoomPass) × (slice_get old.rooms.items place ≡ Some held) × (held.id ≡ Some id)) → slice_get old.rooms.items place ≡ Some h → new ≡ record old { rooms = new.rooms } → new.rooms.items ≡ slice_set old.rooms.items place k → LooksRoom n h k → (room : Option (List ℕ)) → room ≡ Some id → Counts room old n new
-counted_room place old new h k n id there was rest pass_list done room some = subst (λ (o : Option (List ℕ)). Counts o old n new) (sym some) (
-  place,
+pub counted_room : (pass_index : ℕ) (old new : Passes) (h k : RoomPass) (n : ℕ) (id : List ℕ) (there : (held : RoomPass) × (slice_get old.rooms.items pass_index ≡ Some held) × (held.id ≡ Some id)) → slice_get old.rooms.items pass_index ≡ Some h → new ≡ record old { rooms = new.rooms } → new.rooms.items ≡ slice_set old.rooms.items pass_index k → LooksRoom n h k → (room : Option (List ℕ)) → room ≡ Some id → Counts room old n new
+counted_room pass_index old new h k n id there was rest pass_list done room some = subst (λ (o : Option (List ℕ)). Counts o old n new) (sym some) (
+  pass_index,
   there.0,
   there.1,
   there.2,
@@ -79,9 +79,9 @@ pub quits_short : (hub : Hub) (badge : Option Badge) (conn moment : ℕ) (h k : 
 quits_short hub badge conn moment h k id b held is same done = (subst IsSome (sym held) refl, b, is, done, same.0, same.1, same.2)
 
 -- the list where the next one fell short
-pub quits_up_to : (hub : Hub) (badge : Option Badge) (conn moment place : ℕ) (old now new : List RoomPass) (h k : RoomPass) → slice_get now place ≡ Some h → new ≡ slice_set now place k → QuitsRoomAtMost hub badge conn moment h k → IsDoneTo (QuitsRoom badge conn moment) place old now → QuitsUpTo hub badge conn moment old new
-quits_up_to hub badge conn moment place old now new h k there set short done =
-    let p = parts_of (QuitsRoom badge conn moment) place old now h there done in
+pub quits_up_to : (hub : Hub) (badge : Option Badge) (conn moment pass_index : ℕ) (old now new : List RoomPass) (h k : RoomPass) → slice_get now pass_index ≡ Some h → new ≡ slice_set now pass_index k → QuitsRoomAtMost hub badge conn moment h k → IsDoneTo (QuitsRoom badge conn moment) pass_index old now → QuitsUpTo hub badge conn moment old new
+quits_up_to hub badge conn moment pass_index old now new h k there set short done =
+    let p = parts_of (QuitsRoom badge conn moment) pass_index old now h there done in
     record {
       front = p.front;
       quitted = p.front_now;
@@ -89,7 +89,7 @@ quits_up_to hub badge conn moment place old now new h k there set short done =
       behind = k;
       back = p.back;
       was = p.was;
-      is = set ∙ ap (λ (l : List RoomPass). slice_set l place k) p.is ∙ set_seam p.front_now h k p.back place p.count_now;
+      is = set ∙ ap (λ (l : List RoomPass). slice_set l pass_index k) p.is ∙ set_seam p.front_now h k p.back pass_index p.count_now;
       done = p.done;
       short = short;
     }

@@ -38,20 +38,20 @@ held_id id h k (inr (inr turn)) = turn.2
 
 -- ---- at the list
 
-pub entered : (hub : Hub) (id : List ℕ) (number place : ℕ) (does : RoomPass → RoomPass → Type 0) (old : Passes) (h : RoomPass) (mid : Passes) (k : RoomPass) (new : Passes) → Names hub.config id number → Keeps hub number place old h mid
-    → new ≡ record mid { rooms = new.rooms } → new.rooms.items ≡ slice_set mid.rooms.items place k → k.number ≡ h.number → does h k → EntersAt hub id does old new
-entered hub id number place does old h mid k new names keeps rest pass_list same done =
-    record { before = h; behind = k; named = subst (λ (n : ℕ). Names hub.config id n) (sym keeps.number_is) names; but = kept_then hub number place old h mid k new keeps rest pass_list same; done = done }
+pub entered : (hub : Hub) (id : List ℕ) (number pass_index : ℕ) (does : RoomPass → RoomPass → Type 0) (old : Passes) (h : RoomPass) (mid : Passes) (k : RoomPass) (new : Passes) → Names hub.config id number → Keeps hub number pass_index old h mid
+    → new ≡ record mid { rooms = new.rooms } → new.rooms.items ≡ slice_set mid.rooms.items pass_index k → k.number ≡ h.number → does h k → EntersAt hub id does old new
+entered hub id number pass_index does old h mid k new names keeps rest pass_list same done =
+    record { before = h; behind = k; named = subst (λ (n : ℕ). Names hub.config id n) (sym keeps.number_is) names; but = kept_then hub number pass_index old h mid k new keeps rest pass_list same; done = done }
 
-pub entered_fault : (hub : Hub) (id : List ℕ) (number place : ℕ) (fault : EnterFault) (old : Passes) (h : RoomPass) (mid : Passes) (k : RoomPass) (new : Passes) → Names hub.config id number → Keeps hub number place old h mid
-    → new ≡ record mid { rooms = new.rooms } → new.rooms.items ≡ slice_set mid.rooms.items place k → k.number ≡ h.number → Holds {T = ℕ} hub id h (Err fault) k → EnterFails hub id old fault new
-entered_fault hub id number place NoSuchRoom old h mid k new names keeps rest pass_list same done = inr (entered hub id number place (NotHeld hub id) old h mid k new names keeps rest pass_list same done)
-entered_fault hub id number place (Busy word) old h mid k new names keeps rest pass_list same done = entered hub id number place (HeldUp word) old h mid k new names keeps rest pass_list same done
-entered_fault hub id number place NoMemory old h mid k new names keeps rest pass_list same done = inr (entered hub id number place Unheld old h mid k new names keeps rest pass_list same done)
+pub entered_fault : (hub : Hub) (id : List ℕ) (number pass_index : ℕ) (fault : EnterFault) (old : Passes) (h : RoomPass) (mid : Passes) (k : RoomPass) (new : Passes) → Names hub.config id number → Keeps hub number pass_index old h mid
+    → new ≡ record mid { rooms = new.rooms } → new.rooms.items ≡ slice_set mid.rooms.items pass_index k → k.number ≡ h.number → Holds {T = ℕ} hub id h (Err fault) k → EnterFails hub id old fault new
+entered_fault hub id number pass_index NoSuchRoom old h mid k new names keeps rest pass_list same done = inr (entered hub id number pass_index (NotHeld hub id) old h mid k new names keeps rest pass_list same done)
+entered_fault hub id number pass_index (Busy word) old h mid k new names keeps rest pass_list same done = entered hub id number pass_index (HeldUp word) old h mid k new names keeps rest pass_list same done
+entered_fault hub id number pass_index NoMemory old h mid k new names keeps rest pass_list same done = inr (entered hub id number pass_index Unheld old h mid k new names keeps rest pass_list same done)
 
 -- the passes are the hub's still
-pub entered_are : (hub : Hub) (number place : ℕ) (old : Passes) (h : RoomPass) (mid : Passes) (k : RoomPass) (new : Passes) → AreOf hub old → Keeps hub number place old h mid
-    → new ≡ record mid { rooms = new.rooms } → new.rooms.items ≡ slice_set mid.rooms.items place k → k.number ≡ h.number → ((conn : ℕ) → IsRoomPass hub conn h → IsRoomPass hub conn k) → AreOf hub new
-entered_are hub number place old h mid k new are keeps rest pass_list same on =
+pub entered_are : (hub : Hub) (number pass_index : ℕ) (old : Passes) (h : RoomPass) (mid : Passes) (k : RoomPass) (new : Passes) → AreOf hub old → Keeps hub number pass_index old h mid
+    → new ≡ record mid { rooms = new.rooms } → new.rooms.items ≡ slice_set mid.rooms.items pass_index k → k.number ≡ h.number → ((conn : ℕ) → IsRoomPass hub conn h → IsRoomPass hub conn k) → AreOf hub new
+entered_are hub number pass_index old h mid k new are keeps rest pass_list same on =
     let conn : mid.conn ≡ old.conn = ap (λ (p : Passes). p.conn) keeps.rest in
-    are_set hub mid new place h k (are_kept hub number place old h mid are keeps) (kept_at hub number place old h mid keeps) same rest pass_list (on mid.conn (subst (λ (c : ℕ). IsRoomPass hub c h) (sym conn) (kept_pass hub number place old h mid are keeps)))
+    are_set hub mid new pass_index h k (are_kept hub number pass_index old h mid are keeps) (kept_at hub number pass_index old h mid keeps) same rest pass_list (on mid.conn (subst (λ (c : ℕ). IsRoomPass hub c h) (sym conn) (kept_pass hub number pass_index old h mid are keeps)))

@@ -64,15 +64,15 @@ hall_untried hub cmd moment old are = (refl, hall_goes _ old old are.hall_pass a
 
 -- ---- a room
 
-room_goes : (hub : Hub) (id : List ℕ) (does : RoomPass → RoomPass → Type 0) (place : ℕ) (old : Passes) (h k : RoomPass) (new : Passes) → slice_get old.rooms.items place ≡ Some h → Names hub.config id h.number → h.id ≡ Some id
-    → new ≡ record old { rooms = new.rooms } → new.rooms.items ≡ slice_set old.rooms.items place k → (k.at ≡ h.at) × (k.number ≡ h.number) × (k.id ≡ h.id) → does h k → RoomGoes hub id does old new
-room_goes hub id does place old h k new there named held rest pass_list same done =
-    record { before = h; behind = k; named = named; held = held; held_on = same.2 ∙ held; at = same.0; but = but_at hub place old h k new there rest pass_list same.1; done = done }
+room_goes : (hub : Hub) (id : List ℕ) (does : RoomPass → RoomPass → Type 0) (pass_index : ℕ) (old : Passes) (h k : RoomPass) (new : Passes) → slice_get old.rooms.items pass_index ≡ Some h → Names hub.config id h.number → h.id ≡ Some id
+    → new ≡ record old { rooms = new.rooms } → new.rooms.items ≡ slice_set old.rooms.items pass_index k → (k.at ≡ h.at) × (k.number ≡ h.number) × (k.id ≡ h.id) → does h k → RoomGoes hub id does old new
+room_goes hub id does pass_index old h k new there named held rest pass_list same done =
+    record { before = h; behind = k; named = named; held = held; held_on = same.2 ∙ held; at = same.0; but = but_at hub pass_index old h k new there rest pass_list same.1; done = done }
 
-pub room_orders : (hub : Hub) (id : List ℕ) (cmd : Command) (moment : ℕ) (start mid : Passes) (place : ℕ) (h k : RoomPass) (new : Passes) (badge : Badge) (result : Result HubOut HubFault) → EntersAt hub id (Held id) start mid
-    → slice_get mid.rooms.items place ≡ Some h → Names hub.config id h.number → h.id ≡ Some id → new ≡ record mid { rooms = new.rooms } → new.rooms.items ≡ slice_set mid.rooms.items place k → (k.at ≡ h.at) × (k.number ≡ h.number) × (k.id ≡ h.id)
+pub room_orders : (hub : Hub) (id : List ℕ) (cmd : Command) (moment : ℕ) (start mid : Passes) (pass_index : ℕ) (h k : RoomPass) (new : Passes) (badge : Badge) (result : Result HubOut HubFault) → EntersAt hub id (Held id) start mid
+    → slice_get mid.rooms.items pass_index ≡ Some h → Names hub.config id h.number → h.id ≡ Some id → new ≡ record mid { rooms = new.rooms } → new.rooms.items ≡ slice_set mid.rooms.items pass_index k → (k.at ≡ h.at) × (k.number ≡ h.number) × (k.id ≡ h.id)
     → mid.badge ≡ Some badge → RoomTakes (site_of hub h.number) id (room_entry mid.conn badge moment cmd) h result k → Orders hub (Room id cmd) moment start result new
-room_orders hub id cmd moment start mid place h k new badge (Ok out) entered there named held rest pass_list same is t = (
+room_orders hub id cmd moment start mid pass_index h k new badge (Ok out) entered there named held rest pass_list same is t = (
   mid,
   entered,
   record {
@@ -81,17 +81,17 @@ room_orders hub id cmd moment start mid place h k new badge (Ok out) entered the
     number = h.number;
     log = t.0;
     gave = t.1;
-    goes = room_goes hub id _ place mid h k new there named held rest pass_list same (refl, t.2, t.3, t.6);
+    goes = room_goes hub id _ pass_index mid h k new there named held rest pass_list same (refl, t.2, t.3, t.6);
     answer = t.4;
     no_badge = ap (λ (o : HubOut). o.badge) t.5;
     start = ap (λ (o : HubOut). o.start) t.5;
     ended = ap (λ (o : HubOut). o.ended) t.5;
   },
 )
-room_orders hub id cmd moment start mid place h k new badge (Err (OwnLimit room)) entered there named held rest pass_list same is t =
-    inr (mid, entered, (t.0, room_goes hub id _ place mid h k new there named held rest pass_list same (t.1, t.2)))
-room_orders hub id cmd moment start mid place h k new badge (Err NoSuchRoom) entered there named held rest pass_list same is t = absurd t
-room_orders hub id cmd moment start mid place h k new badge (Err (Busy word order)) entered there named held rest pass_list same is t =
-    inr (mid, entered, (t.0, room_goes hub id _ place mid h k new there named held rest pass_list same (t.1, t.2)))
-room_orders hub id cmd moment start mid place h k new badge (Err NoMemory) entered there named held rest pass_list same is t =
-    inr (mid, entered, (badge, is, room_goes hub id _ place mid h k new there named held rest pass_list same t))
+room_orders hub id cmd moment start mid pass_index h k new badge (Err (OwnLimit room)) entered there named held rest pass_list same is t =
+    inr (mid, entered, (t.0, room_goes hub id _ pass_index mid h k new there named held rest pass_list same (t.1, t.2)))
+room_orders hub id cmd moment start mid pass_index h k new badge (Err NoSuchRoom) entered there named held rest pass_list same is t = absurd t
+room_orders hub id cmd moment start mid pass_index h k new badge (Err (Busy word order)) entered there named held rest pass_list same is t =
+    inr (mid, entered, (t.0, room_goes hub id _ pass_index mid h k new there named held rest pass_list same (t.1, t.2)))
+room_orders hub id cmd moment start mid pass_index h k new badge (Err NoMemory) entered there named held rest pass_list same is t =
+    inr (mid, entered, (badge, is, room_goes hub id _ pass_index mid h k new there named held rest pass_list same t))

@@ -71,19 +71,19 @@ all_numbers_seam P (x ∷ xs) ys k all here =
     All-cons P x.number (numbers (xs ++ k ∷ ys)) (All-head P x.number (numbers (xs ++ ys)) all) (all_numbers_seam P xs ys k (All-tail P x.number (numbers (xs ++ ys)) all) here)
 
 -- a pass more, before the first of a higher place
-gap_rises : (xs ys : List RoomPass) (k : RoomPass) (place : ℕ) → length xs ≡ place → IsGap k.number place (xs ++ ys) → All (λ (other : RoomPass). other.number ≢ k.number) (xs ++ ys) → IsRising (numbers (xs ++ ys)) → IsRising (numbers (xs ++ k ∷ ys))
-gap_rises [] [] k place long gap others rising = (All-nil (λ (m : ℕ). k.number < m), tt)
+gap_rises : (xs ys : List RoomPass) (k : RoomPass) (pass_index : ℕ) → length xs ≡ pass_index → IsGap k.number pass_index (xs ++ ys) → All (λ (other : RoomPass). other.number ≢ k.number) (xs ++ ys) → IsRising (numbers (xs ++ ys)) → IsRising (numbers (xs ++ k ∷ ys))
+gap_rises [] [] k pass_index long gap others rising = (All-nil (λ (m : ℕ). k.number < m), tt)
 gap_rises [] (y ∷ ys) k zero long gap others rising =
     let above : k.number < y.number = gap.1 y refl in
     (All-cons (λ (m : ℕ). k.number < m) y.number (numbers ys) above (λ i d within. let more : y.number < get_or (numbers ys) i d = rising.0 i d within in omega arith), rising)
-gap_rises [] (y ∷ ys) k (suc place) long gap others rising = absurd (omega arith)
+gap_rises [] (y ∷ ys) k (suc pass_index) long gap others rising = absurd (omega arith)
 gap_rises (x ∷ xs) ys k zero long gap others rising = absurd (omega arith)
-gap_rises (x ∷ xs) ys k (suc place) long gap others rising =
+gap_rises (x ∷ xs) ys k (suc pass_index) long gap others rising =
     let low : x.number ≤ k.number = gap.0 zero x (omega arith) (omega arith) in
     let other : x.number ≢ k.number = All-head (λ (q : RoomPass). q.number ≢ k.number) x (xs ++ ys) others in
     let below : x.number < k.number = grind (arith, nat_tests) in (
       all_numbers_seam (λ (m : ℕ). x.number < m) xs ys k rising.0 below,
-      gap_rises xs ys k place (omega arith) (λ i d from within. gap.0 (suc i) d (omega arith) (omega arith), gap.1) (All-tail (λ (q : RoomPass). q.number ≢ k.number) x (xs ++ ys) others) rising.1,
+      gap_rises xs ys k pass_index (omega arith) (λ i d from within. gap.0 (suc i) d (omega arith) (omega arith), gap.1) (All-tail (λ (q : RoomPass). q.number ≢ k.number) x (xs ++ ys) others) rising.1,
     )
 
 -- ---- the list of a hub's passes
@@ -131,15 +131,15 @@ are_as_before hub old new are same =
     }
 
 -- the pass that is kept or added is one of the hub
-pub kept_pass : (hub : Hub) (number place : ℕ) (old : Passes) (k : RoomPass) (new : Passes) → AreOf hub old → Keeps hub number place old k new → IsRoomPass hub old.conn k
-kept_pass hub number place old k new are keeps =
+pub kept_pass : (hub : Hub) (number pass_index : ℕ) (old : Passes) (k : RoomPass) (new : Passes) → AreOf hub old → Keeps hub number pass_index old k new → IsRoomPass hub old.conn k
+kept_pass hub number pass_index old k new are keeps =
     ⊎_elim
     (λ (was : old.rooms.items ≡ keeps.before ++ k ∷ keeps.behind). all_at (IsRoomPass hub old.conn) keeps.before k keeps.behind (subst (All (IsRoomPass hub old.conn)) was are.rooms))
     (λ (new_one : (old.rooms.items ≡ keeps.before ++ keeps.behind) × All (λ (other : RoomPass). other.number ≢ number) old.rooms.items × IsNewPass hub old.conn number k). room_new hub old.conn number k new_one.2)
     keeps.was
 
-kept_rooms : (hub : Hub) (number place : ℕ) (old : Passes) (k : RoomPass) (new : Passes) → AreOf hub old → Keeps hub number place old k new → All (IsRoomPass hub old.conn) new.rooms.items
-kept_rooms hub number place old k new are keeps =
+kept_rooms : (hub : Hub) (number pass_index : ℕ) (old : Passes) (k : RoomPass) (new : Passes) → AreOf hub old → Keeps hub number pass_index old k new → All (IsRoomPass hub old.conn) new.rooms.items
+kept_rooms hub number pass_index old k new are keeps =
     let P : RoomPass → Type 0 = IsRoomPass hub old.conn in
     subst (All P) (sym keeps.is) (⊎_elim
     (λ (was : old.rooms.items ≡ keeps.before ++ k ∷ keeps.behind). subst (All P) was are.rooms)
@@ -147,14 +147,14 @@ kept_rooms hub number place old k new are keeps =
     all_add P keeps.before k keeps.behind (room_new hub old.conn number k new_one.2) (subst (All P) new_one.0 are.rooms))
     keeps.was)
 
-pub are_kept : (hub : Hub) (number place : ℕ) (old : Passes) (k : RoomPass) (new : Passes) → AreOf hub old → Keeps hub number place old k new → AreOf hub new
-are_kept hub number place old k new are keeps =
+pub are_kept : (hub : Hub) (number pass_index : ℕ) (old : Passes) (k : RoomPass) (new : Passes) → AreOf hub old → Keeps hub number pass_index old k new → AreOf hub new
+are_kept hub number pass_index old k new are keeps =
     let conn : new.conn ≡ old.conn = ap (λ (p : Passes). p.conn) keeps.rest in
     record {
       hall_pass = are.hall_pass;
       hall = ap (λ (p : Passes). p.hall) keeps.rest ∙ are.hall;
       hall_is = subst (λ (c : ℕ). IsHallPass hub c are.hall_pass) (sym conn) are.hall_is;
-      rooms = subst (λ (c : ℕ). All (IsRoomPass hub c) new.rooms.items) (sym conn) (kept_rooms hub number place old k new are keeps);
+      rooms = subst (λ (c : ℕ). All (IsRoomPass hub c) new.rooms.items) (sym conn) (kept_rooms hub number pass_index old k new are keeps);
       rising = keeps.rising are.rising;
     }
 
@@ -163,31 +163,31 @@ pub hall_of : (hub : Hub) (passes : Passes) (h : HallPass) → AreOf hub passes 
 hall_of hub passes h are is = subst (IsHallPass hub passes.conn) (same_Some are.hall_pass h (sym are.hall ∙ is)) are.hall_is
 
 -- what is read at an index of the list is there, and one of the hub
-pub read_there : (rooms : List RoomPass) (place : ℕ) (k x : RoomPass) → slice_get rooms place ≡ Some k → x ≡ get_or rooms place x → slice_get rooms place ≡ Some x
-read_there rooms place k x there is = subst (λ (q : RoomPass). slice_get rooms place ≡ Some q) (sym (is ∙ get_or_from_slice_get rooms place k x there)) there
+pub read_there : (rooms : List RoomPass) (pass_index : ℕ) (k x : RoomPass) → slice_get rooms pass_index ≡ Some k → x ≡ get_or rooms pass_index x → slice_get rooms pass_index ≡ Some x
+read_there rooms pass_index k x there is = subst (λ (q : RoomPass). slice_get rooms pass_index ≡ Some q) (sym (is ∙ get_or_from_slice_get rooms pass_index k x there)) there
 
-pub read_pass : (hub : Hub) (passes : Passes) (place : ℕ) (x : RoomPass) → AreOf hub passes → slice_get passes.rooms.items place ≡ Some x → IsRoomPass hub passes.conn x
-read_pass hub passes place x are there = at_place (IsRoomPass hub passes.conn) passes.rooms.items place x there are.rooms
+pub read_pass : (hub : Hub) (passes : Passes) (pass_index : ℕ) (x : RoomPass) → AreOf hub passes → slice_get passes.rooms.items pass_index ≡ Some x → IsRoomPass hub passes.conn x
+read_pass hub passes pass_index x are there = at_place (IsRoomPass hub passes.conn) passes.rooms.items pass_index x there are.rooms
 
 -- ---- what keeping a pass gives
 
 -- it stands at its place
-pub kept_at : (hub : Hub) (number place : ℕ) (old : Passes) (k : RoomPass) (new : Passes) → Keeps hub number place old k new → slice_get new.rooms.items place ≡ Some k
-kept_at hub number place old k new keeps = subst (λ (l : List RoomPass). slice_get l place ≡ Some k) (sym keeps.is) (get_seam keeps.before k keeps.behind place keeps.stands)
+pub kept_at : (hub : Hub) (number pass_index : ℕ) (old : Passes) (k : RoomPass) (new : Passes) → Keeps hub number pass_index old k new → slice_get new.rooms.items pass_index ≡ Some k
+kept_at hub number pass_index old k new keeps = subst (λ (l : List RoomPass). slice_get l pass_index ≡ Some k) (sym keeps.is) (get_seam keeps.before k keeps.behind pass_index keeps.stands)
 
 -- and what is read there is it
-pub kept_read : (hub : Hub) (number place : ℕ) (old : Passes) (k x : RoomPass) (new : Passes) → Keeps hub number place old k new → x ≡ get_or new.rooms.items place x → Keeps hub number place old x new
-kept_read hub number place old k x new keeps is = subst (λ (q : RoomPass). Keeps hub number place old q new) (sym (is ∙ get_or_from_slice_get new.rooms.items place k x (kept_at hub number place old k new keeps))) keeps
+pub kept_read : (hub : Hub) (number pass_index : ℕ) (old : Passes) (k x : RoomPass) (new : Passes) → Keeps hub number pass_index old k new → x ≡ get_or new.rooms.items pass_index x → Keeps hub number pass_index old x new
+kept_read hub number pass_index old k x new keeps is = subst (λ (q : RoomPass). Keeps hub number pass_index old q new) (sym (is ∙ get_or_from_slice_get new.rooms.items pass_index k x (kept_at hub number pass_index old k new keeps))) keeps
 
 -- a pass that is there
-pub keeps_there : (hub : Hub) (number place : ℕ) (old : Passes) (k : RoomPass) → slice_get old.rooms.items place ≡ Some k → k.number ≡ number → Keeps hub number place old k old
-keeps_there hub number place old k there is =
-    let parts = parted old.rooms.items place k there in
-    record { before = take place old.rooms.items; behind = drop (suc place) old.rooms.items; was = inl parts.0; is = parts.0; stands = parts.1; number_is = is; rising = λ r. r; rest = refl }
+pub keeps_there : (hub : Hub) (number pass_index : ℕ) (old : Passes) (k : RoomPass) → slice_get old.rooms.items pass_index ≡ Some k → k.number ≡ number → Keeps hub number pass_index old k old
+keeps_there hub number pass_index old k there is =
+    let parts = parted old.rooms.items pass_index k there in
+    record { before = take pass_index old.rooms.items; behind = drop (suc pass_index) old.rooms.items; was = inl parts.0; is = parts.0; stands = parts.1; number_is = is; rising = λ r. r; rest = refl }
 
 -- a pass that is added
-pub keeps_added : (hub : Hub) (number place : ℕ) (old : Passes) (k : RoomPass) (new : Passes) → All (λ (other : RoomPass). other.number ≢ number) old.rooms.items → IsNewPass hub old.conn number k → IsAdded old place k new → Keeps hub number place old k new
-keeps_added hub number place old k new others is added =
+pub keeps_added : (hub : Hub) (number pass_index : ℕ) (old : Passes) (k : RoomPass) (new : Passes) → All (λ (other : RoomPass). other.number ≢ number) old.rooms.items → IsNewPass hub old.conn number k → IsAdded old pass_index k new → Keeps hub number pass_index old k new
+keeps_added hub number pass_index old k new others is added =
     let apart : All (λ (other : RoomPass). other.number ≢ k.number) old.rooms.items = subst (λ (n : ℕ). All (λ (other : RoomPass). other.number ≢ n) old.rooms.items) (sym is.number_is) others in
     record {
       before = added.0;
@@ -197,13 +197,13 @@ keeps_added hub number place old k new others is added =
       stands = added.3;
       number_is = is.number_is;
       rising = λ r. subst (λ (l : List RoomPass). IsRising (numbers l)) (sym added.5)
-          (gap_rises added.0 added.1 k place added.3 (subst (IsGap k.number place) added.2 added.6) (subst (All (λ (other : RoomPass). other.number ≢ k.number)) added.2 apart) (subst (λ (l : List RoomPass). IsRising (numbers l)) added.2 r));
+          (gap_rises added.0 added.1 k pass_index added.3 (subst (IsGap k.number pass_index) added.2 added.6) (subst (All (λ (other : RoomPass). other.number ≢ k.number)) added.2 apart) (subst (λ (l : List RoomPass). IsRising (numbers l)) added.2 r));
       rest = added.4;
     }
 
 -- and then it became another
-pub kept_then : (hub : Hub) (number place : ℕ) (old : Passes) (h : RoomPass) (mid : Passes) (k : RoomPass) (new : Passes) → Keeps hub number place old h mid → new ≡ record mid { rooms = new.rooms } → new.rooms.items ≡ slice_set mid.rooms.items place k → k.number ≡ h.number → ButFor hub old h k new
-kept_then hub number place old h mid k new keeps rest pass_list same =
+pub kept_then : (hub : Hub) (number pass_index : ℕ) (old : Passes) (h : RoomPass) (mid : Passes) (k : RoomPass) (new : Passes) → Keeps hub number pass_index old h mid → new ≡ record mid { rooms = new.rooms } → new.rooms.items ≡ slice_set mid.rooms.items pass_index k → k.number ≡ h.number → ButFor hub old h k new
+kept_then hub number pass_index old h mid k new keeps rest pass_list same =
     let conn : mid.conn ≡ old.conn = ap (λ (p : Passes). p.conn) keeps.rest in
     let badge : mid.badge ≡ old.badge = ap (λ (p : Passes). p.badge) keeps.rest in
     let hall : mid.hall ≡ old.hall = ap (λ (p : Passes). p.hall) keeps.rest in
@@ -215,7 +215,7 @@ kept_then hub number place old h mid k new keeps rest pass_list same =
           (λ (new_one : (old.rooms.items ≡ keeps.before ++ keeps.behind) × All (λ (other : RoomPass). other.number ≢ number) old.rooms.items × IsNewPass hub old.conn number h).
           inr (new_one.0, subst (λ (n : ℕ). All (λ (other : RoomPass). other.number ≢ n) old.rooms.items) (sym keeps.number_is) new_one.1, subst (λ (n : ℕ). IsNewPass hub old.conn n h) (sym keeps.number_is) new_one.2))
           keeps.was;
-      is = pass_list ∙ ap (λ (l : List RoomPass). slice_set l place k) keeps.is ∙ set_seam keeps.before h k keeps.behind place keeps.stands;
+      is = pass_list ∙ ap (λ (l : List RoomPass). slice_set l pass_index k) keeps.is ∙ set_seam keeps.before h k keeps.behind pass_index keeps.stands;
       same_place = same;
       conn = ap (λ (p : Passes). p.conn) rest ∙ conn;
       badge = ap (λ (p : Passes). p.badge) rest ∙ badge;
@@ -223,8 +223,8 @@ kept_then hub number place old h mid k new keeps rest pass_list same =
     }
 
 -- the same of a pass that stood there
-pub but_at : (hub : Hub) (place : ℕ) (old : Passes) (h k : RoomPass) (new : Passes) → slice_get old.rooms.items place ≡ Some h → new ≡ record old { rooms = new.rooms } → new.rooms.items ≡ slice_set old.rooms.items place k → k.number ≡ h.number → ButFor hub old h k new
-but_at hub place old h k new there rest pass_list same = kept_then hub h.number place old h old k new (keeps_there hub h.number place old h there refl) rest pass_list same
+pub but_at : (hub : Hub) (pass_index : ℕ) (old : Passes) (h k : RoomPass) (new : Passes) → slice_get old.rooms.items pass_index ≡ Some h → new ≡ record old { rooms = new.rooms } → new.rooms.items ≡ slice_set old.rooms.items pass_index k → k.number ≡ h.number → ButFor hub old h k new
+but_at hub pass_index old h k new there rest pass_list same = kept_then hub h.number pass_index old h old k new (keeps_there hub h.number pass_index old h there refl) rest pass_list same
 
 -- ---- answers
 

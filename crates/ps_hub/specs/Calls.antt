@@ -297,11 +297,11 @@ abbrev pub Caught : Hub → ℕ → List Msg → RoomPass → RoomPass → Type 
 Caught hub conn msgs h k = LooksAnd h.pass.1 h.cursor.passed k.pass.1 × HandsOut (Shows conn (site_of hub h.number)) (commands h.pass.1.seen) h.at msgs (commands k.pass.1.seen) k.at
 
 -- what a call does to the pass that stands at an index of the list, and to nothing else
-pub record RoomOnly (place : ℕ) (does : RoomPass → RoomPass → Type 0) (old new : Passes) : Type 0 where
+pub record RoomOnly (pass_index : ℕ) (does : RoomPass → RoomPass → Type 0) (old new : Passes) : Type 0 where
   pub before : RoomPass
   pub behind : RoomPass
-  pub was : slice_get old.rooms.items place ≡ Some before
-  pub rooms : new.rooms.items ≡ slice_set old.rooms.items place behind
+  pub was : slice_get old.rooms.items pass_index ≡ Some before
+  pub rooms : new.rooms.items ≡ slice_set old.rooms.items pass_index behind
   pub number : behind.number ≡ before.number
   pub id : behind.id ≡ before.id
   pub done : does before behind
@@ -310,17 +310,19 @@ pub record RoomOnly (place : ℕ) (does : RoomPass → RoomPass → Type 0) (old
   pub hall : new.hall ≡ old.hall
 
 abbrev pub CatchesUp : {E : Type 0} → Hub → ℕ → Passes → Result (Vec Msg Global) E → Passes → Type 0
-CatchesUp hub place old (Ok msgs) new = RoomOnly place (Caught hub old.conn msgs.items) old new
-CatchesUp hub place old (Err e) new = RoomOnly place (λ h k. LooksAtMost h.pass.1 k.pass.1 × (k.at ≡ h.at)) old new
+CatchesUp hub pass_index old (Ok msgs) new = RoomOnly pass_index (Caught hub old.conn msgs.items) old new
+CatchesUp hub pass_index old (Err e) new = RoomOnly pass_index (λ h k. LooksAtMost h.pass.1 k.pass.1 × (k.at ≡ h.at)) old new
 
 -- the hall, or a room that is held by this id
 abbrev pub IsHeldBy : Option (List ℕ) → Passes → Type 0
 IsHeldBy None passes = Unit {0}
-IsHeldBy (Some id) passes = (place : ℕ) × (k : RoomPass) × (slice_get passes.rooms.items place ≡ Some k) × (k.id ≡ Some id)
+IsHeldBy (Some id) passes = (pass_index : ℕ) × (k : RoomPass) × (slice_get passes.rooms.items pass_index ≡ Some k) × (k.id ≡ Some id)
 
 abbrev pub Catches : {E : Type 0} → Hub → Option (List ℕ) → Passes → Result (Vec Msg Global) E → Passes → Type 0
 Catches hub None old result new = CatchesUpHall hub old result new
-Catches hub (Some id) old result new = (place : ℕ) × (k : RoomPass) × (slice_get old.rooms.items place ≡ Some k) × (k.id ≡ Some id) × CatchesUp hub place old result new
+Catches hub (Some id) old result new =
+    (pass_index : ℕ) × (k : RoomPass) × (slice_get old.rooms.items pass_index ≡ Some k) × (k.id ≡ Some id)
+    × CatchesUp hub pass_index old result new
 
 -- ---- counting
 
@@ -333,7 +335,9 @@ LooksRoom n h k = (length h.pass.1.seen ≤ n) × (k ≡ record h { pass = (h.pa
 
 abbrev pub Counts : Option (List ℕ) → Passes → ℕ → Passes → Type 0
 Counts None old n new = HallOnly (LooksHall n) old new
-Counts (Some id) old n new = (place : ℕ) × (k : RoomPass) × (slice_get old.rooms.items place ≡ Some k) × (k.id ≡ Some id) × RoomOnly place (LooksRoom n) old new
+Counts (Some id) old n new =
+    (pass_index : ℕ) × (k : RoomPass) × (slice_get old.rooms.items pass_index ≡ Some k) × (k.id ≡ Some id)
+    × RoomOnly pass_index (LooksRoom n) old new
 
 -- ---- the end of a connection
 

@@ -76,11 +76,15 @@ IsAsBefore old new = (new ≡ record old { rooms = new.rooms }) × (new.rooms.it
 
 -- this index in a list is that of the first pass of a higher place, or the end
 abbrev pub IsGap : ℕ → ℕ → List RoomPass → Type 0
-IsGap number place rooms = AllWithin (λ (k : RoomPass). k.number ≤ number) rooms 0 place × ((k : RoomPass) → slice_get rooms place ≡ Some k → number < k.number)
+IsGap number pass_index rooms =
+    AllWithin (λ (k : RoomPass). k.number ≤ number) rooms 0 pass_index
+    × ((k : RoomPass) → slice_get rooms pass_index ≡ Some k → number < k.number)
 
 -- a pass more, at this index in the list
 abbrev pub IsAdded : Passes → ℕ → RoomPass → Passes → Type 0
-IsAdded old place k new = (xs ys : List RoomPass) × (old.rooms.items ≡ xs ++ ys) × (length xs ≡ place) × (new ≡ record old { rooms = new.rooms }) × (new.rooms.items ≡ xs ++ k ∷ ys) × IsGap k.number place old.rooms.items
+IsAdded old pass_index k new = (xs ys : List RoomPass)
+    × (old.rooms.items ≡ xs ++ ys) × (length xs ≡ pass_index) × (new ≡ record old { rooms = new.rooms })
+    × (new.rooms.items ≡ xs ++ k ∷ ys) × IsGap k.number pass_index old.rooms.items
 
 -- a new pass of a place, which was told nothing and isn't held
 pub record IsNewPass (hub : Hub) (conn number : ℕ) (k : RoomPass) : Type 0 where
@@ -92,12 +96,12 @@ pub record IsNewPass (hub : Hub) (conn number : ℕ) (k : RoomPass) : Type 0 whe
   pub at : k.at ≡ 0
 
 -- The pass of a place, which is there already or is added as a new one, at this index in the list; all else is as it was.
-pub record Keeps (hub : Hub) (number place : ℕ) (old : Passes) (k : RoomPass) (new : Passes) : Type 0 where
+pub record Keeps (hub : Hub) (number pass_index : ℕ) (old : Passes) (k : RoomPass) (new : Passes) : Type 0 where
   pub before : List RoomPass
   pub behind : List RoomPass
   pub was : (old.rooms.items ≡ before ++ k ∷ behind) ⊎ ((old.rooms.items ≡ before ++ behind) × All (λ other. other.number ≢ number) old.rooms.items × IsNewPass hub old.conn number k)
   pub is : new.rooms.items ≡ before ++ k ∷ behind
-  pub stands : length before ≡ place
+  pub stands : length before ≡ pass_index
   pub number_is : k.number ≡ number
   pub rising : IsRising (numbers old.rooms.items) → IsRising (numbers new.rooms.items)
   pub rest : new ≡ record old { rooms = new.rooms }

@@ -19,7 +19,7 @@ impl Hub {
     /// the Open may stand then.
     pub fn admit<R: Wait>(&self, rt: &R, conn: ConnNo, moment: Moment) -> Result<Passes, AllocError>
         ensures of { IfOk result (λ p. AreOf self.now p) }
-        ensures told { IfOk result (λ p. Admits self.now conn moment p) }
+        ensures does { IfOk result (λ p. Admits self.now conn moment p) }
     {
         let lock = self.hall_lock();
         let mut opener = HallPass::new(self.alloc, conn, lock);

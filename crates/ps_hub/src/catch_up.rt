@@ -111,13 +111,13 @@ impl Hub {
         requires of { AreOf self.now passes.old }
         requires held { IsHeldBy (option_copied room) passes.old }
         ensures of { AreOf self.now passes.new }
-        ensures told { Catches self.now (option_copied room.entry) passes.old result passes.new }
+        ensures does { Catches self.now (option_copied room.entry) passes.old result passes.new }
     {
         match room {
             None => self.catch_up_hall(rt, passes),
             Some(id) => match passes.position_of(id) {
                 None => unreachable!(),
-                Some(place) => self.catch_up_at(rt, passes, place),
+                Some(pass_index) => self.catch_up_at(rt, passes, pass_index),
             },
         }
     }
@@ -130,7 +130,7 @@ impl Hub {
     ) -> Result<Vec<Msg>, AllocError>
         requires { AreOf self.now passes.old }
         ensures of { AreOf self.now passes.new }
-        ensures told { CatchesUpHall self.now passes.old result passes.new }
+        ensures does { CatchesUpHall self.now passes.old result passes.new }
     {
         match &mut passes.hall {
             None => unreachable!(),
@@ -143,14 +143,14 @@ impl Hub {
         &self,
         rt: &R,
         passes: &mut Passes,
-        place: usize,
+        pass_index: usize,
     ) -> Result<Vec<Msg>, AllocError>
         requires of { AreOf self.now passes.old }
-        requires there { place < length passes.old.rooms.items }
+        requires there { pass_index < length passes.old.rooms.items }
         ensures of { AreOf self.now passes.new }
-        ensures told { CatchesUp self.now place passes.old result passes.new }
+        ensures does { CatchesUp self.now pass_index passes.old result passes.new }
     {
-        let pass = &mut passes.rooms[place];
+        let pass = &mut passes.rooms[pass_index];
         match self.lock(pass.number) {
             None => unreachable!(),
             Some(lock) => pass.catch_up(rt, self.alloc, lock),
@@ -163,7 +163,7 @@ impl Hub {
         requires of { AreOf self.now passes.old }
         requires held { IsHeldBy (option_copied room) passes.old }
         ensures of { AreOf self.now passes.new }
-        ensures told { Counts (option_copied room.entry) passes.old result passes.new }
+        ensures does { Counts (option_copied room.entry) passes.old result passes.new }
     {
         match room {
             None => match &mut passes.hall {
@@ -172,7 +172,7 @@ impl Hub {
             },
             Some(id) => match passes.position_of(id) {
                 None => unreachable!(),
-                Some(place) => self.count_at(&mut passes.rooms[place]),
+                Some(pass_index) => self.count_at(&mut passes.rooms[pass_index]),
             },
         }
     }
@@ -181,7 +181,7 @@ impl Hub {
     fn count_at(&self, pass: &mut RoomPass) -> u64
         requires { (conn : ℕ) × IsRoomPass self.now conn pass.old }
         ensures of { (conn : ℕ) → IsRoomPass self.now conn pass.old → IsRoomPass self.now conn pass.new }
-        ensures told { LooksRoom result pass.old pass.new }
+        ensures does { LooksRoom result pass.old pass.new }
     {
         match self.lock(pass.number) {
             None => unreachable!(),

@@ -40,7 +40,7 @@ impl Hub {
     pub fn enter(&self, passes: &mut Passes, id: &str) -> Result<(), EnterFault>
         requires { AreOf self.now passes.old }
         ensures of { AreOf self.now passes.new }
-        ensures told { Enters self.now id.now passes.old result passes.new }
+        ensures does { Enters self.now id.now passes.old result passes.new }
     {
         match self.enter_at(passes, id) {
             Ok(_) => Ok(()),
@@ -52,18 +52,18 @@ impl Hub {
     pub(crate) fn enter_at(&self, passes: &mut Passes, id: &str) -> Result<usize, EnterFault>
         requires { AreOf self.now passes.old }
         ensures of { AreOf self.now passes.new }
-        ensures told { Enters self.now id.now passes.old result passes.new }
-        ensures here { IfOk result (λ place. (k : RoomPass) × (slice_get passes.new.rooms.items place ≡ Some k) × (k.id ≡ Some id.now) × Names self.now.config id.now k.number) }
+        ensures does { Enters self.now id.now passes.old result passes.new }
+        ensures here { IfOk result (λ pass_index. (k : RoomPass) × (slice_get passes.new.rooms.items pass_index ≡ Some k) × (k.id ≡ Some id.now) × Names self.now.config id.now k.number) }
     {
         let Some(number) = self.place_of(id) else {
             return Err(EnterFault::NoSuchRoom);
         };
-        let place = match self.keep(passes, number) {
-            Ok(place) => place,
+        let pass_index = match self.keep(passes, number) {
+            Ok(pass_index) => pass_index,
             Err(_) => return Err(EnterFault::NoMemory),
         };
-        match self.hold(&mut passes.rooms[place], id) {
-            Ok(_) => Ok(place),
+        match self.hold(&mut passes.rooms[pass_index], id) {
+            Ok(_) => Ok(pass_index),
             Err(fault) => Err(fault),
         }
     }
@@ -72,11 +72,11 @@ impl Hub {
     /// is added.
     pub(crate) fn keep(&self, passes: &mut Passes, number: u32) -> Result<usize, AllocError>
         requires { lock_of self.now number ≢ None }
-        ensures ok { IfOk result (λ place. (k : RoomPass) × Keeps self.now number place passes.old k passes.new) }
+        ensures ok { IfOk result (λ pass_index. (k : RoomPass) × Keeps self.now number pass_index passes.old k passes.new) }
         ensures err { OnErr result (IsAsBefore passes.old passes.new) }
     {
         match passes.position(number) {
-            Some(place) => return Ok(place),
+            Some(pass_index) => return Ok(pass_index),
             None => {}
         }
         match self.lock(number) {
@@ -90,7 +90,7 @@ impl Hub {
         requires of { (conn : ℕ) × IsRoomPass self.now conn pass.old }
         requires named { Names self.now.config id.now pass.old.number }
         ensures of { (conn : ℕ) → IsRoomPass self.now conn pass.old → IsRoomPass self.now conn pass.new }
-        ensures told { Holds self.now id.now pass.old result pass.new }
+        ensures does { Holds self.now id.now pass.old result pass.new }
         ensures number { pass.new.number ≡ pass.old.number }
     {
         if is_held(pass, id) {
@@ -115,7 +115,7 @@ impl Hub {
         requires battle { first_battle ≤ pass.old.number }
         requires free { pass.old.id ≡ None }
         ensures of { (conn : ℕ) → IsRoomPass self.now conn pass.old → IsRoomPass self.now conn pass.new }
-        ensures told { Holds self.now name pass.old result pass.new }
+        ensures does { Holds self.now name pass.old result pass.new }
         ensures number { pass.new.number ≡ pass.old.number }
     {
         let lock = match self.lock(pass.number) {

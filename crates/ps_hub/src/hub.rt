@@ -91,11 +91,11 @@ fn battles(
 }
 
 // The lock at this place of a list.
-fn lock_at(locks: &[HistLock<RoomPlace>], place: usize) -> Option<&HistLock<RoomPlace>>
-    ensures found { IfSome result (λ l. slice_get locks.now place ≡ Some l.now) }
-    ensures none { IfNone result (slice_get locks.now place ≡ None) }
+fn lock_at(locks: &[HistLock<RoomPlace>], pass_index: usize) -> Option<&HistLock<RoomPlace>>
+    ensures found { IfSome result (λ l. slice_get locks.now pass_index ≡ Some l.now) }
+    ensures none { IfNone result (slice_get locks.now pass_index ≡ None) }
 {
-    locks.get(place)
+    locks.get(pass_index)
 }
 
 impl Hub {

@@ -72,7 +72,7 @@ impl HallPass {
     fn enter(&mut self, lock: &HistLock<HallPlace>, entry: HallEntry) -> Result<HallOut, HubFault>
         requires { self.old.pass.0 ≡ lock.now.0 }
         ensures of { (hub : Hub) (conn : ℕ) → IsHallPass hub conn self.old → IsHallPass hub conn self.new }
-        ensures told { HallTakes entry self.old result self.new }
+        ensures does { HallTakes entry self.old result self.new }
         ensures at { self.new.at ≡ self.old.at }
     {
         match self.try_turn(lock, Some(entry)) {
@@ -114,7 +114,7 @@ impl Hub {
         requires of { AreOf self.now passes.old }
         requires badge { NeedsBadge order passes.old }
         ensures of { AreOf self.now passes.new }
-        ensures told { Orders self.now order moment passes.old result passes.new }
+        ensures does { Orders self.now order moment passes.old result passes.new }
     {
         match order {
             Order::Hall(cmd) => self.order_hall(passes, cmd, moment),
@@ -131,7 +131,7 @@ impl Hub {
     ) -> Result<HubOut, HubFault>
         requires { AreOf self.now passes.old }
         ensures of { AreOf self.now passes.new }
-        ensures told { Orders self.now (Hall cmd) moment passes.old result passes.new }
+        ensures does { Orders self.now (Hall cmd) moment passes.old result passes.new }
     {
         let Ok(name) = name_of(self.alloc, &cmd) else {
             return Err(HubFault::NoMemory);
@@ -167,7 +167,7 @@ impl Hub {
         requires of { AreOf self.now passes.old }
         requires badge { IsSome passes.old.badge }
         ensures of { AreOf self.now passes.new }
-        ensures told { Orders self.now (Room id cmd) moment passes.old result passes.new }
+        ensures does { Orders self.now (Room id cmd) moment passes.old result passes.new }
     {
         let badge = match &passes.badge {
             None => unreachable!(),
@@ -176,8 +176,8 @@ impl Hub {
                 Err(_) => return Err(HubFault::NoMemory),
             },
         };
-        let place = match self.enter_at(passes, id.as_str()) {
-            Ok(place) => place,
+        let pass_index = match self.enter_at(passes, id.as_str()) {
+            Ok(pass_index) => pass_index,
             Err(EnterFault::NoSuchRoom) => return Err(HubFault::NoSuchRoom),
             Err(EnterFault::Busy { word }) => {
                 return Err(HubFault::Busy {
@@ -193,14 +193,14 @@ impl Hub {
             moment,
             cmd,
         };
-        self.play(&mut passes.rooms[place], id, entry)
+        self.play(&mut passes.rooms[pass_index], id, entry)
     }
 
     // One entry at a place that is held by this id.
     fn play(&self, pass: &mut RoomPass, id: Text, entry: Entry) -> Result<HubOut, HubFault>
         requires { (conn : ℕ) × IsRoomPass self.now conn pass.old }
         ensures of { (conn : ℕ) → IsRoomPass self.now conn pass.old → IsRoomPass self.now conn pass.new }
-        ensures told { RoomTakes (site_of self.now pass.old.number) id entry pass.old result pass.new }
+        ensures does { RoomTakes (site_of self.now pass.old.number) id entry pass.old result pass.new }
         ensures same { (pass.new.at ≡ pass.old.at) × (pass.new.number ≡ pass.old.number) × (pass.new.id ≡ pass.old.id) }
     {
         let lock = match self.lock(pass.number) {

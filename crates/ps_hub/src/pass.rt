@@ -135,7 +135,7 @@ impl HallPass {
     ) -> Taken<HallEntry, HallOut>
         requires { self.old.pass.0 ≡ lock.now.0 }
         ensures lock { self.new.pass.0 ≡ self.old.pass.0 }
-        ensures told { Takes HallAnswers HallPulls self.old.pass.1 self.old.cursor (self.old.kept.items ++ self.old.fresh.items) cmd result self.new.pass.1 self.new.cursor (self.new.kept.items ++ self.new.fresh.items) }
+        ensures does { Takes HallAnswers HallPulls self.old.pass.1 self.old.cursor (self.old.kept.items ++ self.old.fresh.items) cmd result self.new.pass.1 self.new.cursor (self.new.kept.items ++ self.new.fresh.items) }
         ensures limit { IsSome cmd → length self.old.pass.1.mine ≡ OWN_LIMIT → IsLimited result }
         ensures of { (hub : Hub) (conn : ℕ) → IsHallPass hub conn self.old → IsHallPass hub conn self.new }
         ensures at { self.new.at ≡ self.old.at }
@@ -151,7 +151,7 @@ impl HallPass {
     ) -> Taken<HallEntry, HallOut>
         requires { self.old.pass.0 ≡ lock.now.0 }
         ensures lock { self.new.pass.0 ≡ self.old.pass.0 }
-        ensures told { Takes HallAnswers HallPulls self.old.pass.1 self.old.cursor (self.old.kept.items ++ self.old.fresh.items) cmd result self.new.pass.1 self.new.cursor (self.new.kept.items ++ self.new.fresh.items) }
+        ensures does { Takes HallAnswers HallPulls self.old.pass.1 self.old.cursor (self.old.kept.items ++ self.old.fresh.items) cmd result self.new.pass.1 self.new.cursor (self.new.kept.items ++ self.new.fresh.items) }
         ensures limit { IsSome cmd → length self.old.pass.1.mine ≡ OWN_LIMIT → IsLimited result }
         ensures rest { IsAtRest self.old.pass.1 → IsAtRest self.new.pass.1 }
         ensures at { self.new.at ≡ self.old.at }
@@ -180,7 +180,7 @@ impl HallPass {
     ) -> Taken<HallEntry, HallOut>
         requires { self.old.pass.0 ≡ lock.now.0 }
         ensures lock { self.new.pass.0 ≡ self.old.pass.0 }
-        ensures told { TakesAtLast HallAnswers HallPulls self.old.pass.1 self.old.cursor (self.old.kept.items ++ self.old.fresh.items) cmd result self.new.pass.1 self.new.cursor (self.new.kept.items ++ self.new.fresh.items) }
+        ensures does { TakesAtLast HallAnswers HallPulls self.old.pass.1 self.old.cursor (self.old.kept.items ++ self.old.fresh.items) cmd result self.new.pass.1 self.new.cursor (self.new.kept.items ++ self.new.fresh.items) }
         ensures limit { IsSome cmd → length self.old.pass.1.mine ≡ OWN_LIMIT → IsLimited result }
         ensures of { (hub : Hub) (conn : ℕ) → IsHallPass hub conn self.old → IsHallPass hub conn self.new }
         ensures at { self.new.at ≡ self.old.at }
@@ -197,7 +197,7 @@ impl HallPass {
     ) -> Taken<HallEntry, HallOut>
         requires { self.old.pass.0 ≡ lock.now.0 }
         ensures lock { self.new.pass.0 ≡ self.old.pass.0 }
-        ensures told { TakesAtLast HallAnswers HallPulls self.old.pass.1 self.old.cursor (self.old.kept.items ++ self.old.fresh.items) cmd result self.new.pass.1 self.new.cursor (self.new.kept.items ++ self.new.fresh.items) }
+        ensures does { TakesAtLast HallAnswers HallPulls self.old.pass.1 self.old.cursor (self.old.kept.items ++ self.old.fresh.items) cmd result self.new.pass.1 self.new.cursor (self.new.kept.items ++ self.new.fresh.items) }
         ensures limit { IsSome cmd → length self.old.pass.1.mine ≡ OWN_LIMIT → IsLimited result }
         ensures rest { IsAtRest self.old.pass.1 → IsAtRest self.new.pass.1 }
         ensures at { self.new.at ≡ self.old.at }
@@ -220,7 +220,7 @@ impl HallPass {
     /// How many entries the hall has.
     pub(crate) fn look(&mut self, lock: &HistLock<HallPlace>) -> u64
         requires { self.old.pass.0 ≡ lock.now.0 }
-        ensures told { self.new ≡ record self.old { pass = (self.old.pass.0, after_look self.old.pass.1 result) } }
+        ensures does { self.new ≡ record self.old { pass = (self.old.pass.0, after_look self.old.pass.1 result) } }
         ensures seen { length self.old.pass.1.seen ≤ result }
         ensures of { (hub : Hub) (conn : ℕ) → IsHallPass hub conn self.old → IsHallPass hub conn self.new }
     {
@@ -271,7 +271,7 @@ impl RoomPass {
     ) -> Taken<RoomCmd, Option<RoomOut>>
         requires { self.old.pass.0 ≡ lock.now.0 }
         ensures lock { self.new.pass.0 ≡ self.old.pass.0 }
-        ensures told { Takes Answers Pulls self.old.pass.1 self.old.cursor (self.old.kept.items ++ self.old.fresh.items) cmd result self.new.pass.1 self.new.cursor (self.new.kept.items ++ self.new.fresh.items) }
+        ensures does { Takes Answers Pulls self.old.pass.1 self.old.cursor (self.old.kept.items ++ self.old.fresh.items) cmd result self.new.pass.1 self.new.cursor (self.new.kept.items ++ self.new.fresh.items) }
         ensures limit { IsSome cmd → length self.old.pass.1.mine ≡ OWN_LIMIT → IsLimited result }
         ensures of { (hub : Hub) (conn : ℕ) → IsRoomPass hub conn self.old → IsRoomPass hub conn self.new }
         ensures same { (self.new.at ≡ self.old.at) × (self.new.number ≡ self.old.number) × (self.new.id ≡ self.old.id) }
@@ -287,7 +287,7 @@ impl RoomPass {
     ) -> Taken<RoomCmd, Option<RoomOut>>
         requires { self.old.pass.0 ≡ lock.now.0 }
         ensures lock { self.new.pass.0 ≡ self.old.pass.0 }
-        ensures told { Takes Answers Pulls self.old.pass.1 self.old.cursor (self.old.kept.items ++ self.old.fresh.items) cmd result self.new.pass.1 self.new.cursor (self.new.kept.items ++ self.new.fresh.items) }
+        ensures does { Takes Answers Pulls self.old.pass.1 self.old.cursor (self.old.kept.items ++ self.old.fresh.items) cmd result self.new.pass.1 self.new.cursor (self.new.kept.items ++ self.new.fresh.items) }
         ensures limit { IsSome cmd → length self.old.pass.1.mine ≡ OWN_LIMIT → IsLimited result }
         ensures rest { IsAtRest self.old.pass.1 → IsAtRest self.new.pass.1 }
         ensures same { (self.new.at ≡ self.old.at) × (self.new.number ≡ self.old.number) × (self.new.id ≡ self.old.id) }
@@ -316,7 +316,7 @@ impl RoomPass {
     ) -> Taken<RoomCmd, Option<RoomOut>>
         requires { self.old.pass.0 ≡ lock.now.0 }
         ensures lock { self.new.pass.0 ≡ self.old.pass.0 }
-        ensures told { TakesAtLast Answers Pulls self.old.pass.1 self.old.cursor (self.old.kept.items ++ self.old.fresh.items) cmd result self.new.pass.1 self.new.cursor (self.new.kept.items ++ self.new.fresh.items) }
+        ensures does { TakesAtLast Answers Pulls self.old.pass.1 self.old.cursor (self.old.kept.items ++ self.old.fresh.items) cmd result self.new.pass.1 self.new.cursor (self.new.kept.items ++ self.new.fresh.items) }
         ensures limit { IsSome cmd → length self.old.pass.1.mine ≡ OWN_LIMIT → IsLimited result }
         ensures of { (hub : Hub) (conn : ℕ) → IsRoomPass hub conn self.old → IsRoomPass hub conn self.new }
         ensures same { (self.new.at ≡ self.old.at) × (self.new.number ≡ self.old.number) × (self.new.id ≡ self.old.id) }
@@ -333,7 +333,7 @@ impl RoomPass {
     ) -> Taken<RoomCmd, Option<RoomOut>>
         requires { self.old.pass.0 ≡ lock.now.0 }
         ensures lock { self.new.pass.0 ≡ self.old.pass.0 }
-        ensures told { TakesAtLast Answers Pulls self.old.pass.1 self.old.cursor (self.old.kept.items ++ self.old.fresh.items) cmd result self.new.pass.1 self.new.cursor (self.new.kept.items ++ self.new.fresh.items) }
+        ensures does { TakesAtLast Answers Pulls self.old.pass.1 self.old.cursor (self.old.kept.items ++ self.old.fresh.items) cmd result self.new.pass.1 self.new.cursor (self.new.kept.items ++ self.new.fresh.items) }
         ensures limit { IsSome cmd → length self.old.pass.1.mine ≡ OWN_LIMIT → IsLimited result }
         ensures rest { IsAtRest self.old.pass.1 → IsAtRest self.new.pass.1 }
         ensures same { (self.new.at ≡ self.old.at) × (self.new.number ≡ self.old.number) × (self.new.id ≡ self.old.id) }
@@ -356,7 +356,7 @@ impl RoomPass {
     /// How many commands the place has taken.
     pub(crate) fn look(&mut self, lock: &HistLock<RoomPlace>) -> u64
         requires { self.old.pass.0 ≡ lock.now.0 }
-        ensures told { self.new ≡ record self.old { pass = (self.old.pass.0, after_look self.old.pass.1 result) } }
+        ensures does { self.new ≡ record self.old { pass = (self.old.pass.0, after_look self.old.pass.1 result) } }
         ensures seen { length self.old.pass.1.seen ≤ result }
         ensures of { (hub : Hub) (conn : ℕ) → IsRoomPass hub conn self.old → IsRoomPass hub conn self.new }
     {

@@ -43,9 +43,9 @@ impl Passes {
         ensures none { IfNone result (All (λ k. k.number ≢ number) self.now.rooms.items) }
     {
         let rooms = self.rooms.as_slice();
-        for place in 0..rooms.len() {
-            if rooms[place].number == number {
-                return Some(place);
+        for pass_index in 0..rooms.len() {
+            if rooms[pass_index].number == number {
+                return Some(pass_index);
             }
         }
         None
@@ -57,9 +57,9 @@ impl Passes {
         ensures none { IfNone result (All (λ k. k.id ≢ Some id.now) self.now.rooms.items) }
     {
         let rooms = self.rooms.as_slice();
-        for place in 0..rooms.len() {
-            if is_held(&rooms[place], id) {
-                return Some(place);
+        for pass_index in 0..rooms.len() {
+            if is_held(&rooms[pass_index], id) {
+                return Some(pass_index);
             }
         }
         None
@@ -71,9 +71,9 @@ impl Passes {
         ensures gap { IsGap number result self.now.rooms.items }
     {
         let rooms = self.rooms.as_slice();
-        for place in 0..rooms.len() {
-            if number < rooms[place].number {
-                return place;
+        for pass_index in 0..rooms.len() {
+            if number < rooms[pass_index].number {
+                return pass_index;
             }
         }
         rooms.len()
@@ -81,11 +81,11 @@ impl Passes {
 
     /// Adds a pass, and says where it stands. Where memory fails no pass is added.
     pub(crate) fn add(&mut self, pass: RoomPass) -> Result<usize, AllocError>
-        ensures ok { IfOk result (λ place. IsAdded self.old place pass self.new) }
+        ensures ok { IfOk result (λ pass_index. IsAdded self.old pass_index pass self.new) }
         ensures err { OnErr result (IsAsBefore self.old self.new) }
     {
-        let place = self.gap(pass.number);
-        self.rooms.insert(place, pass)?;
-        Ok(place)
+        let pass_index = self.gap(pass.number);
+        self.rooms.insert(pass_index, pass)?;
+        Ok(pass_index)
     }
 }

@@ -30,7 +30,7 @@ impl Hub {
         requires of { AreOf self.now passes.old }
         requires may { MayQuit passes.old }
         ensures of { AreOf self.now passes.new }
-        ensures told { Quits self.now moment passes.old result passes.new }
+        ensures does { Quits self.now moment passes.old result passes.new }
     {
         let conn = passes.conn;
         self.quit_rooms(rt, &mut passes.rooms, conn, &passes.badge, moment)?;
@@ -52,8 +52,8 @@ impl Hub {
         ensures ok { OnOk result (AllZip (QuitsRoom badge.now conn moment) rooms.old rooms.new) }
         ensures err { OnErr result (QuitsUpTo self.now badge.now conn moment rooms.old rooms.new) }
     {
-        for place in 0..rooms.len() {
-            self.quit_room(rt, &mut rooms[place], conn, badge, moment)?;
+        for pass_index in 0..rooms.len() {
+            self.quit_room(rt, &mut rooms[pass_index], conn, badge, moment)?;
         }
         Ok(())
     }

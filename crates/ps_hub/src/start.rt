@@ -30,10 +30,10 @@ impl Hub {
         requires number { (1 ≤ start.number) × (start.number ≤ most_battles) }
         requires fit { IsFit start self.now.config self.now.dex }
         ensures of { AreOf self.now passes.new }
-        ensures told { Starts self.now start passes.old result passes.new }
+        ensures does { Starts self.now start passes.old result passes.new }
     {
-        let place = self.keep(passes, self.place_of_battle(start.number))?;
-        self.begin(rt, &mut passes.rooms[place], start)
+        let pass_index = self.keep(passes, self.place_of_battle(start.number))?;
+        self.begin(rt, &mut passes.rooms[pass_index], start)
     }
 
     // The Begin, by the pass of a place.

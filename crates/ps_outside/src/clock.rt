@@ -15,7 +15,7 @@ pub trait Clock: Sized {
 
     /// The moment, in seconds.
     fn now(&mut self) -> Moment
-        ensures told { IsNow (hours self.old) result }
+        ensures known { IsNow (hours self.old) result }
         ensures later { hours self.new ≡ after_now (hours self.old) };
 
     /// A clock that will tell the same moments.

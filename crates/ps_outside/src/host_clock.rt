@@ -52,7 +52,7 @@ impl<R: rt::Clock + Copy> Clock for HostClock<R> {
     ghost hours = { λ _. None };
 
     fn now(&mut self) -> Moment
-        ensures told { IsNow None result }
+        ensures known { IsNow None result }
         ensures later { None ≡ after_now None }
         ensures last { self.new ≡ result }
     {

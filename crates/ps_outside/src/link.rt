@@ -64,14 +64,14 @@ pub trait Link {
     /// which leaves it, and End is answered only at an empty one. Quiet, End and Failed come only
     /// where the count of each rose.
     fn next(&mut self) -> Next
-        ensures told { talk self.new ≡ after_next result (talk self.old) }
+        ensures known { talk self.new ≡ after_next result (talk self.old) }
         ensures front { IsNext (talk self.old) result }
         ensures cause { HasNextCause (counts self.old) (counts self.new) result };
 
     /// Sends a text. After an error it counts as not sent, and Failed comes only where the count of
     /// faults rose.
     fn send(&mut self, text: &str) -> Result<(), SendEnd>
-        ensures told { talk self.new ≡ after_send result text.now (talk self.old) }
+        ensures known { talk self.new ≡ after_send result text.now (talk self.old) }
         ensures cause { HasSendCause (counts self.old) (counts self.new) result };
 }
 
@@ -232,7 +232,7 @@ impl Link for MemLink {
 
     /// Fails exactly at the calls that are listed.
     fn next(&mut self) -> Next
-        ensures told { Some self.new.talk ≡ after_next result (Some self.old.talk) }
+        ensures known { Some self.new.talk ≡ after_next result (Some self.old.talk) }
         ensures front { IsNext (Some self.old.talk) result }
         ensures cause { HasNextCause self.old.counts self.new.counts result }
         ensures listed { has_failed result ≡ is_listed self.old.next_calls self.old.failing_next }
@@ -254,7 +254,7 @@ impl Link for MemLink {
 
     /// Fails exactly at the calls that are listed.
     fn send(&mut self, text: &str) -> Result<(), SendEnd>
-        ensures told { Some self.new.talk ≡ after_send result text.now (Some self.old.talk) }
+        ensures known { Some self.new.talk ≡ after_send result text.now (Some self.old.talk) }
         ensures cause { HasSendCause self.old.counts self.new.counts result }
         ensures listed { has_send_failed result ≡ is_listed self.old.send_calls self.old.failing_send }
         ensures calls { self.new.send_calls ≡ one_more self.old.send_calls }

@@ -84,7 +84,7 @@ impl<R: rt::Clock + Copy> Link for WsLink<R> {
 
     /// Where memory was refused nothing is skipped: the next call goes on, or the link has failed.
     fn next(&mut self) -> Next
-        ensures told { None ≡ after_next result None }
+        ensures known { None ≡ after_next result None }
         ensures front { IsNext None result }
         ensures cause { HasNextCause self.old.counts self.new.counts result }
         ensures ended { self.new.ended ≡ ended_after result self.old.ended }
@@ -116,7 +116,7 @@ impl<R: rt::Clock + Copy> Link for WsLink<R> {
     }
 
     fn send(&mut self, text: &str) -> Result<(), SendEnd>
-        ensures told { None ≡ after_send result text.now None }
+        ensures known { None ≡ after_send result text.now None }
         ensures cause { HasSendCause self.old.counts self.new.counts result }
         ensures ended { self.new.ended ≡ ended_after_send result self.old.ended }
         ensures still { SendsNothing self.old.ended result }

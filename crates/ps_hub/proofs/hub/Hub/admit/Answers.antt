@@ -27,9 +27,9 @@ returns-clause-of g c =
       rising = subst (λ (l : List RoomPass). IsRising (numbers l)) (sym c.none-passes.ensures.rooms) tt;
     }
 
-pub returns-clause-told : goal.returns-clause-told
-returns-clause-told g c =
-    let told = c.in-Done.ensures.told in
+pub returns-clause-does : goal.returns-clause-does
+returns-clause-does g c =
+    let told = c.in-Done.ensures.does in
     let split = c.split.ensures.pass in
     let opener = c.new-opener.ensures.pass in
     let fresh : c.new-opener.result.pass.1 ≡ newcomer (root_of c.args.self.now) opener.0 =

@@ -8,4 +8,4 @@ returns-in-Busy-clause-of c = λ conn p. c.try_turn.ensures.of c.args.self.now c
 pub returns-clause-of : goal.returns-clause-of
 returns-clause-of c =
     let found : c.try_turn.new.self.cursor.id ≡ Some c.args.name = search rules in
-    λ conn p. found_of c.args.self.now conn c.args.pass.now c.try_turn.new.self _ c.args.name c.in-Done.out c.requires.battle c.try_turn.ensures.same.1 c.in-Done.ensures.told found refl p (c.try_turn.ensures.of c.args.self.now conn p)
+    λ conn p. found_of c.args.self.now conn c.args.pass.now c.try_turn.new.self _ c.args.name c.in-Done.out c.requires.battle c.try_turn.ensures.same.1 c.in-Done.ensures.does found refl p (c.try_turn.ensures.of c.args.self.now conn p)

@@ -10,7 +10,7 @@ returns-clause-of g c = λ conn p. c.turn.ensures.of c.args.self.now conn p
 
 pub returns-clause-ok : goal.returns-clause-ok
 returns-clause-ok g c = elim c.match-turn.branch [
-  | in-Done w ↦ rw w.result-is (let told = w.in-Done.ensures.told in (told.0, (told.1.0, told.1.1, told.1.2)))
+  | in-Done w ↦ rw w.result-is (let told = w.in-Done.ensures.does in (told.0, (told.1.0, told.1.1, told.1.2)))
   | in-Late w ↦ rw w.result-is tt
   | in-OwnLimit w ↦ rw w.result-is tt
   | in-NoMemory w ↦ rw w.result-is tt
@@ -19,7 +19,7 @@ returns-clause-ok g c = elim c.match-turn.branch [
 pub returns-clause-err : goal.returns-clause-err
 returns-clause-err g c = elim c.match-turn.branch [
   | in-Done w ↦ rw w.result-is tt
-  | in-Late w ↦ rw w.result-is (last_short_at_late Answers Pulls (site_of c.args.self.now c.args.pass.now.number) c.args.pass.now.pass.1 c.args.pass.now.cursor _ (Begin c.args.start) w.in-Late.out c.turn.new.self.pass.1 c.turn.new.self.cursor _ c.requires.1.origin w.in-Late.ensures.told)
-  | in-OwnLimit w ↦ rw w.result-is (last_short_at_limit Answers Pulls (site_of c.args.self.now c.args.pass.now.number) c.args.pass.now.pass.1 c.args.pass.now.cursor _ (Begin c.args.start) w.in-OwnLimit.cmd c.turn.new.self.pass.1 c.turn.new.self.cursor _ w.in-OwnLimit.ensures.told)
-  | in-NoMemory w ↦ rw w.result-is (last_short_at_no_memory Answers Pulls (site_of c.args.self.now c.args.pass.now.number) c.args.pass.now.pass.1 c.args.pass.now.cursor _ (Begin c.args.start) c.turn.new.self.pass.1 c.turn.new.self.cursor _ w.in-NoMemory.ensures.told)
+  | in-Late w ↦ rw w.result-is (last_short_at_late Answers Pulls (site_of c.args.self.now c.args.pass.now.number) c.args.pass.now.pass.1 c.args.pass.now.cursor _ (Begin c.args.start) w.in-Late.out c.turn.new.self.pass.1 c.turn.new.self.cursor _ c.requires.1.origin w.in-Late.ensures.does)
+  | in-OwnLimit w ↦ rw w.result-is (last_short_at_limit Answers Pulls (site_of c.args.self.now c.args.pass.now.number) c.args.pass.now.pass.1 c.args.pass.now.cursor _ (Begin c.args.start) w.in-OwnLimit.cmd c.turn.new.self.pass.1 c.turn.new.self.cursor _ w.in-OwnLimit.ensures.does)
+  | in-NoMemory w ↦ rw w.result-is (last_short_at_no_memory Answers Pulls (site_of c.args.self.now c.args.pass.now.number) c.args.pass.now.pass.1 c.args.pass.now.cursor _ (Begin c.args.start) c.turn.new.self.pass.1 c.turn.new.self.cursor _ w.in-NoMemory.ensures.does)
 ]

@@ -6,10 +6,10 @@ use Rattle.ps_hub.proofs.hub.Hub.catch_up_at.Goals as goal
 
 pub returns-clause-of : goal.returns-clause-of
 returns-clause-of g c =
-    let there = slice_get_read c.args.passes.now.rooms.items (length c.args.passes.now.rooms.items) c.args.place c.index_mut-pass.result.now refl c.requires.there c.index_mut-pass.ensures.value in
-    are_set c.args.self.now c.args.passes.now _ c.args.place c.index_mut-pass.result.now c.catch_up.new.self c.requires.of there c.catch_up.ensures.same.0 refl refl (c.catch_up.ensures.of c.args.self.now c.args.passes.now.conn (read_pass c.args.self.now c.args.passes.now c.args.place c.index_mut-pass.result.now c.requires.of there))
+    let there = slice_get_read c.args.passes.now.rooms.items (length c.args.passes.now.rooms.items) c.args.pass_index c.index_mut-pass.result.now refl c.requires.there c.index_mut-pass.ensures.value in
+    are_set c.args.self.now c.args.passes.now _ c.args.pass_index c.index_mut-pass.result.now c.catch_up.new.self c.requires.of there c.catch_up.ensures.same.0 refl refl (c.catch_up.ensures.of c.args.self.now c.args.passes.now.conn (read_pass c.args.self.now c.args.passes.now c.args.pass_index c.index_mut-pass.result.now c.requires.of there))
 
-pub returns-clause-told : goal.returns-clause-told
-returns-clause-told g c =
-    let there = slice_get_read c.args.passes.now.rooms.items (length c.args.passes.now.rooms.items) c.args.place c.index_mut-pass.result.now refl c.requires.there c.index_mut-pass.ensures.value in
-    caught_room c.args.self.now c.args.place c.args.passes.now _ c.index_mut-pass.result.now c.catch_up.new.self c.catch_up.result (read_pass c.args.self.now c.args.passes.now c.args.place c.index_mut-pass.result.now c.requires.of there) there refl refl c.catch_up.ensures.same c.catch_up.ensures.ok c.catch_up.ensures.err
+pub returns-clause-does : goal.returns-clause-does
+returns-clause-does g c =
+    let there = slice_get_read c.args.passes.now.rooms.items (length c.args.passes.now.rooms.items) c.args.pass_index c.index_mut-pass.result.now refl c.requires.there c.index_mut-pass.ensures.value in
+    caught_room c.args.self.now c.args.pass_index c.args.passes.now _ c.index_mut-pass.result.now c.catch_up.new.self c.catch_up.result (read_pass c.args.self.now c.args.passes.now c.args.pass_index c.index_mut-pass.result.now c.requires.of there) there refl refl c.catch_up.ensures.same c.catch_up.ensures.ok c.catch_up.ensures.err

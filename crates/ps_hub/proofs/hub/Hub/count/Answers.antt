@@ -9,17 +9,17 @@ use Rattle.ps_hub.proofs.hub.Hub.count.Goals as goal
 pub returns-in-Some-hall-clause-of : goal.returns-in-Some-hall-clause-of
 returns-in-Some-hall-clause-of c = are_hall c.args.self.now c.args.passes.now _ c.look.new.self c.requires.of refl (c.look.ensures.of c.args.self.now c.args.passes.now.conn (hall_of c.args.self.now c.args.passes.now c.in-Some-hall.hall c.requires.of c.in-Some-hall.is)) refl refl
 
-pub returns-in-Some-hall-clause-told : goal.returns-in-Some-hall-clause-told
-returns-in-Some-hall-clause-told c = counted_hall c.args.passes.now _ c.in-Some-hall.hall c.look.new.self c.look.result c.in-Some-hall.is refl refl refl refl (c.look.ensures.seen, c.look.ensures.told) (option_copied c.args.room) (ap (λ (o : Option (Bor (List ℕ))). option_copied o) c.in-None.is)
+pub returns-in-Some-hall-clause-does : goal.returns-in-Some-hall-clause-does
+returns-in-Some-hall-clause-does c = counted_hall c.args.passes.now _ c.in-Some-hall.hall c.look.new.self c.look.result c.in-Some-hall.is refl refl refl refl (c.look.ensures.seen, c.look.ensures.does) (option_copied c.args.room) (ap (λ (o : Option (Bor (List ℕ))). option_copied o) c.in-None.is)
 
 pub returns-in-Some-position_of-clause-of : goal.returns-in-Some-position_of-clause-of
 returns-in-Some-position_of-clause-of c =
     let found = c.in-Some-position_of.ensures.found in
-    let there = read_there c.args.passes.now.rooms.items c.in-Some-position_of.place found.0 c.index_mut.result.now found.1 c.index_mut.ensures.value in
-    are_set c.args.self.now c.args.passes.now _ c.in-Some-position_of.place c.index_mut.result.now c.count_at.new.pass c.requires.of there (ap (λ (q : RoomPass). q.number) c.count_at.ensures.told.1) refl refl (c.count_at.ensures.of c.args.passes.now.conn (read_pass c.args.self.now c.args.passes.now c.in-Some-position_of.place c.index_mut.result.now c.requires.of there))
+    let there = read_there c.args.passes.now.rooms.items c.in-Some-position_of.pass_index found.0 c.index_mut.result.now found.1 c.index_mut.ensures.value in
+    are_set c.args.self.now c.args.passes.now _ c.in-Some-position_of.pass_index c.index_mut.result.now c.count_at.new.pass c.requires.of there (ap (λ (q : RoomPass). q.number) c.count_at.ensures.does.1) refl refl (c.count_at.ensures.of c.args.passes.now.conn (read_pass c.args.self.now c.args.passes.now c.in-Some-position_of.pass_index c.index_mut.result.now c.requires.of there))
 
-pub returns-in-Some-position_of-clause-told : goal.returns-in-Some-position_of-clause-told
-returns-in-Some-position_of-clause-told c =
+pub returns-in-Some-position_of-clause-does : goal.returns-in-Some-position_of-clause-does
+returns-in-Some-position_of-clause-does c =
     let found = c.in-Some-position_of.ensures.found in
-    let there = read_there c.args.passes.now.rooms.items c.in-Some-position_of.place found.0 c.index_mut.result.now found.1 c.index_mut.ensures.value in
-    counted_room c.in-Some-position_of.place c.args.passes.now _ c.index_mut.result.now c.count_at.new.pass c.count_at.result c.in-Some.id.now (found.0, found.1, found.2) there refl refl c.count_at.ensures.told (option_copied c.args.room) (ap (λ (o : Option (Bor (List ℕ))). option_copied o) c.in-Some.is)
+    let there = read_there c.args.passes.now.rooms.items c.in-Some-position_of.pass_index found.0 c.index_mut.result.now found.1 c.index_mut.ensures.value in
+    counted_room c.in-Some-position_of.pass_index c.args.passes.now _ c.index_mut.result.now c.count_at.new.pass c.count_at.result c.in-Some.id.now (found.0, found.1, found.2) there refl refl c.count_at.ensures.does (option_copied c.args.room) (ap (λ (o : Option (Bor (List ℕ))). option_copied o) c.in-Some.is)

@@ -15,8 +15,8 @@ returns-in_err-quit_rooms-clause-of g c =
     are_rooms c.args.self.now c.args.passes.now _ c.requires.of refl (subst (All (IsRoomPass c.args.self.now c.args.passes.now.conn)) (sym written) c.quit_rooms.ensures.of)
     (ap (λ (l : List RoomPass). numbers l) written ∙ quit_numbers_up_to c.args.self.now c.args.passes.now.badge c.args.passes.now.conn c.args.moment c.args.passes.now.rooms.items c.quit_rooms.new.rooms rooms)
 
-pub returns-in_err-quit_rooms-clause-told : goal.returns-in_err-quit_rooms-clause-told
-returns-in_err-quit_rooms-clause-told g c =
+pub returns-in_err-quit_rooms-clause-does : goal.returns-in_err-quit_rooms-clause-does
+returns-in_err-quit_rooms-clause-does g c =
     let err : IsErr c.from_residual.result = search rules in
     let written = lent c.args.passes.now.rooms.len c.args.passes.now.rooms.items c.quit_rooms.new.rooms c.args.passes.now.rooms.ok.0 (c.quit_rooms.auto.rooms ∙ ap length c.deref_mut.ensures.value) in
     let rooms : QuitsUpTo c.args.self.now c.args.passes.now.badge c.args.passes.now.conn c.args.moment c.args.passes.now.rooms.items c.quit_rooms.new.rooms = subst (λ (l : List RoomPass). QuitsUpTo c.args.self.now c.args.passes.now.badge c.args.passes.now.conn c.args.moment l c.quit_rooms.new.rooms) c.deref_mut.ensures.value c.in_err-quit_rooms.ensures.err in
@@ -29,8 +29,8 @@ quit_hall-requires g c =
     are_rooms c.args.self.now c.args.passes.now _ c.requires.of refl (subst (All (IsRoomPass c.args.self.now c.args.passes.now.conn)) (sym written) c.quit_rooms.ensures.of)
     (ap (λ (l : List RoomPass). numbers l) written ∙ quit_numbers c.args.passes.now.badge c.args.passes.now.conn c.args.moment c.args.passes.now.rooms.items c.quit_rooms.new.rooms rooms)
 
-pub returns-clause-told : goal.returns-clause-told
-returns-clause-told g c =
+pub returns-clause-does : goal.returns-clause-does
+returns-clause-does g c =
     let written = lent c.args.passes.now.rooms.len c.args.passes.now.rooms.items c.quit_rooms.new.rooms c.args.passes.now.rooms.ok.0 (c.quit_rooms.auto.rooms ∙ ap length c.deref_mut.ensures.value) in
     let rooms : AllZip (QuitsRoom c.args.passes.now.badge c.args.passes.now.conn c.args.moment) c.args.passes.now.rooms.items c.quit_rooms.new.rooms = subst (λ (l : List RoomPass). AllZip (QuitsRoom c.args.passes.now.badge c.args.passes.now.conn c.args.moment) l c.quit_rooms.new.rooms) c.deref_mut.ensures.value c.in_ok-quit_rooms.ensures.ok in
     quits_all c.args.self.now c.args.moment c.args.passes.now _ c.quit_hall.new.passes c.quit_hall.result refl

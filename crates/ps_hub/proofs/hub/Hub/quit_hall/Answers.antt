@@ -12,25 +12,25 @@ pub returns-in-Done-clause-of : goal.returns-in-Done-clause-of
 returns-in-Done-clause-of g c = are_hall c.args.self.now c.args.passes.now _ c.turn.new.self c.requires refl (c.turn.ensures.of c.args.self.now c.args.passes.now.conn (hall_of c.args.self.now c.args.passes.now c.in-Some.hall c.requires c.in-Some.is)) refl refl
 
 pub returns-in-Done-clause-ok : goal.returns-in-Done-clause-ok
-returns-in-Done-clause-ok g c = hall_only (QuitsHall c.args.passes.now.conn c.args.moment) c.args.passes.now _ c.in-Some.hall c.turn.new.self c.in-Some.is refl refl refl refl (let told = c.in-Done.ensures.told in ((told.0, (told.1.0, told.1.1, told.1.2)), c.turn.ensures.at))
+returns-in-Done-clause-ok g c = hall_only (QuitsHall c.args.passes.now.conn c.args.moment) c.args.passes.now _ c.in-Some.hall c.turn.new.self c.in-Some.is refl refl refl refl (let told = c.in-Done.ensures.does in ((told.0, (told.1.0, told.1.1, told.1.2)), c.turn.ensures.at))
 
 pub returns-in-Late-clause-of : goal.returns-in-Late-clause-of
 returns-in-Late-clause-of g c = are_hall c.args.self.now c.args.passes.now _ c.turn.new.self c.requires refl (c.turn.ensures.of c.args.self.now c.args.passes.now.conn (hall_of c.args.self.now c.args.passes.now c.in-Some.hall c.requires c.in-Some.is)) refl refl
 
 pub returns-in-Late-clause-err : goal.returns-in-Late-clause-err
 returns-in-Late-clause-err g c = hall_only (QuitsHallAtMost c.args.self.now c.args.passes.now.conn c.args.moment) c.args.passes.now _ c.in-Some.hall c.turn.new.self c.in-Some.is refl refl refl refl
-    (last_short_at_late HallAnswers HallPulls (root_of c.args.self.now) c.in-Some.hall.pass.1 c.in-Some.hall.cursor _ _ c.in-Late.out c.turn.new.self.pass.1 c.turn.new.self.cursor _ (hall_of c.args.self.now c.args.passes.now c.in-Some.hall c.requires c.in-Some.is).origin c.in-Late.ensures.told, c.turn.ensures.at)
+    (last_short_at_late HallAnswers HallPulls (root_of c.args.self.now) c.in-Some.hall.pass.1 c.in-Some.hall.cursor _ _ c.in-Late.out c.turn.new.self.pass.1 c.turn.new.self.cursor _ (hall_of c.args.self.now c.args.passes.now c.in-Some.hall c.requires c.in-Some.is).origin c.in-Late.ensures.does, c.turn.ensures.at)
 
 pub returns-in-OwnLimit-clause-of : goal.returns-in-OwnLimit-clause-of
 returns-in-OwnLimit-clause-of g c = are_hall c.args.self.now c.args.passes.now _ c.turn.new.self c.requires refl (c.turn.ensures.of c.args.self.now c.args.passes.now.conn (hall_of c.args.self.now c.args.passes.now c.in-Some.hall c.requires c.in-Some.is)) refl refl
 
 pub returns-in-OwnLimit-clause-err : goal.returns-in-OwnLimit-clause-err
 returns-in-OwnLimit-clause-err g c = hall_only (QuitsHallAtMost c.args.self.now c.args.passes.now.conn c.args.moment) c.args.passes.now _ c.in-Some.hall c.turn.new.self c.in-Some.is refl refl refl refl
-    (last_short_at_limit HallAnswers HallPulls (root_of c.args.self.now) c.in-Some.hall.pass.1 c.in-Some.hall.cursor _ _ c.in-OwnLimit.cmd c.turn.new.self.pass.1 c.turn.new.self.cursor _ c.in-OwnLimit.ensures.told, c.turn.ensures.at)
+    (last_short_at_limit HallAnswers HallPulls (root_of c.args.self.now) c.in-Some.hall.pass.1 c.in-Some.hall.cursor _ _ c.in-OwnLimit.cmd c.turn.new.self.pass.1 c.turn.new.self.cursor _ c.in-OwnLimit.ensures.does, c.turn.ensures.at)
 
 pub returns-clause-of : goal.returns-clause-of
 returns-clause-of g c = are_hall c.args.self.now c.args.passes.now _ c.turn.new.self c.requires refl (c.turn.ensures.of c.args.self.now c.args.passes.now.conn (hall_of c.args.self.now c.args.passes.now c.in-Some.hall c.requires c.in-Some.is)) refl refl
 
 pub returns-clause-err : goal.returns-clause-err
 returns-clause-err g c = hall_only (QuitsHallAtMost c.args.self.now c.args.passes.now.conn c.args.moment) c.args.passes.now _ c.in-Some.hall c.turn.new.self c.in-Some.is refl refl refl refl
-    (last_short_at_no_memory HallAnswers HallPulls (root_of c.args.self.now) c.in-Some.hall.pass.1 c.in-Some.hall.cursor _ _ c.turn.new.self.pass.1 c.turn.new.self.cursor _ c.in-NoMemory.ensures.told, c.turn.ensures.at)
+    (last_short_at_no_memory HallAnswers HallPulls (root_of c.args.self.now) c.in-Some.hall.pass.1 c.in-Some.hall.cursor _ _ c.turn.new.self.pass.1 c.turn.new.self.cursor _ c.in-NoMemory.ensures.does, c.turn.ensures.at)

@@ -10,34 +10,34 @@ use Rattle.ps_hub.proofs.hub.Hub.quit_rooms.Goals as goal
 
 pub quit_room-requires-clause-may : goal.quit_room-requires-clause-may
 quit_room-requires-clause-may g c =
-    let within : c.loop-place.place < length c.loop-place.rooms = omega arith in
-    let there = slice_get-get_or c.loop-place.rooms c.loop-place.place c.index-rooms-place.result within in
-    at_place (λ (k : RoomPass). IsSome k.id → IsSome c.args.badge.now) c.args.rooms.now c.loop-place.place (get_or c.loop-place.rooms c.loop-place.place c.index-rooms-place.result)
-    (done_there (QuitsRoom c.args.badge.now c.args.conn c.args.moment) c.loop-place.place c.args.rooms.now c.loop-place.rooms (get_or c.loop-place.rooms c.loop-place.place c.index-rooms-place.result) there c.loop-place.invariant.done)
+    let within : c.loop-pass_index.pass_index < length c.loop-pass_index.rooms = omega arith in
+    let there = slice_get-get_or c.loop-pass_index.rooms c.loop-pass_index.pass_index c.index-rooms-pass_index.result within in
+    at_place (λ (k : RoomPass). IsSome k.id → IsSome c.args.badge.now) c.args.rooms.now c.loop-pass_index.pass_index (get_or c.loop-pass_index.rooms c.loop-pass_index.pass_index c.index-rooms-pass_index.result)
+    (done_there (QuitsRoom c.args.badge.now c.args.conn c.args.moment) c.loop-pass_index.pass_index c.args.rooms.now c.loop-pass_index.rooms (get_or c.loop-pass_index.rooms c.loop-pass_index.pass_index c.index-rooms-pass_index.result) there c.loop-pass_index.invariant.done)
     c.requires.may
 
 pub returns-in_err-quit_room-clause-of : goal.returns-in_err-quit_room-clause-of
 returns-in_err-quit_room-clause-of g c =
-    let within : c.loop-place.place < length c.loop-place.rooms = omega arith in
-    let there = slice_get-get_or c.loop-place.rooms c.loop-place.place c.index-rooms-place.result within in
-    after_set (IsRoomPass c.args.self.now c.args.conn) c.loop-place.rooms c.loop-place.place c.quit_room.new.pass
-    (c.quit_room.ensures.of c.args.conn (at_place (IsRoomPass c.args.self.now c.args.conn) c.loop-place.rooms c.loop-place.place (get_or c.loop-place.rooms c.loop-place.place c.index-rooms-place.result) there c.loop-place.invariant.of))
-    c.loop-place.invariant.of
+    let within : c.loop-pass_index.pass_index < length c.loop-pass_index.rooms = omega arith in
+    let there = slice_get-get_or c.loop-pass_index.rooms c.loop-pass_index.pass_index c.index-rooms-pass_index.result within in
+    after_set (IsRoomPass c.args.self.now c.args.conn) c.loop-pass_index.rooms c.loop-pass_index.pass_index c.quit_room.new.pass
+    (c.quit_room.ensures.of c.args.conn (at_place (IsRoomPass c.args.self.now c.args.conn) c.loop-pass_index.rooms c.loop-pass_index.pass_index (get_or c.loop-pass_index.rooms c.loop-pass_index.pass_index c.index-rooms-pass_index.result) there c.loop-pass_index.invariant.of))
+    c.loop-pass_index.invariant.of
 
 pub returns-in_err-quit_room-clause-err : goal.returns-in_err-quit_room-clause-err
 returns-in_err-quit_room-clause-err g c =
-    let within : c.loop-place.place < length c.loop-place.rooms = omega arith in
-    let there = slice_get-get_or c.loop-place.rooms c.loop-place.place c.index-rooms-place.result within in
+    let within : c.loop-pass_index.pass_index < length c.loop-pass_index.rooms = omega arith in
+    let there = slice_get-get_or c.loop-pass_index.rooms c.loop-pass_index.pass_index c.index-rooms-pass_index.result within in
     on_err_is _ c.from_residual.result
-    (quits_up_to c.args.self.now c.args.badge.now c.args.conn c.args.moment c.loop-place.place c.args.rooms.now c.loop-place.rooms _ (get_or c.loop-place.rooms c.loop-place.place c.index-rooms-place.result) c.quit_room.new.pass there refl c.in_err-quit_room.ensures.err c.loop-place.invariant.done)
+    (quits_up_to c.args.self.now c.args.badge.now c.args.conn c.args.moment c.loop-pass_index.pass_index c.args.rooms.now c.loop-pass_index.rooms _ (get_or c.loop-pass_index.rooms c.loop-pass_index.pass_index c.index-rooms-pass_index.result) c.quit_room.new.pass there refl c.in_err-quit_room.ensures.err c.loop-pass_index.invariant.done)
 
-pub loop-place-preserved : goal.loop-place-preserved
-loop-place-preserved g c =
-    let within : c.loop-place.place < length c.loop-place.rooms = omega arith in
-    let there = slice_get-get_or c.loop-place.rooms c.loop-place.place c.index-rooms-place.result within in
+pub loop-pass_index-preserved : goal.loop-pass_index-preserved
+loop-pass_index-preserved g c =
+    let within : c.loop-pass_index.pass_index < length c.loop-pass_index.rooms = omega arith in
+    let there = slice_get-get_or c.loop-pass_index.rooms c.loop-pass_index.pass_index c.index-rooms-pass_index.result within in
     record {
-      of = after_set (IsRoomPass c.args.self.now c.args.conn) c.loop-place.rooms c.loop-place.place c.quit_room.new.pass
-          (c.quit_room.ensures.of c.args.conn (at_place (IsRoomPass c.args.self.now c.args.conn) c.loop-place.rooms c.loop-place.place (get_or c.loop-place.rooms c.loop-place.place c.index-rooms-place.result) there c.loop-place.invariant.of))
-          c.loop-place.invariant.of;
-      done = done_next (QuitsRoom c.args.badge.now c.args.conn c.args.moment) c.loop-place.place c.args.rooms.now c.loop-place.rooms _ (get_or c.loop-place.rooms c.loop-place.place c.index-rooms-place.result) c.quit_room.new.pass there refl c.in_ok-quit_room.ensures.ok c.loop-place.invariant.done;
+      of = after_set (IsRoomPass c.args.self.now c.args.conn) c.loop-pass_index.rooms c.loop-pass_index.pass_index c.quit_room.new.pass
+          (c.quit_room.ensures.of c.args.conn (at_place (IsRoomPass c.args.self.now c.args.conn) c.loop-pass_index.rooms c.loop-pass_index.pass_index (get_or c.loop-pass_index.rooms c.loop-pass_index.pass_index c.index-rooms-pass_index.result) there c.loop-pass_index.invariant.of))
+          c.loop-pass_index.invariant.of;
+      done = done_next (QuitsRoom c.args.badge.now c.args.conn c.args.moment) c.loop-pass_index.pass_index c.args.rooms.now c.loop-pass_index.rooms _ (get_or c.loop-pass_index.rooms c.loop-pass_index.pass_index c.index-rooms-pass_index.result) c.quit_room.new.pass there refl c.in_ok-quit_room.ensures.ok c.loop-pass_index.invariant.done;
     }

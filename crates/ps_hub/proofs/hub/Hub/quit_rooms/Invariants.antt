@@ -5,5 +5,5 @@ use Rattle.ps_hub.proofs.QuitLemmas.{IsDoneTo}
 use Rattle.ps_hub.proofs.hub.Hub.quit_rooms.Given as goal
 
 -- the Quits so far
-abbrev pub invariant-loop-place : goal.invariant-loop-place
-invariant-loop-place g l = record { of : All (IsRoomPass l.self l.conn) l.rooms; done : IsDoneTo (QuitsRoom l.badge l.conn l.moment) l.place l.initial.rooms l.rooms }
+abbrev pub invariant-loop-pass_index : goal.invariant-loop-pass_index
+invariant-loop-pass_index g l = record { of : All (IsRoomPass l.self l.conn) l.rooms; done : IsDoneTo (QuitsRoom l.badge l.conn l.moment) l.pass_index l.initial.rooms l.rooms }

@@ -4,7 +4,7 @@ use Rattle.std.proofs.lemmas.Option.{slice_get_read}
 use Rattle.ps_hub.specs.declared.pass.RoomPass.{RoomPass}
 use Rattle.ps_hub.proofs.passes.Passes.position.Goals as goal
 
-pub returns-then-rooms-place-clause-found : goal.returns-then-rooms-place-clause-found
-returns-then-rooms-place-clause-found c =
-    let there : slice_get c.as_slice-rooms.result.now c.loop-place.place ≡ Some c.index-rooms-place.result = slice_get_read c.as_slice-rooms.result.now (length c.as_slice-rooms.result.now) c.loop-place.place c.index-rooms-place.result refl (omega arith) c.index-rooms-place.is in
-    (c.index-rooms-place.result, ap (λ (l : List RoomPass). slice_get l c.loop-place.place) (sym c.as_slice-rooms.ensures.value) ∙ there, search rules)
+pub returns-then-rooms-pass_index-clause-found : goal.returns-then-rooms-pass_index-clause-found
+returns-then-rooms-pass_index-clause-found c =
+    let there : slice_get c.as_slice-rooms.result.now c.loop-pass_index.pass_index ≡ Some c.index-rooms-pass_index.result = slice_get_read c.as_slice-rooms.result.now (length c.as_slice-rooms.result.now) c.loop-pass_index.pass_index c.index-rooms-pass_index.result refl (omega arith) c.index-rooms-pass_index.is in
+    (c.index-rooms-pass_index.result, ap (λ (l : List RoomPass). slice_get l c.loop-pass_index.pass_index) (sym c.as_slice-rooms.ensures.value) ∙ there, search rules)

@@ -6,5 +6,5 @@ use Rattle.ps_hub.proofs.passes.Passes.position_of.Goals as goal
 
 pub returns-then-is_held-clause-found : goal.returns-then-is_held-clause-found
 returns-then-is_held-clause-found c =
-    let there : slice_get c.as_slice-rooms.result.now c.loop-place.place ≡ Some c.index-rooms-place.result = slice_get_read c.as_slice-rooms.result.now (length c.as_slice-rooms.result.now) c.loop-place.place c.index-rooms-place.result refl (omega arith) c.index-rooms-place.is in
-    (c.index-rooms-place.result, ap (λ (l : List RoomPass). slice_get l c.loop-place.place) (sym c.as_slice-rooms.ensures.value) ∙ there, search rules)
+    let there : slice_get c.as_slice-rooms.result.now c.loop-pass_index.pass_index ≡ Some c.index-rooms-pass_index.result = slice_get_read c.as_slice-rooms.result.now (length c.as_slice-rooms.result.now) c.loop-pass_index.pass_index c.index-rooms-pass_index.result refl (omega arith) c.index-rooms-pass_index.is in
+    (c.index-rooms-pass_index.result, ap (λ (l : List RoomPass). slice_get l c.loop-pass_index.pass_index) (sym c.as_slice-rooms.ensures.value) ∙ there, search rules)

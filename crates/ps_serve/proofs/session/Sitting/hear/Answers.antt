@@ -14,10 +14,10 @@ returns-in-Err-NoMemory-clause-stopped g c = λ conn open_at acts ss s. short_at
 
 pub returns-in-Ok-clause-heard : goal.returns-in-Ok-clause-heard
 returns-in-Ok-clause-heard g c = heard_by c.args.hub.now c.args.self.now.session c.args.self.now.passes c.args.bytes.now _ _ c.now-moment.result c.in-Ok.order c.obey.new.self.session c.obey.new.self.passes c.obey.result
-    c.in-Ok.ensures.order c.requires.badge c.now-moment.ensures.told c.now-moment.ensures.later c.obey.ensures.of
+    c.in-Ok.ensures.order c.requires.badge c.now-moment.ensures.known c.now-moment.ensures.later c.obey.ensures.of
     (subst (λ (r : Record). Obeys c.args.hub.now c.in-Ok.order c.now-moment.result r c.args.self.now.passes c.obey.result c.obey.new.self.session c.obey.new.self.passes) c.in-Ok.ensures.after c.obey.ensures.obeyed)
 
 pub returns-in-Ok-clause-stopped : goal.returns-in-Ok-clause-stopped
 returns-in-Ok-clause-stopped g c = stopped_by c.args.hub.now c.args.self.now.session c.args.self.now.passes c.args.bytes.now _ _ c.now-moment.result c.in-Ok.order c.obey.new.self.session c.obey.new.self.passes c.obey.result
-    c.in-Ok.ensures.order c.requires.badge c.now-moment.ensures.told c.now-moment.ensures.later c.obey.ensures.of
+    c.in-Ok.ensures.order c.requires.badge c.now-moment.ensures.known c.now-moment.ensures.later c.obey.ensures.of
     (subst (λ (r : Record). Obeys c.args.hub.now c.in-Ok.order c.now-moment.result r c.args.self.now.passes c.obey.result c.obey.new.self.session c.obey.new.self.passes) c.in-Ok.ensures.after c.obey.ensures.obeyed)

@@ -7,12 +7,12 @@ use Rattle.ps_serve.proofs.session.Sitting.order.Goals as goal
 pub returns-in-Ok-clause-made : goal.returns-in-Ok-clause-made
 returns-in-Ok-clause-made g c =
     let i = c.loop.invariant in
-    at_last c.args.hub.now c.loop.left c.args.order c.args.moment c.args.self.now.passes c.loop.self.passes _ c.order.new.passes i.2 i.6.0 i.6.1 c.in-Ok.ensures.told
+    at_last c.args.hub.now c.loop.left c.args.order c.args.moment c.args.self.now.passes c.loop.self.passes _ c.order.new.passes i.2 i.6.0 i.6.1 c.in-Ok.ensures.does
 
 pub loop-preserved : goal.loop-preserved
 loop-preserved g c =
     let i = c.loop.invariant in
-    let told = rw c.in-Err-Busy.field-0-is at c.in-Err-Busy.ensures.told in
+    let told = rw c.in-Err-Busy.field-0-is at c.in-Err-Busy.ensures.does in
     let back = back_is c.args.hub.now c.loop.left c.args.moment c.loop.self.passes _ c.in-Err-Busy.order c.order.new.passes told in (
       tt,
       tt,
@@ -26,14 +26,14 @@ loop-preserved g c =
 pub returns-in-Err-NoSuchRoom-clause-made : goal.returns-in-Err-NoSuchRoom-clause-made
 returns-in-Err-NoSuchRoom-clause-made g c =
     let i = c.loop.invariant in
-    at_last c.args.hub.now c.loop.left c.args.order c.args.moment c.args.self.now.passes c.loop.self.passes _ c.order.new.passes i.2 i.6.0 i.6.1 (rw c.in-Err-NoSuchRoom.field-0-is at c.in-Err-NoSuchRoom.ensures.told)
+    at_last c.args.hub.now c.loop.left c.args.order c.args.moment c.args.self.now.passes c.loop.self.passes _ c.order.new.passes i.2 i.6.0 i.6.1 (rw c.in-Err-NoSuchRoom.field-0-is at c.in-Err-NoSuchRoom.ensures.does)
 
 pub returns-in-Err-OwnLimit-clause-made : goal.returns-in-Err-OwnLimit-clause-made
 returns-in-Err-OwnLimit-clause-made g c =
     let i = c.loop.invariant in
-    inr (_, at_last c.args.hub.now c.loop.left c.args.order c.args.moment c.args.self.now.passes c.loop.self.passes _ c.order.new.passes i.2 i.6.0 i.6.1 (rw c.in-Err-OwnLimit.field-0-is at c.in-Err-OwnLimit.ensures.told))
+    inr (_, at_last c.args.hub.now c.loop.left c.args.order c.args.moment c.args.self.now.passes c.loop.self.passes _ c.order.new.passes i.2 i.6.0 i.6.1 (rw c.in-Err-OwnLimit.field-0-is at c.in-Err-OwnLimit.ensures.does))
 
 pub returns-in-Err-NoMemory-clause-made : goal.returns-in-Err-NoMemory-clause-made
 returns-in-Err-NoMemory-clause-made g c =
     let i = c.loop.invariant in
-    inl (at_last c.args.hub.now c.loop.left c.args.order c.args.moment c.args.self.now.passes c.loop.self.passes _ c.order.new.passes i.2 i.6.0 i.6.1 (rw c.in-Err-NoMemory.field-0-is at c.in-Err-NoMemory.ensures.told))
+    inl (at_last c.args.hub.now c.loop.left c.args.order c.args.moment c.args.self.now.passes c.loop.self.passes _ c.order.new.passes i.2 i.6.0 i.6.1 (rw c.in-Err-NoMemory.field-0-is at c.in-Err-NoMemory.ensures.does))

@@ -35,7 +35,7 @@ returns-in-None-clause-goes_on g c =
     let hears = subst (λ (b : List ℕ). HearsAll hub old.session old.passes b h0 h1 mid.session mid.passes) c.as_slice.ensures.value c.in-None.ensures.heard in
     if_none_two c.catch_up.result (g.L.Link.counts c.catch_up.new.link ≡ g.L.Link.counts c.next.new.self) (TellsAll hub mid.session mid.passes was is new.passes) _ c.catch_up.ensures.counts c.catch_up.ensures.told
     (λ counts tells talk0 counts0 hours0 conn open_at acts ss st.
-    goes_text hub conn open_at acts ss talk0 counts0 hours0 old.session mid.session new.session old.passes mid.passes new.passes c.in-Text.bytes first was is (g.L.Link.counts c.args.link.now) (g.L.Link.counts c.next.new.self) (g.L.Link.counts c.catch_up.new.link) h0 h1 st c.in-Text.ensures.told c.in-Text.ensures.front c.in-Text.ensures.cause hears tells c.catch_up.ensures.same.0 counts)
+    goes_text hub conn open_at acts ss talk0 counts0 hours0 old.session mid.session new.session old.passes mid.passes new.passes c.in-Text.bytes first was is (g.L.Link.counts c.args.link.now) (g.L.Link.counts c.next.new.self) (g.L.Link.counts c.catch_up.new.link) h0 h1 st c.in-Text.ensures.known c.in-Text.ensures.front c.in-Text.ensures.cause hears tells c.catch_up.ensures.same.0 counts)
 
 pub returns-in-None-clause-rests : goal.returns-in-None-clause-rests
 returns-in-None-clause-rests g c =
@@ -51,7 +51,7 @@ returns-in-None-clause-rests g c =
     let hears = subst (λ (b : List ℕ). HearsAll hub old.session old.passes b h0 h1 mid.session mid.passes) c.as_slice.ensures.value c.in-None.ensures.heard in
     if_some_two c.catch_up.result (λ end. IsBreak end (g.L.Link.counts c.next.new.self) (g.L.Link.counts c.catch_up.new.link)) (λ end. TellsSome end hub mid.session mid.passes was is new.passes) _ c.catch_up.ensures.cause c.catch_up.ensures.broke
     (λ end cause tells talk0 counts0 hours0 conn open_at left acts ss st.
-    broke_text hub conn open_at left acts ss talk0 counts0 hours0 end old.session mid.session old.passes mid.passes new.passes c.in-Text.bytes first was is (g.L.Link.counts c.args.link.now) (g.L.Link.counts c.next.new.self) (g.L.Link.counts c.catch_up.new.link) h0 h1 st c.in-Text.ensures.told c.in-Text.ensures.front c.in-Text.ensures.cause hears cause tells)
+    broke_text hub conn open_at left acts ss talk0 counts0 hours0 end old.session mid.session old.passes mid.passes new.passes c.in-Text.bytes first was is (g.L.Link.counts c.args.link.now) (g.L.Link.counts c.next.new.self) (g.L.Link.counts c.catch_up.new.link) h0 h1 st c.in-Text.ensures.known c.in-Text.ensures.front c.in-Text.ensures.cause hears cause tells)
 
 -- ---- a text ended the session
 
@@ -65,7 +65,7 @@ returns-in-Some-clause-rests g c = λ talk0 counts0 hours0 conn open_at left act
     let is = g.L.Link.talk c.next.new.self in
     let counts = g.L.Link.counts c.next.new.self in
     subst (λ (end : End). ComesToRest end hub conn open_at left mid.passes talk0 is counts0 counts hours0 h1) (sym c.end_by.ensures)
-    (rest_stopped hub conn open_at left acts ss talk0 counts0 hours0 c.in-Some.stop old.session old.passes mid.passes c.as_slice.result.now c.in-Text.bytes (g.L.Link.talk c.args.link.now) is (g.L.Link.counts c.args.link.now) counts h0 h1 st c.in-Text.ensures.told c.in-Text.ensures.front c.in-Text.ensures.cause c.as_slice.ensures.value (c.in-Some.ensures.stopped conn open_at acts ss st.sits))
+    (rest_stopped hub conn open_at left acts ss talk0 counts0 hours0 c.in-Some.stop old.session old.passes mid.passes c.as_slice.result.now c.in-Text.bytes (g.L.Link.talk c.args.link.now) is (g.L.Link.counts c.args.link.now) counts h0 h1 st c.in-Text.ensures.known c.in-Text.ensures.front c.in-Text.ensures.cause c.as_slice.ensures.value (c.in-Some.ensures.stopped conn open_at acts ss st.sits))
 
 -- ---- nothing had come
 
@@ -89,7 +89,7 @@ returns-in-Quiet-clause-goes_on g c =
     let is = g.L.Link.talk c.catch_up-in-Quiet.new.link in
     if_none_two c.catch_up-in-Quiet.result (g.L.Link.counts c.catch_up-in-Quiet.new.link ≡ g.L.Link.counts c.next.new.self) (TellsAll hub old.session old.passes was is new.passes) _ c.catch_up-in-Quiet.ensures.counts c.catch_up-in-Quiet.ensures.told
     (λ counts tells talk0 counts0 hours0 conn open_at acts ss st.
-    goes_quiet hub conn open_at acts ss talk0 counts0 hours0 old.session new.session old.passes new.passes first was is (g.L.Link.counts c.args.link.now) (g.L.Link.counts c.next.new.self) (g.L.Link.counts c.catch_up-in-Quiet.new.link) (g.C.Clock.hours c.args.clock.now) st c.in-Quiet.ensures.told c.in-Quiet.ensures.front c.in-Quiet.ensures.cause tells c.catch_up-in-Quiet.ensures.same.0 counts)
+    goes_quiet hub conn open_at acts ss talk0 counts0 hours0 old.session new.session old.passes new.passes first was is (g.L.Link.counts c.args.link.now) (g.L.Link.counts c.next.new.self) (g.L.Link.counts c.catch_up-in-Quiet.new.link) (g.C.Clock.hours c.args.clock.now) st c.in-Quiet.ensures.known c.in-Quiet.ensures.front c.in-Quiet.ensures.cause tells c.catch_up-in-Quiet.ensures.same.0 counts)
 
 pub returns-in-Quiet-clause-rests : goal.returns-in-Quiet-clause-rests
 returns-in-Quiet-clause-rests g c =
@@ -101,18 +101,18 @@ returns-in-Quiet-clause-rests g c =
     let is = g.L.Link.talk c.catch_up-in-Quiet.new.link in
     if_some_two c.catch_up-in-Quiet.result (λ end. IsBreak end (g.L.Link.counts c.next.new.self) (g.L.Link.counts c.catch_up-in-Quiet.new.link)) (λ end. TellsSome end hub old.session old.passes was is new.passes) _ c.catch_up-in-Quiet.ensures.cause c.catch_up-in-Quiet.ensures.broke
     (λ end cause tells talk0 counts0 hours0 conn open_at left acts ss st.
-    broke_quiet hub conn open_at left acts ss talk0 counts0 hours0 end old.session old.passes new.passes first was is (g.L.Link.counts c.args.link.now) (g.L.Link.counts c.next.new.self) (g.L.Link.counts c.catch_up-in-Quiet.new.link) (g.C.Clock.hours c.args.clock.now) st c.in-Quiet.ensures.told c.in-Quiet.ensures.front c.in-Quiet.ensures.cause cause tells)
+    broke_quiet hub conn open_at left acts ss talk0 counts0 hours0 end old.session old.passes new.passes first was is (g.L.Link.counts c.args.link.now) (g.L.Link.counts c.next.new.self) (g.L.Link.counts c.catch_up-in-Quiet.new.link) (g.C.Clock.hours c.args.clock.now) st c.in-Quiet.ensures.known c.in-Quiet.ensures.front c.in-Quiet.ensures.cause cause tells)
 
 -- ---- the link ended it
 
 pub returns-in-End-clause-rests : goal.returns-in-End-clause-rests
 returns-in-End-clause-rests g c = λ talk0 counts0 hours0 conn open_at left acts ss st.
-    rest_closed c.args.hub.now conn open_at left acts ss talk0 counts0 hours0 c.args.self.now.session c.args.self.now.passes (g.L.Link.talk c.args.link.now) (g.L.Link.talk c.next.new.self) (g.L.Link.counts c.args.link.now) (g.L.Link.counts c.next.new.self) (g.C.Clock.hours c.args.clock.now) st c.in-End.ensures.told c.in-End.ensures.front c.in-End.ensures.cause
+    rest_closed c.args.hub.now conn open_at left acts ss talk0 counts0 hours0 c.args.self.now.session c.args.self.now.passes (g.L.Link.talk c.args.link.now) (g.L.Link.talk c.next.new.self) (g.L.Link.counts c.args.link.now) (g.L.Link.counts c.next.new.self) (g.C.Clock.hours c.args.clock.now) st c.in-End.ensures.known c.in-End.ensures.front c.in-End.ensures.cause
 
 pub returns-in-Failed-clause-rests : goal.returns-in-Failed-clause-rests
 returns-in-Failed-clause-rests g c = λ talk0 counts0 hours0 conn open_at left acts ss st.
-    rest_failed c.args.hub.now conn open_at left acts ss talk0 counts0 hours0 c.args.self.now.session c.args.self.now.passes (g.L.Link.talk c.args.link.now) (g.L.Link.talk c.next.new.self) (g.L.Link.counts c.args.link.now) (g.L.Link.counts c.next.new.self) (g.C.Clock.hours c.args.clock.now) st c.in-Failed.ensures.told c.in-Failed.ensures.cause
+    rest_failed c.args.hub.now conn open_at left acts ss talk0 counts0 hours0 c.args.self.now.session c.args.self.now.passes (g.L.Link.talk c.args.link.now) (g.L.Link.talk c.next.new.self) (g.L.Link.counts c.args.link.now) (g.L.Link.counts c.next.new.self) (g.C.Clock.hours c.args.clock.now) st c.in-Failed.ensures.known c.in-Failed.ensures.cause
 
 pub returns-in-NoMemory-clause-rests : goal.returns-in-NoMemory-clause-rests
 returns-in-NoMemory-clause-rests g c = λ talk0 counts0 hours0 conn open_at left acts ss st.
-    rest_none c.args.hub.now conn open_at left acts ss talk0 counts0 hours0 c.args.self.now.session c.args.self.now.passes (g.L.Link.talk c.args.link.now) (g.L.Link.talk c.next.new.self) (g.L.Link.counts c.args.link.now) (g.L.Link.counts c.next.new.self) (g.C.Clock.hours c.args.clock.now) st c.in-NoMemory.ensures.told
+    rest_none c.args.hub.now conn open_at left acts ss talk0 counts0 hours0 c.args.self.now.session c.args.self.now.passes (g.L.Link.talk c.args.link.now) (g.L.Link.talk c.next.new.self) (g.L.Link.counts c.args.link.now) (g.L.Link.counts c.next.new.self) (g.C.Clock.hours c.args.clock.now) st c.in-NoMemory.ensures.known
