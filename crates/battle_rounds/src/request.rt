@@ -7,7 +7,7 @@ ghost use Rattle.battle_rounds.specs.Asked.{request_line};
 
 use crate::bout::Bout;
 use ps_base::text::Text;
-use ps_choice::request::{SideNames, request_text};
+use ps_choice::request::{SideNames, request_behind};
 use ps_dex::dex::Dex;
 use ps_hits::scene::side as side_name;
 use ps_view::names::Names;
@@ -30,6 +30,14 @@ pub fn request_line(
         player: names.player(side_name(side)).text().as_str(),
         nicks: names.nicks(side_name(side)),
     };
-    let json = request_text(alloc, &bout.battle, dex, named, side, bout.round)?;
-    Ok(Text::from_string(format!(in alloc; "|request|{json}")?))
+    let line = request_behind(
+        alloc,
+        "|request|",
+        &bout.battle,
+        dex,
+        named,
+        side,
+        bout.round,
+    )?;
+    Ok(Text::from_string(line))
 }

@@ -1,12 +1,13 @@
 //! The texts of a request on the own members.
-ghost use Rattle.std.specs.Prelude.{◌≡◌, ◌<◌, IfOk, string_bytes};
-ghost use Rattle.ps_choice.specs.Shown.{id_of_move, name_of_species, level_part, details, status_part, most_part, health_part, condition, side_id, nick_of, ident};
+ghost use Rattle.std.specs.Prelude.{◌≡◌, ◌++◌, OnOk, string_bytes};
+ghost use Rattle.ps_choice.specs.Shown.{id_of_move, name_of_species, level_part, details, status_part, health_part, condition, side_id, nick_of, ident};
 
 use ps_base::text::Text;
 use ps_dex::item::{MoveItem, SpeciesItem};
 use ps_mon::status::Status;
 use ps_mon::team::Member;
-use std::alloc::{AllocError, Global};
+use std::alloc::AllocError;
+use std::fmt::Write;
 
 /// The id of a move, and `struggle` for each number past the moves.
 pub(crate) fn id_of_move(moves: &[MoveItem], mv: u16) -> &str
@@ -27,27 +28,28 @@ fn name_of_species(species: &[SpeciesItem], number: u16) -> &str
     }
 }
 
-fn level_part(alloc: Global, level: u8) -> Result<String, AllocError>
-    ensures { IfOk result (λ s. string_bytes s ≡ level_part level) }
+fn push_level(text: &mut String, level: u8) -> Result<(), AllocError>
+    ensures { OnOk result (string_bytes text.new ≡ string_bytes text.old ++ level_part level) }
 {
     if level == 100 {
-        return Ok(String::new(alloc));
+        return Ok(());
     }
-    format!(in alloc; ", L{level}")
+    write!(text, ", L{level}")?;
+    Ok(())
 }
 
-/// The species, and the level where it isn't 100.
+/// Puts the species behind a text, and the level where it isn't 100.
 #[tactic(auto, unfolding(crate::specs::Shown::details))]
-pub(crate) fn details(
-    alloc: Global,
+pub(crate) fn push_details(
+    text: &mut String,
     species: &[SpeciesItem],
     m: &Member,
-) -> Result<String, AllocError>
-    ensures { IfOk result (λ s. string_bytes s ≡ details species.now m.now) }
+) -> Result<(), AllocError>
+    ensures { OnOk result (string_bytes text.new ≡ string_bytes text.old ++ details species.now m.now) }
 {
-    let name = name_of_species(species, m.species);
-    let level = level_part(alloc, m.level)?;
-    format!(in alloc; "{name}{level}")
+    text.push_str(name_of_species(species, m.species))?;
+    push_level(text, m.level)?;
+    Ok(())
 }
 
 fn status_part(status: Status) -> &'static str
@@ -64,30 +66,25 @@ fn status_part(status: Status) -> &'static str
     }
 }
 
-fn most_part(alloc: Global, max: u16) -> Result<String, AllocError>
-    ensures { IfOk result (λ s. string_bytes s ≡ most_part max) }
+fn push_health(text: &mut String, hp: u16, max: u16) -> Result<(), AllocError>
+    ensures { OnOk result (string_bytes text.new ≡ string_bytes text.old ++ health_part hp max) }
 {
-    format!(in alloc; "/{max}")
+    write!(text, "{hp}/{max}")?;
+    Ok(())
 }
 
-fn health_part(alloc: Global, hp: u16, max: u16) -> Result<String, AllocError>
-    ensures { IfOk result (λ s. string_bytes s ≡ health_part hp max) }
-{
-    let most = most_part(alloc, max)?;
-    format!(in alloc; "{hp}{most}")
-}
-
-/// The exact health, and the status if there is one; `0 fnt` where it has fainted.
+/// Puts the exact health behind a text, and the status if there is one; `0 fnt` where the member has fainted.
 #[tactic(auto, unfolding(crate::specs::Shown::condition))]
-pub(crate) fn condition(alloc: Global, m: &Member) -> Result<String, AllocError>
-    ensures { IfOk result (λ s. string_bytes s ≡ condition m.now) }
+pub(crate) fn push_condition(text: &mut String, m: &Member) -> Result<(), AllocError>
+    ensures { OnOk result (string_bytes text.new ≡ string_bytes text.old ++ condition m.now) }
 {
     if m.hp == 0 {
-        return String::from_str(alloc, "0 fnt");
+        text.push_str("0 fnt")?;
+        return Ok(());
     }
-    let health = health_part(alloc, m.hp, m.max)?;
-    let status = status_part(m.status);
-    format!(in alloc; "{health}{status}")
+    push_health(text, m.hp, m.max)?;
+    text.push_str(status_part(m.status))?;
+    Ok(())
 }
 
 /// `p1` or `p2`.
@@ -106,16 +103,17 @@ fn nick_of(nicks: &[Text], index: u8) -> &str
     }
 }
 
-/// The side and the nickname of the member at an index of the team.
-pub(crate) fn ident(
-    alloc: Global,
+/// Puts the side and the nickname of the member at an index of the team behind a text.
+pub(crate) fn push_ident(
+    text: &mut String,
     side: u8,
     nicks: &[Text],
     index: u8,
-) -> Result<String, AllocError>
-    ensures { IfOk result (λ s. string_bytes s ≡ ident side (nick_of nicks.now index)) }
+) -> Result<(), AllocError>
+    ensures { OnOk result (string_bytes text.new ≡ string_bytes text.old ++ ident side (nick_of nicks.now index)) }
 {
-    let side = side_id(side);
-    let nick = nick_of(nicks, index);
-    format!(in alloc; "{side}: {nick}")
+    text.push_str(side_id(side))?;
+    text.push_str(": ")?;
+    text.push_str(nick_of(nicks, index))?;
+    Ok(())
 }
