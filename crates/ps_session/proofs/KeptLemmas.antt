@@ -1,5 +1,5 @@
 -- Counts that are settled, with the last that rose.
-use Rattle.std.proofs.Common.{arith, ◌≡◌, ◌<◌, ◌+◌, ◌-◌, ℕ, zero, suc, List, Bool, true, false, cond, Option, Some, None, option_map, refl, sym, ap, ◌∙◌, unwrap_or}
+use Rattle.std.proofs.Common.{arith, ◌≡◌, ◌<◌, ◌+◌, ◌-◌, ℕ, zero, suc, List, [], Bool, true, false, cond, Option, Some, None, option_map, refl, sym, ap, subst, ◌∙◌, unwrap_or}
 use Rattle.std.specs.Ordering.{nat_cmp}
 use Rattle.std.specs.Str.{bytes_eq}
 use Rattle.std.specs.Cmp.Lexicographic.{slice_cmp, nat_list_cmp_total}
@@ -8,7 +8,7 @@ use Rattle.std.proofs.lemmas.Slice.Eq.{bytes_eq-Decides}
 use Rattle.ps_base.specs.ById.{ById}
 use Rattle.ps_base.proofs.ByIdLemmas.{turned}
 use Rattle.ps_session.specs.Counts.{count_in, with_left, lowered, joined_left, without_last}
-use Rattle.ps_session.specs.Kept.{counts_of, with_risen, joined_without, some_texts, IsRisen, IsLast, HasNoZero}
+use Rattle.ps_session.specs.Kept.{counts_of, last_id, risen_to, with_risen, joined_without, some_texts, IsRisen, IsLast, HasNoZero}
 use Rattle.ps_session.specs.declared.room_counts.Risen.{Risen}
 
 -- a count in the map with one more, by the texts of the ids
@@ -79,3 +79,9 @@ without_risen m joined (Some risen) is =
 pub get_risen : (m : ById ℕ) (last : Option Risen) (risen : Risen) (id : List ℕ) (b : Bool) → last ≡ Some risen → bytes_eq risen.id id ≡ b → get (with_risen last m) id ≡ cond b (Some risen.count) (get m id)
 get_risen m last risen id b e t =
     ap (λ (l : Option Risen). get (with_risen l m) id) e ∙ get_put m risen.id risen.count id ∙ ap (λ (b : Bool). cond b (Some risen.count) (get m id)) t
+
+-- the count that rose last rises again
+pub raised_last : (m : ById ℕ) (last new : Option Risen) (id : List ℕ) (count : ℕ) → last_id last ≡ Some id → new ≡ risen_to count last → IsRisen m record { id = id; count = count } → IsLast m new
+raised_last m None new id count of is risen = absurd (let wrong : None ≡ Some id = of in cc)
+raised_last m (Some old) new id count of is risen =
+    subst (IsLast m) (sym (is ∙ ap (λ (o : Option (List ℕ)). Some (record { id = unwrap_or o []; count = count })) of)) risen

@@ -11,8 +11,16 @@ abbrev pub with_risen : Option Risen → ById ℕ → ById ℕ
 with_risen None settled = settled
 with_risen (Some risen) settled = insert settled risen.id risen.count
 
+-- the room of the count that rose last
+abbrev pub last_id : Option Risen → Option (List ℕ)
+last_id last = option_map (λ risen. risen.id) last
+
+-- with another count
+abbrev pub risen_to : ℕ → Option Risen → Option Risen
+risen_to count last = option_map (λ risen. record { id = risen.id; count = count }) last
+
 abbrev pub counts_of : ById ℕ → ℕ → Option Risen → Counts
-counts_of settled joined last = record { rooms = with_risen last settled; joined = joined; last = option_map (λ risen. risen.id) last }
+counts_of settled joined last = record { rooms = with_risen last settled; joined = joined; last = last_id last }
 
 -- how many rooms have a text once the last is taken back
 abbrev pub joined_without : Option Risen → ℕ → ℕ

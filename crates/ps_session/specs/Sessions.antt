@@ -61,3 +61,7 @@ uncounted (Some id) r = record { conn = r.conn; badge = r.badge; hall = r.hall; 
 -- the record once a badge is known
 abbrev pub with_badge : Badge → Record → Record
 with_badge badge r = record { conn = r.conn; badge = Some badge; hall = r.hall; rooms = r.rooms; joined = r.joined; last = r.last }
+
+-- and while it is lent out
+abbrev pub without_badge : Record → Record
+without_badge r = record { conn = r.conn; badge = None; hall = r.hall; rooms = r.rooms; joined = r.joined; last = r.last }

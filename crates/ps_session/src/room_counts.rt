@@ -1,8 +1,8 @@
 //! How many texts were given to each room.
-ghost use Rattle.std.specs.Prelude.{◌≡◌, ◌<◌, ◌+◌, ◌^◌, None, Some, OnOk, OnErr};
-ghost use Rattle.std.specs.FinMap.{get};
+ghost use Rattle.std.specs.Prelude.{◌≡◌, ◌<◌, ◌+◌, ◌^◌, None, Some, IsTrue, OnOk, OnErr};
+ghost use Rattle.std.specs.FinMap.{get, insert};
 ghost use Rattle.ps_session.specs.Counts.{no_counts, count_in, raised, joined_with, joined_left, without_last};
-ghost use Rattle.ps_session.specs.Kept.{with_risen, joined_without};
+ghost use Rattle.ps_session.specs.Kept.{with_risen, joined_without, last_id, risen_to};
 
 use ps_base::id_map::IdMap;
 use ps_base::text::Text;
@@ -40,6 +40,17 @@ impl Model for RoomCounts {
     ghost invariant = { λ c. HasNoZero c.settled × IsLast c.settled c.last };
 }
 
+// Puts a count into the map. A room that is there already needs no memory. Where memory fails nothing changes.
+fn set(alloc: Global, settled: &mut IdMap<u32>, id: &str, count: u32) -> Result<(), AllocError>
+    ensures ok { OnOk result (settled.new ≡ insert settled.old id.now count) }
+    ensures err { OnErr result (settled.new ≡ settled.old) }
+{
+    match settled.replace(id, count) {
+        Some(_) => Ok(()),
+        None => settled.insert(alloc, id, count),
+    }
+}
+
 /// Puts the count that rose last into the map. Where memory fails nothing changes.
 fn settle(alloc: Global, settled: &mut IdMap<u32>, last: &Option<Risen>) -> Result<(), AllocError>
     ensures ok { OnOk result (settled.new ≡ with_risen last.now settled.old) }
@@ -47,7 +58,26 @@ fn settle(alloc: Global, settled: &mut IdMap<u32>, last: &Option<Risen>) -> Resu
 {
     match last {
         None => Ok(()),
-        Some(risen) => settled.insert(alloc, risen.id.as_str(), risen.count),
+        Some(risen) => set(alloc, settled, risen.id.as_str(), risen.count),
+    }
+}
+
+// Whether the count that rose last is that of this room.
+fn is_last(last: &Option<Risen>, id: &str) -> bool
+    ensures { IsTrue result → last_id last.now ≡ Some id.now }
+{
+    match last {
+        None => false,
+        Some(risen) => risen.id.as_str() == id,
+    }
+}
+
+// Gives the count that rose last another value.
+fn raise(last: &mut Option<Risen>, count: u32)
+    ensures { last.new ≡ risen_to count last.old }
+{
+    if let Some(risen) = last {
+        risen.count = count;
     }
 }
 
@@ -116,15 +146,22 @@ impl RoomCounts {
     }
 
     /// Counts a text to a room. Where memory fails nothing changes.
-    pub(crate) fn count(&mut self, alloc: Global, id: Text) -> Result<(), AllocError>
-        requires few { count_in id self.old.rooms + 1 < 2 ^ 32 }
-        requires fit { get self.old.rooms id ≡ None → self.old.joined + 1 < 2 ^ 32 }
-        ensures ok { OnOk result (self.new ≡ record { rooms = raised id self.old.rooms; joined = joined_with (get self.old.rooms id) self.old.joined; last = Some id }) }
+    pub(crate) fn count(&mut self, alloc: Global, id: &str) -> Result<(), AllocError>
+        requires few { count_in id.now self.old.rooms + 1 < 2 ^ 32 }
+        requires fit { get self.old.rooms id.now ≡ None → self.old.joined + 1 < 2 ^ 32 }
+        ensures ok { OnOk result (self.new ≡ record { rooms = raised id.now self.old.rooms; joined = joined_with (get self.old.rooms id.now) self.old.joined; last = Some id.now }) }
         ensures err { OnErr result (self.new ≡ self.old) }
     {
-        let so_far = self.get(id.as_str());
+        let so_far = self.get(id);
         let count = so_far.unwrap_or(0) + 1;
         let joined = joined_with(so_far, self.joined);
+        if is_last(&self.last, id) {
+            settle(alloc, &mut self.settled, &self.last)?;
+            raise(&mut self.last, count);
+            self.joined = joined;
+            return Ok(());
+        }
+        let id = Text::copy_of(alloc, id)?;
         settle(alloc, &mut self.settled, &self.last)?;
         self.last = Some(Risen { id, count });
         self.joined = joined;

@@ -3,7 +3,7 @@ ghost use Rattle.std.specs.Prelude.{◌≡◌, false, true, is_some, None, Some,
 ghost use Rattle.std.specs.Option.{option_copied};
 ghost use Rattle.ps_lines.specs.Commands.{command};
 ghost use Rattle.ps_session.specs.Counts.{count_in};
-ghost use Rattle.ps_session.specs.Sessions.{begun, is_full, is_past_rooms, counted, with_badge};
+ghost use Rattle.ps_session.specs.Sessions.{begun, is_full, is_past_rooms, counted, with_badge, without_badge};
 ghost use Rattle.ps_session.specs.Routes.{bad_order, room_named, room_refusal, to_room, by_command, order_of, place_of, taken, IsTakeFault, no_room, after_no_room, Fits};
 ghost use Rattle.ps_session.specs.Texts.{texts_of};
 ghost use Rattle.ps_session.specs.declared.session.TakeFault.TheVariants.{Limit, NoMemory};
@@ -131,6 +131,14 @@ impl Session {
         self.badge = Some(badge);
     }
 
+    /// Lends the badge out: `named` is to give it back. Takes no memory.
+    pub fn take_badge(&mut self) -> Option<Badge>
+        ensures badge { result ≡ self.old.badge }
+        ensures after { self.new ≡ without_badge self.old }
+    {
+        self.badge.take()
+    }
+
     // Whether a room would be one more than a connection may have.
     fn is_past_rooms(&self, id: &str) -> bool
         ensures { result ≡ is_past_rooms id.now self.now }
@@ -236,10 +244,7 @@ impl Session {
                 self.hall = self.hall + 1;
                 Ok(())
             }
-            Order::Room { id, .. } => {
-                let id = id.copy(alloc)?;
-                self.rooms.count(alloc, id)
-            }
+            Order::Room { id, .. } => self.rooms.count(alloc, id.as_str()),
         }
     }
 
