@@ -55,3 +55,32 @@ pub breaks_at_other : (xs : List ℕ) (b : ℕ) → (b ≡ 10 → ⊥) → break
 breaks_at_other xs b e =
     let test : (b == 10) ≡ false = grind (arith, nat_tests) in
     breaks_of_more xs b ∙ rw test refl
+
+-- ---- a whole piece
+
+count_by : (n : ℕ) (xs : List ℕ) (t : Bool) → ((k : ℕ) → breaks_from k xs ≡ k + breaks_of xs) → breaks_from (cond t (n + 1) n) xs ≡ n + breaks_from (cond t (0 + 1) 0) xs
+count_by n xs true more = more (n + 1) ∙ omega (arith, more 1)
+count_by n xs false more = more n
+
+count_from : (n : ℕ) (xs : List ℕ) → breaks_from n xs ≡ n + breaks_of xs
+count_from n [] = sym (add-zero n)
+count_from n (x ∷ xs) = count_by n xs (x == 10) (λ k. count_from k xs)
+
+few_by : (breaks : ℕ) (bs : List ℕ) (t : Bool) → breaks + breaks_from (cond t (0 + 1) 0) bs < 200000 → cond t (breaks + 1) breaks + breaks_of bs < 200000
+few_by breaks bs true h = omega (arith, h, count_from 1 bs)
+few_by breaks bs false h = h
+
+short_from : (size breaks : ℕ) (piece : List ℕ) → breaks + breaks_of piece < 200000 → size + length piece ≤ 16777216 → long_from size breaks piece ≡ None
+short_from size breaks [] few small = refl
+short_from size breaks (b ∷ bs) few small =
+    let next : cond (b == 10) (breaks + 1) breaks + breaks_of bs < 200000 = few_by breaks bs (b == 10) few in
+    let lines : nat_le 200000 breaks ≡ false = grind (arith, nat_tests) in
+    let bytes : nat_le 16777216 size ≡ false = grind (arith, nat_tests) in
+    rw (lines, bytes) (short_from (size + 1) (cond (b == 10) (breaks + 1) breaks) bs next (omega (arith, small)))
+
+-- what is taken of it passes no limit
+pub short_piece : (xs piece : List ℕ) → long_of xs ≡ None → breaks_of xs + breaks_of piece < 200000 → length xs + length piece ≤ 16777216 → long_of (xs ++ piece) ≡ None
+short_piece xs piece none few small = long_from-append 0 0 xs piece none ∙ short_from (0 + length xs) (breaks_of xs) piece few (omega (arith, small))
+
+pub breaks_of_piece : (xs piece : List ℕ) → breaks_of (xs ++ piece) ≡ breaks_of xs + breaks_of piece
+breaks_of_piece xs piece = breaks_from-append 0 xs piece ∙ count_from (breaks_of xs) piece

@@ -5,7 +5,7 @@ ghost use Rattle.ps_outside.specs.Causes.{Rose};
 ghost use Rattle.replay_script.specs.Limits.{long_of, breaks_of, ReadsFew};
 
 use ps_outside::source::Source;
-use std::alloc::{AllocError, AllocFailed, Global};
+use std::alloc::{AllocError, Global};
 
 /// The most bytes of an input.
 pub const MOST_BYTES: usize = 16_777_216;
@@ -24,8 +24,8 @@ pub enum InputEnd {
     NoMemory,
 }
 
-// Takes a piece of the input, and tells the count that passed its limit, if one did.
-fn take(bytes: &mut Vec<u8>, breaks: &mut u32, piece: &[u8]) -> Result<Option<u32>, AllocFailed<u8>>
+// Takes a piece byte by byte.
+fn take_each(bytes: &mut Vec<u8>, breaks: &mut u32, piece: &[u8]) -> Result<Option<u32>, AllocError>
     requires so_far { long_of bytes.old.items ≡ None }
     requires counted { breaks.old ≡ breaks_of bytes.old.items }
     requires few { breaks.old ≤ 200000 }
@@ -50,6 +50,44 @@ fn take(bytes: &mut Vec<u8>, breaks: &mut u32, piece: &[u8]) -> Result<Option<u3
         }
     }
     Ok(None)
+}
+
+// How many newlines there are.
+fn breaks_in(piece: &[u8]) -> usize
+    ensures count { result ≡ breaks_of piece.now }
+    ensures few { result ≤ length piece.now }
+{
+    let mut breaks = 0;
+    for b in piece {
+        if *b == b'\n' {
+            breaks += 1;
+        }
+    }
+    breaks
+}
+
+// Takes a piece of the input, and tells the count that passed its limit, if one did. A piece that is far from the limits is
+// taken at once.
+#[tactic(auto, using(crate::proofs::LimitLemmas::short_piece, crate::proofs::LimitLemmas::breaks_of_piece))]
+fn take(bytes: &mut Vec<u8>, breaks: &mut u32, piece: &[u8]) -> Result<Option<u32>, AllocError>
+    requires so_far { long_of bytes.old.items ≡ None }
+    requires counted { breaks.old ≡ breaks_of bytes.old.items }
+    requires few { breaks.old ≤ 200000 }
+    requires small { length bytes.old.items ≤ 16777216 }
+    ensures within { result ≡ Ok None → bytes.new.items ≡ bytes.old.items ++ piece.now }
+    ensures short { result ≡ Ok None → long_of bytes.new.items ≡ None }
+    ensures counted { result ≡ Ok None → breaks.new ≡ breaks_of bytes.new.items }
+    ensures few { result ≡ Ok None → breaks.new ≤ 200000 }
+    ensures small { result ≡ Ok None → length bytes.new.items ≤ 16777216 }
+    ensures long { IfOk result (λ o. IfSome o (λ count. long_of (bytes.old.items ++ piece.now) ≡ Some count)) }
+{
+    let more = breaks_in(piece);
+    if more < (MOST_LINES - *breaks) as usize && piece.len() <= MOST_BYTES - bytes.len() {
+        bytes.extend_from_slice(piece)?;
+        *breaks += more as u32;
+        return Ok(None);
+    }
+    take_each(bytes, breaks, piece)
 }
 
 /// Reads a source to its end. It reads at most one byte more than the limit.

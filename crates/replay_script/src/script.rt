@@ -7,6 +7,7 @@ ghost use Rattle.replay_script.specs.Ends.{EndsLine, EndsScript, IsNoScript};
 ghost use Rattle.replay_script.specs.declared.item.Item.{Item};
 
 use crate::item::{self, Item};
+use memchr::memchr;
 use ps_base::limit::MOST_TEXT;
 use ps_base::number::{ConnNo, Moment};
 use std::alloc::{AllocError, AllocFailed, Global};
@@ -197,12 +198,10 @@ fn newline(bytes: &[u8]) -> usize
     ensures before { (k : ℕ) → k < result → slice_index bytes.now k ≢ 10 }
     ensures found { result < length bytes.now → slice_index bytes.now result ≡ 10 }
 {
-    for (i, b) in bytes.iter().enumerate() {
-        if *b == b'\n' {
-            return i;
-        }
+    match memchr(b'\n', bytes) {
+        None => bytes.len(),
+        Some(index) => index,
     }
-    bytes.len()
 }
 
 // The first line, and what stands behind its newline.

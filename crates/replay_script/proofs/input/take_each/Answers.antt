@@ -2,8 +2,8 @@ use Rattle.std.proofs.Common.{◌≡◌, ◌+◌, ◌<◌, ℕ, ◌∷◌, [], �
 use Rattle.std.proofs.lemmas.List.{drop_more, take_more, take-append-drop, length-append}
 use Rattle.replay_script.specs.Limits.{breaks_of}
 use Rattle.replay_script.proofs.LimitLemmas.{past_lines, past_bytes, long_of_more, breaks_at_newline, breaks_at_other}
-use Rattle.replay_script.proofs.input.take.Goals as goal
-use Rattle.replay_script.proofs.input.take.Goals.{then-b-eq10, else-b-eq10}
+use Rattle.replay_script.proofs.input.take_each.Goals as goal
+use Rattle.replay_script.proofs.input.take_each.Goals.{then-b-eq10, else-b-eq10}
 
 at_index : (old piece now : List ℕ) (i : ℕ) → now ≡ old ++ take i piece → i < length piece → old ++ piece ≡ now ++ get_or piece i 0 ∷ drop (i + 1) piece
 at_index old piece now i e lt =

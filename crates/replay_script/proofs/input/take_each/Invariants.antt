@@ -1,6 +1,6 @@
 use Rattle.std.proofs.Common.{◌≡◌, ◌≤◌, ◌++◌, take, length, None}
 use Rattle.replay_script.specs.Limits.{long_of, breaks_of}
-use Rattle.replay_script.proofs.input.take.Given as goal
+use Rattle.replay_script.proofs.input.take_each.Given as goal
 
 abbrev pub invariant-loop-b : goal.invariant-loop-b
 invariant-loop-b l = record {
