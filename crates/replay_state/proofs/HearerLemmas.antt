@@ -1,5 +1,5 @@
 -- Who hears what an entry prints: all others are sent nothing at it.
-use Rattle.std.proofs.Common.{◌≡◌, ℕ, zero, suc, ◌<◌, ◌≤◌, Bool, true, false, List, [], ◌∷◌, ◌++◌, ◌||◌, length, get_or, map, filter_map, codes, nat_lt, nat_le, if◌then◌else◌, ◌==◌, Option, None, Some, refl, sym, ap, ◌∙◌, append_assoc, append-nil, arith, rules, inl, inr, lt-ltb, le-ltb, lt_irrefl, IsSorted, IsPermutation, nat_cmp}
+use Rattle.std.proofs.Common.{◌≡◌, ℕ, zero, suc, ◌<◌, ◌≤◌, Bool, true, false, List, [], ◌∷◌, ◌++◌, ◌||◌, length, get_or, map, filter_map, codes, nat_lt, nat_le, if◌then◌else◌, ◌==◌, Option, None, Some, refl, sym, ap, subst, ◌∙◌, append_assoc, append-nil, arith, rules, inl, inr, lt-ltb, le-ltb, lt_irrefl, IsSorted, IsPermutation, nat_cmp}
 use Rattle.std.specs.List.{list_any}
 use Rattle.std.specs.List.Sorted.{IsNonDecreasing}
 use Rattle.std.specs.Fmt.{decimal}
@@ -14,15 +14,20 @@ use Rattle.ps_event.specs.declared.audience.Audience.{Audience}
 use Rattle.ps_event.specs.declared.audience.Audience.TheVariants as audiences
 use Rattle.ps_hall.specs.declared.notice.Notice.{Notice}
 use Rattle.ps_hall.specs.Halls as halls
-use Rattle.ps_room.specs.Logs.{Seen, conn_of, record_in}
-use Rattle.ps_room.specs.Records.{presents_of, cast_in}
+use Rattle.ps_base.specs.declared.why.Why.{Why}
+use Rattle.ps_lines.specs.declared.command.Command.{Command}
+use Rattle.ps_lines.specs.declared.command.Command.TheVariants.{Join, Leave, Quit, Say, Announce, Modnote, Warn, Mute, Unmute, Ban, Unban, Promote, Modchat, Choose, Undo, Forfeit}
+use Rattle.ps_room.specs.declared.entry.Entry.{Entry}
+use Rattle.ps_room.specs.Logs.{Seen, conn_of, record_in, seen_after, touched_by, touched_if, change_to}
+use Rattle.ps_room.proofs.RoleLemmas.{role_next}
+use Rattle.ps_room.specs.Records.{Record, presents_of, cast_in}
 use Rattle.ps_room.specs.Roles.{role_of, role_of_member}
-use Rattle.ps_room.specs.Rooms.{role, role_in}
+use Rattle.ps_room.specs.Rooms.{role, role_in, after, verdict}
 use Rattle.ps_splitlog.specs.declared.entry.LogEntry.{LogEntry}
 use Rattle.ps_splitlog.specs.declared.entry.Joined.{Joined}
 use Rattle.ps_splitlog.specs.declared.stored.Stored.{Stored}
 use Rattle.ps_splitlog.specs.declared.stored.Stored.TheVariants.{Same, Split}
-use Rattle.ps_splitlog.specs.Entries.{join_for, logged_lines}
+use Rattle.ps_splitlog.specs.Entries.{changed, join_for, logged_lines}
 use Rattle.ps_splitlog.specs.Lines.{shown, shown_lines}
 use Rattle.ps_splitlog.proofs.MessageLemmas.{plain_message}
 use Rattle.ps_view.specs.declared.role.Role.{Role}
@@ -30,7 +35,9 @@ use Rattle.ps_view.specs.declared.role.Role.TheVariants.{Outside}
 use Rattle.ps_view.specs.Roles.{is_member}
 use Rattle.replay_state.specs.Houses.{own_conn, room_hearers, notice_hearers, next_message, text_for_all, common_of, common_line, common_unless, common_text}
 use Rattle.replay_state.specs.Transcript.{printed, with_id}
-use Rattle.replay_state.specs.Tables.{each_of, both_behind, place_end, further_end}
+use Rattle.replay_state.specs.Tables.{each_of}
+use Rattle.replay_state.specs.Heads.{head_text, head_of, each_headed, HasHeads, AreReady, changes_members, still_ready}
+use Rattle.replay_state.specs.declared.heads.Head.{Head}
 
 -- ---- numbers that are taken in order
 
@@ -110,6 +117,11 @@ each_heard : (f : ℕ → List ℕ) (n : ℕ) (who conns : List ℕ) → IsPermu
 each_heard f n who conns same sorted silent =
     each_is f n zero conns (IsNonDecreasingBy-from_sort (λ x. x) conns sorted) (λ k low high out. silent k (list_any-IsPermutation (λ n. n == k) who conns same ∙ out))
     ∙ all_past f n
+
+-- where it tells nothing of all that aren't among these
+each_silent : (f : ℕ → List ℕ) (n : ℕ) (conns : List ℕ) → IsSorted nat_cmp conns → ((k : ℕ) → is_among k conns ≡ false → f k ≡ []) → each_of f n zero conns ≡ each_to f n
+each_silent f n conns sorted silent =
+    each_is f n zero conns (IsNonDecreasingBy-from_sort (λ x. x) conns sorted) (λ k low high out. silent k out) ∙ all_past f n
 
 -- ---- who isn't among the hearers
 
@@ -244,22 +256,95 @@ common_message k s h t is =
     plain_message k (role k (record_in s)) (logged_lines s.log) h (nobody_joins (k == h.conn) h.join parts.0)
     ∙ common_shown k (role k (record_in s)) h.lines t parts.1
 
-both_flat : (d a i n b l : List ℕ) → d ++ (a ++ i ++ n) ++ d ++ (b ++ l ++ n) ≡ (d ++ a ++ i ++ n) ++ ((d ++ b ++ l ++ n) ++ [])
-both_flat d a i n b l = search (rules, append_assoc, append-nil)
+-- ---- heads
 
-both_printed : (k : ℕ) (id line : List ℕ) → both_behind (place_end id) (further_end line) k ≡ printed k (with_id (Some id) (line ∷ []))
-both_printed k id line = both_flat (decimal k) (codes "< ") (codes ">" ++ id) (10 ∷ []) (codes ". ") line
+head_flat : (d f a i n b l : List ℕ) → (d ++ (f ++ a) ++ i ++ n ++ d ++ b) ++ (l ++ n) ≡ (d ++ f ++ (a ++ i) ++ n) ++ ((d ++ b ++ l ++ n) ++ [])
+head_flat d f a i n b l = search (rules, append_assoc, append-nil)
 
-to_members : (k : ℕ) (s : Seen) (h : LogEntry) (t : List ℕ) → common_text h ≡ Some t → is_among k (map conn_of (presents_of (record_in s))) ≡ true
-    → both_behind (place_end s.id) (further_end t) k ≡ printed k (with_id (Some s.id) (next_message k s h))
-to_members k s h t is there =
-    let shown : next_message k s h ≡ t ∷ [] = common_message k s h t is ∙ ap (λ (b : Bool). if b then t ∷ [] else []) (inside k s there) in
-    both_printed k s.id t ∙ ap (λ (ls : List (List ℕ)). printed k (with_id (Some s.id) ls)) (sym shown)
+head_printed : (k : ℕ) (id line : List ℕ) → head_text id k ++ (line ++ 10 ∷ []) ≡ printed k (with_id (Some id) (line ∷ []))
+head_printed k id line = head_flat (decimal k) (codes "< ") (codes ">") id (10 ∷ []) (codes ". ") line
 
-to_others : (k : ℕ) (s : Seen) (h : LogEntry) (t : List ℕ) → common_text h ≡ Some t → is_among k (map conn_of (presents_of (record_in s))) ≡ false
-    → printed k (with_id (Some s.id) (next_message k s h)) ≡ []
-to_others k s h t is out =
-    ap (λ (ls : List (List ℕ)). printed k (with_id (Some s.id) ls)) (common_message k s h t is ∙ ap (λ (r : Role). lines_for r t) (outside k s out))
+headed_is : (id end : List ℕ) (n last : ℕ) (conns : List ℕ) → each_headed end n last (map (head_of id) conns) ≡ each_of (λ conn. head_text id conn ++ end) n last conns
+headed_is id end n last [] = refl
+headed_is id end n last (conn ∷ conns) = rw (headed_is id end n conn conns) (rw (headed_is id end n last conns) refl)
+
+no_lines : (k : ℕ) (id : List ℕ) (r : Role) (t : List ℕ) → is_member r ≡ false → printed k (with_id (Some id) (lines_for r t)) ≡ []
+no_lines k id r t out = rw out refl
+
+one_line : (k : ℕ) (id : List ℕ) (r : Role) (t : List ℕ) → is_member r ≡ true → printed k (with_id (Some id) (lines_for r t)) ≡ head_text id k ++ (t ++ 10 ∷ [])
+one_line k id r t full = rw full (sym (head_printed k id t))
+
+-- what a line prints behind the heads of the members is what is printed for all
+pub all_headed : (s : Seen) (h : LogEntry) (t : List ℕ) (count : ℕ) (heads : List Head) → common_text h ≡ Some t → HasHeads s heads
+    → each_headed (t ++ 10 ∷ []) count 0 heads ≡ each_to (λ conn. printed conn (with_id (Some s.id) (next_message conn s h))) count
+all_headed s h t count heads is ready =
+    let told : (k : ℕ) → printed k (with_id (Some s.id) (next_message k s h)) ≡ printed k (with_id (Some s.id) (lines_for (role k (record_in s)) t)) =
+    λ k. ap (λ (ls : List (List ℕ)). printed k (with_id (Some s.id) ls)) (common_message k s h t is) in
+    ap (each_headed (t ++ 10 ∷ []) count 0) ready.heads_are
+    ∙ headed_is s.id (t ++ 10 ∷ []) count 0 ready.conns
+    ∙ each_same (λ conn. head_text s.id conn ++ (t ++ 10 ∷ [])) (λ conn. printed conn (with_id (Some s.id) (next_message conn s h))) count 0 ready.conns
+    (λ k there. sym (told k ∙ one_line k s.id (role k (record_in s)) t (sym (ready.members k) ∙ there)))
+    ∙ each_silent (λ conn. printed conn (with_id (Some s.id) (next_message conn s h))) count ready.conns ready.sorted
+    (λ k out. told k ∙ no_lines k s.id (role k (record_in s)) t (sym (ready.members k) ∙ out))
+
+-- the heads of the members are ready,
+pub made : (s : Seen) (heads : List Head) (conns : List ℕ) → heads ≡ map (head_of s.id) conns → IsPermutation (map conn_of (presents_of (record_in s))) conns → IsSorted nat_cmp conns → HasHeads s heads
+made s heads conns are same sorted = record {
+  conns = conns;
+  heads_are = are;
+  sorted = sorted;
+  members = λ k. by k (is_among k (map conn_of (presents_of (record_in s)))) refl;
+}
+  where
+    by : (k : ℕ) (b : Bool) → is_among k (map conn_of (presents_of (record_in s))) ≡ b → is_among k conns ≡ is_member (role k (record_in s))
+    by k true there = sym (list_any-IsPermutation (λ n. n == k) (map conn_of (presents_of (record_in s))) conns same) ∙ there ∙ sym (inside k s there)
+    by k false out = sym (list_any-IsPermutation (λ n. n == k) (map conn_of (presents_of (record_in s))) conns same) ∙ out ∙ sym (ap is_member (outside k s out))
+
+-- and are so after an entry that changes no member
+untouched_by_cmd : (cmd : Command) (ps : List Present) (conn : ℕ) → changes_members cmd ≡ false → touched_by cmd ps conn ≡ []
+untouched_by_cmd (Join room) ps conn not = absurd cc
+untouched_by_cmd Leave ps conn not = absurd cc
+untouched_by_cmd Quit ps conn not = absurd cc
+untouched_by_cmd (Ban id reason) ps conn not = absurd cc
+untouched_by_cmd (Promote id symbol) ps conn not = absurd cc
+untouched_by_cmd (Say text) ps conn not = refl
+untouched_by_cmd (Announce text) ps conn not = refl
+untouched_by_cmd (Modnote text) ps conn not = refl
+untouched_by_cmd (Warn id reason) ps conn not = refl
+untouched_by_cmd (Mute id reason) ps conn not = refl
+untouched_by_cmd (Unmute id) ps conn not = refl
+untouched_by_cmd (Unban id) ps conn not = refl
+untouched_by_cmd (Modchat symbol) ps conn not = refl
+untouched_by_cmd (Choose choice rqid) ps conn not = refl
+untouched_by_cmd Undo ps conn not = refl
+untouched_by_cmd Forfeit ps conn not = refl
+
+untouched_if : (why : Option Why) (r : Record) (e : Entry) → changes_members e.cmd ≡ false → touched_if why r e ≡ []
+untouched_if (Some why) r e not = refl
+untouched_if None r e not = untouched_by_cmd e.cmd (presents_of r) e.conn not
+
+still_role : (k : ℕ) (s : Seen) (e : Entry) → changes_members e.cmd ≡ false → role k (record_in s) ≡ role k (record_in (seen_after s e))
+unfolding role_in
+still_role k s e not =
+    ap (λ (cs : List ℕ). changed k (map (change_to (after (record_in s) e)) cs) (role k (record_in s))) (sym (untouched_if (verdict (record_in s) e) (record_in s) e not))
+    ∙ role_next k (record_in s) e
+
+still_has : (s : Seen) (e : Entry) (heads : List Head) → changes_members e.cmd ≡ false → HasHeads s heads → HasHeads (seen_after s e) heads
+still_has s e heads not ready = record {
+  conns = ready.conns;
+  heads_are = ready.heads_are;
+  sorted = ready.sorted;
+  members = λ k. ready.members k ∙ ap is_member (still_role k s e not);
+}
+
+still_by : (s : Seen) (e : Entry) (ready : Bool) (heads : List Head) (b : Bool) → changes_members e.cmd ≡ b → AreReady s ready heads → (if b then false else ready) ≡ true → HasHeads (seen_after s e) heads
+still_by s e ready heads true is old now = absurd cc
+still_by s e ready heads false is old now = still_has s e heads is (old.are now)
+
+pub still : (s new : Seen) (e : Entry) (ready now : Bool) (heads : List Head) → new ≡ seen_after s e → now ≡ still_ready ready e.cmd → AreReady s ready heads → AreReady new now heads
+still s new e ready now heads is said old = record {
+  are = λ t. subst (λ (x : Seen). HasHeads x heads) (sym is) (still_by s e ready heads (changes_members e.cmd) refl old (sym said ∙ t));
+}
 
 -- ---- what is printed for them is what is printed for all
 
@@ -274,11 +359,3 @@ pub all_told : (ns : List Notice) (count : ℕ) (conns : List ℕ) → IsPermuta
 all_told ns count conns same sorted =
     each_heard (λ conn. printed conn (with_id None (halls.message_of conn ns))) count (notice_hearers ns) conns same sorted
     (λ k out. ap (λ (ls : List (List ℕ)). printed k (with_id None ls)) (no_notice k ns out))
-
-pub all_common : (s : Seen) (h : LogEntry) (t : List ℕ) (count : ℕ) (conns : List ℕ) → common_text h ≡ Some t → IsPermutation (map conn_of (presents_of (record_in s))) conns → IsSorted nat_cmp conns
-    → each_of (both_behind (place_end s.id) (further_end t)) count 0 conns ≡ each_to (λ conn. printed conn (with_id (Some s.id) (next_message conn s h))) count
-all_common s h t count conns is same sorted =
-    let members : List ℕ = map conn_of (presents_of (record_in s)) in
-    each_same (both_behind (place_end s.id) (further_end t)) (λ conn. printed conn (with_id (Some s.id) (next_message conn s h))) count zero conns
-    (λ k there. to_members k s h t is (list_any-IsPermutation (λ n. n == k) members conns same ∙ there))
-    ∙ each_heard (λ conn. printed conn (with_id (Some s.id) (next_message conn s h))) count members conns same sorted (λ k out. to_others k s h t is out)

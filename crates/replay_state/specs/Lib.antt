@@ -1,5 +1,6 @@
 pub mod Setup
 pub mod Worlds
+pub mod Heads
 pub mod Houses
 pub mod Nows
 pub mod Entries

@@ -1,7 +1,6 @@
 -- What a replay prints and counts line by line, by the state that its code keeps in the place of histories. No statement of the top call
 -- rests on this file.
 use Rattle.std.specs.Prelude.{ℕ, ◌+◌, ◌&&◌, Bool, List, [], ◌∷◌, ◌++◌, length, codes, nat_lt, nat_le, if◌then◌else◌}
-use Rattle.std.specs.Fmt.{decimal}
 use Rattle.replay_script.specs.declared.item.Item.{Item}
 use Rattle.replay_state.specs.declared.place.Placed.{Placed}
 use Rattle.replay_state.specs.declared.place.Happening.{Happening}
@@ -44,17 +43,6 @@ first_behind digits line = digits ++ codes "< " ++ line ++ 10 ∷ []
 
 abbrev pub further_behind : List ℕ → List ℕ → List ℕ
 further_behind digits line = digits ++ codes ". " ++ line ++ 10 ∷ []
-
--- the lines of a message of two, each of which ends so behind the digits of its connection
-abbrev pub both_behind : List ℕ → List ℕ → ℕ → List ℕ
-both_behind first second conn = decimal conn ++ first ++ decimal conn ++ second
-
--- what of them is the same for all connections: behind no digits, the line of a room's id, and a further line
-abbrev pub place_end : List ℕ → List ℕ
-place_end id = first_behind [] (codes ">" ++ id)
-
-abbrev pub further_end : List ℕ → List ℕ
-further_end line = further_behind [] line
 
 -- what is printed for a connection at an entry
 abbrev pub printed_for : House → Placed → ℕ → List ℕ

@@ -19,6 +19,7 @@ ghost use Rattle.replay_state.specs.Tables.{entry_text, one_more};
 
 use crate::place::Placed;
 use crate::play;
+use crate::replay_room::{ReplayRoom, play_rooms};
 use crate::transcript::{Transcript, count, hall_refuses, out_refuses};
 use ps_base::badge::Badge;
 use ps_base::id_map::IdMap;
@@ -32,7 +33,6 @@ use ps_lines::command::{Command, HallCmd};
 use ps_room::entry::Entry;
 use ps_room::opening::{FIRST_BATTLE, battle_opening, chat_opening, room_of_battle};
 use ps_room::outcome::{Ending, RoomOut};
-use ps_room::room::Room;
 use ps_view::role::Role;
 use rules_config::config::Config;
 use rules_config::settings::ChatRoom;
@@ -46,8 +46,8 @@ use std::sync::Arc;
 #[derive(Drop)]
 pub struct Places {
     hall: Hall,
-    chats: Vec<Room>,
-    battles: Vec<Room>,
+    chats: Vec<ReplayRoom>,
+    battles: Vec<ReplayRoom>,
     numbers: IdMap<u32>,
 }
 
@@ -77,17 +77,36 @@ fn open_chat(
     dex: &Arc<Dex>,
     no: u32,
     room: &ChatRoom,
-) -> Result<Room, AllocError>
+) -> Result<ReplayRoom, AllocError>
     ensures { IfOk result (λ r. r ≡ seen_opened (chat_opening (arc_value config.now) (arc_value dex.now) no room.now)) }
 {
     let opening = chat_opening(alloc, config, dex, no, room)?;
-    Room::new(alloc, opening)
+    ReplayRoom::new(alloc, opening)
+}
+
+// Opens a chat room behind the others, and notes its number.
+fn push_chat(
+    alloc: Global,
+    chats: &mut Vec<ReplayRoom>,
+    numbers: &mut IdMap<u32>,
+    config: &Arc<Config>,
+    dex: &Arc<Dex>,
+    no: u32,
+    room: &ChatRoom,
+) -> Result<(), AllocError>
+    ensures chats { OnOk result (chats.new.items ≡ chats.old.items ++ seen_opened (chat_opening (arc_value config.now) (arc_value dex.now) no room.now) ∷ []) }
+    ensures count { OnOk result (length chats.new.items ≡ length chats.old.items + 1) }
+    ensures numbers { OnOk result (numbers.new ≡ with_number numbers.old (chat_opening (arc_value config.now) (arc_value dex.now) no room.now)) }
+{
+    chats.push(open_chat(alloc, config, dex, no, room)?)?;
+    numbers.insert(alloc, room.id.as_str(), no)?;
+    Ok(())
 }
 
 // Opens the chat rooms, of which the first has the number `no`, and notes their numbers.
 fn open_chats(
     alloc: Global,
-    chats: &mut Vec<Room>,
+    chats: &mut Vec<ReplayRoom>,
     numbers: &mut IdMap<u32>,
     config: &Arc<Config>,
     dex: &Arc<Dex>,
@@ -102,8 +121,7 @@ fn open_chats(
     match rooms {
         [] => Ok(()),
         [room, rest @ ..] => {
-            chats.push(open_chat(alloc, config, dex, no, room)?)?;
-            numbers.insert(alloc, room.id.as_str(), no)?;
+            push_chat(alloc, chats, numbers, config, dex, no, room)?;
             open_chats(alloc, chats, numbers, config, dex, no + 1, rest)
         }
     }
@@ -112,7 +130,7 @@ fn open_chats(
 // Opens the room of a battle that starts.
 fn begin(
     alloc: Global,
-    battles: &mut Vec<Room>,
+    battles: &mut Vec<ReplayRoom>,
     numbers: &mut IdMap<u32>,
     config: Arc<Config>,
     dex: Arc<Dex>,
@@ -130,7 +148,7 @@ fn begin(
     }
     let no = room_of_battle(start.number);
     let opening = battle_opening(alloc, config, dex, start)?;
-    let room = Room::new(alloc, opening)?;
+    let room = ReplayRoom::new(alloc, opening)?;
     numbers.insert(alloc, room.id(), no)?;
     battles.push(room)?;
     Ok(())
@@ -159,7 +177,7 @@ fn quit_of(
     ))
 }
 
-fn is_member(room: &Room, conn: ConnNo) -> bool
+fn is_member(room: &ReplayRoom, conn: ConnNo) -> bool
     ensures { result ≡ is_member conn (record_in room.now) }
 {
     match room.role(conn) {
@@ -176,7 +194,7 @@ fn push_quit(
     conn: ConnNo,
     badge: &Badge,
     no: u32,
-    room: &Room,
+    room: &ReplayRoom,
 ) -> Result<(), AllocError>
     ensures { OnOk result (quits.new.items ≡ quits.old.items ++ quit_in moment conn badge.now no (standing room.now)) }
 {
@@ -194,7 +212,7 @@ fn push_quits(
     conn: ConnNo,
     badge: &Badge,
     no: u32,
-    rooms: &[Room],
+    rooms: &[ReplayRoom],
 ) -> Result<(), AllocError>
     requires { no + length rooms.now ≤ 65552 }
     ensures { OnOk result (quits.new.items ≡ quits.old.items ++ room_quits moment conn badge.now no (map standing rooms.now)) }
@@ -350,10 +368,10 @@ impl Places {
         ensures out { IfOk result (λ o. o ≡ out_at (record_at no (now_in self.old)) entry.now) }
     {
         if no.0 < FIRST_BATTLE {
-            play::play_rooms(alloc, out, conns, &mut self.chats, no.0 as usize, entry)
+            play_rooms(alloc, out, conns, &mut self.chats, no.0 as usize, entry)
         } else {
             let place = (no.0 - FIRST_BATTLE) as usize;
-            play::play_rooms(alloc, out, conns, &mut self.battles, place, entry)
+            play_rooms(alloc, out, conns, &mut self.battles, place, entry)
         }
     }
 

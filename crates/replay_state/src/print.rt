@@ -1,10 +1,10 @@
 //! Messages as they are printed.
-ghost use Rattle.std.specs.Prelude.{◌≡◌, ◌++◌, OnOk, IfOk, codes, string_bytes, None, Some};
+ghost use Rattle.std.specs.Prelude.{◌≡◌, ◌++◌, OnOk, codes, string_bytes, None, Some};
 ghost use Rattle.std.specs.List.{flat_map};
 ghost use Rattle.ps_splitlog.specs.Lines.{shown_lines};
 ghost use Rattle.ps_hall.specs.Halls.{message_of};
 ghost use Rattle.replay_state.specs.Transcript.{further_line, printed, with_id, over_line};
-ghost use Rattle.replay_state.specs.Tables.{first_behind, further_behind, both_behind, place_end, further_end};
+ghost use Rattle.replay_state.specs.Tables.{first_behind, further_behind};
 
 use itoa::Buffer;
 use ps_base::number::ConnNo;
@@ -12,7 +12,7 @@ use ps_base::text::Text;
 use ps_hall::notice::Notice;
 use ps_splitlog::stored::{Stored, shown};
 use ps_view::role::Role;
-use std::alloc::{AllocError, Global};
+use std::alloc::AllocError;
 use std::fmt::Write;
 
 // ---- lines behind the digits of their connection, which are made once for a message
@@ -180,47 +180,6 @@ pub fn push_shown(
             None => push_shown(out, conn, id, role, rest),
         },
     }
-}
-
-// ---- a message of two lines that many are sent, each line once but for the digits before it
-
-/// The end of the line of a room's id, behind the digits of who is sent it.
-pub fn place_end(alloc: Global, id: &str) -> Result<String, AllocError>
-    ensures { IfOk result (λ s. string_bytes s ≡ place_end id.now) }
-{
-    let mut end = String::new(alloc);
-    end.push_str("< >")?;
-    end.push_str(id)?;
-    end.push_str("\n")?;
-    Ok(end)
-}
-
-/// The end of a further line, behind the digits of who is sent it.
-pub fn further_end(alloc: Global, line: &str) -> Result<String, AllocError>
-    ensures { IfOk result (λ s. string_bytes s ≡ further_end line.now) }
-{
-    let mut end = String::new(alloc);
-    end.push_str(". ")?;
-    end.push_str(line)?;
-    end.push_str("\n")?;
-    Ok(end)
-}
-
-/// Prints to a connection two lines that end so.
-pub fn push_both(
-    out: &mut String,
-    conn: ConnNo,
-    first: &str,
-    second: &str,
-) -> Result<(), AllocError>
-    ensures { OnOk result (string_bytes out.new ≡ string_bytes out.old ++ both_behind first.now second.now conn) }
-{
-    let mut buffer = Buffer::new();
-    let digits = buffer.format(conn.0);
-    out.push_str(digits)?;
-    out.push_str(first)?;
-    out.push_str(digits)?;
-    out.push_str(second)
 }
 
 /// Prints that a connection's session ended, since it gave too many texts to one place.

@@ -217,11 +217,12 @@ fn push_in_hall(
     places.push_hall(alloc, count, entry, out)
 }
 
-// A text of a connection for the room with a number.
+// A text of a connection for the room with a number. The badge is lent to its entry.
+#[tactic(auto, using(crate::proofs::OrderLemmas::given_back, crate::proofs::OrderLemmas::none_lent))]
 fn push_to_room(
     alloc: Global,
     places: &mut Places,
-    session: &Session,
+    session: &mut Session,
     moment: Moment,
     count: u32,
     conn: ConnNo,
@@ -229,21 +230,23 @@ fn push_to_room(
     cmd: Command,
     out: &mut Transcript,
 ) -> Result<(), AllocError>
-    ensures state { OnOk result (places.new ≡ happenings_after places.old (entry_happenings moment (now_in places.old) conn (entry_in_room moment conn no cmd session.now.badge))) }
-    ensures text { OnOk result (string_bytes out.new.text ≡ string_bytes out.old.text ++ happenings_text count places.old (entry_happenings moment (now_in places.old) conn (entry_in_room moment conn no cmd session.now.badge))) }
-    ensures counts { OnOk result (out.new.counts ≡ happenings_counts places.old (entry_happenings moment (now_in places.old) conn (entry_in_room moment conn no cmd session.now.badge)) out.old.counts) }
+    ensures state { OnOk result (places.new ≡ happenings_after places.old (entry_happenings moment (now_in places.old) conn (entry_in_room moment conn no cmd session.old.badge))) }
+    ensures session { OnOk result (session.new ≡ session.old) }
+    ensures text { OnOk result (string_bytes out.new.text ≡ string_bytes out.old.text ++ happenings_text count places.old (entry_happenings moment (now_in places.old) conn (entry_in_room moment conn no cmd session.old.badge))) }
+    ensures counts { OnOk result (out.new.counts ≡ happenings_counts places.old (entry_happenings moment (now_in places.old) conn (entry_in_room moment conn no cmd session.old.badge)) out.old.counts) }
 {
-    match session.badge() {
+    match session.take_badge() {
         None => push_ended(alloc, places, moment, count, conn, out),
         Some(badge) => {
-            let badge = badge.copy(alloc)?;
             let entry = Entry {
                 conn,
                 badge,
                 moment,
                 cmd,
             };
-            push_in_room(alloc, places, moment, count, no, &entry, out)
+            push_in_room(alloc, places, moment, count, no, &entry, out)?;
+            session.named(entry.badge);
+            Ok(())
         }
     }
 }

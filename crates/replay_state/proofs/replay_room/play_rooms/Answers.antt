@@ -2,7 +2,7 @@ use Rattle.std.proofs.Common.{◌++◌, string_bytes, List, ℕ, arith, Some, ap
 use Rattle.std.proofs.lemmas.List.{append-nil}
 use Rattle.ps_room.specs.declared.outcome.RoomOut.{RoomOut}
 use Rattle.replay_state.proofs.PlayLemmas.{no_room_text, no_room_out, no_room_set, room_text, room_set, room_out}
-use Rattle.replay_state.proofs.play.play_rooms.Goals as goal
+use Rattle.replay_state.proofs.replay_room.play_rooms.Goals as goal
 
 pub returns-then-place-rooms-clause-state : goal.returns-then-place-rooms-clause-state
 returns-then-place-rooms-clause-state c = no_room_set c.args.rooms.now c.args.place c.args.entry.now c.if-place-rooms.true
