@@ -6,6 +6,10 @@ use ps_base::name::Name;
 use ps_base::number::Moment;
 use ps_base::text::Text;
 use std::alloc::{AllocError, Global};
+use std::fmt::Write;
+
+/// As many bytes as the bars and the moment of a said line have at the most.
+const SAID_ROOM: usize = 26;
 
 /// Who came or went, behind the front of its line.
 pub(crate) fn moved(alloc: Global, front: &str, by: &Text) -> Result<Text, AllocError>
@@ -18,7 +22,10 @@ pub(crate) fn moved(alloc: Global, front: &str, by: &Text) -> Result<Text, Alloc
 pub(crate) fn said(alloc: Global, moment: Moment, by: &Text, text: &str) -> Result<Text, AllocError>
     ensures { IfOk result (λ t. t ≡ said moment by.now text.now) }
 {
-    Ok(Text::from_string(format!(in alloc; "|c:|{moment}|{by}|{text}")?))
+    let length = by.len().saturating_add(text.len());
+    let mut line = String::with_capacity(alloc, length.saturating_add(SAID_ROOM))?;
+    write!(line, "|c:|{moment}|{by}|{text}")?;
+    Ok(Text::from_string(line))
 }
 
 /// `WORD by SNAME: TEXT`
