@@ -1,7 +1,9 @@
-//! Tests of texts: what a client's text says, packed teams, lists of groups, the log of a room, and the scripts of drills. It has
-//! tests alone, and no crate stands on it.
+//! Tests of texts: what a client's text says, packed teams, lists of groups, the log of a room, and the scripts of drills; and
+//! of brackets. It has tests alone, and no crate stands on it.
 #![tactic(auto)]
 
+#[cfg(test)]
+mod bracket_tests;
 #[cfg(test)]
 mod client_tests;
 #[cfg(test)]

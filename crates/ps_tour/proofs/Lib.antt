@@ -1,0 +1,3 @@
+pub mod LawLemmas
+mod OrderLemmas
+mod RoundLemmas
