@@ -1,5 +1,5 @@
 -- The battle of a room: which commands it takes, and what they do.
-use Rattle.std.specs.Prelude.{ℕ, Bool, true, false, List, [], Option, Some, None, Result, Ok, Err, if◌then◌else◌}
+use Rattle.std.specs.Prelude.{◌≡◌, ◌<◌, ℕ, Bool, true, false, List, [], Option, Some, None, Result, Ok, Err, if◌then◌else◌}
 use Rattle.std.specs.List.{filter_map}
 use Rattle.ps_base.specs.declared.why.Why.{Why}
 use Rattle.ps_base.specs.declared.why.Why.TheVariants.{NotPlayer}
@@ -16,6 +16,9 @@ use Rattle.ps_mon.specs.Valid.{is_over}
 use Rattle.ps_dex.specs.declared.item.Tables.{Tables}
 use Rattle.ps_dex.specs.Figures.{figures_of}
 use Rattle.battle_rounds.specs.declared.bout.Bout.{Bout}
+use Rattle.battle_rounds.specs.declared.decision.Decision.{Decision}
+use Rattle.battle_rounds.specs.declared.decision.Decision.TheVariants as decisions
+use Rattle.battle_rounds.specs.Bouts.{CanWait}
 use Rattle.battle_rounds.specs.Refusals.{chosen, refusal_of_choose, refusal_of_undo, refusal_of_forfeit}
 use Rattle.battle_rounds.specs.Rounds.{Outcome, chose, undone, gave_up}
 use Rattle.battle_rounds.specs.Casts.{Cast}
@@ -67,6 +70,27 @@ outcome_of_side dex b s other = still b
 abbrev pub outcome_in : Tables → Bout → Option ℕ → Command → Outcome
 outcome_in dex b None cmd = still b
 outcome_in dex b (Some s) cmd = outcome_of_side dex b s cmd
+
+-- ---- for the code: what a command comes to, worked out once
+
+-- what it makes of the battle
+abbrev pub outcome_of : Tables → Bout → Decision → Outcome
+outcome_of dex b decisions.Nothing = still b
+outcome_of dex b (decisions.Choose s choice) = chose (figures_of dex) s choice b
+outcome_of dex b (decisions.Undo s) = undone s b
+outcome_of dex b (decisions.Forfeit s) = gave_up s b
+
+-- whether it can be done to the battle
+abbrev pub CanDecide : Bout → Decision → Type 0
+CanDecide b decisions.Nothing = Unit {0}
+CanDecide b (decisions.Choose s choice) = (s < 2) × CanWait b.battle s choice
+CanDecide b (decisions.Undo s) = Unit {0}
+CanDecide b (decisions.Forfeit s) = (s < 2) × (is_over b.battle.phase ≡ false)
+
+-- the battle after it, where there is another one than before
+abbrev pub bout_or : Bout → Option Bout → Bout
+bout_or b None = b
+bout_or b (Some after) = after
 
 -- ---- requests
 

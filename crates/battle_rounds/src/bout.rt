@@ -4,6 +4,7 @@ ghost use Rattle.battle_rounds.specs.Bouts.{waiting, with_waiting};
 
 use ps_mon::choice::Choice;
 use ps_mon::record::Battle;
+use std::marker::Model;
 
 /// A battle, the round that is open, and the choices that wait for the other side's.
 #[derive(Clone, Copy, Debug, PartialEq, Eq)]
@@ -32,5 +33,35 @@ pub(crate) fn set_waiting(bout: &mut Bout, side: u8, choice: Option<Choice>)
         bout.first = choice;
     } else {
         bout.second = choice;
+    }
+}
+
+/// A battle in its rounds that is handed on by a pointer, since it is large. Contracts see the battle.
+#[derive(Drop)]
+pub struct BoutBox {
+    bout: Box<Bout>,
+}
+
+impl Model for BoutBox {
+    ghost use Rattle.battle_rounds.specs.declared.bout.Bout.{Bout};
+
+    ghost Value = { Bout };
+
+    ghost view = { λ b. b.bout.value };
+}
+
+impl BoutBox {
+    /// The battle in this box.
+    pub(crate) fn new(bout: Box<Bout>) -> BoutBox
+        ensures { result ≡ bout.value }
+    {
+        BoutBox { bout }
+    }
+
+    /// The battle in its rounds.
+    pub fn bout(&self) -> &Bout
+        ensures { result.now ≡ self.now }
+    {
+        &*self.bout
     }
 }

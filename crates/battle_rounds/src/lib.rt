@@ -3,6 +3,7 @@
 
 pub mod bout;
 pub mod cast;
+pub mod decision;
 pub mod refusal;
 pub mod request;
 pub mod room_battle;

@@ -1,18 +1,18 @@
 //! The battle of a room.
-ghost use Rattle.std.specs.Prelude.{◌≡◌, ◌<◌, ◌++◌, ◌∷◌, [], None, length, IfSome, IfOk, OnOk};
+ghost use Rattle.std.specs.Prelude.{◌≡◌, ◌<◌, ◌++◌, ◌∷◌, [], Some, None, length, IfSome, IfOk, IfErr, OnOk};
 ghost use Rattle.ps_battle.specs.Openings.{team_of};
 ghost use Rattle.ps_dex.specs.Figures.{figures_of};
 ghost use Rattle.ps_mon.specs.Teams.{IsFresh, IsTeamKnown};
 ghost use Rattle.ps_mon.specs.Valid.{IsSound};
 ghost use Rattle.battle_rounds.specs.Bouts.{IsBout};
 ghost use Rattle.battle_rounds.specs.Rounds.{outcome, opened};
-ghost use Rattle.battle_rounds.specs.Refusals.{chosen, refusal_of_choose};
-ghost use Rattle.battle_rounds.specs.Fights.{is_of_battle, refusal_of_side, refusal_in, chose_by, outcome_of_side, outcome_in, request_of, requests, open_request};
+ghost use Rattle.battle_rounds.specs.Fights.{refusal_in, outcome_in, outcome_of, CanDecide, bout_or, request_of, requests, open_request};
 ghost use Rattle.ps_event.specs.Sides.{side_number};
 
-use crate::bout::Bout;
+use crate::bout::{Bout, BoutBox};
 use crate::cast::Cast;
-use crate::refusal::{choice_of, is_over, refusal_of_forfeit, refusal_of_undo};
+use crate::decision::{Decision, decide};
+use crate::refusal::is_over;
 use crate::request::request_line;
 use crate::rounds::{choose, give_up, open, undo};
 use ps_base::text::Text;
@@ -45,47 +45,6 @@ impl Model for RoomBattle {
     ghost view = { λ b. record { number = b.number; cast = b.cast; bout = b.bout } };
 
     ghost invariant = { λ b. IsBout (figures_of b.cast.dex) b.bout };
-}
-
-fn is_of_battle(cmd: &Command) -> bool
-    ensures { result ≡ is_of_battle cmd.now }
-{
-    matches!(
-        cmd,
-        Command::Choose { .. } | Command::Undo | Command::Forfeit
-    )
-}
-
-fn refusal_of_choose(
-    bout: &Bout,
-    dex: &Dex,
-    side: u8,
-    choice: &str,
-    rqid: Option<u32>,
-) -> Option<Why>
-    requires sound { IsSound bout.now.battle }
-    requires side { side < 2 }
-    ensures { result ≡ refusal_of_choose bout.now side dex.now choice.now rqid }
-{
-    match choice_of(bout, dex, side, choice, rqid) {
-        Ok(_) => None,
-        Err(why) => Some(why),
-    }
-}
-
-fn refusal_of_side(bout: &Bout, dex: &Dex, side: u8, cmd: &Command) -> Option<Why>
-    requires sound { IsSound bout.now.battle }
-    requires side { side < 2 }
-    ensures { result ≡ refusal_of_side dex.now bout.now side cmd.now }
-{
-    match cmd {
-        Command::Choose { choice, rqid } => {
-            refusal_of_choose(bout, dex, side, choice.as_str(), *rqid)
-        }
-        Command::Undo => refusal_of_undo(bout, side),
-        Command::Forfeit => refusal_of_forfeit(bout),
-        _ => None,
-    }
 }
 
 // Puts the request that an event tells of behind the others.
@@ -151,73 +110,19 @@ pub fn requests(
     Ok(lines)
 }
 
-fn choose_by(
-    bout: &mut Bout,
-    dex: &Dex,
-    side: u8,
-    choice: &str,
-    rqid: Option<u32>,
-    out: &mut Events,
-)
+// Does to the rounds what was decided. Takes no memory.
+fn carry_out(bout: &mut Bout, dex: &Dex, decision: Decision, out: &mut Events)
     requires bout { IsBout (figures_of dex.now) bout.old }
-    requires side { side < 2 }
+    requires can { CanDecide bout.old decision }
     requires empty { out.old.items ≡ [] }
-    ensures after { outcome bout.new out.new ≡ chose_by dex.now bout.old side (chosen bout.old side dex.now choice.now rqid) }
+    ensures after { outcome bout.new out.new ≡ outcome_of dex.now bout.old decision }
     ensures bout { IsBout (figures_of dex.now) bout.new }
 {
-    match choice_of(bout, dex, side, choice, rqid) {
-        Ok(choice) => choose(bout, dex.facts(), side, choice, out),
-        Err(_) => {}
-    }
-}
-
-#[tactic(auto, using(crate::proofs::RoundLemmas::forfeits_going))]
-fn outcome_of_side(bout: &mut Bout, dex: &Dex, side: u8, cmd: &Command, out: &mut Events)
-    requires bout { IsBout (figures_of dex.now) bout.old }
-    requires side { side < 2 }
-    requires allowed { refusal_of_side dex.now bout.old side cmd.now ≡ None }
-    requires empty { out.old.items ≡ [] }
-    ensures after { outcome bout.new out.new ≡ outcome_of_side dex.now bout.old side cmd.now }
-    ensures bout { IsBout (figures_of dex.now) bout.new }
-{
-    match cmd {
-        Command::Choose { choice, rqid } => {
-            choose_by(bout, dex, side, choice.as_str(), *rqid, out);
-        }
-        Command::Undo => undo(bout, dex.facts(), side, out),
-        Command::Forfeit => give_up(bout, dex.facts(), side, out),
-        _ => {}
-    }
-}
-
-fn refusal_in(bout: &Bout, dex: &Dex, side: Option<u8>, cmd: &Command) -> Option<Why>
-    requires sound { IsSound bout.now.battle }
-    requires side { IfSome side (λ s. s < 2) }
-    ensures { result ≡ refusal_in dex.now bout.now side cmd.now }
-{
-    match side {
-        None => {
-            if is_of_battle(cmd) {
-                Some(Why::NotPlayer)
-            } else {
-                None
-            }
-        }
-        Some(side) => refusal_of_side(bout, dex, side, cmd),
-    }
-}
-
-fn outcome_in(bout: &mut Bout, dex: &Dex, side: Option<u8>, cmd: &Command, out: &mut Events)
-    requires bout { IsBout (figures_of dex.now) bout.old }
-    requires side { IfSome side (λ s. s < 2) }
-    requires allowed { refusal_in dex.now bout.old side cmd.now ≡ None }
-    requires empty { out.old.items ≡ [] }
-    ensures after { outcome bout.new out.new ≡ outcome_in dex.now bout.old side cmd.now }
-    ensures bout { IsBout (figures_of dex.now) bout.new }
-{
-    match side {
-        None => {}
-        Some(side) => outcome_of_side(bout, dex, side, cmd, out),
+    match decision {
+        Decision::Nothing => {}
+        Decision::Choose { side, choice } => choose(bout, dex.facts(), side, choice, out),
+        Decision::Undo { side } => undo(bout, dex.facts(), side, out),
+        Decision::Forfeit { side } => give_up(bout, dex.facts(), side, out),
     }
 }
 
@@ -269,33 +174,55 @@ impl RoomBattle {
         &self.bout
     }
 
+    /// What a command of a member that plays this side, 0 or 1, or none, comes to, or why the battle refuses it. Takes no memory.
+    pub fn decide(&self, side: Option<u8>, cmd: &Command) -> Result<Decision, Why>
+        requires { IfSome side (λ s. s < 2) }
+        ensures refused { IfErr result (λ why. refusal_in self.now.cast.dex self.now.bout side cmd.now ≡ Some why) }
+        ensures allowed { IfOk result (λ d. refusal_in self.now.cast.dex self.now.bout side cmd.now ≡ None) }
+        ensures outcome { IfOk result (λ d. outcome_of self.now.cast.dex self.now.bout d ≡ outcome_in self.now.cast.dex self.now.bout side cmd.now) }
+        ensures can { IfOk result (CanDecide self.now.bout) }
+    {
+        decide(&self.bout, self.cast.dex(), side, cmd)
+    }
+
     /// Why the battle refuses a command of a member that plays this side, 0 or 1, or none. Takes no memory.
     pub fn refusal(&self, side: Option<u8>, cmd: &Command) -> Option<Why>
         requires { IfSome side (λ s. s < 2) }
         ensures { result ≡ refusal_in self.now.cast.dex self.now.bout side cmd.now }
     {
-        refusal_in(&self.bout, self.cast.dex(), side, cmd)
+        match self.decide(side, cmd) {
+            Ok(_) => None,
+            Err(why) => Some(why),
+        }
     }
 
-    /// What a command that is allowed makes of the battle, and the events of it. The battle stays as it is. Takes no memory.
-    pub fn outcome(&self, side: Option<u8>, cmd: &Command, out: &mut Events) -> Bout
-        requires side { IfSome side (λ s. s < 2) }
-        requires allowed { refusal_in self.now.cast.dex self.now.bout side cmd.now ≡ None }
+    /// What a decision makes of the battle, and the events of it; `None` where it is nothing. The battle stays as it is. Fails
+    /// only if out of memory.
+    pub fn after(
+        &self,
+        alloc: Global,
+        decision: Decision,
+        out: &mut Events,
+    ) -> Result<Option<BoutBox>, AllocError>
+        requires can { CanDecide self.now.bout decision }
         requires empty { out.old.items ≡ [] }
-        ensures after { outcome result out.new ≡ outcome_in self.now.cast.dex self.now.bout side cmd.now }
-        ensures bout { IsBout (figures_of self.now.cast.dex) result }
+        ensures after { IfOk result (λ next. outcome (bout_or self.now.bout next) out.new ≡ outcome_of self.now.cast.dex self.now.bout decision) }
+        ensures bout { IfOk result (λ next. IfSome next (IsBout (figures_of self.now.cast.dex))) }
     {
-        let mut bout = self.bout;
-        outcome_in(&mut bout, self.cast.dex(), side, cmd, out);
-        bout
+        if decision == Decision::Nothing {
+            return Ok(None);
+        }
+        let mut bout = Box::new(alloc, self.bout)?;
+        carry_out(&mut *bout, self.cast.dex(), decision, out);
+        Ok(Some(BoutBox::new(bout)))
     }
 
     /// The battle goes on from here.
-    pub fn go_on(&mut self, bout: Bout)
+    pub fn go_on(&mut self, bout: BoutBox)
         requires { IsBout (figures_of self.old.cast.dex) bout }
         ensures { self.new ≡ record self.old { bout = bout } }
     {
-        self.bout = bout;
+        self.bout = *bout.bout();
     }
 
     /// The request that the player of a side, 0 or 1, is given who joins: that of the open round. None for who plays no side,

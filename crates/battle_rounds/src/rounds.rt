@@ -82,14 +82,10 @@ fn commit_both(bout: &mut Bout, facts: Facts<'_>, out: &mut Events)
 {
     let first = committed_choice(bout, 0);
     let second = committed_choice(bout, 1);
-    let mut battle = bout.battle;
-    commit(&mut battle, facts, first, second, out);
-    *bout = Bout {
-        battle,
-        round: bout.round.saturating_add(1),
-        first: None,
-        second: None,
-    };
+    commit(&mut bout.battle, facts, first, second, out);
+    bout.round = bout.round.saturating_add(1);
+    bout.first = None;
+    bout.second = None;
 }
 
 #[tactic(auto, unfolding(crate::specs::Rounds::completed))]
@@ -144,14 +140,9 @@ pub fn give_up(bout: &mut Bout, facts: Facts<'_>, side: u8, out: &mut Events)
     ensures after { outcome bout.new out.new ≡ gave_up side bout.old }
     ensures bout { IsBout (figures facts.entry) bout.new }
 {
-    let mut battle = bout.battle;
-    forfeit(&mut battle, side, out);
-    *bout = Bout {
-        battle,
-        round: bout.round,
-        first: None,
-        second: None,
-    };
+    forfeit(&mut bout.battle, side, out);
+    bout.first = None;
+    bout.second = None;
 }
 
 fn result_of(phase: Phase) -> Option<Option<u8>>

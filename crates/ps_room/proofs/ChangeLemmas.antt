@@ -1,5 +1,5 @@
 -- What a room keeps of an entry.
-use Rattle.std.proofs.Common.{◌≡◌, ℕ, ◌+◌, ◌<◌, List, [], ◌∷◌, ◌++◌, length, map, take, drop, get_or, set, Option, Some, None, refl, sym, ap, ◌∙◌, add-one}
+use Rattle.std.proofs.Common.{◌≡◌, ℕ, ◌+◌, ◌<◌, List, [], ◌∷◌, ◌++◌, length, map, take, drop, get_or, set, Option, Some, None, refl, sym, ap, ◌∙◌, subst, add-one}
 use Rattle.ps_base.specs.declared.why.Why.{Why}
 use Rattle.ps_chat.proofs.FindLemmas.{changed, unchanged}
 use Rattle.ps_chat.specs.Steps.{Seen as ChatSeen}
@@ -10,14 +10,20 @@ use Rattle.ps_chat.specs.declared.present.Present.{Present}
 use Rattle.ps_splitlog.specs.declared.entry.Joined.{Joined}
 use Rattle.ps_view.specs.declared.role.Role.{Role}
 use Rattle.battle_rounds.specs.Casts.{Cast}
-use Rattle.battle_rounds.specs.Fights.{Fight}
+use Rattle.ps_lines.specs.declared.command.Command.{Command}
+use Rattle.ps_event.specs.declared.event.Event.{Event}
+use Rattle.battle_rounds.specs.declared.bout.Bout.{Bout}
+use Rattle.battle_rounds.specs.declared.decision.Decision.{Decision}
+use Rattle.battle_rounds.specs.Rounds.{Outcome, ended}
+use Rattle.battle_rounds.specs.Fights.{Fight, requests}
 use Rattle.ps_chat.specs.Lines.{Line}
 use Rattle.ps_splitlog.specs.Lines.{stored_of_line}
 use Rattle.ps_splitlog.specs.declared.entry.LogEntry.{LogEntry}
 use Rattle.ps_room.specs.declared.entry.Entry.{Entry}
 use Rattle.ps_room.specs.Records.{Record, presents_of, cast_in}
-use Rattle.ps_room.specs.Rooms.{verdict, sender_of, chat_lines, told, refused_line, events_by, lines_by, allowed_events, allowed_lines, is_join, applied, battle_after}
-use Rattle.ps_room.specs.Logs.{Seen, record_in, seen_after, change_in, change_to, changed_conn, touched_by, stored_in, join_if, given, kept_of, ending_by, out_of}
+use Rattle.ps_room.specs.Rooms.{verdict, sender_of, chat_lines, told, refused_line, events_by, lines_by, IsDecided, CanDecideIn, events_from, lines_from, battle_from, with_bout, CanGoOn, IsIdle, allowed_events, allowed_lines, is_join, applied, battle_after}
+use Rattle.ps_room.specs.Logs.{Seen, record_in, seen_after, change_in, change_to, changed_conn, touched_by, stored_in, join_if, given, kept_of, ending_of, ending_by, ending_from, out_of, Goes, MakesNone}
+use Rattle.ps_room.specs.declared.outcome.Ending.{Ending}
 use Rattle.ps_room.specs.declared.outcome.Verdict.TheVariants.{Applied}
 use Rattle.ps_room.proofs.AnswerLemmas.{after_allowed, after_refused, out_allowed}
 
@@ -53,17 +59,72 @@ pub given_allowed : (r : Record) (e : Entry) → verdict r e ≡ None → record
 unfolding told
 given_allowed r e v = rw v refl
 
--- by the parts of a room
-pub given_by_parts : (s : Seen) (e : Entry) (battle : Option Fight) (me : Option Present) (ls : List Line) (join : Option Joined) → verdict (record_in s) e ≡ None
-    → battle ≡ s.battle → me ≡ sender_of (record_in s) e → ls ≡ chat_lines (record_in s) e → join ≡ join_if (is_join e.cmd) (record_in s) e
-    → record { conn = e.conn; lines = stored_in (cast_in battle) (events_by battle me e.cmd) (lines_by battle me e.cmd ls); join = join; roles = [] } ≡ given (record_in s) e
-given_by_parts s e battle me ls join v b m l j = rw (b, m, l, j) (given_allowed (record_in s) e v)
+-- ---- by the parts of a room, and by what the command comes to at the battle
+
+pub can_decide : (battle : Option Fight) (me : Option Present) (cmd : Command) (d : Decision) → IsDecided battle me cmd d → CanDecideIn battle d
+can_decide None me cmd d is = tt
+can_decide (Some f) me cmd d is = is.0
+
+events_same : (battle : Option Fight) (me : Option Present) (cmd : Command) (d : Decision) → IsDecided battle me cmd d → events_from battle d ≡ events_by battle me cmd
+events_same None me cmd d is = refl
+events_same (Some f) me cmd d is = ap (λ (o : Outcome). o.told) is.1
+
+lines_same : (battle : Option Fight) (me : Option Present) (cmd : Command) (d : Decision) (ls : List Line) → IsDecided battle me cmd d → lines_from battle d ls ≡ lines_by battle me cmd ls
+lines_same None me cmd d ls is = refl
+lines_same (Some f) me cmd d ls is = ap (λ (o : Outcome). ls ++ requests f.cast o.bout o.told) is.1
+
+ending_same : (battle : Option Fight) (me : Option Present) (cmd : Command) (d : Decision) → IsDecided battle me cmd d → ending_from battle d ≡ ending_by battle me cmd
+ending_same None me cmd d is = refl
+ending_same (Some f) me cmd d is = ap (λ (o : Outcome). ending_of f.number (ended f.bout.battle.phase o.bout.battle.phase)) is.1
+
+battle_same : (battle : Option Fight) (me : Option Present) (cmd : Command) (d : Decision) → IsDecided battle me cmd d → battle_from battle d ≡ battle_after battle me cmd
+battle_same None me cmd d is = refl
+battle_same (Some f) me cmd d is = ap (λ (o : Outcome). Some (record f { bout = o.bout })) is.1
+
+-- what an allowed entry gives
+pub given_by_parts : (s : Seen) (e : Entry) (battle : Option Fight) (d : Decision) (ls : List Line) (join : Option Joined) → verdict (record_in s) e ≡ None
+    → battle ≡ s.battle → IsDecided s.battle (sender_of (record_in s) e) e.cmd d → ls ≡ chat_lines (record_in s) e → join ≡ join_if (is_join e.cmd) (record_in s) e
+    → record { conn = e.conn; lines = stored_in (cast_in battle) (events_from battle d) (lines_from battle d ls); join = join; roles = [] } ≡ given (record_in s) e
+given_by_parts s e battle d ls join v b is l j =
+    let me : Option Present = sender_of (record_in s) e in
+    rw (b, l, j) (
+    ap (λ (events : List Event). record { conn = e.conn; lines = stored_in (cast_in s.battle) events (lines_from s.battle d (chat_lines (record_in s) e)); join = join_if (is_join e.cmd) (record_in s) e; roles = [] }) (events_same s.battle me e.cmd d is)
+    ∙ ap (λ (lines : List Line). record { conn = e.conn; lines = stored_in (cast_in s.battle) (events_by s.battle me e.cmd) lines; join = join_if (is_join e.cmd) (record_in s) e; roles = [] }) (lines_same s.battle me e.cmd d (chat_lines (record_in s) e) is)
+    ∙ given_allowed (record_in s) e v
+    )
 
 -- and its answer
-pub out_by_parts : (s : Seen) (e : Entry) (battle : Option Fight) (me : Option Present) → verdict (record_in s) e ≡ None
-    → battle ≡ s.battle → me ≡ sender_of (record_in s) e
-    → record { verdict = Applied; ended = ending_by battle me e.cmd } ≡ out_of (record_in s) e
-out_by_parts s e battle me v b m = rw (b, m) (out_allowed (record_in s) e v)
+pub out_by_parts : (s : Seen) (e : Entry) (battle : Option Fight) (d : Decision) → verdict (record_in s) e ≡ None
+    → battle ≡ s.battle → IsDecided s.battle (sender_of (record_in s) e) e.cmd d
+    → record { verdict = Applied; ended = ending_from battle d } ≡ out_of (record_in s) e
+out_by_parts s e battle d v b is =
+    ap (λ (x : Option Fight). record { verdict = Applied; ended = ending_from x d }) b
+    ∙ ap (λ (end : Option Ending). record { verdict = Applied; ended = end }) (ending_same s.battle (sender_of (record_in s) e) e.cmd d is)
+    ∙ out_allowed (record_in s) e v
+
+-- and how its battle goes on
+pub goes_by_parts : (s : Seen) (e : Entry) (battle : Option Fight) (d : Decision) (next : Option Bout)
+    → battle ≡ s.battle → IsDecided s.battle (sender_of (record_in s) e) e.cmd d → with_bout battle next ≡ battle_from battle d → CanGoOn battle next
+    → Goes s e next
+goes_by_parts s e battle d next b is made on = record {
+  after = λ v. ap (λ (x : Option Fight). with_bout x next) (sym b) ∙ made ∙ ap (λ (x : Option Fight). battle_from x d) b ∙ battle_same s.battle (sender_of (record_in s) e) e.cmd d is;
+  bout = λ v. subst (λ (x : Option Fight). CanGoOn x next) b on;
+}
+
+idle_none : (battle : Option Fight) → IsIdle battle None
+idle_none None = refl
+idle_none (Some f) = tt
+
+-- no rounds are none, whatever the entry is
+pub still_none : (s : Seen) (e : Entry) → MakesNone s e None
+still_none s e = record { refused = λ why v. refl; idle = idle_none s.battle }
+
+-- an allowed entry in a room without a battle makes none
+pub none_by_parts : (s : Seen) (e : Entry) (battle : Option Fight) (next : Option Bout) → verdict (record_in s) e ≡ None → battle ≡ s.battle → IsIdle battle next → MakesNone s e next
+none_by_parts s e battle next v b plain = record {
+  refused = λ why x. absurd (let wrong : None ≡ Some why = sym v ∙ x in cc);
+  idle = subst (λ (x : Option Fight). IsIdle x next) b plain;
+}
 
 -- a refused entry changes nothing but the log, and no role
 pub seen_refused : (s : Seen) (e : Entry) (why : Why) (h : LogEntry) → verdict (record_in s) e ≡ Some why → h ≡ given (record_in s) e → record s { log = s.log ++ h ∷ [] } ≡ seen_after s e

@@ -17,7 +17,8 @@ use Rattle.ps_chat.specs.declared.present.Present.{Present}
 use Rattle.ps_view.specs.declared.role.Role.{Role}
 use Rattle.battle_rounds.specs.declared.bout.Bout.{Bout}
 use Rattle.battle_rounds.specs.Casts.{Cast}
-use Rattle.battle_rounds.specs.Fights.{Fight}
+use Rattle.battle_rounds.specs.declared.decision.Decision.{Decision}
+use Rattle.battle_rounds.specs.Fights.{Fight, outcome_of}
 use Rattle.battle_rounds.specs.Rounds.{ended}
 use Rattle.ps_splitlog.specs.declared.stored.Stored.{Stored}
 use Rattle.ps_splitlog.specs.declared.entry.Joined.{Joined as LogJoined}
@@ -33,7 +34,7 @@ use Rattle.ps_room.specs.declared.outcome.Verdict.TheVariants.{Applied, Refused}
 use Rattle.ps_room.specs.Openings.{Opening, cast_with, bout_with, fight_with}
 use Rattle.ps_room.specs.Tolds.{Joined, Told}
 use Rattle.ps_room.specs.Records.{Record, opened, chat_opening, presents_of, cast_in}
-use Rattle.ps_room.specs.Rooms.{verdict, sender_of, outcome_by, battle_after, with_bout, CanGoOn, joined_if, told, after, role, role_in, run_record, message, view}
+use Rattle.ps_room.specs.Rooms.{verdict, sender_of, outcome_by, battle_after, with_bout, CanGoOn, IsIdle, joined_if, told, after, role, role_in, run_record, message, view}
 
 -- ---- whose role may change
 
@@ -141,6 +142,11 @@ pub record Goes (s : Seen) (e : Entry) (b : Option Bout) : Type 0 where
   pub after : verdict (record_in s) e ≡ None → with_bout s.battle b ≡ battle_after s.battle (sender_of (record_in s) e) e.cmd
   pub bout : verdict (record_in s) e ≡ None → CanGoOn s.battle b
 
+-- none are made by a refused entry, and none in a room without a battle
+pub record MakesNone (s : Seen) (e : Entry) (b : Option Bout) : Type 0 where
+  pub refused : (why : Why) → verdict (record_in s) e ≡ Some why → b ≡ None
+  pub idle : IsIdle s.battle b
+
 -- ---- the answer of the call
 
 abbrev pub entry_of : ℕ → Badge → ℕ → Command → Entry
@@ -154,6 +160,11 @@ ending_of number (Some winner) = Some (record { number = number; winner = winner
 abbrev pub ending_by : Option Fight → Option Present → Command → Option Ending
 ending_by None me cmd = None
 ending_by (Some f) me cmd = ending_of f.number (ended f.bout.battle.phase (outcome_by f me cmd).bout.battle.phase)
+
+-- by what its command comes to at the battle
+abbrev pub ending_from : Option Fight → Decision → Option Ending
+ending_from None d = None
+ending_from (Some f) d = ending_of f.number (ended f.bout.battle.phase (outcome_of f.cast.dex f.bout d).bout.battle.phase)
 
 abbrev pub out_by : Option Why → Record → Entry → RoomOut
 out_by (Some why) r e = record { verdict = Refused why; ended = None }

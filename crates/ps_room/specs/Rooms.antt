@@ -1,5 +1,5 @@
 -- What an entry does to a room, and what each connection is sent at it.
-use Rattle.std.specs.Prelude.{ℕ, ◌-◌, Bool, true, false, List, [], ◌∷◌, ◌++◌, length, take, drop, Option, Some, None, ◌==◌, if◌then◌else◌}
+use Rattle.std.specs.Prelude.{◌≡◌, ℕ, ◌-◌, Bool, true, false, List, [], ◌∷◌, ◌++◌, length, take, drop, Option, Some, None, ◌==◌, if◌then◌else◌}
 use Rattle.std.specs.List.{filter_map}
 use Rattle.std.specs.Option.{option_to_list}
 use Rattle.ps_base.specs.declared.why.Why.{Why}
@@ -23,7 +23,8 @@ use Rattle.battle_rounds.specs.declared.bout.Bout.{Bout}
 use Rattle.battle_rounds.specs.Bouts.{IsBout}
 use Rattle.battle_rounds.specs.Rounds.{Outcome}
 use Rattle.battle_rounds.specs.Casts.{Cast, event_text, event_texts}
-use Rattle.battle_rounds.specs.Fights.{Fight, refusal_in, outcome_in, requests, open_request}
+use Rattle.battle_rounds.specs.declared.decision.Decision.{Decision}
+use Rattle.battle_rounds.specs.Fights.{Fight, refusal_in, outcome_in, outcome_of, CanDecide, requests, open_request}
 use Rattle.ps_room.specs.declared.entry.Entry.{Entry}
 use Rattle.ps_room.specs.Tolds as logs
 use Rattle.ps_room.specs.Tolds.{Logged, Joined, Told}
@@ -142,6 +143,36 @@ with_bout (Some f) (Some b) = Some (record f { bout = b })
 abbrev pub CanGoOn : Option Fight → Option Bout → Type 0
 CanGoOn (Some f) (Some b) = IsBout (figures_of f.cast.dex) b
 CanGoOn other b = Unit {0}
+
+-- a room without a battle has none
+abbrev pub IsIdle : Option Fight → Option Bout → Type 0
+IsIdle None b = b ≡ None
+IsIdle (Some f) b = Unit {0}
+
+-- ---- for the code: what an entry gives, by what its command comes to at the battle
+
+-- the command comes to this, and it can be done
+abbrev pub IsDecided : Option Fight → Option Present → Command → Decision → Type 0
+IsDecided None me cmd d = Unit {0}
+IsDecided (Some f) me cmd d = CanDecide f.bout d × (outcome_of f.cast.dex f.bout d ≡ outcome_by f me cmd)
+
+abbrev pub CanDecideIn : Option Fight → Decision → Type 0
+CanDecideIn None d = Unit {0}
+CanDecideIn (Some f) d = CanDecide f.bout d
+
+abbrev pub events_from : Option Fight → Decision → List Event
+events_from None d = []
+events_from (Some f) d = (outcome_of f.cast.dex f.bout d).told
+
+abbrev pub lines_from : Option Fight → Decision → List Line → List Line
+lines_from None d ls = ls
+lines_from (Some f) d ls = let after = outcome_of f.cast.dex f.bout d in ls ++ requests f.cast after.bout after.told
+
+abbrev pub battle_from : Option Fight → Decision → Option Fight
+battle_from None d = None
+battle_from (Some f) d = Some (record f { bout = (outcome_of f.cast.dex f.bout d).bout })
+
+-- ---- the record after
 
 -- the record after an entry that is applied
 abbrev pub applied : Record → Entry → Record

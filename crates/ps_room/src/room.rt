@@ -1,19 +1,17 @@
 //! The room.
-ghost use Rattle.std.specs.Prelude.{◌≡◌, ◌++◌, ◌∷◌, [], ◌<◌, ◌↔◌, true, IfOk, OnOk, OnErr, IfSome, map, Some, None};
+ghost use Rattle.std.specs.Prelude.{◌≡◌, ◌++◌, ◌∷◌, [], ◌<◌, ◌↔◌, true, IfOk, OnOk, OnErr, IfErr, IfSome, map, Some, None};
 ghost use Rattle.std.specs.Option.{option_copied};
 ghost use Rattle.ps_chat.specs.Verdicts.{verdict as chat_verdict};
 ghost use Rattle.ps_chat.specs.Changes.{record_after};
-ghost use Rattle.ps_dex.specs.Figures.{figures_of};
-ghost use Rattle.battle_rounds.specs.Bouts.{IsBout};
 ghost use Rattle.ps_mon.specs.Valid.{IsSound};
 ghost use Rattle.battle_rounds.specs.Rounds.{outcome, ended as bout_ended};
 ghost use Rattle.ps_splitlog.specs.Entries.{logged_lines, message_of};
 ghost use Rattle.ps_splitlog.specs.Lines.{stored_of_line};
 ghost use Rattle.ps_room.specs.Records.{presents_of, cast_in};
 ghost use Rattle.ps_room.specs.Roles.{role_of_member, side_of_member};
-ghost use Rattle.ps_room.specs.Rooms.{is_join, role_in, refused_line, refusal_by_battle, outcome_by, events_by, lines_by, with_bout, CanGoOn, battle_after, request_for};
-ghost use Rattle.battle_rounds.specs.Fights.{requests as requested};
-ghost use Rattle.ps_room.specs.Logs.{conns_with, touched_by, change_in, changed_conn, backlog_size, stored_in, join_if, entry_of, ending_of, ending_by};
+ghost use Rattle.ps_room.specs.Rooms.{is_join, role_in, sender_of, refused_line, refusal_by_battle, with_bout, CanGoOn, IsIdle, IsDecided, CanDecideIn, events_from, lines_from, battle_from, request_for};
+ghost use Rattle.battle_rounds.specs.Fights.{outcome_of, CanDecide, bout_or, requests as requested};
+ghost use Rattle.ps_room.specs.Logs.{conns_with, touched_by, change_in, changed_conn, backlog_size, stored_in, join_if, entry_of, ending_of, ending_from};
 ghost use Rattle.ps_room.specs.declared.outcome.Verdict.TheVariants.{Applied};
 
 use crate::entry::Entry;
@@ -21,8 +19,9 @@ use crate::line;
 use crate::opening::{Opening, Parts};
 use crate::outcome::{Ending, RoomOut, Verdict};
 use crate::start::{Opened, open_battle};
-use battle_rounds::bout::Bout;
+use battle_rounds::bout::{Bout, BoutBox};
 use battle_rounds::cast::{Cast, role_with, side_with_id};
+use battle_rounds::decision::Decision;
 use battle_rounds::room_battle::{RoomBattle, requests};
 use battle_rounds::rounds::ended;
 use ps_base::badge::Badge;
@@ -56,8 +55,9 @@ pub struct Prepared {
     /// All that the entry gives, as the log will have it, but for the roles that hold after it; of a refused one its one line to
     /// its sender.
     pub log_entry: LogEntry,
-    /// The rounds of the battle after it; `None` where there is no battle, or the entry is refused.
-    pub bout: Option<Bout>,
+    /// The rounds of the battle after it; `None` where there is no battle, where the entry is refused, and where its command isn't
+    /// the battle's, so that they stay.
+    pub bout: Option<BoutBox>,
 }
 
 /// A room. Contracts see its number and id, what its chat was opened with, its chat, its battle, and its log. It keeps no
@@ -193,33 +193,51 @@ fn side_of_member(cast: &Cast, member: Option<&Present>) -> Option<u8>
     }
 }
 
-// Why the battle refuses a command, after the chat has allowed it.
-fn refusal_by_battle(
+// What a command of a member comes to at the battle, after the chat has allowed it, or why the battle refuses it.
+fn decide(
     battle: Option<&RoomBattle>,
     member: Option<&Present>,
     cmd: &Command,
-) -> Option<Why>
-    ensures { result ≡ refusal_by_battle (option_copied battle.entry) (option_copied member.entry) cmd.now }
+) -> Result<Decision, Why>
+    ensures refused { IfErr result (λ why. refusal_by_battle (option_copied battle.entry) (option_copied member.entry) cmd.now ≡ Some why) }
+    ensures allowed { IfOk result (λ d. refusal_by_battle (option_copied battle.entry) (option_copied member.entry) cmd.now ≡ None) }
+    ensures decided { IfOk result (IsDecided (option_copied battle.entry) (option_copied member.entry) cmd.now) }
 {
     match battle {
-        None => None,
-        Some(battle) => battle.refusal(side_of_member(battle.cast(), member), cmd),
+        None => Ok(Decision::Nothing),
+        Some(battle) => match battle.decide(side_of_member(battle.cast(), member), cmd) {
+            Ok(decision) => Ok(decision),
+            Err(why) => Err(why),
+        },
     }
 }
 
-// What an allowed command makes of the battle, and the events of it.
-fn outcome_by(
+// The rounds that a decision makes, and the events of it; `None` where it makes none.
+fn rounds_by(
+    alloc: Global,
     battle: &RoomBattle,
-    member: Option<&Present>,
-    cmd: &Command,
+    decision: Decision,
     out: &mut Events,
-) -> Bout
-    requires allowed { refusal_by_battle (Some battle.now) (option_copied member) cmd.now ≡ None }
+) -> Result<Option<BoutBox>, AllocError>
+    requires can { CanDecide battle.now.bout decision }
     requires empty { out.old.items ≡ [] }
-    ensures after { outcome result out.new ≡ outcome_by battle.now (option_copied member.entry) cmd.now }
-    ensures bout { IsBout (figures_of battle.now.cast.dex) result }
+    ensures after { IfOk result (λ next. outcome (bout_or battle.now.bout next) out.new ≡ outcome_of battle.now.cast.dex battle.now.bout decision) }
+    ensures bout { IfOk result (λ next. CanGoOn (Some battle.now) next) }
 {
-    battle.outcome(side_of_member(battle.cast(), member), cmd, out)
+    let next = battle.after(alloc, decision, out)?;
+    Ok(next)
+}
+
+// The rounds after a decision: those that it made, or else those before it.
+fn rounds_after<'a>(battle: &'a RoomBattle, next: Option<&'a BoutBox>) -> &'a Bout
+    requires { CanGoOn (Some battle.now) (option_copied next) }
+    ensures value { result.now ≡ bout_or battle.now.bout (option_copied next.entry) }
+    ensures sound { IsSound result.now.battle }
+{
+    match next {
+        None => battle.bout(),
+        Some(next) => next.bout(),
+    }
 }
 
 // The request of the open round for a member who joins.
@@ -299,7 +317,7 @@ fn ending_with(battle: &RoomBattle, after: &Bout) -> Option<Ending>
 }
 
 // What comes of an entry that is applied.
-fn applied(log_entry: LogEntry, ended: Option<Ending>, bout: Option<Bout>) -> Prepared
+fn applied(log_entry: LogEntry, ended: Option<Ending>, bout: Option<BoutBox>) -> Prepared
     ensures { result ≡ record { out = record { verdict = Applied; ended = ended }; log_entry = log_entry; bout = bout } }
 {
     Prepared {
@@ -318,20 +336,20 @@ fn prepared_with(
     alloc: Global,
     conn: ConnNo,
     battle: &RoomBattle,
-    member: Option<&Present>,
-    cmd: &Command,
+    decision: Decision,
     lines: Vec<ChatLine>,
     join: Option<Joined>,
 ) -> Result<Prepared, AllocError>
-    requires { refusal_by_battle (Some battle.now) (option_copied member) cmd.now ≡ None }
-    ensures out { IfOk result (λ p. p.out ≡ record { verdict = Applied; ended = ending_by (Some battle.now) (option_copied member.entry) cmd.now }) }
-    ensures log_entry { IfOk result (λ p. p.log_entry ≡ record { conn = conn; lines = stored_in (Some battle.now.cast) (events_by (Some battle.now) (option_copied member.entry) cmd.now) (lines_by (Some battle.now) (option_copied member.entry) cmd.now lines.items); join = join; roles = [] }) }
-    ensures after { IfOk result (λ p. with_bout (Some battle.now) p.bout ≡ battle_after (Some battle.now) (option_copied member.entry) cmd.now) }
+    requires { CanDecide battle.now.bout decision }
+    ensures out { IfOk result (λ p. p.out ≡ record { verdict = Applied; ended = ending_from (Some battle.now) decision }) }
+    ensures log_entry { IfOk result (λ p. p.log_entry ≡ record { conn = conn; lines = stored_in (Some battle.now.cast) (events_from (Some battle.now) decision) (lines_from (Some battle.now) decision lines.items); join = join; roles = [] }) }
+    ensures after { IfOk result (λ p. with_bout (Some battle.now) p.bout ≡ battle_from (Some battle.now) decision) }
     ensures bout { IfOk result (λ p. CanGoOn (Some battle.now) p.bout) }
 {
     let mut out = Events::new();
-    let after = outcome_by(battle, member, cmd, &mut out);
-    let lines = with_requests(alloc, battle.cast(), &after, out.as_slice(), lines)?;
+    let next = rounds_by(alloc, battle, decision, &mut out)?;
+    let after = rounds_after(battle, next.as_ref());
+    let lines = with_requests(alloc, battle.cast(), after, out.as_slice(), lines)?;
     let heard = Heard {
         conn,
         events: out.as_slice(),
@@ -340,36 +358,37 @@ fn prepared_with(
         roles: &[],
     };
     let log_entry = log_entry_of(alloc, battle.cast().names(), battle.cast().dex(), heard)?;
-    Ok(applied(log_entry, ending_with(battle, &after), Some(after)))
+    let ended = ending_with(battle, after);
+    Ok(applied(log_entry, ended, next))
 }
 
-// What comes of an allowed entry.
+// What comes of an allowed entry, by what its command comes to at the battle.
 fn prepared_by(
     alloc: Global,
     conn: ConnNo,
     battle: Option<&RoomBattle>,
-    member: Option<&Present>,
-    cmd: &Command,
+    decision: Decision,
     lines: Vec<ChatLine>,
     join: Option<Joined>,
 ) -> Result<Prepared, AllocError>
-    requires { refusal_by_battle (option_copied battle) (option_copied member) cmd.now ≡ None }
-    ensures out { IfOk result (λ p. p.out ≡ record { verdict = Applied; ended = ending_by (option_copied battle.entry) (option_copied member.entry) cmd.now }) }
-    ensures log_entry { IfOk result (λ p. p.log_entry ≡ record { conn = conn; lines = stored_in (cast_in (option_copied battle.entry)) (events_by (option_copied battle.entry) (option_copied member.entry) cmd.now) (lines_by (option_copied battle.entry) (option_copied member.entry) cmd.now lines.items); join = join; roles = [] }) }
-    ensures after { IfOk result (λ p. with_bout (option_copied battle.entry) p.bout ≡ battle_after (option_copied battle.entry) (option_copied member.entry) cmd.now) }
+    requires { CanDecideIn (option_copied battle) decision }
+    ensures out { IfOk result (λ p. p.out ≡ record { verdict = Applied; ended = ending_from (option_copied battle.entry) decision }) }
+    ensures log_entry { IfOk result (λ p. p.log_entry ≡ record { conn = conn; lines = stored_in (cast_in (option_copied battle.entry)) (events_from (option_copied battle.entry) decision) (lines_from (option_copied battle.entry) decision lines.items); join = join; roles = [] }) }
+    ensures after { IfOk result (λ p. with_bout (option_copied battle.entry) p.bout ≡ battle_from (option_copied battle.entry) decision) }
     ensures bout { IfOk result (λ p. CanGoOn (option_copied battle.entry) p.bout) }
+    ensures idle { IfOk result (λ p. IsIdle (option_copied battle.entry) p.bout) }
 {
     match battle {
         None => {
             let log_entry = log_entry_of_lines(alloc, conn, lines.as_slice(), join)?;
             Ok(applied(log_entry, None, None))
         }
-        Some(battle) => prepared_with(alloc, conn, battle, member, cmd, lines, join),
+        Some(battle) => prepared_with(alloc, conn, battle, decision, lines, join),
     }
 }
 
 // The battle goes on from there.
-fn set_bout(battle: &mut Option<RoomBattle>, bout: Option<Bout>)
+fn set_bout(battle: &mut Option<RoomBattle>, bout: Option<BoutBox>)
     requires { CanGoOn battle.old bout }
     ensures { battle.new ≡ with_bout battle.old bout }
 {
@@ -407,7 +426,7 @@ fn push_and_change(
 impl Room {
     ghost use Rattle.ps_room.specs.Openings.{IsFitOpening};
     ghost use Rattle.ps_room.specs.Rooms.{verdict, role, head};
-    ghost use Rattle.ps_room.specs.Logs.{record_in, given, seen_opened, seen_after, out_of, Goes};
+    ghost use Rattle.ps_room.specs.Logs.{record_in, given, seen_opened, seen_after, out_of, Goes, MakesNone};
     ghost use Rattle.ps_splitlog.specs.Reads.{cursor_past, read_past};
     ghost use Rattle.ps_base.specs.Messages.{msg_lines};
 
@@ -449,21 +468,36 @@ impl Room {
         })
     }
 
-    /// Why the entry is refused; `None` where it is allowed. Takes no memory.
+    // What the entry's command comes to at the battle, or why the entry is refused. It looks its sender up.
     #[tactic(auto, unfolding(crate::specs::Rooms::verdict))]
-    pub fn verdict(&self, entry: &Entry) -> Option<Why>
-        ensures { result ≡ verdict (record_in self.now) entry.now }
+    fn judge(&self, entry: &Entry) -> Result<Decision, Why>
+        ensures refused { IfErr result (λ why. verdict (record_in self.now) entry.now ≡ Some why) }
+        ensures allowed { IfOk result (λ d. verdict (record_in self.now) entry.now ≡ None) }
+        ensures decided { IfOk result (IsDecided self.now.battle (sender_of (record_in self.now) entry.now) entry.now.cmd) }
     {
         match self
             .chat
             .verdict(entry.conn, &entry.badge, entry.moment, &entry.cmd)
         {
-            Some(why) => Some(why),
-            None => refusal_by_battle(
+            Some(why) => Err(why),
+            None => match decide(
                 self.battle.as_ref(),
                 self.chat.member(entry.conn),
                 &entry.cmd,
-            ),
+            ) {
+                Ok(decision) => Ok(decision),
+                Err(why) => Err(why),
+            },
+        }
+    }
+
+    /// Why the entry is refused; `None` where it is allowed. Takes no memory.
+    pub fn verdict(&self, entry: &Entry) -> Option<Why>
+        ensures { result ≡ verdict (record_in self.now) entry.now }
+    {
+        match self.judge(entry) {
+            Ok(_) => None,
+            Err(why) => Some(why),
         }
     }
 
@@ -516,6 +550,7 @@ impl Room {
     }
 
     // What comes of a refused entry, which is its one line to its sender.
+    #[tactic(auto, using(crate::proofs::ChangeLemmas::still_none))]
     fn prepare_refused(
         &self,
         alloc: Global,
@@ -526,6 +561,7 @@ impl Room {
         ensures out { IfOk result (λ p. p.out ≡ out_of (record_in self.now) entry.now) }
         ensures log_entry { IfOk result (λ p. p.log_entry ≡ given (record_in self.now) entry.now) }
         ensures goes { IfOk result (λ p. Goes self.now entry.now p.bout) }
+        ensures none { IfOk result (λ p. MakesNone self.now entry.now p.bout) }
     {
         Ok(Prepared {
             out: RoomOut {
@@ -537,26 +573,33 @@ impl Room {
         })
     }
 
-    // What comes of an allowed one.
-    fn prepare_allowed(&self, alloc: Global, entry: &Entry) -> Result<Prepared, AllocError>
-        requires { verdict (record_in self.now) entry.now ≡ None }
+    // What comes of an allowed one, by what its command comes to at the battle.
+    fn prepare_allowed(
+        &self,
+        alloc: Global,
+        entry: &Entry,
+        decision: Decision,
+    ) -> Result<Prepared, AllocError>
+        requires allowed { verdict (record_in self.now) entry.now ≡ None }
+        requires decided { IsDecided self.now.battle (sender_of (record_in self.now) entry.now) entry.now.cmd decision }
         ensures out { IfOk result (λ p. p.out ≡ out_of (record_in self.now) entry.now) }
         ensures log_entry { IfOk result (λ p. p.log_entry ≡ given (record_in self.now) entry.now) }
         ensures goes { IfOk result (λ p. Goes self.now entry.now p.bout) }
+        ensures none { IfOk result (λ p. MakesNone self.now entry.now p.bout) }
     {
         let lines = self
             .chat
             .told(alloc, entry.conn, &entry.badge, entry.moment, &entry.cmd)?;
         let join = self.joined(alloc, entry)?;
-        prepared_by(
+        let prepared = prepared_by(
             alloc,
             entry.conn,
             self.battle.as_ref(),
-            self.chat.member(entry.conn),
-            &entry.cmd,
+            decision,
             lines,
             join,
-        )
+        )?;
+        Ok(prepared)
     }
 
     /// Works out what comes of an entry that comes next, for `keep`. Fails only if out of memory.
@@ -564,10 +607,12 @@ impl Room {
         ensures out { IfOk result (λ p. p.out ≡ out_of (record_in self.now) entry.now) }
         ensures log_entry { IfOk result (λ p. p.log_entry ≡ given (record_in self.now) entry.now) }
         ensures goes { IfOk result (λ p. Goes self.now entry.now p.bout) }
+        // A refused entry, and one of a room without a battle, makes no rounds.
+        ensures none { IfOk result (λ p. MakesNone self.now entry.now p.bout) }
     {
-        match self.verdict(entry) {
-            Some(why) => self.prepare_refused(alloc, entry, why),
-            None => self.prepare_allowed(alloc, entry),
+        match self.judge(entry) {
+            Err(why) => self.prepare_refused(alloc, entry, why),
+            Ok(decision) => self.prepare_allowed(alloc, entry, decision),
         }
     }
 
@@ -585,7 +630,7 @@ impl Room {
         alloc: Global,
         entry: &Entry,
         log_entry: LogEntry,
-        bout: Option<Bout>,
+        bout: Option<BoutBox>,
     ) -> Result<(), AllocError>
         requires allowed { verdict (record_in self.old) entry.now ≡ None }
         requires given { log_entry ≡ given (record_in self.old) entry.now }

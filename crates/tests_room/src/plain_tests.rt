@@ -3,10 +3,12 @@
 ghost use Rattle.std.specs.Prelude.{◌≡◌, ◌<◌, [], IfSome};
 ghost use Rattle.std.specs.Arc.{arc_value};
 ghost use Rattle.rules_start.specs.Fits.{IsFit};
+ghost use Rattle.battle_rounds.specs.Fights.{CanDecide};
 
 use crate::chat_tests::{badge_of, close, close_chat, command, discard, enter};
 use crate::room_tests::{Texts, config, dex, opened, start};
 use battle_rounds::cast::{Cast, role_with, side_with_id};
+use battle_rounds::decision::Decision;
 use battle_rounds::room_battle::{RoomBattle, requests};
 use ps_base::list::List;
 use ps_base::number::{ConnNo, Moment};
@@ -224,12 +226,26 @@ fn fought(
 ) -> Vec<ChatLine>
     requires { out.old.items ≡ [] }
 {
-    let side = side(plain, entry.conn);
-    match plain.battle.refusal(side, &entry.cmd) {
-        Some(_) => Vec::new(alloc),
-        None => {
-            let after = plain.battle.outcome(side, &entry.cmd, out);
-            requests(alloc, plain.battle.cast(), &after, out.as_slice()).expect(rt, "memory")
+    match plain.battle.decide(side(plain, entry.conn), &entry.cmd) {
+        Err(_) => Vec::new(alloc),
+        Ok(decision) => played(rt, alloc, &plain.battle, decision, out),
+    }
+}
+
+fn played(
+    rt: &impl Abort,
+    alloc: Global,
+    battle: &RoomBattle,
+    decision: Decision,
+    out: &mut Events,
+) -> Vec<ChatLine>
+    requires can { CanDecide battle.now.bout decision }
+    requires empty { out.old.items ≡ [] }
+{
+    match battle.after(alloc, decision, out).expect(rt, "memory") {
+        None => Vec::new(alloc),
+        Some(after) => {
+            requests(alloc, battle.cast(), after.bout(), out.as_slice()).expect(rt, "memory")
         }
     }
 }
@@ -447,16 +463,22 @@ fn log_lines(rt: &impl Abort, alloc: Global, logged: &mut Vec<Logged>, lines: &[
 }
 
 /// The battle goes on by a command that it allows.
-fn go_on(battle: &mut RoomBattle, side: Option<u8>, cmd: &Command)
+fn go_on(rt: &impl Abort, alloc: Global, battle: &mut RoomBattle, side: Option<u8>, cmd: &Command)
     requires { IfSome side (λ s. s < 2) }
 {
+    match battle.decide(side, cmd) {
+        Err(_) => {}
+        Ok(decision) => go_on_by(rt, alloc, battle, decision),
+    }
+}
+
+fn go_on_by(rt: &impl Abort, alloc: Global, battle: &mut RoomBattle, decision: Decision)
+    requires { CanDecide battle.old.bout decision }
+{
     let mut out = Events::new();
-    match battle.refusal(side, cmd) {
-        Some(_) => {}
-        None => {
-            let after = battle.outcome(side, cmd, &mut out);
-            battle.go_on(after);
-        }
+    match battle.after(alloc, decision, &mut out).expect(rt, "memory") {
+        None => {}
+        Some(after) => battle.go_on(after),
     }
 }
 
@@ -477,7 +499,7 @@ fn apply(rt: &impl Abort, alloc: Global, plain: &mut Plain, entry: &Entry, told:
         Some(_) => {}
         None => {
             let side = side(plain, entry.conn);
-            go_on(&mut plain.battle, side, &entry.cmd);
+            go_on(rt, alloc, &mut plain.battle, side, &entry.cmd);
             change(rt, alloc, &mut plain.chat, entry);
             log_events(rt, &mut plain.logged, told.events.as_slice());
             log_lines(rt, alloc, &mut plain.logged, told.lines.as_slice());
