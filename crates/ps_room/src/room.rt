@@ -268,7 +268,9 @@ fn refused_log_entry(alloc: Global, conn: ConnNo, why: Why) -> Result<LogEntry, 
         logged: false,
         text: error_line(alloc, why)?,
     };
-    log_entry_of_lines(alloc, conn, &[line], None)
+    let mut lines = Vec::with_capacity(alloc, 1)?;
+    lines.push(line)?;
+    log_entry_of_lines(alloc, conn, lines, None)
 }
 
 fn backlog_size(cast: Option<&Cast>) -> u32
@@ -353,7 +355,7 @@ fn prepared_with(
     let heard = Heard {
         conn,
         events: out.as_slice(),
-        lines: lines.as_slice(),
+        lines,
         join,
         roles: &[],
     };
@@ -380,7 +382,7 @@ fn prepared_by(
 {
     match battle {
         None => {
-            let log_entry = log_entry_of_lines(alloc, conn, lines.as_slice(), join)?;
+            let log_entry = log_entry_of_lines(alloc, conn, lines, join)?;
             Ok(applied(log_entry, None, None))
         }
         Some(battle) => prepared_with(alloc, conn, battle, decision, lines, join),

@@ -39,7 +39,7 @@ pub struct Entry<'a> {
     /// The events of the battle, whose lines come first.
     pub events: &'a [Event],
     /// The lines that are text already.
-    pub lines: &'a [ChatLine<Text>],
+    pub lines: Vec<ChatLine<Text>>,
     /// Where the connection joins by it, what it is sent.
     pub join: Option<Joined>,
     /// The roles that it gives, which hold from the next entry on. The first that names a connection counts, and who isn't
@@ -91,16 +91,11 @@ fn push_events(
     Ok(())
 }
 
-fn push_lines(
-    alloc: Global,
-    stored: &mut Vec<Stored>,
-    lines: &[ChatLine<Text>],
-) -> Result<(), AllocError>
-    ensures { OnOk result (stored.new.items ≡ stored.old.items ++ map stored_of_line lines.now) }
+fn push_lines(stored: &mut Vec<Stored>, lines: Vec<ChatLine<Text>>) -> Result<(), AllocError>
+    ensures { OnOk result (stored.new.items ≡ stored.old.items ++ map stored_of_line lines.items) }
 {
     for line in lines {
-        let line = stored_of_line(alloc, line)?;
-        stored.push(line)?;
+        stored.push(stored_of_line(line))?;
     }
     Ok(())
 }
@@ -111,13 +106,13 @@ fn stored_of(
     names: &Names,
     dex: &Dex,
     events: &[Event],
-    lines: &[ChatLine<Text>],
+    lines: Vec<ChatLine<Text>>,
 ) -> Result<List<Stored>, AllocError>
-    ensures { IfOk result (λ v. v ≡ stored_of names.now dex.now events.now lines.now) }
+    ensures { IfOk result (λ v. v ≡ stored_of names.now dex.now events.now lines.items) }
 {
-    let mut stored = Vec::new(alloc);
+    let mut stored = Vec::with_capacity(alloc, lines.len())?;
     push_events(alloc, &mut stored, names, dex, events)?;
-    push_lines(alloc, &mut stored, lines)?;
+    push_lines(&mut stored, lines)?;
     Ok(List::from_vec(stored))
 }
 
@@ -129,7 +124,7 @@ pub fn log_entry_of(
     dex: &Dex,
     entry: Entry<'_>,
 ) -> Result<LogEntry, AllocError>
-    ensures { IfOk result (λ h. h ≡ log_entry_of names.now dex.now entry.entry.conn entry.entry.events.now entry.entry.lines.now entry.entry.join entry.entry.roles.now) }
+    ensures { IfOk result (λ h. h ≡ log_entry_of names.now dex.now entry.entry.conn entry.entry.events.now entry.entry.lines.items entry.entry.join entry.entry.roles.now) }
 {
     let lines = stored_of(alloc, names, dex, entry.events, entry.lines)?;
     let roles = entry.roles.to_vec(alloc)?;
@@ -146,13 +141,13 @@ pub fn log_entry_of(
 pub fn log_entry_of_lines(
     alloc: Global,
     conn: ConnNo,
-    lines: &[ChatLine<Text>],
+    lines: Vec<ChatLine<Text>>,
     join: Option<Joined>,
 ) -> Result<LogEntry, AllocError>
-    ensures { IfOk result (λ h. h ≡ log_entry_of_lines conn lines.now join) }
+    ensures { IfOk result (λ h. h ≡ log_entry_of_lines conn lines.items join) }
 {
     let mut stored = Vec::with_capacity(alloc, lines.len())?;
-    push_lines(alloc, &mut stored, lines)?;
+    push_lines(&mut stored, lines)?;
     Ok(LogEntry {
         conn,
         lines: List::from_vec(stored),

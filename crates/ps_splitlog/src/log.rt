@@ -85,7 +85,7 @@ impl SplitLog {
         names: &Names,
         dex: &Dex,
     ) -> Result<(), AllocError>
-        ensures ok { OnOk result (self.new ≡ self.old ++ log_entry_of names.now dex.now entry.entry.conn entry.entry.events.now entry.entry.lines.now entry.entry.join entry.entry.roles.now ∷ []) }
+        ensures ok { OnOk result (self.new ≡ self.old ++ log_entry_of names.now dex.now entry.entry.conn entry.entry.events.now entry.entry.lines.items entry.entry.join entry.entry.roles.now ∷ []) }
         ensures err { OnErr result (self.new ≡ self.old) }
     {
         let log_entry = log_entry_of(alloc, names, dex, entry)?;
@@ -107,7 +107,7 @@ impl SplitLog {
         let entry = Entry {
             conn,
             events,
-            lines: &[],
+            lines: Vec::new(alloc),
             join: None,
             roles: &[],
         };

@@ -155,13 +155,13 @@ pub fn stored_of_event(
     }
 }
 
-/// What is stored of a line that is text already.
-pub fn stored_of_line(alloc: Global, line: &ChatLine<Text>) -> Result<Stored, AllocError>
-    ensures { IfOk result (λ s. s ≡ stored_of_line line.now) }
+/// What is stored of a line that is text already. Takes no memory.
+pub fn stored_of_line(line: ChatLine<Text>) -> Stored
+    ensures { result ≡ stored_of_line line }
 {
-    Ok(Stored::Same {
+    Stored::Same {
         audience: line.audience,
         logged: line.logged,
-        text: line.text.copy(alloc)?,
-    })
+        text: line.text,
+    }
 }

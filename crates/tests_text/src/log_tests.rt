@@ -108,7 +108,7 @@ fn line(rt: &impl Abort, alloc: Global, said: &str) -> ChatLine<Text> {
 /// Ann's entry.
 fn entry<'a>(
     events: &'a [Event],
-    lines: &'a [ChatLine<Text>],
+    lines: Vec<ChatLine<Text>>,
     roles: &'a [(ConnNo, Role)],
 ) -> Entry<'a> {
     Entry {
@@ -139,19 +139,24 @@ fn append(rt: &impl Abort, alloc: Global, log: &mut SplitLog, entry: Entry<'_>) 
 
 /// Ann's entry of one event.
 fn append_event(rt: &impl Abort, alloc: Global, log: &mut SplitLog) {
-    append(rt, alloc, log, entry(&[DAMAGE], &[], &[]));
+    append(rt, alloc, log, entry(&[DAMAGE], Vec::new(alloc), &[]));
 }
 
 /// Two lines, and roles from the next entry on.
 fn append_first(rt: &impl Abort, alloc: Global, log: &mut SplitLog) {
-    let lines = [line(rt, alloc, "one"), line(rt, alloc, "two")];
-    append(rt, alloc, log, entry(&[], &lines, &ROLES));
+    let lines = Vec::from_array(alloc, [line(rt, alloc, "one"), line(rt, alloc, "two")]);
+    append(
+        rt,
+        alloc,
+        log,
+        entry(&[], lines.expect(rt, "memory"), &ROLES),
+    );
 }
 
 /// A third line.
 fn append_line(rt: &impl Abort, alloc: Global, log: &mut SplitLog) {
-    let lines = [line(rt, alloc, "three")];
-    append(rt, alloc, log, entry(&[], &lines, &[]));
+    let lines = Vec::from_array(alloc, [line(rt, alloc, "three")]);
+    append(rt, alloc, log, entry(&[], lines.expect(rt, "memory"), &[]));
 }
 
 fn joined(rt: &impl Abort, alloc: Global) -> Joined {
@@ -166,7 +171,7 @@ fn joined(rt: &impl Abort, alloc: Global) -> Joined {
 /// The fourth connection joins, and is sent the last line that was logged.
 fn join(rt: &impl Abort, alloc: Global) -> LogEntry {
     let joined = joined(rt, alloc);
-    log_entry_of_lines(alloc, ConnNo(4), &[], Some(joined)).expect(rt, "memory")
+    log_entry_of_lines(alloc, ConnNo(4), Vec::new(alloc), Some(joined)).expect(rt, "memory")
 }
 
 /// The log of the first entry.
@@ -319,7 +324,7 @@ fn append_damage(rt: &impl Abort, alloc: Global, log: &mut SplitLog) {
 }
 
 fn damage_known(rt: &impl Abort, alloc: Global, known: &Known) -> LogEntry {
-    let entry = entry(&[DAMAGE], &[], &[]);
+    let entry = entry(&[DAMAGE], Vec::new(alloc), &[]);
     log_entry_of(alloc, &known.names, &known.dex, entry).expect(rt, "memory")
 }
 
