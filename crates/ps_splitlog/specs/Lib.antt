@@ -1,3 +1,4 @@
+pub mod Boxes
 pub mod Entries
 pub mod Indices
 pub mod Lines

@@ -1,6 +1,7 @@
 //! The entries of a log.
 ghost use Rattle.std.specs.Prelude.{◌≡◌, ◌++◌, ◌∷◌, [], map, IfOk, OnOk};
 ghost use Rattle.std.specs.List.{filter_map};
+ghost use Rattle.std.specs.Option.{option_copied};
 ghost use Rattle.ps_splitlog.specs.Lines.{stored_of_event, stored_of_line, stored_of};
 ghost use Rattle.ps_splitlog.specs.Entries.{log_entry_of, log_entry_of_lines};
 
@@ -14,6 +15,7 @@ use ps_event::line::ChatLine;
 use ps_view::names::Names;
 use ps_view::role::Role;
 use std::alloc::{AllocError, Global};
+use std::marker::Model;
 
 /// A `keep` with which who joins is sent all that was logged.
 pub const ALL: u32 = 4_294_967_295;
@@ -29,6 +31,45 @@ pub struct Joined {
     pub keep: u32,
     /// The line that comes last.
     pub tail: Option<Text>,
+}
+
+/// What who joins is sent, if an entry is a join. It is large and rare, so a log holds it apart. Contracts see it, or none.
+#[derive(Debug, Drop)]
+pub struct Joining {
+    inner: Option<Box<Joined>>,
+}
+
+impl Model for Joining {
+    ghost use Rattle.std.specs.Prelude.{Option};
+    ghost use Rattle.ps_splitlog.specs.declared.entry.Joined.{Joined};
+    ghost use Rattle.ps_splitlog.specs.Boxes.{in_box};
+
+    ghost Value = { Option Joined };
+
+    ghost view = { λ j. in_box j.inner };
+}
+
+impl Joining {
+    fn new(alloc: Global, joined: Option<Joined>) -> Result<Joining, AllocError>
+        ensures { IfOk result (λ j. j ≡ joined) }
+    {
+        match joined {
+            None => Ok(Joining { inner: None }),
+            Some(joined) => Ok(Joining {
+                inner: Some(Box::new(alloc, joined)?),
+            }),
+        }
+    }
+
+    /// What it is. Takes no memory.
+    pub fn get(&self) -> Option<&Joined>
+        ensures { option_copied result ≡ self.now }
+    {
+        match &self.inner {
+            None => None,
+            Some(joined) => Some(&**joined),
+        }
+    }
 }
 
 /// An entry that a log is to take.
@@ -55,7 +96,7 @@ pub struct LogEntry {
     /// Its lines, those of its events first.
     pub lines: List<Stored>,
     /// Where the connection joins by it, what it is sent in place of these.
-    pub join: Option<Joined>,
+    pub join: Joining,
     /// The roles that it gives from the next entry on.
     pub roles: List<(ConnNo, Role)>,
 }
@@ -131,7 +172,7 @@ pub fn log_entry_of(
     Ok(LogEntry {
         conn: entry.conn,
         lines,
-        join: entry.join,
+        join: Joining::new(alloc, entry.join)?,
         roles: List::from_vec(roles),
     })
 }
@@ -151,7 +192,7 @@ pub fn log_entry_of_lines(
     Ok(LogEntry {
         conn,
         lines: List::from_vec(stored),
-        join,
+        join: Joining::new(alloc, join)?,
         roles: List::from_vec(Vec::new(alloc)),
     })
 }

@@ -147,7 +147,7 @@ pub fn join_for(conn: ConnNo, log_entry: &LogEntry) -> Option<&Joined>
     ensures { option_copied result ≡ join_for conn log_entry.now }
 {
     if conn == log_entry.conn {
-        log_entry.join.as_ref()
+        log_entry.join.get()
     } else {
         None
     }

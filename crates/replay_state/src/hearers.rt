@@ -93,7 +93,7 @@ fn common_of(line: &Stored) -> Option<&Text>
 pub fn common_text(log_entry: &LogEntry) -> Option<&Text>
     ensures { option_copied result ≡ common_text log_entry.now }
 {
-    match &log_entry.join {
+    match log_entry.join.get() {
         Some(_) => None,
         None => match log_entry.lines.as_slice() {
             [] => None,
