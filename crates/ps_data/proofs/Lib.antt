@@ -1,4 +1,5 @@
 pub mod Deeper
 pub mod Each
 pub mod Items
+pub mod TableLemmas
 pub mod Texts

@@ -5,4 +5,5 @@ pub mod Forms
 pub mod Lists
 pub mod Words
 pub mod OwnIds
+pub mod Tables
 pub mod FileFaults

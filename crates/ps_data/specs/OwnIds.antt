@@ -1,5 +1,5 @@
 -- Ids that no two items of a list have. Which id an item has is said by `own`.
-use Rattle.std.specs.Prelude.{ℕ, ◌==◌, Bool, not, List, length, position, is_some, bytes_eq, Result, Ok}
+use Rattle.std.specs.Prelude.{◌≡◌, ℕ, ◌==◌, Bool, true, not, List, length, position, is_some, bytes_eq, Result, Ok}
 use Rattle.serde_json.specs.Data.{Data}
 use Rattle.ps_base.specs.Ids.{id_of, id_in}
 use Rattle.ps_data.specs.declared.fault.DataKind.TheVariants.{Range, Repeat}
@@ -8,8 +8,12 @@ use Rattle.ps_data.specs.Reading.{◌>>=◌, some_or, ensure}
 use Rattle.ps_data.specs.Forms.{text_in}
 
 -- an item has the id
-abbrev pub has_id : {A : Type 0} → (A → List ℕ) → List ℕ → List A → Bool
+unfoldable pub has_id : {A : Type 0} → (A → List ℕ) → List ℕ → List A → Bool
 has_id own id items = is_some (position (λ t. bytes_eq (own t) id) items)
+
+-- no item has the id
+abbrev pub IsNew : {A : Type 0} → (A → List ℕ) → List ℕ → List A → Type 0
+IsNew own id items = not (has_id own id items) ≡ true
 
 -- at least one character, each of a to z and 0 to 9, and not the id of an item before
 unfoldable pub own_id_in : {A : Type 0} → (A → List ℕ) → List A → Data → Result (List ℕ) Fault

@@ -21,7 +21,10 @@ pub trait EntryForm<T> {
         ensures { Gives result (reading self.now before.now key.now (view value.now)) };
 }
 
-fn pairs(alloc: Global, object: &Map<String, Value>) -> Result<Vec<(&String, &Value)>, AllocError>
+pub(crate) fn pairs(
+    alloc: Global,
+    object: &Map<String, Value>,
+) -> Result<Vec<(&String, &Value)>, AllocError>
     ensures { IfOk result (λ v. map (λ e. (e.0.now, e.1.now)) v.items ≡ object.now.entries) }
 {
     object.iter().collect(alloc)

@@ -29,6 +29,7 @@ pub fn index_of<T: HasId>(items: &[T], id: &str) -> Option<usize>
 }
 
 /// Whether an item has an id.
+#[tactic(auto, unfolding(crate::specs::OwnIds::has_id))]
 pub fn has_id<T: HasId>(items: &[T], id: &str) -> bool
     ensures { result ≡ has_id T.id_of id.now items.now }
 {

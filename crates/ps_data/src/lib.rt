@@ -12,5 +12,8 @@ pub mod forms;
 pub mod ids;
 pub mod keys;
 pub mod lists;
+pub mod new_ids;
+pub mod rows;
+pub mod table;
 pub mod words;
 pub mod writing;

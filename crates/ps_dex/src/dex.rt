@@ -11,13 +11,15 @@ use crate::aliases::{alias_index, move_number, species_number};
 use crate::fault::DexFault;
 use crate::item::{AliasItem, FactorItem, MoveItem, SpeciesItem, Tables, TypeItem};
 use crate::moves::has_move;
-use crate::species::{has_number, has_species};
-use crate::spelled;
+use crate::number::has_number;
+use crate::species::has_species;
+use crate::spelled::{self, short_id};
 use crate::tables::read_tables;
 use crate::types::{is_contact, is_special};
 use ps_base::id::Id;
 use ps_base::list::List;
 use ps_data::file_fault::reported;
+use ps_data::table::Table;
 use ps_mon::facts::{Factors, Facts, MoveData, struggle};
 use std::alloc::{AllocError, Global};
 use std::marker::Model;
@@ -113,7 +115,7 @@ fn from_tables(alloc: Global, tables: Tables) -> Result<Dex, AllocError>
 fn is_taken(tables: &Tables, id: &str) -> bool
     ensures { result ≡ is_taken id.now tables.now }
 {
-    has_species(tables.species.as_slice(), id) || has_move(tables.moves.as_slice(), id)
+    has_species(&tables.species, id) || has_move(&tables.moves, id)
 }
 
 fn species_of(tables: &Tables, id: &str) -> Option<u16>
@@ -122,10 +124,10 @@ fn species_of(tables: &Tables, id: &str) -> Option<u16>
     ensures within { IfSome result (λ s. s < length tables.now.species) }
 {
     if is_taken(tables, id) {
-        return species_number(tables.species.as_slice(), id);
+        return species_number(&tables.species, id);
     }
     let aliases = tables.aliases.as_slice();
-    match alias_index(aliases, id) {
+    match alias_index(&tables.aliases, id) {
         None => None,
         Some(index) => aliases[index].species,
     }
@@ -137,17 +139,17 @@ fn move_of(tables: &Tables, id: &str) -> Option<u16>
     ensures within { IfSome result (λ mv. mv < length tables.now.moves) }
 {
     if is_taken(tables, id) {
-        return move_number(tables.moves.as_slice(), id);
+        return move_number(&tables.moves, id);
     }
     let aliases = tables.aliases.as_slice();
-    match alias_index(aliases, id) {
+    match alias_index(&tables.aliases, id) {
         None => None,
         Some(index) => aliases[index].mv,
     }
 }
 
-/// As `move_of`, for the id of a text.
-fn move_named(tables: &Tables, text: &str) -> Option<u16>
+/// As `move_of`, for the id of a text, by a walk of the tables.
+fn move_walked_to(tables: &Tables, text: &str) -> Option<u16>
     requires { AreFit tables.now }
     ensures index { result ≡ move_of (id_of text.now) tables.now }
     ensures within { IfSome result (λ mv. mv < length tables.now.moves) }
@@ -160,6 +162,18 @@ fn move_named(tables: &Tables, text: &str) -> Option<u16>
     match spelled::alias_index(aliases, text) {
         None => None,
         Some(index) => aliases[index].mv,
+    }
+}
+
+/// As `move_of`, for the id of a text. No move has an id of more than 32 bytes, and few aliases do.
+fn move_named(tables: &Tables, text: &str) -> Option<u16>
+    requires { AreFit tables.now }
+    ensures index { result ≡ move_of (id_of text.now) tables.now }
+    ensures within { IfSome result (λ mv. mv < length tables.now.moves) }
+{
+    match short_id(text) {
+        Some(id) => move_of(tables, id.as_str()),
+        None => move_walked_to(tables, text),
     }
 }
 
@@ -191,11 +205,11 @@ impl Dex {
     {
         Dex {
             tables: Tables {
-                types: List::from_vec(Vec::new(alloc)),
+                types: Table::new(alloc),
                 factors: List::from_vec(Vec::new(alloc)),
-                moves: List::from_vec(Vec::new(alloc)),
-                species: List::from_vec(Vec::new(alloc)),
-                aliases: List::from_vec(Vec::new(alloc)),
+                moves: Table::new(alloc),
+                species: Table::new(alloc),
+                aliases: Table::new(alloc),
             },
             numbers: Vec::new(alloc),
             factors: factor_table(&[]),

@@ -11,6 +11,7 @@ use ps_data::fault::{DataKind, Refusal, refused};
 use ps_data::forms::{array, ensure, number};
 use ps_data::keys::{at_index, items_at_key};
 use ps_data::lists::{ItemForm, items_of};
+use ps_data::table::Table;
 use serde_json::Value;
 use std::alloc::Global;
 
@@ -39,7 +40,7 @@ fn has_pair(items: &[FactorItem], attack: u8, defend: u8) -> bool
 #[tactic(auto, unfolding(crate::specs::Factors::parts_in))]
 fn parts(
     alloc: Global,
-    types: &[TypeItem],
+    types: &Table<TypeItem>,
     attack: &Value,
     defend: &Value,
     factor: &Value,
@@ -57,7 +58,11 @@ fn parts(
     })
 }
 
-fn three_parts(alloc: Global, types: &[TypeItem], values: &[Value]) -> Result<FactorItem, Refusal>
+fn three_parts(
+    alloc: Global,
+    types: &Table<TypeItem>,
+    values: &[Value],
+) -> Result<FactorItem, Refusal>
     requires { length types.now ≤ 32 }
     ensures { Gives result (three_parts_in types.now (map view values.now)) }
 {
@@ -70,7 +75,7 @@ fn three_parts(alloc: Global, types: &[TypeItem], values: &[Value]) -> Result<Fa
 #[tactic(auto, unfolding(crate::specs::Factors::factor_item_in))]
 fn factors_of_attack(
     alloc: Global,
-    types: &[TypeItem],
+    types: &Table<TypeItem>,
     before: &[FactorItem],
     value: &Value,
 ) -> Result<FactorItem, Refusal>
@@ -90,7 +95,7 @@ fn factors_of_attack(
 /// The form of a factor, over the types.
 #[derive(Drop)]
 struct FactorForm<'a> {
-    types: &'a List<TypeItem>,
+    types: &'a Table<TypeItem>,
     ghost few: { length types.now ≤ 32 },
 }
 
@@ -104,12 +109,16 @@ impl ItemForm<FactorItem> for FactorForm<'_> {
         _after: &[Value],
         value: &Value,
     ) -> Result<FactorItem, Refusal> {
-        factors_of_attack(alloc, self.types.as_slice(), before, value)
+        factors_of_attack(alloc, self.types, before, value)
     }
 }
 
 #[tactic(auto, unfolding(crate::specs::Factors::factors_in))]
-fn factors(alloc: Global, types: &List<TypeItem>, value: &Value) -> Result<Vec<FactorItem>, Refusal>
+fn factors(
+    alloc: Global,
+    types: &Table<TypeItem>,
+    value: &Value,
+) -> Result<Vec<FactorItem>, Refusal>
     requires { length types.now ≤ 32 }
     ensures { GivesBy (λ v. v.items) result (factors_in types.now (view value.now)) }
 {
@@ -119,7 +128,7 @@ fn factors(alloc: Global, types: &List<TypeItem>, value: &Value) -> Result<Vec<F
 
 fn factor_items_at(
     alloc: Global,
-    types: &List<TypeItem>,
+    types: &Table<TypeItem>,
     value: &Value,
 ) -> Result<Vec<FactorItem>, Refusal>
     requires { length types.now ≤ 32 }
@@ -134,7 +143,7 @@ fn factor_items_at(
 /// The factors of a dex.
 pub(crate) fn factors_at(
     alloc: Global,
-    types: &List<TypeItem>,
+    types: &Table<TypeItem>,
     value: &Value,
 ) -> Result<List<FactorItem>, Refusal>
     requires { length types.now ≤ 32 }

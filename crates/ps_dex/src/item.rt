@@ -3,6 +3,7 @@ use ps_base::id::Id;
 use ps_base::list::List;
 use ps_base::text::Text;
 use ps_data::ids::HasId;
+use ps_data::table::Table;
 use ps_mon::facts::MoveData;
 
 /// A type. Its number is its index in the dex.
@@ -69,15 +70,15 @@ pub struct AliasItem {
 #[derive(Debug, Drop)]
 pub struct Tables {
     /// At most 32.
-    pub types: List<TypeItem>,
+    pub types: Table<TypeItem>,
     /// One for a pair of types at most; a pair without one has the factor 10.
     pub factors: List<FactorItem>,
     /// At most 1,024.
-    pub moves: List<MoveItem>,
+    pub moves: Table<MoveItem>,
     /// At most 1,024.
-    pub species: List<SpeciesItem>,
+    pub species: Table<SpeciesItem>,
     /// In byte order of their keys.
-    pub aliases: List<AliasItem>,
+    pub aliases: Table<AliasItem>,
 }
 
 impl HasId for TypeItem {

@@ -10,6 +10,7 @@ pub mod item;
 mod kind;
 mod moves;
 mod name;
+pub mod number;
 mod species;
 pub mod spelled;
 mod tables;

@@ -1,6 +1,7 @@
 //! Reads names.
-ghost use Rattle.std.specs.Prelude.{◌≡◌, codes};
+ghost use Rattle.std.specs.Prelude.{◌≡◌, codes, IfOk};
 ghost use Rattle.serde_json.specs.View.{view};
+ghost use Rattle.ps_data.specs.OwnIds.{IsNew};
 ghost use Rattle.ps_data.specs.Reading.{Gives, required};
 ghost use Rattle.ps_dex.specs.Names.{are_name_bytes, is_name, name_in, own_name_in};
 
@@ -8,8 +9,9 @@ use ps_base::id::{Id, to_id};
 use ps_base::text::Text;
 use ps_data::fault::{DataKind, Refusal};
 use ps_data::forms::{ensure, text};
-use ps_data::ids::{HasId, has_id};
+use ps_data::ids::HasId;
 use ps_data::keys::{at_key, required};
+use ps_data::table::Table;
 use serde_json::Value;
 use std::alloc::Global;
 
@@ -48,21 +50,23 @@ pub(crate) fn read_name(alloc: Global, value: &Value) -> Result<Named, Refusal>
 }
 
 #[tactic(auto, unfolding(crate::specs::Names::own_name_in))]
-fn own_name<T: HasId>(alloc: Global, before: &[T], value: &Value) -> Result<Named, Refusal>
-    ensures { Gives result (own_name_in T.id_of before.now (view value.now)) }
+fn own_name<T: HasId>(alloc: Global, before: &Table<T>, value: &Value) -> Result<Named, Refusal>
+    ensures gives { Gives result (own_name_in T.id_of before.now (view value.now)) }
+    ensures new { IfOk result (λ named. IsNew T.id_of named.id before.now) }
 {
     let named = read_name(alloc, value)?;
-    ensure(alloc, !has_id(before, named.id.as_str()), DataKind::Repeat)?;
+    ensure(alloc, !before.has_id(named.id.as_str()), DataKind::Repeat)?;
     Ok(named)
 }
 
 /// The name of a new item, at `name` of its object. `Repeat` where an item before has its id.
 pub(crate) fn own_name_at<T: HasId>(
     alloc: Global,
-    before: &[T],
+    before: &Table<T>,
     value: &Value,
 ) -> Result<Named, Refusal>
-    ensures { Gives result (required (codes "name") (own_name_in T.id_of before.now) (view value.now)) }
+    ensures gives { Gives result (required (codes "name") (own_name_in T.id_of before.now) (view value.now)) }
+    ensures new { IfOk result (λ named. IsNew T.id_of named.id before.now) }
 {
     at_key(
         alloc,

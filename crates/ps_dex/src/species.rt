@@ -1,41 +1,49 @@
 //! Reads species.
-ghost use Rattle.std.specs.Prelude.{◌≡◌, ◌≤◌, ◌<◌, [], codes, length, map, IfOk, IfSome};
+ghost use Rattle.std.specs.Prelude.{◌≡◌, ◌≤◌, ◌<◌, true, not, [], codes, length, map, IfOk, IfSome};
 ghost use Rattle.serde_json.specs.View.{view};
+ghost use Rattle.ps_data.specs.OwnIds.{IsNew};
 ghost use Rattle.ps_data.specs.Reading.{Gives, GivesBy, required};
-ghost use Rattle.ps_data.specs.Lists.{list_at};
+ghost use Rattle.ps_data.specs.Lists.{each, list_at};
 ghost use Rattle.ps_dex.specs.Species.{species_index, has_species, other_type_in, one_type_in, two_types_in, types_of, types_in, base_stat_in, five_stats_in, stats_of, stats_in, has_number, learned_in, learns_in, species_item_in};
 
 use crate::item::{MoveItem, SpeciesItem, TypeItem};
 use crate::moves::move_index;
 use crate::name::{Named, own_name_at};
+use crate::number::is_among;
 use crate::types::named_type;
+use indexmap::IndexSet;
 use ps_base::id::to_id;
 use ps_base::list::List;
 use ps_data::fault::{DataKind, Refusal, refused};
 use ps_data::forms::{array, ensure, found, number, object, text};
-use ps_data::ids;
 use ps_data::keys::{at_index, at_key, items_at_key, required};
-use ps_data::lists::{ItemForm, items_of, list_at};
+use ps_data::rows::{RowForm, rows_at};
+use ps_data::table::Table;
 use serde_json::Value;
 use std::alloc::Global;
 
 #[tactic(auto, unfolding(crate::specs::Species::species_index))]
-pub(crate) fn species_index(species: &[SpeciesItem], id: &str) -> Option<usize>
+pub(crate) fn species_index(species: &Table<SpeciesItem>, id: &str) -> Option<usize>
     ensures index { result ≡ species_index id.now species.now }
     ensures within { IfSome result (λ i. i < length species.now) }
 {
-    ids::index_of(species, id)
+    species.index_of(id)
 }
 
 #[tactic(auto, unfolding(crate::specs::Species::has_species))]
-pub(crate) fn has_species(species: &[SpeciesItem], id: &str) -> bool
+pub(crate) fn has_species(species: &Table<SpeciesItem>, id: &str) -> bool
     ensures { result ≡ has_species id.now species.now }
 {
-    ids::has_id(species, id)
+    species.has_id(id)
 }
 
 #[tactic(auto, unfolding(crate::specs::Species::other_type_in))]
-fn other_type(alloc: Global, types: &[TypeItem], first: u8, value: &Value) -> Result<u8, Refusal>
+fn other_type(
+    alloc: Global,
+    types: &Table<TypeItem>,
+    first: u8,
+    value: &Value,
+) -> Result<u8, Refusal>
     requires { length types.now ≤ 32 }
     ensures { Gives result (other_type_in types.now first (view value.now)) }
 {
@@ -45,7 +53,7 @@ fn other_type(alloc: Global, types: &[TypeItem], first: u8, value: &Value) -> Re
 }
 
 #[tactic(auto, unfolding(crate::specs::Species::one_type_in))]
-fn one_type(alloc: Global, types: &[TypeItem], only: &Value) -> Result<[u8; 2], Refusal>
+fn one_type(alloc: Global, types: &Table<TypeItem>, only: &Value) -> Result<[u8; 2], Refusal>
     requires { length types.now ≤ 32 }
     ensures { Gives result (one_type_in types.now (view only.now)) }
 {
@@ -56,7 +64,7 @@ fn one_type(alloc: Global, types: &[TypeItem], only: &Value) -> Result<[u8; 2], 
 #[tactic(auto, unfolding(crate::specs::Species::two_types_in))]
 fn two_types(
     alloc: Global,
-    types: &[TypeItem],
+    types: &Table<TypeItem>,
     first: &Value,
     second: &Value,
 ) -> Result<[u8; 2], Refusal>
@@ -68,7 +76,7 @@ fn two_types(
     Ok([first, second])
 }
 
-fn types_of(alloc: Global, types: &[TypeItem], values: &[Value]) -> Result<[u8; 2], Refusal>
+fn types_of(alloc: Global, types: &Table<TypeItem>, values: &[Value]) -> Result<[u8; 2], Refusal>
     requires { length types.now ≤ 32 }
     ensures { Gives result (types_of types.now (map view values.now)) }
 {
@@ -80,7 +88,7 @@ fn types_of(alloc: Global, types: &[TypeItem], values: &[Value]) -> Result<[u8; 
 }
 
 #[tactic(auto, unfolding(crate::specs::Species::types_in))]
-fn own_types(alloc: Global, types: &[TypeItem], value: &Value) -> Result<[u8; 2], Refusal>
+fn own_types(alloc: Global, types: &Table<TypeItem>, value: &Value) -> Result<[u8; 2], Refusal>
     requires { length types.now ≤ 32 }
     ensures { Gives result (types_in types.now (view value.now)) }
 {
@@ -133,57 +141,53 @@ fn stats(alloc: Global, value: &Value) -> Result<[u8; 5], Refusal>
     stats_of(alloc, values)
 }
 
-#[tactic(auto, unfolding(crate::specs::Species::has_number))]
-pub(crate) fn has_number(numbers: &[u16], number: u16) -> bool
-    ensures { result ≡ has_number number numbers.now }
-{
-    numbers.iter().any(|other| *other == number)
-}
-
 #[tactic(auto, unfolding(crate::specs::Species::learned_in))]
-fn learned(alloc: Global, moves: &[MoveItem], before: &[u16], value: &Value) -> Result<u16, Refusal>
+fn learned(
+    alloc: Global,
+    moves: &Table<MoveItem>,
+    before: &IndexSet<u16>,
+    value: &Value,
+) -> Result<u16, Refusal>
     requires { length moves.now ≤ 1024 }
-    ensures { Gives result (learned_in moves.now before.now (view value.now)) }
+    ensures gives { Gives result (learned_in moves.now before.now.keys (view value.now)) }
+    ensures new { IfOk result (λ mv. not (has_number mv before.now.keys) ≡ true) }
 {
     let text = text(alloc, value)?;
     let id = to_id(alloc, text)?;
     let index = found(alloc, move_index(moves, id.as_str()), DataKind::Unknown)?;
     let mv = index as u16;
-    ensure(alloc, !has_number(before, mv), DataKind::Repeat)?;
+    ensure(alloc, !is_among(before, mv), DataKind::Repeat)?;
     Ok(mv)
 }
 
-/// The form of a move that a species learns, over the moves.
-#[derive(Drop)]
-struct LearnedForm<'a> {
-    moves: &'a List<MoveItem>,
-    ghost few: { length moves.now ≤ 1024 },
-}
-
-impl ItemForm<u16> for LearnedForm<'_> {
-    ghost reading = { λ form before after. learned_in form.moves.now before };
-
-    fn read(
-        &self,
-        alloc: Global,
-        before: &[u16],
-        _after: &[Value],
-        value: &Value,
-    ) -> Result<u16, Refusal> {
-        learned(alloc, self.moves.as_slice(), before, value)
+/// The numbers of the moves that the items of a list name, in order. A set finds the ones that come twice.
+fn each_learned(
+    alloc: Global,
+    moves: &Table<MoveItem>,
+    values: &[Value],
+) -> Result<IndexSet<u16>, Refusal>
+    requires { length moves.now ≤ 1024 }
+    ensures { GivesBy (λ set. set.keys) result (each (λ before after. learned_in moves.now before) [] (map view values.now)) }
+{
+    let mut learns = IndexSet::with_capacity(alloc, values.len())?;
+    for i in 0..values.len() {
+        let mv = at_index(i, learned(alloc, moves, &learns, &values[i]))?;
+        learns.insert(mv)?;
     }
+    Ok(learns)
 }
 
 #[tactic(auto, unfolding(crate::specs::Species::learns_in))]
-fn learns(alloc: Global, moves: &List<MoveItem>, value: &Value) -> Result<Vec<u16>, Refusal>
+fn learns(alloc: Global, moves: &Table<MoveItem>, value: &Value) -> Result<Vec<u16>, Refusal>
     requires { length moves.now ≤ 1024 }
     ensures { GivesBy (λ v. v.items) result (learns_in moves.now (view value.now)) }
 {
     let values = array(alloc, value)?;
-    items_of(alloc, &LearnedForm { moves }, values)
+    let learns = each_learned(alloc, moves, values)?;
+    Ok(learns.as_slice().to_vec(alloc)?)
 }
 
-fn learns_at(alloc: Global, moves: &List<MoveItem>, value: &Value) -> Result<List<u16>, Refusal>
+fn learns_at(alloc: Global, moves: &Table<MoveItem>, value: &Value) -> Result<List<u16>, Refusal>
     requires { length moves.now ≤ 1024 }
     ensures { Gives result (required (codes "learns") (learns_in moves.now) (view value.now)) }
 {
@@ -195,14 +199,15 @@ fn learns_at(alloc: Global, moves: &List<MoveItem>, value: &Value) -> Result<Lis
 #[tactic(auto, unfolding(crate::specs::Species::species_item_in))]
 fn species_item(
     alloc: Global,
-    types: &[TypeItem],
-    moves: &List<MoveItem>,
-    before: &[SpeciesItem],
+    types: &Table<TypeItem>,
+    moves: &Table<MoveItem>,
+    before: &Table<SpeciesItem>,
     value: &Value,
 ) -> Result<SpeciesItem, Refusal>
     requires few_types { length types.now ≤ 32 }
     requires few_moves { length moves.now ≤ 1024 }
-    ensures { Gives result (species_item_in types.now moves.now before.now (view value.now)) }
+    ensures gives { Gives result (species_item_in types.now moves.now before.now (view value.now)) }
+    ensures new { IfOk result (λ item. IsNew (λ s. s.id) item.id before.now) }
 {
     object(alloc, value)?;
     let named = own_name_at(alloc, before, value)?;
@@ -230,39 +235,38 @@ fn species_item(
 /// The form of a species, over the types and the moves.
 #[derive(Drop)]
 struct SpeciesForm<'a> {
-    types: &'a List<TypeItem>,
-    moves: &'a List<MoveItem>,
+    types: &'a Table<TypeItem>,
+    moves: &'a Table<MoveItem>,
     ghost few_types: { length types.now ≤ 32 },
     ghost few_moves: { length moves.now ≤ 1024 },
 }
 
-impl ItemForm<SpeciesItem> for SpeciesForm<'_> {
+impl RowForm<SpeciesItem> for SpeciesForm<'_> {
     ghost reading = { λ form before after. species_item_in form.types.now form.moves.now before };
 
     fn read(
         &self,
         alloc: Global,
-        before: &[SpeciesItem],
+        before: &Table<SpeciesItem>,
         _after: &[Value],
         value: &Value,
     ) -> Result<SpeciesItem, Refusal> {
-        species_item(alloc, self.types.as_slice(), self.moves, before, value)
+        species_item(alloc, self.types, self.moves, before, value)
     }
 }
 
 /// The species of a dex: at most 1,024.
 pub(crate) fn species_at(
     alloc: Global,
-    types: &List<TypeItem>,
-    moves: &List<MoveItem>,
+    types: &Table<TypeItem>,
+    moves: &Table<MoveItem>,
     value: &Value,
-) -> Result<List<SpeciesItem>, Refusal>
+) -> Result<Table<SpeciesItem>, Refusal>
     requires few_types { length types.now ≤ 32 }
     requires few_moves { length moves.now ≤ 1024 }
     ensures gives { Gives result (list_at (codes "species") 0 1024 (λ before after. species_item_in types.now moves.now before) (view value.now)) }
     ensures few { IfOk result (λ species. length species ≤ 1024) }
 {
     let form = SpeciesForm { types, moves };
-    let species = list_at(alloc, &form, 0, 1024, value, "species")?;
-    Ok(List::from_vec(species))
+    rows_at(alloc, &form, 0, 1024, value, "species")
 }

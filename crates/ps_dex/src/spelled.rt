@@ -6,6 +6,7 @@ ghost use Rattle.ps_dex.specs.Species.{has_species};
 ghost use Rattle.ps_dex.specs.Aliases.{alias_index};
 
 use crate::item::{AliasItem, MoveItem, SpeciesItem};
+use arrayvec::ArrayString;
 use ps_data::ids::HasId;
 
 /// Whether an id is that of a text.
@@ -30,6 +31,23 @@ pub fn is_id_of(id: &str, text: &str) -> bool
     left.is_empty()
 }
 
+/// The id of a text, if it has at most 32 bytes.
+pub(crate) fn short_id(text: &str) -> Option<ArrayString<32>>
+    ensures { IfSome result (λ id. id.bytes ≡ id_of text.now) }
+{
+    let mut id = ArrayString::new();
+    for b in text.as_bytes() {
+        let b = b.to_ascii_lowercase();
+        if b.is_ascii_lowercase() || b.is_ascii_digit() {
+            match id.try_push(b as char) {
+                Ok(()) => {}
+                Err(_) => return None,
+            }
+        }
+    }
+    Some(id)
+}
+
 /// The index of the first item whose id is that of a text.
 fn index_of<T: HasId>(items: &[T], text: &str) -> Option<usize>
     ensures index { result ≡ position (λ t. bytes_eq (T.id_of t) (id_of text.now)) items.now }
@@ -38,14 +56,14 @@ fn index_of<T: HasId>(items: &[T], text: &str) -> Option<usize>
     items.iter().position(|item| is_id_of(item.id(), text))
 }
 
-#[tactic(auto, unfolding(crate::specs::Species::has_species))]
+#[tactic(auto, unfolding(crate::specs::Species::has_species, ps_data::specs::OwnIds::has_id))]
 fn has_species(species: &[SpeciesItem], text: &str) -> bool
     ensures { result ≡ has_species (id_of text.now) species.now }
 {
     index_of(species, text).is_some()
 }
 
-#[tactic(auto, unfolding(crate::specs::Moves::has_move))]
+#[tactic(auto, unfolding(crate::specs::Moves::has_move, ps_data::specs::OwnIds::has_id))]
 fn has_move(moves: &[MoveItem], text: &str) -> bool
     ensures { result ≡ has_move (id_of text.now) moves.now }
 {

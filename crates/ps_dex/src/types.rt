@@ -2,32 +2,33 @@
 ghost use Rattle.std.specs.Prelude.{◌≡◌, ◌<◌, ◌≤◌, codes, length, IfOk, IfSome};
 ghost use Rattle.serde_json.specs.View.{view};
 ghost use Rattle.ps_data.specs.Reading.{Gives};
+ghost use Rattle.ps_data.specs.OwnIds.{IsNew};
 ghost use Rattle.ps_data.specs.Lists.{list_at};
 ghost use Rattle.ps_dex.specs.Types.{type_index, type_item_in, type_in, is_special, is_contact};
 
 use crate::item::TypeItem;
 use crate::name::{Named, own_name_at};
 use ps_base::id::to_id;
-use ps_base::list::List;
 use ps_data::fault::{DataKind, Refusal};
 use ps_data::forms::{found, object, text};
-use ps_data::ids;
 use ps_data::keys::boolean_at;
-use ps_data::lists::{ItemForm, list_at};
+use ps_data::rows::{RowForm, rows_at};
+use ps_data::table::Table;
 use serde_json::Value;
 use std::alloc::Global;
 
 #[tactic(auto, unfolding(crate::specs::Types::type_index))]
-fn type_index(types: &[TypeItem], id: &str) -> Option<usize>
+fn type_index(types: &Table<TypeItem>, id: &str) -> Option<usize>
     ensures index { result ≡ type_index id.now types.now }
     ensures within { IfSome result (λ i. i < length types.now) }
 {
-    ids::index_of(types, id)
+    types.index_of(id)
 }
 
 #[tactic(auto, unfolding(crate::specs::Types::type_item_in))]
-fn type_item(alloc: Global, before: &[TypeItem], value: &Value) -> Result<TypeItem, Refusal>
-    ensures { Gives result (type_item_in before.now (view value.now)) }
+fn type_item(alloc: Global, before: &Table<TypeItem>, value: &Value) -> Result<TypeItem, Refusal>
+    ensures gives { Gives result (type_item_in before.now (view value.now)) }
+    ensures new { IfOk result (λ item. IsNew (λ t. t.id) item.id before.now) }
 {
     object(alloc, value)?;
     let named = own_name_at(alloc, before, value)?;
@@ -40,13 +41,13 @@ fn type_item(alloc: Global, before: &[TypeItem], value: &Value) -> Result<TypeIt
 #[derive(Drop)]
 struct TypeForm;
 
-impl ItemForm<TypeItem> for TypeForm {
+impl RowForm<TypeItem> for TypeForm {
     ghost reading = { λ _ before after. type_item_in before };
 
     fn read(
         &self,
         alloc: Global,
-        before: &[TypeItem],
+        before: &Table<TypeItem>,
         _after: &[Value],
         value: &Value,
     ) -> Result<TypeItem, Refusal> {
@@ -55,17 +56,20 @@ impl ItemForm<TypeItem> for TypeForm {
 }
 
 /// The types of a dex: at most 32.
-pub(crate) fn types_at(alloc: Global, value: &Value) -> Result<List<TypeItem>, Refusal>
+pub(crate) fn types_at(alloc: Global, value: &Value) -> Result<Table<TypeItem>, Refusal>
     ensures gives { Gives result (list_at (codes "types") 0 32 (λ before after. type_item_in before) (view value.now)) }
     ensures few { IfOk result (λ types. length types ≤ 32) }
 {
-    let types = list_at(alloc, &TypeForm, 0, 32, value, "types")?;
-    Ok(List::from_vec(types))
+    rows_at(alloc, &TypeForm, 0, 32, value, "types")
 }
 
 /// The number of the type that a value names.
 #[tactic(auto, unfolding(crate::specs::Types::type_in))]
-pub(crate) fn named_type(alloc: Global, types: &[TypeItem], value: &Value) -> Result<u8, Refusal>
+pub(crate) fn named_type(
+    alloc: Global,
+    types: &Table<TypeItem>,
+    value: &Value,
+) -> Result<u8, Refusal>
     requires { length types.now ≤ 32 }
     ensures { Gives result (type_in types.now (view value.now)) }
 {

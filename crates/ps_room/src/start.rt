@@ -1,19 +1,23 @@
 //! The battle of a room at its opening.
-ghost use Rattle.std.specs.Prelude.{◌≡◌, ◌<◌, [], ◌∷◌, IfSome, IfOk, Some, None, bit_and, option_map};
+ghost use Rattle.std.specs.Prelude.{◌≡◌, ◌<◌, [], ◌∷◌, IfSome, IfOk, Some, None, bit_and, map, option_map};
 ghost use Rattle.std.specs.Arc.{arc_value};
-ghost use Rattle.rules_start.specs.Fits.{IsFit};
+ghost use Rattle.rules_start.specs.Fits.{legal_of, IsFit};
 ghost use Rattle.std.specs.Option.{option_copied};
-ghost use Rattle.ps_room.specs.Openings.{name_of_format, clauses_of_format, fight_with};
+ghost use Rattle.ps_room.specs.Openings.{name_of_format, clauses_of_format, team_of_legal, nicks_of_legal, fight_with};
 ghost use Rattle.ps_room.specs.Logs.{log_entry_with, opened_log};
 
 use battle_rounds::cast::Cast;
 use battle_rounds::room_battle::RoomBattle;
+use ps_base::list::List;
+use ps_base::name::Name;
 use ps_base::number::ConnNo;
 use ps_base::text::{Text, copies};
 use ps_dex::dex::Dex;
 use ps_event::event::{Event, Events};
+use ps_mon::team::BattleTeam;
 use ps_rules::table::Format;
 use ps_splitlog::log::SplitLog;
+use ps_valid::legal::Legal;
 use ps_view::names::Names;
 use rules_config::config::Config;
 use rules_start::start::Start;
@@ -59,6 +63,41 @@ fn log_of(alloc: Global, cast: &Cast, told: &[Event]) -> Result<SplitLog, AllocE
     Ok(log)
 }
 
+/// The teams of both players, in numbers.
+fn fighters_of(teams: &[Legal; 2]) -> [BattleTeam; 2]
+    ensures both { result ≡ map team_of_legal teams.now }
+    ensures each { result ≡ (legal_of teams.now 0).team ∷ (legal_of teams.now 1).team ∷ [] }
+{
+    [teams[0].team, teams[1].team]
+}
+
+/// The nicknames of both players' members.
+fn nicks_of(alloc: Global, teams: &[Legal; 2]) -> Result<[List<Text>; 2], AllocError>
+    ensures { IfOk result (λ both. both ≡ map nicks_of_legal teams.now) }
+{
+    let first = copies(alloc, teams[0].nicks.as_slice())?;
+    let second = copies(alloc, teams[1].nicks.as_slice())?;
+    Ok([first, second])
+}
+
+/// The names of a battle: of its players, of their members and of its format.
+fn names_with(
+    alloc: Global,
+    format: Option<&Format>,
+    players: [Name; 2],
+    teams: &[Legal; 2],
+) -> Result<Names, AllocError>
+    ensures { IfOk result (λ n. n ≡ record { players = players; nicks = map nicks_of_legal teams.now; format = name_of_format (option_copied format.entry) }) }
+{
+    let format = name_of_format(alloc, format)?;
+    let nicks = nicks_of(alloc, teams)?;
+    Ok(Names {
+        players,
+        nicks,
+        format,
+    })
+}
+
 fn start_battle(
     alloc: Global,
     config: &Config,
@@ -78,15 +117,8 @@ fn start_battle(
     } = start;
     let format = config.formats().format(&format);
     let clauses = clauses_of_format(format);
-    let name = name_of_format(alloc, format)?;
-    let fighters = [teams[0].team, teams[1].team];
-    let first = copies(alloc, teams[0].nicks.as_slice())?;
-    let second = copies(alloc, teams[1].nicks.as_slice())?;
-    let names = Names {
-        players,
-        nicks: [first, second],
-        format: name,
-    };
+    let fighters = fighters_of(&teams);
+    let names = names_with(alloc, format, players, &teams)?;
     let cast = Cast::new(names, dex);
     let mut out = Events::new();
     let battle = RoomBattle::open(number, cast, &fighters, clauses, seed, &mut out);
