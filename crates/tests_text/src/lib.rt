@@ -1,5 +1,5 @@
-//! Tests of texts: what a client's text says, packed teams, lists of groups, the log of a room, and the scripts of drills; and
-//! of brackets. It has tests alone, and no crate stands on it.
+//! Tests of texts: what a client's text says, packed teams and export texts, lists of groups, the log of a room, and the
+//! scripts of drills; and of brackets. It has tests alone, and no crate stands on it.
 #![tactic(auto)]
 
 #[cfg(test)]
@@ -8,6 +8,8 @@ mod bracket_tests;
 mod client_tests;
 #[cfg(test)]
 mod drill_tests;
+#[cfg(test)]
+mod export_tests;
 #[cfg(test)]
 mod group_tests;
 #[cfg(test)]
