@@ -1,7 +1,7 @@
 //! What no clause says: sessions over one link.
 ghost use Rattle.ps_hub.specs.Passes.{AreOf};
 
-use crate::files::{ANN, assert_ended, close, end_of, inbox_of, make_hub, push, push_text};
+use crate::files::{ANN, BOB, assert_ended, close, end_of, inbox_of, make_hub, push, push_text};
 use crate::watching::{count_at, count_in_hall, last_line, leave, told, watcher};
 use ps_base::msg::Msg;
 use ps_hub::hub::Hub;
@@ -64,39 +64,78 @@ fn quiet_marks(rt: HostRuntime) {
     close(hub);
 }
 
-fn third_call(rt: &impl Abort, alloc: Global) -> Vec<u64> {
+/// A link over which Bob joins the lobby and says hi, and of whose answers and sends the ones of these numbers fail.
+fn failing(rt: &impl Abort, alloc: Global, next: u64, send: u64) -> MemLink {
+    let inbox = inbox_of(rt, alloc, &[BOB, "|/join lobby", "lobby|hi"]);
+    MemLink::new(alloc, inbox, calls(rt, alloc, next), calls(rt, alloc, send))
+}
+
+fn calls(rt: &impl Abort, alloc: Global, number: u64) -> Vec<u64> {
     let mut calls = Vec::new(alloc);
-    calls.push(3).expect(rt, "memory");
+    calls.push(number).expect(rt, "memory");
     calls
 }
 
-/// A link over which Ann joins the lobby, and whose third send fails.
-fn failing(rt: &impl Abort, alloc: Global) -> MemLink {
-    let inbox = inbox_of(rt, alloc, &[ANN, "|/join lobby", "lobby|hi"]);
-    let sends = third_call(rt, alloc);
-    MemLink::new(alloc, inbox, Vec::new(alloc), sends)
+/// Begins of all that Bob is sent, one for each message.
+const TO_BOB: &[&str] = &[
+    "|challstr|0-",
+    "|updateuser| Bob|1|0|{}",
+    ">lobby\n|init|chat\n",
+    ">lobby\n|c:|0| Bob|hi",
+];
+
+/// So many of Bob's messages were sent, in order.
+fn were_first(rt: &impl Abort, sent: &[SentText], count: usize) {
+    assert_eq!(rt; sent.len(), count);
+    for (text, begin) in sent.iter().zip(TO_BOB) {
+        assert!(rt; text.text.as_str().starts_with(begin));
+    }
 }
 
-/// The messages of the Open and of Ann's Name were sent, and nothing else.
-fn was_named_last(rt: &impl Abort, sent: &[SentText]) {
-    assert_eq!(rt; sent.len(), 2);
-    assert_eq!(rt; sent_at(rt, sent, 0), OPENED);
-    assert_eq!(rt; sent_at(rt, sent, 1), "|updateuser|%Ann|1|0|{}");
+/// The number of the answer, or of the send, that fails (0 for none), how the session ends, and how many messages were sent. All
+/// come to fail, and the one beyond.
+const FAULTS: &[(u64, u64, &str, usize)] = &[
+    (1, 0, "LinkFault", 0),
+    (2, 0, "LinkFault", 2),
+    (3, 0, "LinkFault", 3),
+    (4, 0, "LinkFault", 4),
+    (5, 0, "Closed", 4),
+    (0, 1, "LinkFault", 0),
+    (0, 2, "LinkFault", 1),
+    (0, 3, "LinkFault", 2),
+    (0, 4, "LinkFault", 3),
+    (0, 5, "Closed", 4),
+];
+
+fn fails_once<R: Abort + Wait>(
+    rt: &R,
+    alloc: Global,
+    hub: &Hub,
+    conn: u32,
+    fault: (u64, u64, &str, usize),
+) {
+    let (next, send, end, count) = fault;
+    let mut link = failing(rt, alloc, next, send);
+    let ended = end_of(rt, alloc, hub, conn, &mut link);
+    assert_ended(rt, ended, end);
+    were_first(rt, link.sent(), count);
 }
 
-fn fails_to_send<R: Abort + Wait>(rt: &R, alloc: Global, hub: &Hub) {
-    let mut link = failing(rt, alloc);
-    let end = end_of(rt, alloc, hub, 1, &mut link);
-    assert_ended(rt, end, "LinkFault");
-    was_named_last(rt, link.sent());
+fn each_fails_once<R: Abort + Wait>(rt: &R, alloc: Global, hub: &Hub) {
+    let mut conn = 0u32;
+    for fault in FAULTS {
+        conn = conn.saturating_add(1);
+        fails_once(rt, alloc, hub, conn, *fault);
+    }
 }
 
-/// What was sent before stands, and so do the entries: a Join, and the Quit of the end.
+/// Each call of a link fails once: a prefix was sent, and the entries before it stand. In the lobby these are six Joins, four times
+/// hi, and a Quit to each Join: who breaks off leaves its name and the room to the next.
 #[test]
-fn a_failed_send(rt: HostRuntime) {
+fn each_call_fails_once(rt: HostRuntime) {
     let hub = make_hub(&rt, rt.alloc());
-    fails_to_send(&rt, rt.alloc(), &hub);
-    assert_eq!(rt; count_at(&rt, &hub, "lobby"), 2);
+    each_fails_once(&rt, rt.alloc(), &hub);
+    assert_eq!(rt; count_at(&rt, &hub, "lobby"), 16);
     close(hub);
 }
 

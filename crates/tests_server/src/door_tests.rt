@@ -1,15 +1,16 @@
-//! Doors that fail, and a spawner that gives no leave.
+//! Doors that fail, a spawner that gives no leave, and words that are no server's.
 use crate::flags::Flags;
 use crate::gate::{GateLink, Wait};
 use crate::served::{status_of, words};
-use program_commands::status::Status;
 use ps_outside::door::MemDoor;
-use ps_outside::spawner::{MemSpawner, ThreadSpawner};
+use ps_outside::spawner::MemSpawner;
 use std::alloc::Global;
 use std::process::Abort;
 use std::sync::Arc;
 use std::test::Fail;
+use std::thread::Threads;
 
+/// A list of calls with this number, which is 0 if none is to fail.
 fn calls(rt: &impl Abort, alloc: Global, number: u64) -> Vec<u64> {
     let mut calls = Vec::new(alloc);
     calls.push(number).expect(rt, "memory");
@@ -27,64 +28,51 @@ fn quiet_links(rt: &impl Abort, alloc: Global, flags: &Arc<Flags>) -> Vec<GateLi
     links
 }
 
-/// The first session has ended when the server answers that the door failed, and there was no second.
-#[test]
-fn the_second_link_is_refused(rt: HostRuntime) -> Result<(), Fail> {
-    let alloc = rt.alloc();
-    let flags = Arc::new(alloc, Flags::new())?;
-    let links = quiet_links(&rt, alloc, &flags);
-    let mut door = MemDoor::new(links, Vec::new(alloc), calls(&rt, alloc, 2));
-    let words = words(&rt, alloc, "2");
-    let mut spawner = ThreadSpawner::new();
-    let status = status_of(rt, alloc, words.as_slice(), &mut door, &mut spawner);
-    assert!(rt; matches!(status, Status::DoorFault));
-    assert!(rt; flags.is_served(0));
-    assert!(rt; !flags.is_served(1));
-    Ok(())
+/// The word of the count; the numbers of the calls that fail of `open`, of `accept`, and of the leaves for a thread; the number of
+/// the status; and how many links are served.
+type Fault = (&'static str, u64, u64, u64, u8, usize);
+
+/// Each call fails once, and then the one beyond. A door that fails lets the sessions before end first; a session that gets no
+/// thread runs where the server is, which goes on behind it; and words that are no server's ask nobody.
+const FAULTS: &[Fault] = &[
+    ("2", 1, 0, 0, 14, 0),
+    ("2", 2, 0, 0, 0, 2),
+    ("2", 0, 1, 0, 14, 0),
+    ("2", 0, 2, 0, 14, 1),
+    ("2", 0, 3, 0, 0, 2),
+    ("2", 0, 0, 1, 0, 2),
+    ("2", 0, 0, 2, 0, 2),
+    ("2", 0, 0, 3, 0, 2),
+    ("0", 0, 0, 0, 2, 0),
+];
+
+/// The number of the status that a server ends with.
+fn number_of<R>(rt: R, alloc: Global, flags: &Arc<Flags>, fault: Fault) -> u8
+where
+    R: Threads + std::sync::Wait + Abort + Copy + Send + Drop + 'static,
+{
+    let (count, open, accept, leave, _, _) = fault;
+    let links = quiet_links(&rt, alloc, flags);
+    let mut door = MemDoor::new(links, calls(&rt, alloc, open), calls(&rt, alloc, accept));
+    let words = words(&rt, alloc, count);
+    let mut spawner = MemSpawner::new(calls(&rt, alloc, leave));
+    status_of(rt, alloc, words.as_slice(), &mut door, &mut spawner).number()
 }
 
-/// A door that can't listen hands out nothing.
-#[test]
-fn the_door_stays_shut(rt: HostRuntime) -> Result<(), Fail> {
-    let alloc = rt.alloc();
-    let flags = Arc::new(alloc, Flags::new())?;
-    let links = quiet_links(&rt, alloc, &flags);
-    let mut door = MemDoor::new(links, calls(&rt, alloc, 1), Vec::new(alloc));
-    let words = words(&rt, alloc, "2");
-    let mut spawner = ThreadSpawner::new();
-    let status = status_of(rt, alloc, words.as_slice(), &mut door, &mut spawner);
-    assert!(rt; matches!(status, Status::DoorFault));
-    assert!(rt; !flags.is_served(0));
-    Ok(())
+/// Asserts that as many links were served, those that the door hands out first.
+fn are_served(rt: &impl Abort, flags: &Flags, served: usize) {
+    for index in 0..2 {
+        assert_eq!(rt; flags.is_served(index), index < served);
+    }
 }
 
-/// A session that gets no thread runs where the server is, and the server goes on behind it.
 #[test]
-fn a_session_without_a_thread(rt: HostRuntime) -> Result<(), Fail> {
+fn each_call_fails_once(rt: HostRuntime) -> Result<(), Fail> {
     let alloc = rt.alloc();
-    let flags = Arc::new(alloc, Flags::new())?;
-    let links = quiet_links(&rt, alloc, &flags);
-    let mut door = MemDoor::new(links, Vec::new(alloc), Vec::new(alloc));
-    let words = words(&rt, alloc, "2");
-    let mut spawner = MemSpawner::new(calls(&rt, alloc, 1));
-    let status = status_of(rt, alloc, words.as_slice(), &mut door, &mut spawner);
-    assert!(rt; matches!(status, Status::Done));
-    assert!(rt; flags.is_served(0));
-    assert!(rt; flags.is_served(1));
-    Ok(())
-}
-
-/// A count of 0 is no count: the index of the word is reported, and the door isn't asked.
-#[test]
-fn no_count(rt: HostRuntime) -> Result<(), Fail> {
-    let alloc = rt.alloc();
-    let flags = Arc::new(alloc, Flags::new())?;
-    let links = quiet_links(&rt, alloc, &flags);
-    let mut door = MemDoor::new(links, Vec::new(alloc), Vec::new(alloc));
-    let words = words(&rt, alloc, "0");
-    let mut spawner = ThreadSpawner::new();
-    let status = status_of(rt, alloc, words.as_slice(), &mut door, &mut spawner);
-    assert!(rt; matches!(status, Status::Usage { word: 2 }));
-    assert!(rt; !flags.is_served(0));
+    for fault in FAULTS {
+        let flags = Arc::new(alloc, Flags::new())?;
+        assert_eq!(rt; number_of(rt, alloc, &flags, *fault), fault.4);
+        are_served(&rt, &flags, fault.5);
+    }
     Ok(())
 }

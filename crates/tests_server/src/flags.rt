@@ -1,19 +1,19 @@
 //! What the links of a test tell each other.
-use std::sync::atomic::{AtomicBool, Ordering};
+use once_cell::race::OnceBool;
 
 /// How many links there are.
 pub(crate) const LINKS: usize = 8;
 
-/// What has come about. Each flag is set once and never cleared.
+/// What has come about. A flag is a cell that is set once: it is never cleared.
 #[derive(Drop)]
 pub(crate) struct Flags {
     // Of each link whether it was sent its challenge, and whether it has answered End.
-    greeted: [AtomicBool; LINKS],
-    ended: [AtomicBool; LINKS],
+    greeted: [OnceBool; LINKS],
+    ended: [OnceBool; LINKS],
     /// Link 1 was sent a text of the lobby that link 2 said.
-    pub(crate) first_heard: AtomicBool,
+    pub(crate) first_heard: OnceBool,
     /// Link 2 was sent a text of the lobby.
-    pub(crate) second_joined: AtomicBool,
+    pub(crate) second_joined: OnceBool,
 }
 
 impl Flags {
@@ -21,8 +21,8 @@ impl Flags {
         Flags {
             greeted: none_set(),
             ended: none_set(),
-            first_heard: AtomicBool::new(false),
-            second_joined: AtomicBool::new(false),
+            first_heard: OnceBool::new(),
+            second_joined: OnceBool::new(),
         }
     }
 
@@ -47,35 +47,35 @@ impl Flags {
     }
 }
 
-fn none_set() -> [AtomicBool; LINKS] {
+fn none_set() -> [OnceBool; LINKS] {
     [
-        AtomicBool::new(false),
-        AtomicBool::new(false),
-        AtomicBool::new(false),
-        AtomicBool::new(false),
-        AtomicBool::new(false),
-        AtomicBool::new(false),
-        AtomicBool::new(false),
-        AtomicBool::new(false),
+        OnceBool::new(),
+        OnceBool::new(),
+        OnceBool::new(),
+        OnceBool::new(),
+        OnceBool::new(),
+        OnceBool::new(),
+        OnceBool::new(),
+        OnceBool::new(),
     ]
 }
 
-fn set(flags: &[AtomicBool], index: usize) {
+fn set(flags: &[OnceBool], index: usize) {
     if let Some(flag) = flags.get(index) {
-        flag.store(true, Ordering::SeqCst);
+        let _ = flag.set(true);
     }
 }
 
-fn is_set(flags: &[AtomicBool], index: usize) -> bool {
+fn is_set(flags: &[OnceBool], index: usize) -> bool {
     match flags.get(index) {
         None => false,
-        Some(flag) => flag.load(Ordering::SeqCst),
+        Some(flag) => flag.get().is_some(),
     }
 }
 
-fn all_set(flags: &[AtomicBool]) -> bool {
+fn all_set(flags: &[OnceBool]) -> bool {
     for flag in flags {
-        if !flag.load(Ordering::SeqCst) {
+        if flag.get().is_none() {
             return false;
         }
     }

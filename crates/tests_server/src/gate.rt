@@ -5,7 +5,6 @@ use crate::flags::Flags;
 use ps_outside::link::{Link, Next, SendEnd};
 use std::alloc::Global;
 use std::sync::Arc;
-use std::sync::atomic::Ordering;
 use std::thread;
 
 /// How often a link is quiet before it gives up.
@@ -69,9 +68,9 @@ impl GateLink {
 
     // Whether what it waits for has come about.
     fn is_met(&self) -> bool {
-        let first = self.flags.first_heard.load(Ordering::SeqCst);
+        let first = self.flags.first_heard.get().is_some();
         match self.wait {
-            Wait::ForBoth => first && self.flags.second_joined.load(Ordering::SeqCst),
+            Wait::ForBoth => first && self.flags.second_joined.get().is_some(),
             Wait::ForTheFirst => first,
             Wait::Once => self.quiets > 0,
         }
@@ -83,10 +82,10 @@ impl GateLink {
             self.flags.greet(self.index);
         }
         if self.index == 0 && text.starts_with(">lobby\n") && text.contains("| Bob|hi") {
-            self.flags.first_heard.store(true, Ordering::SeqCst);
+            let _ = self.flags.first_heard.set(true);
         }
         if self.index == 1 && text.starts_with(">lobby\n") {
-            self.flags.second_joined.store(true, Ordering::SeqCst);
+            let _ = self.flags.second_joined.set(true);
         }
     }
 
