@@ -77,6 +77,23 @@ def stands_on(head, traits):
     return bool(bounds) and bool(traits & set(re.findall(r"[:+] (\w+)", bounds.group(1))))
 
 
+def ghosts(head, lines):
+    """A trait, or an impl of one, without its functions and comments."""
+    return [head] + [line for line in lines if line.startswith("    ghost ")] + ["}"]
+
+
+def ghost_trait(head, lines):
+    """The name of a trait of functions and one ghost member of one line, on which types can stand in a copy too; else None."""
+    members = [line for line in lines if line.startswith("    ghost ")]
+    name = re.match(ITEM + r"trait (\w+) \{$", head)
+    return name.group(1) if name and len(members) == 1 and members[0].endswith(";") else None
+
+
+def stood_on(text):
+    """The traits that bound a struct of a file, where it has one parameter."""
+    return set(re.findall(r"^%sstruct \w+<\w+: (\w+)> \{" % ITEM, text, re.M))
+
+
 def stripped(text, own, names, traits):
     out = []
     for head, lines in items(text):
@@ -90,6 +107,8 @@ def stripped(text, own, names, traits):
         elif re.match(ITEM + r"use ", head):
             use = kept_use("\n".join(line for line in rest if not line.startswith(("//", "#"))), own, names)
             out += [use] if use else []
+        elif ghost_trait(head, rest) in names or re.match(r"impl \w+ for \w+ \{$", head) and head.split()[1] in names:
+            out += [""] + ghosts(head, rest)
         elif re.match(r"impl.*\bModel for\b", head) or re.match(ITEM + r"(struct|enum|mod|type|static|const(?! fn))\b", head):
             out += [""] + list(type_lines(rest))
     return "\n".join(out) + "\n"
@@ -128,6 +147,10 @@ def main():
         for file in files:
             traits |= set(re.findall(r"^%strait (\w+)" % ITEM, read(file), re.M))
             names |= set(re.findall(r"^%s(?:struct|enum|type|const|static) (\w+)" % ITEM, read(file), re.M))
+    texts = [read(file) for files in sources.values() for file in files]
+    kept = {ghost_trait(*item) for text in texts for item in items(text)} & set().union(*map(stood_on, texts))
+    names |= kept
+    traits -= kept
     lines = read(os.path.join(top, "crates.txt")).split("\n")
     write(os.path.join(goal, "crates.txt"), "\n".join(l for l in lines if re.split("[ :]", l)[0] in crates) + "\n")
     whole = {re.split("[ :]", l)[0] for l in lines if is_whole(l, crates)}

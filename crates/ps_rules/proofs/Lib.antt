@@ -1,5 +1,6 @@
 mod ListLemmas
 mod IndexLemmas
+mod MarkLemmas
 mod TallyLemmas
 mod StackLemmas
 mod StepLemmas

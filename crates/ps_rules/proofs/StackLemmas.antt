@@ -8,8 +8,8 @@ use Rattle.std.proofs.lemmas.Bool.{false_from_ne_true, eq-eqb}
 use Rattle.ps_rules.specs.declared.table.Rule.{Rule}
 use Rattle.ps_rules.specs.declared.table.Ruleset.{Ruleset}
 use Rattle.ps_rules.specs.declared.walk.Tally.{Tally}
-use Rattle.ps_rules.specs.declared.walk.Mark.{Mark}
-use Rattle.ps_rules.specs.declared.walk.Mark.TheVariants.{New, Open, Done}
+use Rattle.ps_rules.specs.declared.marks.Mark.{Mark}
+use Rattle.ps_rules.specs.declared.marks.Mark.TheVariants.{New, Open, Done}
 use Rattle.ps_rules.specs.declared.walk.Frame.{Frame}
 use Rattle.ps_rules.specs.declared.fault.RuleFault.{RuleFault}
 use Rattle.ps_rules.specs.declared.fault.RuleFault.TheVariants.{Cycle}

@@ -7,8 +7,8 @@ use Rattle.ps_rules.specs.declared.clause.Clause.{Clause}
 use Rattle.ps_rules.specs.declared.table.Rule.{Rule}
 use Rattle.ps_rules.specs.declared.table.Ruleset.{Ruleset}
 use Rattle.ps_rules.specs.declared.walk.Tally.{Tally}
-use Rattle.ps_rules.specs.declared.walk.Mark.{Mark}
-use Rattle.ps_rules.specs.declared.walk.Mark.TheVariants.{New, Open, Done}
+use Rattle.ps_rules.specs.declared.marks.Mark.{Mark}
+use Rattle.ps_rules.specs.declared.marks.Mark.TheVariants.{New, Open, Done}
 use Rattle.ps_rules.specs.declared.walk.Frame.{Frame}
 use Rattle.ps_rules.specs.declared.walk.Turn.{Turn}
 use Rattle.ps_rules.specs.declared.walk.Turn.TheVariants.{Further, Inner, Over}

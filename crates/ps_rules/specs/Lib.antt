@@ -1,7 +1,7 @@
 pub mod Clauses
 pub mod Rules
-pub mod Indices
 pub mod Walk
+pub mod Marks
 pub mod Steps
 pub mod Reading
 pub mod Resolve

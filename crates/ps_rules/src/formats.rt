@@ -9,14 +9,13 @@ ghost use Rattle.ps_rules.specs.Faults.{Finds};
 
 use crate::fault::{FormatFault, RuleFault};
 use crate::read::read_said;
-use crate::rulesets::Rulesets;
 use crate::table::{Format, Rule, RuleTable, Said};
 use crate::walk::clauses_of;
 use ps_base::id::Id;
 use ps_base::list::List;
 use ps_data::fault::Refusal;
 use ps_data::file_fault::reported;
-use ps_data::ids;
+use ps_data::table::Table;
 use ps_dex::dex::Dex;
 use serde_json::Value;
 use std::alloc::{AllocError, Global};
@@ -38,11 +37,11 @@ impl Model for Formats {
 }
 
 #[tactic(auto, unfolding(crate::specs::Resolve::format_index))]
-fn format_index(formats: &[Format], id: &str) -> Option<usize>
+fn format_index(formats: &Table<Format>, id: &str) -> Option<usize>
     ensures index { result ≡ format_index id.now formats.now }
     ensures within { IfSome result (λ i. i < length formats.now) }
 {
-    ids::index_of(formats, id)
+    formats.index_of(id)
 }
 
 fn copies(alloc: Global, ids: &[Id]) -> Result<Vec<Id>, AllocError>
@@ -106,8 +105,8 @@ impl Formats {
     {
         Formats {
             said: Said {
-                rulesets: Rulesets::none(alloc),
-                formats: List::from_vec(Vec::new(alloc)),
+                rulesets: Table::new(alloc),
+                formats: Table::new(alloc),
             },
         }
     }
@@ -142,10 +141,10 @@ impl Formats {
     pub fn format(&self, id: &Id) -> Option<&Format>
         ensures { option_map (λ f. f.now) result ≡ format_of id.now self.now.formats }
     {
-        let formats = self.said.formats.as_slice();
+        let formats = &self.said.formats;
         match format_index(formats, id.as_str()) {
             None => None,
-            Some(index) => Some(&formats[index]),
+            Some(index) => Some(&formats.as_slice()[index]),
         }
     }
 }

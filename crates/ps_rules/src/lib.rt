@@ -5,9 +5,9 @@ pub mod clause;
 pub mod fault;
 pub mod formats;
 mod list;
+mod marks;
 mod name;
 mod read;
-pub mod rulesets;
 pub mod table;
 mod walk;
 

@@ -1,6 +1,7 @@
 //! Reads rule lists and rulesets.
-ghost use Rattle.std.specs.Prelude.{◌≡◌, codes};
+ghost use Rattle.std.specs.Prelude.{◌≡◌, codes, IfOk};
 ghost use Rattle.serde_json.specs.View.{view};
+ghost use Rattle.ps_data.specs.OwnIds.{IsNew};
 ghost use Rattle.ps_data.specs.Reading.{Gives, GivesBy};
 ghost use Rattle.ps_data.specs.Lists.{entries_at};
 ghost use Rattle.ps_rules.specs.Rules.{begins_so, rule_of};
@@ -8,16 +9,16 @@ ghost use Rattle.ps_rules.specs.Reading.{rule_in, rules_in, ruleset_in, or_kind,
 ghost use Rattle.ps_rules.specs.Walk.{clauses_of};
 
 use crate::fault::RuleFault;
-use crate::rulesets::Rulesets;
 use crate::table::{Rule, Ruleset};
 use crate::walk::clauses_of;
 use ps_base::id::to_id;
 use ps_base::list::List;
-use ps_data::entries::{EntryForm, entries_at};
 use ps_data::fault::{DataKind, Refusal, refused};
 use ps_data::forms::{array, text};
-use ps_data::ids::key_id;
 use ps_data::lists::{ItemForm, items_of};
+use ps_data::new_ids::new_key_id;
+use ps_data::rows::{EntryRowForm, entry_rows_at};
+use ps_data::table::Table;
 use serde_json::Value;
 use std::alloc::Global;
 
@@ -67,10 +68,16 @@ fn rules(alloc: Global, value: &Value) -> Result<Vec<Rule>, Refusal>
 }
 
 #[tactic(auto, unfolding(crate::specs::Reading::ruleset_in))]
-fn ruleset(alloc: Global, before: &[Ruleset], key: &str, value: &Value) -> Result<Ruleset, Refusal>
-    ensures { Gives result (ruleset_in before.now key.now (view value.now)) }
+fn ruleset(
+    alloc: Global,
+    before: &Table<Ruleset>,
+    key: &str,
+    value: &Value,
+) -> Result<Ruleset, Refusal>
+    ensures gives { Gives result (ruleset_in before.now key.now (view value.now)) }
+    ensures new { IfOk result (λ set. IsNew (λ s. s.id) set.id before.now) }
 {
-    let id = key_id(alloc, before, key)?;
+    let id = new_key_id(alloc, before, key)?;
     let rules = rules(alloc, value)?;
     Ok(Ruleset {
         id,
@@ -82,13 +89,13 @@ fn ruleset(alloc: Global, before: &[Ruleset], key: &str, value: &Value) -> Resul
 #[derive(Drop)]
 struct RulesetForm;
 
-impl EntryForm<Ruleset> for RulesetForm {
+impl EntryRowForm<Ruleset> for RulesetForm {
     ghost reading = { λ _. ruleset_in };
 
     fn read(
         &self,
         alloc: Global,
-        before: &[Ruleset],
+        before: &Table<Ruleset>,
         key: &str,
         value: &Value,
     ) -> Result<Ruleset, Refusal> {
@@ -97,14 +104,13 @@ impl EntryForm<Ruleset> for RulesetForm {
 }
 
 /// The rulesets of a configuration.
-pub(crate) fn rulesets_at(alloc: Global, value: &Value) -> Result<Rulesets, Refusal>
+pub(crate) fn rulesets_at(alloc: Global, value: &Value) -> Result<Table<Ruleset>, Refusal>
     ensures { Gives result (entries_at (codes "rulesets") ruleset_in (view value.now)) }
 {
-    let rulesets = entries_at(alloc, &RulesetForm, value, "rulesets")?;
-    Ok(Rulesets::from_vec(alloc, rulesets)?)
+    entry_rows_at(alloc, &RulesetForm, value, "rulesets")
 }
 
-fn or_kind(alloc: Global, sets: &Rulesets, rules: &[Rule]) -> Result<u8, Refusal>
+fn or_kind(alloc: Global, sets: &Table<Ruleset>, rules: &[Rule]) -> Result<u8, Refusal>
     ensures { Gives result (or_kind (clauses_of sets.now rules.now)) }
 {
     match clauses_of(alloc, sets, rules) {
@@ -118,7 +124,11 @@ fn or_kind(alloc: Global, sets: &Rulesets, rules: &[Rule]) -> Result<u8, Refusal
 
 /// The clauses that a format's rule list leaves on, or the kind of the first fault of its walk.
 #[tactic(auto, unfolding(crate::specs::Reading::clauses_in))]
-pub(crate) fn read_clauses(alloc: Global, sets: &Rulesets, value: &Value) -> Result<u8, Refusal>
+pub(crate) fn read_clauses(
+    alloc: Global,
+    sets: &Table<Ruleset>,
+    value: &Value,
+) -> Result<u8, Refusal>
     ensures { Gives result (clauses_in sets.now (view value.now)) }
 {
     let rules = rules(alloc, value)?;

@@ -1,6 +1,7 @@
 //! Reads the names of formats.
-ghost use Rattle.std.specs.Prelude.{◌≡◌};
+ghost use Rattle.std.specs.Prelude.{◌≡◌, IfOk};
 ghost use Rattle.serde_json.specs.View.{view};
+ghost use Rattle.ps_data.specs.OwnIds.{IsNew};
 ghost use Rattle.ps_data.specs.Reading.{Gives};
 ghost use Rattle.ps_rules.specs.Reading.{are_name_chars, is_name, has_format, name_in};
 
@@ -10,7 +11,7 @@ use ps_base::id::{Id, to_id};
 use ps_base::text::Text;
 use ps_data::fault::{DataKind, Refusal};
 use ps_data::forms::{ensure, text};
-use ps_data::ids;
+use ps_data::table::Table;
 use serde_json::Value;
 use std::alloc::Global;
 
@@ -37,17 +38,22 @@ fn is_name(chars: &[char], id: &str) -> bool
 }
 
 #[tactic(auto, unfolding(crate::specs::Reading::has_format))]
-fn has_format(formats: &[Format], id: &str) -> bool
+fn has_format(formats: &Table<Format>, id: &str) -> bool
     ensures { result ≡ has_format id.now formats.now }
 {
-    ids::has_id(formats, id)
+    formats.has_id(id)
 }
 
 /// A name: 1 to 32 characters without `|` and control characters, with a letter or digit, and with
 /// an id that no format before has.
-#[tactic(auto, unfolding(crate::specs::Reading::name_in))]
-pub(crate) fn read_name(alloc: Global, before: &[Format], value: &Value) -> Result<Named, Refusal>
-    ensures { Gives result (name_in before.now (view value.now)) }
+#[tactic(auto, unfolding(crate::specs::Reading::name_in, crate::specs::Reading::has_format))]
+pub(crate) fn read_name(
+    alloc: Global,
+    before: &Table<Format>,
+    value: &Value,
+) -> Result<Named, Refusal>
+    ensures gives { Gives result (name_in before.now (view value.now)) }
+    ensures new { IfOk result (λ named. IsNew (λ f. f.id) named.id before.now) }
 {
     let text = text(alloc, value)?;
     let id = to_id(alloc, text)?;

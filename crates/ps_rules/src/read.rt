@@ -1,25 +1,27 @@
 //! Reads formats.
 ghost use Rattle.std.specs.Prelude.{◌≡◌, ◌≤◌, [], ◌∷◌, codes, map, IfOk};
 ghost use Rattle.serde_json.specs.View.{view};
+ghost use Rattle.ps_data.specs.OwnIds.{IsNew};
 ghost use Rattle.ps_data.specs.Reading.{Gives, GivesBy, optional};
 ghost use Rattle.ps_data.specs.Forms.{number_in};
 ghost use Rattle.ps_rules.specs.Reading.{clauses_in, has_ban, is_known, ban_in, bans_in, two_levels_in, level_in, levels_of, levels_in, table_in, format_in, formats_in, said_in};
 
 use crate::list::{read_clauses, rulesets_at};
 use crate::name::{Named, read_name};
-use crate::rulesets::Rulesets;
-use crate::table::{Format, RuleTable, Said};
+use crate::table::{Format, RuleTable, Ruleset, Said};
 use ps_base::id::{Id, to_id};
 use ps_base::list::List;
 use ps_data::fault::{DataKind, Refusal, refused};
 use ps_data::forms::{array, ensure, number, object, text};
 use ps_data::keys::{at_index, at_key, boolean_or, items_at_key, number_or, required};
 use ps_data::lists::{ItemForm, items_of};
+use ps_data::rows::{RowForm, rows_of};
+use ps_data::table::Table;
 use ps_dex::dex::Dex;
 use serde_json::Value;
 use std::alloc::Global;
 
-fn clauses_at(alloc: Global, sets: &Rulesets, value: &Value) -> Result<u8, Refusal>
+fn clauses_at(alloc: Global, sets: &Table<Ruleset>, value: &Value) -> Result<u8, Refusal>
     ensures { Gives result (optional (codes "rules") 64 (clauses_in sets.now) (view value.now)) }
 {
     match value.get("rules") {
@@ -150,7 +152,12 @@ fn levels_at(alloc: Global, value: &Value) -> Result<[u8; 2], Refusal>
 }
 
 #[tactic(auto, unfolding(crate::specs::Reading::table_in))]
-fn table(alloc: Global, sets: &Rulesets, dex: &Dex, value: &Value) -> Result<RuleTable, Refusal>
+fn table(
+    alloc: Global,
+    sets: &Table<Ruleset>,
+    dex: &Dex,
+    value: &Value,
+) -> Result<RuleTable, Refusal>
     ensures { Gives result (table_in sets.now dex.now (view value.now)) }
 {
     let clauses = clauses_at(alloc, sets, value)?;
@@ -172,12 +179,13 @@ fn table(alloc: Global, sets: &Rulesets, dex: &Dex, value: &Value) -> Result<Rul
 #[tactic(auto, unfolding(crate::specs::Reading::format_in))]
 fn format(
     alloc: Global,
-    sets: &Rulesets,
+    sets: &Table<Ruleset>,
     dex: &Dex,
-    before: &[Format],
+    before: &Table<Format>,
     value: &Value,
 ) -> Result<Format, Refusal>
-    ensures { Gives result (format_in sets.now dex.now before.now (view value.now)) }
+    ensures gives { Gives result (format_in sets.now dex.now before.now (view value.now)) }
+    ensures new { IfOk result (λ format. IsNew (λ f. f.id) format.id before.now) }
 {
     object(alloc, value)?;
     let named = at_key(
@@ -193,17 +201,17 @@ fn format(
 /// The form of a format, over the rulesets and the dex.
 #[derive(Drop)]
 struct FormatForm<'a> {
-    sets: &'a Rulesets,
+    sets: &'a Table<Ruleset>,
     dex: &'a Dex,
 }
 
-impl ItemForm<Format> for FormatForm<'_> {
+impl RowForm<Format> for FormatForm<'_> {
     ghost reading = { λ form before after. format_in form.sets.now form.dex.now before };
 
     fn read(
         &self,
         alloc: Global,
-        before: &[Format],
+        before: &Table<Format>,
         _after: &[Value],
         value: &Value,
     ) -> Result<Format, Refusal> {
@@ -212,27 +220,29 @@ impl ItemForm<Format> for FormatForm<'_> {
 }
 
 #[tactic(auto, unfolding(crate::specs::Reading::formats_in))]
-fn formats(alloc: Global, sets: &Rulesets, dex: &Dex, value: &Value) -> Result<Vec<Format>, Refusal>
-    ensures { GivesBy (λ v. v.items) result (formats_in sets.now dex.now (view value.now)) }
+fn formats(
+    alloc: Global,
+    sets: &Table<Ruleset>,
+    dex: &Dex,
+    value: &Value,
+) -> Result<Table<Format>, Refusal>
+    ensures { Gives result (formats_in sets.now dex.now (view value.now)) }
 {
     let values = array(alloc, value)?;
-    items_of(alloc, &FormatForm { sets, dex }, values)
+    rows_of(alloc, &FormatForm { sets, dex }, values)
 }
 
 fn formats_at(
     alloc: Global,
-    sets: &Rulesets,
+    sets: &Table<Ruleset>,
     dex: &Dex,
     value: &Value,
-) -> Result<List<Format>, Refusal>
+) -> Result<Table<Format>, Refusal>
     ensures { Gives result (optional (codes "formats") [] (formats_in sets.now dex.now) (view value.now)) }
 {
     match value.get("formats") {
-        None => Ok(List::from_vec(Vec::new(alloc))),
-        Some(inside) => {
-            let formats = items_at_key(alloc, "formats", formats(alloc, sets, dex, inside))?;
-            Ok(List::from_vec(formats))
-        }
+        None => Ok(Table::new(alloc)),
+        Some(inside) => at_key(alloc, "formats", formats(alloc, sets, dex, inside)),
     }
 }
 

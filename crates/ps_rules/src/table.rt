@@ -1,11 +1,11 @@
 //! What a configuration says of rules.
 ghost use Rattle.std.specs.Prelude.{◌≡◌};
 
-use crate::rulesets::Rulesets;
 use ps_base::id::Id;
 use ps_base::list::List;
 use ps_base::text::Text;
 use ps_data::ids::HasId;
+use ps_data::table::Table;
 
 /// A rule text, as `!sleepclausemod`.
 #[derive(Debug, Drop)]
@@ -73,7 +73,7 @@ impl HasId for Format {
 #[derive(Debug, Drop)]
 pub struct Said {
     /// The rulesets, in byte order of their keys.
-    pub rulesets: Rulesets,
+    pub rulesets: Table<Ruleset>,
     /// The formats, in order.
-    pub formats: List<Format>,
+    pub formats: Table<Format>,
 }

@@ -1,14 +1,15 @@
 //! The walk of a rule list.
-ghost use Rattle.std.specs.Prelude.{◌≡◌, ◌+◌, ◌^◌, ◌<◌, length, replicate, slice_get, slice_set, option_copied, IfOk, IfSome, OnSome};
+ghost use Rattle.std.specs.Prelude.{◌≡◌, ◌+◌, ◌^◌, ◌<◌, length, slice_get, option_copied, IfSome, OnOk, OnSome};
 ghost use Rattle.ps_rules.specs.Walk.{nothing, left_on, naming, repealing, own, with_inner, set_named, rules_of, walk, clauses_of};
 ghost use Rattle.ps_rules.specs.Steps.{rules_in, frame_at, further, by_mark, heard, turn_in, closed};
 ghost use Rattle.ps_rules.specs.Faults.{Finds};
 
 use crate::clause::{Clause, has};
 use crate::fault::RuleFault;
-use crate::rulesets::Rulesets;
+use crate::marks::{Mark, Marks};
 use crate::table::{Rule, Ruleset};
 use ps_base::id::Id;
+use ps_data::table::Table;
 use std::alloc::{AllocError, Global};
 use std::collections::VecDeque;
 
@@ -19,17 +20,6 @@ struct Tally {
     inner: u8,
     named: u8,
     repealed: u8,
-}
-
-/// How far the walk is with a ruleset.
-#[derive(Clone, Copy)]
-enum Mark {
-    /// The walk hasn't met it.
-    New,
-    /// The walk stands inside it.
-    Open,
-    /// Its list was walked, and leaves these clauses on wherever it is met.
-    Done(u8),
 }
 
 /// A list that the walk is in.
@@ -121,8 +111,8 @@ fn with_inner(tally: Tally, clauses: u8) -> Tally
 }
 
 /// The ruleset that a text names. A ruleset can't be repealed.
-#[tactic(auto, unfolding(crate::specs::Walk::set_named))]
-fn set_named(sets: &Rulesets, rule: &Rule) -> Option<usize>
+#[tactic(auto, unfolding(crate::specs::Walk::set_named, crate::specs::Rules::index_of))]
+fn set_named(sets: &Table<Ruleset>, rule: &Rule) -> Option<usize>
     ensures { result ≡ set_named sets.now rule.now }
 {
     if rule.repeals {
@@ -141,7 +131,7 @@ fn rules_at(sets: &[Ruleset], index: usize) -> &[Rule]
     }
 }
 
-fn rules_in<'a>(sets: &'a Rulesets, first: &'a [Rule], index: Option<usize>) -> &'a [Rule]
+fn rules_in<'a>(sets: &'a Table<Ruleset>, first: &'a [Rule], index: Option<usize>) -> &'a [Rule]
     ensures { result.now ≡ rules_in sets.now first.now index }
 {
     match index {
@@ -210,8 +200,8 @@ fn by_mark(
 #[tactic(auto, unfolding(crate::specs::Steps::heard))]
 fn heard(
     alloc: Global,
-    sets: &Rulesets,
-    marks: &[Mark],
+    sets: &Table<Ruleset>,
+    marks: &Marks,
     frame: Frame,
     rule: &Rule,
 ) -> Result<Turn, RuleFault>
@@ -230,7 +220,7 @@ fn heard(
         None => Err(RuleFault::UnknownRule {
             id: rule.id.copy(alloc)?,
         }),
-        Some(index) => by_mark(alloc, &rule.id, frame, index, marks.get(index).copied()),
+        Some(index) => by_mark(alloc, &rule.id, frame, index, marks.get(index)),
     }
 }
 
@@ -238,8 +228,8 @@ fn heard(
 #[tactic(auto, unfolding(crate::specs::Steps::turn_in))]
 fn turn_in(
     alloc: Global,
-    sets: &Rulesets,
-    marks: &[Mark],
+    sets: &Table<Ruleset>,
+    marks: &Marks,
     first: &[Rule],
     frame: Frame,
 ) -> Result<Turn, RuleFault>
@@ -251,37 +241,23 @@ fn turn_in(
     }
 }
 
-fn all_new(alloc: Global, count: usize) -> Result<Vec<Mark>, AllocError>
-    ensures { IfOk result (λ marks. marks.items ≡ replicate count Mark.New) }
-{
-    let mut marks = Vec::new(alloc);
-    marks.resize(count, Mark::New)?;
-    Ok(marks)
-}
-
-fn set_mark(marks: &mut Vec<Mark>, index: usize, mark: Mark)
-    requires { index < length marks.old.items }
-    ensures { marks.new.items ≡ slice_set marks.old.items index mark }
-{
-    marks[index] = mark;
-}
-
 /// The ruleset of a list leaves these clauses on from now on.
-fn close(marks: &mut Vec<Mark>, index: Option<usize>, clauses: u8)
-    requires { IfSome index (λ p. p < length marks.old.items) }
-    ensures { marks.new.items ≡ closed marks.old.items index clauses }
+fn close(marks: &mut Marks, index: Option<usize>, clauses: u8) -> Result<(), AllocError>
+    requires { IfSome index (λ p. p < length marks.old) }
+    ensures { OnOk result (marks.new ≡ closed marks.old index clauses) }
 {
     if let Some(index) = index {
-        set_mark(marks, index, Mark::Done(clauses));
+        marks.set(index, Mark::Done(clauses))?;
     }
+    Ok(())
 }
 
 /// Each ruleset is entered once: its mark says afterwards what it leaves on. The lists that wait for
 /// an inner one lie in `waiting`, the innermost first, each at the text that names the next.
-fn walk(alloc: Global, sets: &Rulesets, rules: &[Rule]) -> Result<u8, RuleFault>
+fn walk(alloc: Global, sets: &Table<Ruleset>, rules: &[Rule]) -> Result<u8, RuleFault>
     ensures { Finds result (walk sets.now rules.now) }
 {
-    let mut marks = all_new(alloc, sets.as_slice().len())?;
+    let mut marks = Marks::all_new(alloc, sets.as_slice().len());
     let mut waiting = VecDeque::new(alloc);
     let mut frame = frame_at(None);
     'steps: loop {
@@ -290,14 +266,14 @@ fn walk(alloc: Global, sets: &Rulesets, rules: &[Rule]) -> Result<u8, RuleFault>
             Ok(Turn::Further(next)) => frame = next,
             Ok(Turn::Inner(index)) => {
                 waiting.push_front(frame)?;
-                set_mark(&mut marks, index, Mark::Open);
+                marks.set(index, Mark::Open)?;
                 frame = frame_at(Some(index));
             }
             Ok(Turn::Over(clauses)) => {
                 let Some(outer) = waiting.pop_front() else {
                     return Ok(clauses);
                 };
-                close(&mut marks, frame.index, clauses);
+                close(&mut marks, frame.index, clauses)?;
                 frame = outer;
             }
         }
@@ -306,7 +282,11 @@ fn walk(alloc: Global, sets: &Rulesets, rules: &[Rule]) -> Result<u8, RuleFault>
 
 /// The clauses that a rule list leaves on, with HP Percentage Mod, which is always on.
 #[tactic(auto, unfolding(crate::specs::Walk::clauses_of))]
-pub(crate) fn clauses_of(alloc: Global, sets: &Rulesets, rules: &[Rule]) -> Result<u8, RuleFault>
+pub(crate) fn clauses_of(
+    alloc: Global,
+    sets: &Table<Ruleset>,
+    rules: &[Rule],
+) -> Result<u8, RuleFault>
     ensures { Finds result (clauses_of sets.now rules.now) }
 {
     let clauses = walk(alloc, sets, rules)?;

@@ -11,6 +11,7 @@ use crate::settings::{ChatRoom, Registered, Settings};
 use ps_base::list::List;
 use ps_base::text::Text;
 use ps_data::file_fault::reported;
+use ps_data::table::Table;
 use ps_dex::dex::Dex;
 use ps_group::groups::Groups;
 use ps_rules::formats::Formats;
@@ -42,7 +43,7 @@ fn standard_settings(alloc: Global) -> Result<Settings, AllocError>
         groups: Groups::standard(alloc)?,
         staff: 3,
         rooms: lobby_alone(alloc)?,
-        users: List::from_vec(Vec::new(alloc)),
+        users: Table::new(alloc),
         formats: Formats::none(alloc),
         nonce: Text::copy_of(alloc, "0")?,
         seed: 0,

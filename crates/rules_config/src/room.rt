@@ -3,19 +3,20 @@ ghost use Rattle.std.specs.Prelude.{◌≡◌, ◌<◌, ◌≤◌, ◌∷◌, []
 ghost use Rattle.std.specs.List.{list_all};
 ghost use Rattle.std.specs.Str.{chars};
 ghost use Rattle.serde_json.specs.View.{view};
-ghost use Rattle.ps_data.specs.Reading.{Gives, GivesBy, optional};
+ghost use Rattle.ps_data.specs.OwnIds.{IsNew};
+ghost use Rattle.ps_data.specs.Reading.{Gives, optional};
 ghost use Rattle.ps_data.specs.Lists.{list_in};
 ghost use Rattle.rules_config.specs.Rooms.{lobby, is_title, title_in, room_in, rooms_at};
 
 use crate::settings::ChatRoom;
 use ps_base::id::to_id;
-use ps_base::list::List;
 use ps_base::text::Text;
 use ps_data::fault::{DataKind, Refusal};
 use ps_data::forms::{ensure, object, text};
-use ps_data::ids::own_id_at;
-use ps_data::keys::{at_key, items_at_key, required};
-use ps_data::lists::{ItemForm, list};
+use ps_data::keys::{at_key, required};
+use ps_data::new_ids::new_id_at;
+use ps_data::rows::{RowForm, rows};
+use ps_data::table::Table;
 use serde_json::Value;
 use std::alloc::{AllocError, Global};
 
@@ -30,12 +31,12 @@ pub(crate) fn lobby(alloc: Global) -> Result<ChatRoom, AllocError>
 }
 
 /// The list of the lobby alone.
-pub(crate) fn lobby_alone(alloc: Global) -> Result<List<ChatRoom>, AllocError>
+pub(crate) fn lobby_alone(alloc: Global) -> Result<Table<ChatRoom>, AllocError>
     ensures { IfOk result (λ rooms. rooms ≡ lobby ∷ []) }
 {
-    let mut rooms = Vec::new(alloc);
-    rooms.push(lobby(alloc)?)?;
-    Ok(List::from_vec(rooms))
+    let mut rooms = Table::new(alloc);
+    rooms.push(alloc, lobby(alloc)?)?;
+    Ok(rooms)
 }
 
 #[tactic(auto, unfolding(crate::specs::Rooms::is_title))]
@@ -55,11 +56,12 @@ fn title(alloc: Global, value: &Value) -> Result<Text, Refusal>
 }
 
 #[tactic(auto, unfolding(crate::specs::Rooms::room_in))]
-fn room(alloc: Global, before: &[ChatRoom], value: &Value) -> Result<ChatRoom, Refusal>
-    ensures { Gives result (room_in before.now (view value.now)) }
+fn room(alloc: Global, before: &Table<ChatRoom>, value: &Value) -> Result<ChatRoom, Refusal>
+    ensures gives { Gives result (room_in before.now (view value.now)) }
+    ensures new { IfOk result (λ room. IsNew (λ r. r.id) room.id before.now) }
 {
     object(alloc, value)?;
-    let id = own_id_at(alloc, before, value, "id")?;
+    let id = new_id_at(alloc, before, value, "id")?;
     let title = at_key(
         alloc,
         "title",
@@ -72,13 +74,13 @@ fn room(alloc: Global, before: &[ChatRoom], value: &Value) -> Result<ChatRoom, R
 #[derive(Drop)]
 struct RoomForm;
 
-impl ItemForm<ChatRoom> for RoomForm {
+impl RowForm<ChatRoom> for RoomForm {
     ghost reading = { λ _ before after. room_in before };
 
     fn read(
         &self,
         alloc: Global,
-        before: &[ChatRoom],
+        before: &Table<ChatRoom>,
         _after: &[Value],
         value: &Value,
     ) -> Result<ChatRoom, Refusal> {
@@ -88,14 +90,11 @@ impl ItemForm<ChatRoom> for RoomForm {
 
 /// The chat rooms of a configuration: 1 to 16, and the lobby alone where the key is missing.
 #[tactic(auto, unfolding(crate::specs::Rooms::rooms_at))]
-pub(crate) fn rooms_at(alloc: Global, value: &Value) -> Result<List<ChatRoom>, Refusal>
+pub(crate) fn rooms_at(alloc: Global, value: &Value) -> Result<Table<ChatRoom>, Refusal>
     ensures { Gives result (rooms_at (view value.now)) }
 {
     match value.get("rooms") {
         None => Ok(lobby_alone(alloc)?),
-        Some(inside) => {
-            let rooms = items_at_key(alloc, "rooms", list(alloc, &RoomForm, 1, 16, inside))?;
-            Ok(List::from_vec(rooms))
-        }
+        Some(inside) => at_key(alloc, "rooms", rows(alloc, &RoomForm, 1, 16, inside)),
     }
 }

@@ -5,6 +5,7 @@ use ps_base::id::Id;
 use ps_base::list::List;
 use ps_base::text::Text;
 use ps_data::ids::HasId;
+use ps_data::table::Table;
 use ps_group::groups::Groups;
 use ps_rules::formats::Formats;
 
@@ -52,9 +53,9 @@ pub struct Settings {
     /// The lowest rank that counts as staff: an index in the list of groups.
     pub staff: u8,
     /// The chat rooms in order: 1 to 16.
-    pub rooms: List<ChatRoom>,
+    pub rooms: Table<ChatRoom>,
     /// The registered names in order.
-    pub users: List<Registered>,
+    pub users: Table<Registered>,
     /// The rulesets and the formats.
     pub formats: Formats,
     /// A text of 1 to 32 letters and digits, which the texts begin with that log-ins sign.

@@ -2,17 +2,18 @@
 ghost use Rattle.std.specs.Prelude.{◌≡◌, ◌<◌, ◌≤◌, [], codes, length, map, IfOk};
 ghost use Rattle.std.specs.Str.{chars};
 ghost use Rattle.serde_json.specs.View.{view};
-ghost use Rattle.ps_data.specs.Reading.{Gives, GivesBy, optional};
+ghost use Rattle.ps_data.specs.OwnIds.{IsNew};
+ghost use Rattle.ps_data.specs.Reading.{Gives, optional};
 ghost use Rattle.rules_config.specs.Users.{rank_named, named_rank_in, default_staff_in, staff_at, user_in, users_in};
 
 use crate::settings::Registered;
 use ps_base::characters::characters;
-use ps_base::list::List;
 use ps_data::fault::{DataKind, Refusal};
 use ps_data::forms::{array, found, object, text};
-use ps_data::ids::own_id_at;
-use ps_data::keys::{at_key, items_at_key, required, text_at};
-use ps_data::lists::{ItemForm, items_of};
+use ps_data::keys::{at_key, required, text_at};
+use ps_data::new_ids::new_id_at;
+use ps_data::rows::{RowForm, rows_of};
+use ps_data::table::Table;
 use ps_group::defaults::DEFAULT_STAFF;
 use ps_group::groups::Groups;
 use serde_json::Value;
@@ -60,13 +61,14 @@ pub(crate) fn staff_at(alloc: Global, groups: &Groups, value: &Value) -> Result<
 fn user(
     alloc: Global,
     groups: &Groups,
-    before: &[Registered],
+    before: &Table<Registered>,
     value: &Value,
 ) -> Result<Registered, Refusal>
-    ensures { Gives result (user_in groups.now before.now (view value.now)) }
+    ensures gives { Gives result (user_in groups.now before.now (view value.now)) }
+    ensures new { IfOk result (λ user. IsNew (λ u. u.id) user.id before.now) }
 {
     object(alloc, value)?;
-    let id = own_id_at(alloc, before, value, "id")?;
+    let id = new_id_at(alloc, before, value, "id")?;
     let secret = text_at(alloc, value, "secret")?;
     let rank = at_key(
         alloc,
@@ -82,13 +84,13 @@ struct UserForm<'a> {
     groups: &'a Groups,
 }
 
-impl ItemForm<Registered> for UserForm<'_> {
+impl RowForm<Registered> for UserForm<'_> {
     ghost reading = { λ form before after. user_in form.groups.now before };
 
     fn read(
         &self,
         alloc: Global,
-        before: &[Registered],
+        before: &Table<Registered>,
         _after: &[Value],
         value: &Value,
     ) -> Result<Registered, Refusal> {
@@ -97,11 +99,11 @@ impl ItemForm<Registered> for UserForm<'_> {
 }
 
 #[tactic(auto, unfolding(crate::specs::Users::users_in))]
-fn users(alloc: Global, groups: &Groups, value: &Value) -> Result<Vec<Registered>, Refusal>
-    ensures { GivesBy (λ v. v.items) result (users_in groups.now (view value.now)) }
+fn users(alloc: Global, groups: &Groups, value: &Value) -> Result<Table<Registered>, Refusal>
+    ensures { Gives result (users_in groups.now (view value.now)) }
 {
     let values = array(alloc, value)?;
-    items_of(alloc, &UserForm { groups }, values)
+    rows_of(alloc, &UserForm { groups }, values)
 }
 
 /// The registered names of a configuration.
@@ -109,14 +111,11 @@ pub(crate) fn users_at(
     alloc: Global,
     groups: &Groups,
     value: &Value,
-) -> Result<List<Registered>, Refusal>
+) -> Result<Table<Registered>, Refusal>
     ensures { Gives result (optional (codes "users") [] (users_in groups.now) (view value.now)) }
 {
     match value.get("users") {
-        None => Ok(List::from_vec(Vec::new(alloc))),
-        Some(inside) => {
-            let users = items_at_key(alloc, "users", users(alloc, groups, inside))?;
-            Ok(List::from_vec(users))
-        }
+        None => Ok(Table::new(alloc)),
+        Some(inside) => at_key(alloc, "users", users(alloc, groups, inside)),
     }
 }
