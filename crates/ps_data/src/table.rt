@@ -9,7 +9,7 @@ use std::marker::Model;
 
 /// Rows in the order of their file, no two of them with one id. Contracts see the list of the rows; an id is looked
 /// up without a walk of it.
-#[derive(Debug, Drop)]
+#[derive(Debug)]
 pub struct Table<T: HasId> {
     rows: IndexMap<String, T>,
 }
@@ -23,6 +23,13 @@ impl<T: HasId> Model for Table<T> {
     ghost view = { λ t. rows_of t.rows.entries };
 
     ghost invariant = { λ t. AreKeyed T.id_of t.rows.entries };
+}
+
+// By hand, so that whoever drops a table has one step of its proof for that, and not one for each part of a map.
+impl<T: HasId + Drop> Drop for Table<T> {
+    fn drop(self) {
+        let Table { rows: _ } = self;
+    }
 }
 
 impl<T: HasId> Table<T> {

@@ -23,7 +23,7 @@ use std::marker::Model;
 
 /// The rulesets and the formats of a configuration, with the rule list of each format resolved.
 /// Contracts see what the configuration says.
-#[derive(Debug, Drop)]
+#[derive(Debug)]
 pub struct Formats {
     said: Said,
 }
@@ -34,6 +34,13 @@ impl Model for Formats {
     ghost Value = { Said };
 
     ghost view = { λ f. f.said };
+}
+
+// By hand, so that whoever drops formats has one step of its proof for that.
+impl Drop for Formats {
+    fn drop(self) {
+        let Formats { said: _ } = self;
+    }
 }
 
 #[tactic(auto, unfolding(crate::specs::Resolve::format_index))]

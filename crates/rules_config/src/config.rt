@@ -20,7 +20,7 @@ use std::marker::Model;
 
 /// What a server is set up with: groups, chat rooms, registered names, formats and seeds, as some
 /// configuration file says them over some dex. Contracts see what the file says.
-#[derive(Debug, Drop)]
+#[derive(Debug)]
 pub struct Config {
     settings: Settings,
 }
@@ -34,6 +34,13 @@ impl Model for Config {
     ghost view = { λ c. c.settings };
 
     ghost invariant = { λ c. HasFile c.settings };
+}
+
+// By hand, so that whoever drops a configuration has one step of its proof for that.
+impl Drop for Config {
+    fn drop(self) {
+        let Config { settings: _ } = self;
+    }
 }
 
 fn standard_settings(alloc: Global) -> Result<Settings, AllocError>
