@@ -35,7 +35,7 @@ one_config contents o config dex s f = one_value contents o.config (λ (lookup :
 fault_rose : (name : List ℕ) (old new : FileCounts) (status : Status) → status ≡ FileFault name → StepCause (Some name) old new status → Rose old.faults new.faults
 fault_rose name old new status is cause = (subst (λ (s : Status). StepCause (Some name) old new s) is cause).1
 
-step_settles : {A : Type 0} (contents : Option (List ℕ → Option (List ℕ))) (named : Option (List ℕ)) (step : (List ℕ → Option (List ℕ)) → Result A Status) (x : A) (old new : FileCounts) (status : Status) → IsKnown contents named step x → (named ≡ None → status ≡ NoMemory) → Ended contents named step status → StepCause named old new status → (Rose old.faults new.faults → ⊥) → IsSettled status
+pub step_settles : {A : Type 0} (contents : Option (List ℕ → Option (List ℕ))) (named : Option (List ℕ)) (step : (List ℕ → Option (List ℕ)) → Result A Status) (x : A) (old new : FileCounts) (status : Status) → IsKnown contents named step x → (named ≡ None → status ≡ NoMemory) → Ended contents named step status → StepCause named old new status → (Rose old.faults new.faults → ⊥) → IsSettled status
 step_settles contents None step x old new status known alone ended cause files = subst IsSettled (sym (alone refl)) tt
 step_settles None (Some name) step x old new status known alone ended cause files = absurd known
 step_settles (Some lookup) (Some name) step x old new status known alone (inl e) cause files = subst IsSettled (sym e) tt

@@ -3,3 +3,5 @@ pub mod InputLemmas
 pub mod OutcomeLemmas
 pub mod SymbolLemmas
 pub mod RunLemmas
+pub mod CommandLemmas
+pub mod ReplayLemmas

@@ -1,9 +1,8 @@
 -- What can't be at once.
-use Rattle.std.proofs.Common.{◌≡◌, ℕ, List, Option, Some, None, IfSome, Result, Ok, sym, subst, ◌∙◌}
+use Rattle.std.proofs.Common.{◌≡◌, ℕ, List, Option, Some, None, IfSome, sym, subst, ◌∙◌}
 use Rattle.std.specs.Option.{IsSomeAnd}
 use Rattle.ps_group.specs.declared.group.Group.{Group}
 use Rattle.replay_script.specs.Limits.{long_of}
-use Rattle.program_commands.specs.Words.{Options, Asked, Replays, IfReplay}
 use Rattle.ps_replay.specs.Outcomes.{IsReadable}
 
 -- an input within its limits isn't too long
@@ -15,7 +14,3 @@ not_long groups (Some bytes) count long readable = let both : Some count ≡ Non
 pub input_is : (P : List ℕ → Type 0) (left : Option (List ℕ)) (bytes : List ℕ) → IfSome left (λ input. bytes ≡ input) → P bytes → IfSome left P
 input_is P None bytes same p = tt
 input_is P (Some input) bytes same p = subst P same p
-
--- where the words ask for a replay with these options
-pub replays : (P : Options → Type 0) (r : Result Asked ℕ) (o : Options) → r ≡ Ok (Replays o) → P o → IfReplay r P
-replays P r o is p = rw is p

@@ -3,3 +3,4 @@ pub mod Drills
 pub mod Writes
 pub mod Runs
 pub mod Flow
+pub mod Commands

@@ -82,6 +82,13 @@ HasHistories config dex bytes = (items : List Item) → IsScript (symbols_of con
 abbrev pub HasEqualWorlds : Settings → Tables → List ℕ → Type 0
 HasEqualWorlds config dex bytes = (items : List Item) → IsScript (symbols_of config.groups) bytes items → HasEqualBlocks config dex items
 
+-- what a replay of these bytes has shown at Done
+pub record IsReplayed (config : Settings) (dex : Tables) (old new : Option (List ℕ)) (bytes : List ℕ) : Type 0 where
+  pub transcript : IsTranscript config dex old new bytes
+  pub one_entry : HasOneEntryEachText config dex bytes
+  pub histories : HasHistories config dex bytes
+  pub two_worlds : HasEqualWorlds config dex bytes
+
 -- a front of the transcript
 pub record WritesFront (config : Settings) (dex : Tables) (old new : Option (List ℕ)) (bytes : List ℕ) : Type 0 where
   pub within : long_of bytes ≡ None

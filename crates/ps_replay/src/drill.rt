@@ -17,10 +17,9 @@ ghost use Rattle.ps_replay.specs.Drills.{summary_of, IsSummary, WritesSummary, W
 ghost use Rattle.ps_replay.specs.Runs.{SummarizesRun, HasRun};
 
 use crate::replay::table_of;
+use crate::setup::{shared_config, shared_dex};
 use crate::summary::{Figures, summary_text};
 use crate::symbols::symbols_of;
-use program_commands::config::config_or_standard;
-use program_commands::dex::dex_or_none;
 use program_commands::status::Status;
 use program_commands::words::DrillWords;
 use ps_dex::dex::Dex;
@@ -77,28 +76,33 @@ fn run_item(
 }
 
 // Runs the lines from a state on, behind a text that was tallied.
-fn run_from(alloc: Global, table: Table, items: &[Item], tally: Tally) -> Result<Run, AllocError>
-    ensures { IfOk result (SummarizesRun tally table items.now) }
+fn run_from(
+    alloc: Global,
+    table: &mut Table,
+    items: &[Item],
+    tally: Tally,
+) -> Result<Run, AllocError>
+    ensures { IfOk result (SummarizesRun tally table.old items.now) }
 {
-    let mut table = table;
     let mut tally = tally;
     let mut counter = Counter::new();
     let mut pending = Transcript::new(alloc);
     for item in items {
-        run_item(
-            alloc,
-            &mut table,
-            item,
-            &mut pending,
-            &mut tally,
-            &mut counter,
-        )?;
+        run_item(alloc, table, item, &mut pending, &mut tally, &mut counter)?;
     }
     Ok(Run {
         tally,
         counter,
         counts: pending.counts,
     })
+}
+
+// The same of a state that ends with the run. It is dropped here alone: who has it by value takes it apart at each exit.
+fn run_once(alloc: Global, table: Table, items: &[Item], tally: Tally) -> Result<Run, AllocError>
+    ensures { IfOk result (SummarizesRun tally table items.now) }
+{
+    let mut table = table;
+    run_from(alloc, &mut table, items, tally)
 }
 
 // A count that doesn't stand still. Past the others the answer is out of memory.
@@ -129,52 +133,59 @@ fn run_summary(alloc: Global, lines: usize, run: Run) -> Result<String, AllocErr
 // Runs the lines of a script, and tells what came of it.
 fn run_items(
     alloc: Global,
-    config: Arc<Config>,
-    dex: Arc<Dex>,
+    config: &Arc<Config>,
+    dex: &Arc<Dex>,
     script: &[u8],
     items: &[Item],
 ) -> Result<String, AllocError>
-    requires { IsScript (symbols_of (arc_value config).groups) script.now items.now }
-    ensures { IfOk result (λ t. string_bytes t ≡ summary_of script.now (setup_of (arc_value config) (arc_value dex) items.now) items.now) }
+    requires { IsScript (symbols_of (arc_value config.now).groups) script.now items.now }
+    ensures { IfOk result (λ t. string_bytes t ≡ summary_of script.now (setup_of (arc_value config.now) (arc_value dex.now) items.now) items.now) }
 {
     let table = table_of(alloc, config, dex, items)?;
     let mut tally = Tally::new();
     tally.take(script);
-    let run = run_from(alloc, table, items, tally)?;
+    let run = run_once(alloc, table, items, tally)?;
     run_summary(alloc, items.len(), run)
 }
 
 // Makes the script of a drill, runs it, and tells what came of it.
-fn summarize(alloc: Global, config: Config, dex: Dex, steps: u32) -> Result<String, AllocError>
-    requires formats { HasPlainFormats config }
-    requires names { HasPlainNames dex }
+fn summarize(
+    alloc: Global,
+    config: &Arc<Config>,
+    dex: &Arc<Dex>,
+    steps: u32,
+) -> Result<String, AllocError>
+    requires formats { HasPlainFormats (arc_value config.now) }
+    requires names { HasPlainNames (arc_value dex.now) }
     requires few { steps ≤ 4000 }
-    ensures { IfOk result (λ t. IsSummary config dex steps (string_bytes t)) }
+    ensures { IfOk result (λ t. IsSummary (arc_value config.now) (arc_value dex.now) steps (string_bytes t)) }
 {
-    let script = drill_script(alloc, steps, &config, &dex)?;
+    let script = drill_script(alloc, steps, config, dex)?;
     if script.len() > MOST_SCRIPT {
         return Err(AllocError);
     }
     let symbols = symbols_of(alloc, config.groups())?;
-    match read_script(alloc, script.as_bytes(), &symbols) {
+    match read_script(alloc, script.as_bytes(), symbols.as_slice()) {
         Err(ScriptEnd::NoMemory) => Err(AllocError),
         Err(ScriptEnd::Bad(_, _)) => unreachable!(),
-        Ok(items) => {
-            let config = Arc::new(alloc, config)?;
-            let dex = Arc::new(alloc, dex)?;
-            run_items(alloc, config, dex, script.as_bytes(), &items)
-        }
+        Ok(items) => run_items(alloc, config, dex, script.as_bytes(), &items),
     }
 }
 
 // ---- the command
 
-fn drill_run<K: Sink>(alloc: Global, config: Config, dex: Dex, steps: u32, out: &mut K) -> Status
-    requires formats { HasPlainFormats config }
-    requires names { HasPlainNames dex }
+fn drill_run<K: Sink>(
+    alloc: Global,
+    config: &Arc<Config>,
+    dex: &Arc<Dex>,
+    steps: u32,
+    out: &mut K,
+) -> Status
+    requires formats { HasPlainFormats (arc_value config.now) }
+    requires names { HasPlainNames (arc_value dex.now) }
     requires few { steps ≤ 4000 }
     ensures of { IsOfRun result }
-    ensures wrote { WritesRun config dex steps (K.written out.old) (K.written out.new) result }
+    ensures wrote { WritesRun (arc_value config.now) (arc_value dex.now) steps (K.written out.old) (K.written out.new) result }
     ensures write_fault { result ≡ Status.WriteFault → Rose (K.faults out.old) (K.faults out.new) }
 {
     match summarize(alloc, config, dex, steps) {
@@ -188,24 +199,24 @@ fn drill_run<K: Sink>(alloc: Global, config: Config, dex: Dex, steps: u32, out: 
 
 fn drill_config<F: Files, K: Sink>(
     alloc: Global,
-    dex: Dex,
+    dex: &Arc<Dex>,
     words: DrillWords<'_>,
     files: &mut F,
     out: &mut K,
 ) -> Status
-    requires stands { Stands (F.contents files.old) (options_of words.options).dex (λ lookup. dex_in lookup (options_of words.options).dex) dex }
-    requires names { HasPlainNames dex }
+    requires stands { Stands (F.contents files.old) (options_of words.options).dex (λ lookup. dex_in lookup (options_of words.options).dex) (arc_value dex.now) }
+    requires names { HasPlainNames (arc_value dex.now) }
     requires few { words.steps ≤ 4000 }
-    ensures ends { EndsIfKnown (F.contents files.old) (λ lookup. ConfigEnds lookup (drilled_of words.entry).options dex) result }
+    ensures ends { EndsIfKnown (F.contents files.old) (λ lookup. ConfigEnds lookup (drilled_of words.entry).options (arc_value dex.now)) result }
     ensures cause { DrillCause (drilled_of words.entry).options (F.counts files.old) (F.counts files.new) result }
     ensures summary { result ≡ Status.Done → HasSetup (F.contents files.old) (drilled_of words.entry).options (λ config dex. WritesSummary config dex (drilled_of words.entry).steps (K.written out.old) (K.written out.new)) }
     ensures wrote { WritesDrill (F.contents files.old) (drilled_of words.entry) (K.written out.old) (K.written out.new) result }
     ensures write_fault { result ≡ Status.WriteFault → Rose (K.faults out.old) (K.faults out.new) }
     ensures settles { SettlesDrill (F.contents files.old) (Rose (F.counts files.old).faults (F.counts files.new).faults) (Rose (K.faults out.old) (K.faults out.new)) (drilled_of words.entry).options result }
 {
-    match config_or_standard(alloc, files, &dex, words.options.config) {
+    match shared_config(alloc, files, dex, words.options.config) {
         Err(status) => status,
-        Ok(config) => drill_run(alloc, config, dex, words.steps, out),
+        Ok(config) => drill_run(alloc, &config, dex, words.steps, out),
     }
 }
 
@@ -227,8 +238,8 @@ pub fn drill<F: Files, K: Sink>(
     ensures write_fault { result ≡ Status.WriteFault → Rose (K.faults out.old) (K.faults out.new) }
     ensures settles { SettlesDrill (F.contents files.old) (Rose (F.counts files.old).faults (F.counts files.new).faults) (Rose (K.faults out.old) (K.faults out.new)) (drilled_of words.entry).options result }
 {
-    match dex_or_none(alloc, files, words.options.dex) {
+    match shared_dex(alloc, files, words.options.dex) {
         Err(status) => status,
-        Ok(dex) => drill_config(alloc, dex, words, files, out),
+        Ok(dex) => drill_config(alloc, &dex, words, files, out),
     }
 }

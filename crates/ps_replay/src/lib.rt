@@ -4,5 +4,6 @@
 mod drill;
 pub mod replay;
 pub mod run;
+mod setup;
 mod summary;
 pub mod symbols;

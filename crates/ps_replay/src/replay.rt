@@ -86,19 +86,18 @@ fn replay_item<K: Sink>(
 // Replays the lines from a state on.
 fn replay_from<K: Sink>(
     alloc: Global,
-    table: Table,
+    table: &mut Table,
     items: &[Item],
     out: &mut K,
 ) -> Result<(), ReplayEnd>
-    ensures wrote { OnOk result (Appends (K.written out.old) (K.written out.new) (text_from table items.now)) }
-    ensures err { OnErr result (AppendsFront (K.written out.old) (K.written out.new) (text_from table items.now)) }
+    ensures wrote { OnOk result (Appends (K.written out.old) (K.written out.new) (text_from table.old items.now)) }
+    ensures err { OnErr result (AppendsFront (K.written out.old) (K.written out.new) (text_from table.old items.now)) }
     ensures later { K.faults out.old ≤ K.faults out.new }
     ensures fault { result ≡ Err ReplayEnd.WriteFault → Rose (K.faults out.old) (K.faults out.new) }
 {
-    let mut table = table;
     let mut pending = Transcript::new(alloc);
     for item in items {
-        match replay_item(alloc, &mut table, item, &mut pending, out) {
+        match replay_item(alloc, table, item, &mut pending, out) {
             Err(end) => return Err(end),
             Ok(()) => {}
         }
@@ -109,35 +108,51 @@ fn replay_from<K: Sink>(
     }
 }
 
+// The same of a state that ends with the replay. It is dropped here alone: who has it by value takes it apart at each exit.
+fn replay_once<K: Sink>(
+    alloc: Global,
+    table: Table,
+    items: &[Item],
+    out: &mut K,
+) -> Result<(), ReplayEnd>
+    ensures wrote { OnOk result (Appends (K.written out.old) (K.written out.new) (text_from table items.now)) }
+    ensures err { OnErr result (AppendsFront (K.written out.old) (K.written out.new) (text_from table items.now)) }
+    ensures later { K.faults out.old ≤ K.faults out.new }
+    ensures fault { result ≡ Err ReplayEnd.WriteFault → Rose (K.faults out.old) (K.faults out.new) }
+{
+    let mut table = table;
+    replay_from(alloc, &mut table, items, out)
+}
+
 /// Before the first of the lines of a script, under a configuration and a dex.
 pub(crate) fn table_of(
     alloc: Global,
-    config: Arc<Config>,
-    dex: Arc<Dex>,
+    config: &Arc<Config>,
+    dex: &Arc<Dex>,
     items: &[Item],
 ) -> Result<Table, AllocError>
-    ensures { IfOk result (λ t. t ≡ fresh (setup_of (arc_value config) (arc_value dex) items.now)) }
+    ensures { IfOk result (λ t. t ≡ fresh (setup_of (arc_value config.now) (arc_value dex.now) items.now)) }
 {
     let ranks = ranks_of(alloc, config.groups(), items)?;
-    Table::new(alloc, config, dex, ranks)
+    Table::new(alloc, config.clone()?, dex.clone()?, ranks)
 }
 
 /// Writes the transcript of the lines of a script under a configuration and a dex. Where memory or the sink fails a
 /// front of it was written.
 pub fn replay<K: Sink>(
     alloc: Global,
-    config: Arc<Config>,
-    dex: Arc<Dex>,
+    config: &Arc<Config>,
+    dex: &Arc<Dex>,
     items: &[Item],
     out: &mut K,
 ) -> Result<(), ReplayEnd>
-    ensures wrote { OnOk result (Appends (K.written out.old) (K.written out.new) (output (setup_of (arc_value config) (arc_value dex) items.now) items.now)) }
-    ensures err { OnErr result (AppendsFront (K.written out.old) (K.written out.new) (output (setup_of (arc_value config) (arc_value dex) items.now) items.now)) }
+    ensures wrote { OnOk result (Appends (K.written out.old) (K.written out.new) (output (setup_of (arc_value config.now) (arc_value dex.now) items.now) items.now)) }
+    ensures err { OnErr result (AppendsFront (K.written out.old) (K.written out.new) (output (setup_of (arc_value config.now) (arc_value dex.now) items.now) items.now)) }
     ensures later { K.faults out.old ≤ K.faults out.new }
     ensures fault { result ≡ Err ReplayEnd.WriteFault → Rose (K.faults out.old) (K.faults out.new) }
 {
     match table_of(alloc, config, dex, items) {
         Err(_) => Err(ReplayEnd::NoMemory),
-        Ok(table) => replay_from(alloc, table, items, out),
+        Ok(table) => replay_once(alloc, table, items, out),
     }
 }

@@ -10,16 +10,16 @@ ghost use Rattle.program_commands.specs.Words.{words_in, options_of, IfReplay, I
 ghost use Rattle.program_commands.specs.Steps.{dex_in};
 ghost use Rattle.program_commands.specs.Setups.{usage_of, usage_reported, HasSetup, Stands, EndsIfKnown};
 ghost use Rattle.program_commands.specs.Checks.{legal_line, CheckEnds, IsNamed, CheckCause, SettlesCheck};
-ghost use Rattle.ps_replay.specs.Outcomes.{symbols_of, IsOfInput, KeepsInput, IsTranscript, HasOneEntryEachText, HasHistories, HasEqualWorlds, WritesOfInput, WritesPrefix, ReplayCause, InputCause, Settles, SettlesInput};
+ghost use Rattle.ps_replay.specs.Outcomes.{symbols_of, IsOfInput, KeepsInput, IsTranscript, HasOneEntryEachText, HasHistories, HasEqualWorlds, IsReplayed, WritesOfInput, ReplayCause, InputCause, Settles, SettlesInput};
 ghost use Rattle.ps_replay.specs.Drills.{DrillEnds, DrillCause, WritesSummary, SettlesDrill};
 ghost use Rattle.ps_replay.specs.Writes.{Writes};
+ghost use Rattle.ps_replay.specs.Commands.{IsReplay, IsRun};
 
 use crate::drill::drill;
 use crate::replay::{ReplayEnd, replay};
+use crate::setup::{shared_config, shared_dex};
 use crate::symbols::symbols_of;
 use program_commands::check::check;
-use program_commands::config::config_or_standard;
-use program_commands::dex::dex_or_none;
 use program_commands::status::Status;
 use program_commands::words::{Command, OptionWords, read_words};
 use ps_dex::dex::Dex;
@@ -35,24 +35,21 @@ use std::sync::Arc;
 
 fn run_items<K: Sink>(
     alloc: Global,
-    config: Arc<Config>,
-    dex: Arc<Dex>,
+    config: &Arc<Config>,
+    dex: &Arc<Dex>,
     bytes: &[u8],
     items: &[Item],
     out: &mut K,
 ) -> Status
-    requires few { length (arc_value config).rooms ≤ 16 }
+    requires few { length (arc_value config.now).rooms ≤ 16 }
     requires within { long_of bytes.now ≡ None }
-    requires script { IsScript (symbols_of (arc_value config).groups) bytes.now items.now }
-    requires one { (others : List Item) → IsScript (symbols_of (arc_value config).groups) bytes.now others → others ≡ items.now }
-    ensures usage { usage_reported result ≡ None }
+    requires script { IsScript (symbols_of (arc_value config.now).groups) bytes.now items.now }
+    requires one { (others : List Item) → IsScript (symbols_of (arc_value config.now).groups) bytes.now others → others ≡ items.now }
     ensures of { IsOfInput result }
-    ensures transcript { result ≡ Status.Done → IsTranscript (arc_value config) (arc_value dex) (K.written out.old) (K.written out.new) bytes.now }
-    ensures one_entry { result ≡ Status.Done → HasOneEntryEachText (arc_value config) (arc_value dex) bytes.now }
-    ensures histories { result ≡ Status.Done → HasHistories (arc_value config) (arc_value dex) bytes.now }
-    ensures two_worlds { result ≡ Status.Done → HasEqualWorlds (arc_value config) (arc_value dex) bytes.now }
-    ensures prefix { WritesOfInput (arc_value config) (arc_value dex) (Some bytes.now) (K.written out.old) (K.written out.new) result }
-    ensures cause { InputCause (arc_value config).groups (Some bytes.now) result }
+    ensures replayed { result ≡ Status.Done → IsReplayed (arc_value config.now) (arc_value dex.now) (K.written out.old) (K.written out.new)
+        bytes.now }
+    ensures prefix { WritesOfInput (arc_value config.now) (arc_value dex.now) (Some bytes.now) (K.written out.old) (K.written out.new) result }
+    ensures cause { InputCause (arc_value config.now).groups (Some bytes.now) result }
     ensures read_fault { result ≡ Status.ReadFault → ⊥ }
     ensures write_fault { result ≡ Status.WriteFault → Rose (K.faults out.old) (K.faults out.new) }
 {
@@ -65,22 +62,19 @@ fn run_items<K: Sink>(
 
 fn run_bytes<K: Sink>(
     alloc: Global,
-    config: Arc<Config>,
-    dex: Arc<Dex>,
+    config: &Arc<Config>,
+    dex: &Arc<Dex>,
     bytes: &[u8],
     out: &mut K,
 ) -> Status
-    requires few { length (arc_value config).rooms ≤ 16 }
+    requires few { length (arc_value config.now).rooms ≤ 16 }
     requires within { long_of bytes.now ≡ None }
     requires small { length bytes.now ≤ 16777216 }
-    ensures usage { usage_reported result ≡ None }
     ensures of { IsOfInput result }
-    ensures transcript { result ≡ Status.Done → IsTranscript (arc_value config) (arc_value dex) (K.written out.old) (K.written out.new) bytes.now }
-    ensures one_entry { result ≡ Status.Done → HasOneEntryEachText (arc_value config) (arc_value dex) bytes.now }
-    ensures histories { result ≡ Status.Done → HasHistories (arc_value config) (arc_value dex) bytes.now }
-    ensures two_worlds { result ≡ Status.Done → HasEqualWorlds (arc_value config) (arc_value dex) bytes.now }
-    ensures prefix { WritesOfInput (arc_value config) (arc_value dex) (Some bytes.now) (K.written out.old) (K.written out.new) result }
-    ensures cause { InputCause (arc_value config).groups (Some bytes.now) result }
+    ensures replayed { result ≡ Status.Done → IsReplayed (arc_value config.now) (arc_value dex.now) (K.written out.old) (K.written out.new)
+        bytes.now }
+    ensures prefix { WritesOfInput (arc_value config.now) (arc_value dex.now) (Some bytes.now) (K.written out.old) (K.written out.new) result }
+    ensures cause { InputCause (arc_value config.now).groups (Some bytes.now) result }
     ensures read_fault { result ≡ Status.ReadFault → ⊥ }
     ensures write_fault { result ≡ Status.WriteFault → Rose (K.faults out.old) (K.faults out.new) }
 {
@@ -98,25 +92,22 @@ fn run_bytes<K: Sink>(
 // Replays the script that the input has, under a configuration and a dex.
 fn run_input<S: Source, K: Sink>(
     alloc: Global,
-    config: Arc<Config>,
-    dex: Arc<Dex>,
+    config: &Arc<Config>,
+    dex: &Arc<Dex>,
     input: &mut S,
     out: &mut K,
 ) -> Status
-    requires { length (arc_value config).rooms ≤ 16 }
-    ensures usage { usage_reported result ≡ None }
+    requires { length (arc_value config.now).rooms ≤ 16 }
     ensures of { IsOfInput result }
     ensures whole { result ≡ Status.Done → IsAtEnd (S.left input.new) }
-    ensures transcript { result ≡ Status.Done → IfSome (S.left input.old) (IsTranscript (arc_value config) (arc_value dex) (K.written out.old) (K.written out.new)) }
-    ensures one_entry { result ≡ Status.Done → IfSome (S.left input.old) (HasOneEntryEachText (arc_value config) (arc_value dex)) }
-    ensures histories { result ≡ Status.Done → IfSome (S.left input.old) (HasHistories (arc_value config) (arc_value dex)) }
-    ensures two_worlds { result ≡ Status.Done → IfSome (S.left input.old) (HasEqualWorlds (arc_value config) (arc_value dex)) }
-    ensures prefix { WritesOfInput (arc_value config) (arc_value dex) (S.left input.old) (K.written out.old) (K.written out.new) result }
+    ensures replayed { result ≡ Status.Done → IfSome (S.left input.old)
+        (IsReplayed (arc_value config.now) (arc_value dex.now) (K.written out.old) (K.written out.new)) }
+    ensures prefix { WritesOfInput (arc_value config.now) (arc_value dex.now) (S.left input.old) (K.written out.old) (K.written out.new) result }
     ensures bounded { ReadsFew (S.left input.old) (S.left input.new) }
-    ensures cause { InputCause (arc_value config).groups (S.left input.old) result }
+    ensures cause { InputCause (arc_value config.now).groups (S.left input.old) result }
     ensures read_fault { result ≡ Status.ReadFault → Rose (S.faults input.old) (S.faults input.new) }
     ensures write_fault { result ≡ Status.WriteFault → Rose (K.faults out.old) (K.faults out.new) }
-    ensures settles { SettlesInput (arc_value config).groups (S.left input.old) (Rose (S.faults input.old) (S.faults input.new)) (Rose (K.faults out.old) (K.faults out.new)) result }
+    ensures settles { SettlesInput (arc_value config.now).groups (S.left input.old) (Rose (S.faults input.old) (S.faults input.new)) (Rose (K.faults out.old) (K.faults out.new)) result }
 {
     match read_input(alloc, input) {
         Err(InputEnd::ReadFault) => Status::ReadFault,
@@ -129,40 +120,31 @@ fn run_input<S: Source, K: Sink>(
 // Replays the script of the input, over a dex.
 fn run_config<F: Files, S: Source, K: Sink>(
     alloc: Global,
-    dex: Dex,
+    dex: &Arc<Dex>,
     options: OptionWords<'_>,
     files: &mut F,
     input: &mut S,
     out: &mut K,
 ) -> Status
-    requires { Stands (F.contents files.old) (options_of options).dex (λ lookup. dex_in lookup (options_of options).dex) dex }
-    ensures usage { usage_reported result ≡ None }
-    ensures cause { ReplayCause (F.contents files.old) (options_of options.entry) (S.left input.old) (F.counts files.old) (F.counts files.new) result }
-    ensures input { KeepsInput (S.left input.old) (S.left input.new) result }
-    ensures whole { result ≡ Status.Done → IsAtEnd (S.left input.new) }
-    ensures transcript { result ≡ Status.Done → HasSetup (F.contents files.old) (options_of options.entry) (λ config dex. IfSome (S.left input.old) (IsTranscript config dex (K.written out.old) (K.written out.new))) }
-    ensures one_entry { result ≡ Status.Done → HasSetup (F.contents files.old) (options_of options.entry) (λ config dex. IfSome (S.left input.old) (HasOneEntryEachText config dex)) }
-    ensures histories { result ≡ Status.Done → HasSetup (F.contents files.old) (options_of options.entry) (λ config dex. IfSome (S.left input.old) (HasHistories config dex)) }
-    ensures two_worlds { result ≡ Status.Done → HasSetup (F.contents files.old) (options_of options.entry) (λ config dex. IfSome (S.left input.old) (HasEqualWorlds config dex)) }
-    ensures prefix { WritesPrefix (F.contents files.old) (options_of options.entry) (S.left input.old) (K.written out.old) (K.written out.new) result }
-    ensures bounded { ReadsFew (S.left input.old) (S.left input.new) }
-    ensures read_fault { result ≡ Status.ReadFault → Rose (S.faults input.old) (S.faults input.new) }
-    ensures write_fault { result ≡ Status.WriteFault → Rose (K.faults out.old) (K.faults out.new) }
-    ensures complete { Settles (F.contents files.old) (options_of options.entry) (S.left input.old) (Rose (F.counts files.old).faults (F.counts files.new).faults) (Rose (S.faults input.old) (S.faults input.new)) (Rose (K.faults out.old) (K.faults out.new)) result }
+    requires { Stands (F.contents files.old) (options_of options).dex (λ lookup. dex_in lookup (options_of options).dex) (arc_value dex.now) }
+    ensures { IsReplay (options_of options.entry) (record {
+      contents = F.contents files.old;
+      counts = F.counts files.old;
+      counts_after = F.counts files.new;
+      left = S.left input.old;
+      left_after = S.left input.new;
+      reads = S.faults input.old;
+      reads_after = S.faults input.new;
+      written = K.written out.old;
+      written_after = K.written out.new;
+      writes = K.faults out.old;
+      writes_after = K.faults out.new;
+    }) result }
 {
-    let config = match config_or_standard(alloc, files, &dex, options.config) {
-        Err(status) => return status,
-        Ok(config) => config,
-    };
-    let config = match Arc::new(alloc, config) {
-        Err(_) => return Status::NoMemory,
-        Ok(config) => config,
-    };
-    let dex = match Arc::new(alloc, dex) {
-        Err(_) => return Status::NoMemory,
-        Ok(dex) => dex,
-    };
-    run_input(alloc, config, dex, input, out)
+    match shared_config(alloc, files, dex, options.config) {
+        Err(status) => status,
+        Ok(config) => run_input(alloc, &config, dex, input, out),
+    }
 }
 
 // Replays the script of the input, with the files that the words name.
@@ -173,23 +155,53 @@ fn run_replay<F: Files, S: Source, K: Sink>(
     input: &mut S,
     out: &mut K,
 ) -> Status
-    ensures usage { usage_reported result ≡ None }
-    ensures cause { ReplayCause (F.contents files.old) (options_of options.entry) (S.left input.old) (F.counts files.old) (F.counts files.new) result }
-    ensures input { KeepsInput (S.left input.old) (S.left input.new) result }
-    ensures whole { result ≡ Status.Done → IsAtEnd (S.left input.new) }
-    ensures transcript { result ≡ Status.Done → HasSetup (F.contents files.old) (options_of options.entry) (λ config dex. IfSome (S.left input.old) (IsTranscript config dex (K.written out.old) (K.written out.new))) }
-    ensures one_entry { result ≡ Status.Done → HasSetup (F.contents files.old) (options_of options.entry) (λ config dex. IfSome (S.left input.old) (HasOneEntryEachText config dex)) }
-    ensures histories { result ≡ Status.Done → HasSetup (F.contents files.old) (options_of options.entry) (λ config dex. IfSome (S.left input.old) (HasHistories config dex)) }
-    ensures two_worlds { result ≡ Status.Done → HasSetup (F.contents files.old) (options_of options.entry) (λ config dex. IfSome (S.left input.old) (HasEqualWorlds config dex)) }
-    ensures prefix { WritesPrefix (F.contents files.old) (options_of options.entry) (S.left input.old) (K.written out.old) (K.written out.new) result }
-    ensures bounded { ReadsFew (S.left input.old) (S.left input.new) }
-    ensures read_fault { result ≡ Status.ReadFault → Rose (S.faults input.old) (S.faults input.new) }
-    ensures write_fault { result ≡ Status.WriteFault → Rose (K.faults out.old) (K.faults out.new) }
-    ensures complete { Settles (F.contents files.old) (options_of options.entry) (S.left input.old) (Rose (F.counts files.old).faults (F.counts files.new).faults) (Rose (S.faults input.old) (S.faults input.new)) (Rose (K.faults out.old) (K.faults out.new)) result }
+    ensures { IsReplay (options_of options.entry) (record {
+      contents = F.contents files.old;
+      counts = F.counts files.old;
+      counts_after = F.counts files.new;
+      left = S.left input.old;
+      left_after = S.left input.new;
+      reads = S.faults input.old;
+      reads_after = S.faults input.new;
+      written = K.written out.old;
+      written_after = K.written out.new;
+      writes = K.faults out.old;
+      writes_after = K.faults out.new;
+    }) result }
 {
-    match dex_or_none(alloc, files, options.dex) {
+    match shared_dex(alloc, files, options.dex) {
         Err(status) => status,
-        Ok(dex) => run_config(alloc, dex, options, files, input, out),
+        Ok(dex) => run_config(alloc, &dex, options, files, input, out),
+    }
+}
+
+// Does what the words ask for: all that is said of it is one fact.
+fn run_words<F: Files, S: Source, K: Sink>(
+    alloc: Global,
+    words: &[String],
+    files: &mut F,
+    input: &mut S,
+    out: &mut K,
+) -> Status
+    ensures { IsRun (words_in (map string_bytes words.now)) (record {
+      contents = F.contents files.old;
+      counts = F.counts files.old;
+      counts_after = F.counts files.new;
+      left = S.left input.old;
+      left_after = S.left input.new;
+      reads = S.faults input.old;
+      reads_after = S.faults input.new;
+      written = K.written out.old;
+      written_after = K.written out.new;
+      writes = K.faults out.old;
+      writes_after = K.faults out.new;
+    }) result }
+{
+    match read_words(words) {
+        Err(word) => Status::Usage { word },
+        Ok(Command::Replay(options)) => run_replay(alloc, options, files, input, out),
+        Ok(Command::Drill(words)) => drill(alloc, words, files, out),
+        Ok(Command::Check(words)) => check(alloc, words, files, out),
     }
 }
 
@@ -253,10 +265,5 @@ pub fn run<F: Files, S: Source, K: Sink>(
     ensures complete_check { IfCheck (words_in (map string_bytes words.now)) (λ asked. SettlesCheck (F.contents files.old) (Rose (F.counts files.old).faults (F.counts files.new).faults) (Rose (K.faults out.old) (K.faults out.new)) asked result) }
     ensures complete_drill { IfDrill (words_in (map string_bytes words.now)) (λ asked. SettlesDrill (F.contents files.old) (Rose (F.counts files.old).faults (F.counts files.new).faults) (Rose (K.faults out.old) (K.faults out.new)) asked.options result) }
 {
-    match read_words(words) {
-        Err(word) => Status::Usage { word },
-        Ok(Command::Replay(options)) => run_replay(alloc, options, files, input, out),
-        Ok(Command::Drill(words)) => drill(alloc, words, files, out),
-        Ok(Command::Check(words)) => check(alloc, words, files, out),
-    }
+    run_words(alloc, words, files, input, out)
 }

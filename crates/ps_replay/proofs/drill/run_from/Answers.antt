@@ -1,4 +1,4 @@
-use Rattle.std.proofs.Common.{◌≡◌, ◌+◌, ◌∷◌, [], drop, string_bytes, arith, ap, sym, ◌∙◌}
+use Rattle.std.proofs.Common.{◌≡◌, ◌+◌, ◌∷◌, [], drop, arith, ap, sym, ◌∙◌}
 use Rattle.std.proofs.lemmas.List.{drop_more, drop_all}
 use Rattle.replay_script.specs.declared.item.Item.{Item}
 use Rattle.replay_state.specs.Tables.{text_from, no_counts, counts_from}
@@ -10,9 +10,9 @@ loop-item-preserved c =
     let rest = drop (c.loop-item.item-index + 1) c.args.items.now in
     let rest-is : drop c.loop-item.item-index c.args.items.now ≡ c.item-item.result ∷ rest = drop_more c.args.items.now c.loop-item.item-index c.item-item.result (omega arith) ∙ ap (λ (x : Item). x ∷ rest) (sym c.item-item.is) in
     record {
-      ran = rw c.in_ok-run_item.ensures.state (Ran-more c.args.tally c.loop-item.tally c.run_item.new.tally c.loop-item.counter c.run_item.new.counter (text_from c.args.table c.args.items.now) c.loop-item.table c.item-item.result rest
+      ran = rw c.in_ok-run_item.ensures.state (Ran-more c.args.tally c.loop-item.tally c.run_item.new.tally c.loop-item.counter c.run_item.new.counter (text_from c.args.table.now c.args.items.now) c.loop-item.table c.item-item.result rest
           (rw rest-is at c.loop-item.invariant.ran) c.in_ok-run_item.ensures.tally c.in_ok-run_item.ensures.counter);
-      counts = counts_more c.loop-item.table c.run_item.new.table c.item-item.result rest c.loop-item.pending.counts c.run_item.new.pending.counts (counts_from c.args.table c.args.items.now no_counts)
+      counts = counts_more c.loop-item.table c.run_item.new.table c.item-item.result rest c.loop-item.pending.counts c.run_item.new.pending.counts (counts_from c.args.table.now c.args.items.now no_counts)
           c.in_ok-run_item.ensures.state c.in_ok-run_item.ensures.counts (rw rest-is at c.loop-item.invariant.counts);
       empty = c.in_ok-run_item.ensures.empty;
     }
@@ -20,5 +20,5 @@ loop-item-preserved c =
 pub returns : goal.returns
 returns c =
     let none : drop c.loop-item.item-index c.args.items.now ≡ [] = drop_all c.loop-item.item-index c.args.items.now (omega arith) in
-    Ran-all c.args.tally c.loop-item.tally c.loop-item.counter c.loop-item.pending.counts c.args.table c.loop-item.table c.args.items.now
+    Ran-all c.args.tally c.loop-item.tally c.loop-item.counter c.loop-item.pending.counts c.args.table.now c.loop-item.table c.args.items.now
     (rw none at c.loop-item.invariant.ran) (rw none at c.loop-item.invariant.counts)

@@ -1,4 +1,4 @@
-use Rattle.std.proofs.Common.{◌≡◌, ℕ, List, ap, ◌∙◌}
+use Rattle.std.proofs.Common.{◌≡◌, ap, ◌∙◌}
 use Rattle.std.specs.Arc.{arc_value}
 use Rattle.replay_state.specs.Setup.{setup_of}
 use Rattle.replay_state.specs.Transcript.{output}
@@ -8,12 +8,12 @@ use Rattle.ps_replay.proofs.replay.replay.Goals as goal
 
 pub returns-in-Ok-clause-wrote : goal.returns-in-Ok-clause-wrote
 returns-in-Ok-clause-wrote g c =
-    let setup = setup_of (arc_value c.args.config) (arc_value c.args.dex) c.args.items.now in
+    let setup = setup_of (arc_value c.args.config.now) (arc_value c.args.dex.now) c.args.items.now in
     let all : text_from c.in-Ok.table c.args.items.now ≡ output setup c.args.items.now = ap (λ (s : Desk). text_from s c.args.items.now) c.in-Ok.ensures ∙ output_is setup c.args.items.now in
-    rw all at c.replay_from.ensures.wrote
+    rw all at c.replay_once.ensures.wrote
 
 pub returns-in-Ok-clause-err : goal.returns-in-Ok-clause-err
 returns-in-Ok-clause-err g c =
-    let setup = setup_of (arc_value c.args.config) (arc_value c.args.dex) c.args.items.now in
+    let setup = setup_of (arc_value c.args.config.now) (arc_value c.args.dex.now) c.args.items.now in
     let all : text_from c.in-Ok.table c.args.items.now ≡ output setup c.args.items.now = ap (λ (s : Desk). text_from s c.args.items.now) c.in-Ok.ensures ∙ output_is setup c.args.items.now in
-    rw all at c.replay_from.ensures.err
+    rw all at c.replay_once.ensures.err

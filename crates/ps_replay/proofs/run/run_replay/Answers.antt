@@ -1,13 +1,11 @@
+use Rattle.std.proofs.Common.{refl}
+use Rattle.program_commands.specs.Words.{options_of}
+use Rattle.ps_replay.proofs.CommandLemmas.{keeps}
+use Rattle.ps_replay.proofs.ReplayLemmas.{dex_ends}
 use Rattle.ps_replay.proofs.run.run_replay.Goals as goal
 
-pub returns-in-Ok-clause-transcript : goal.returns-in-Ok-clause-transcript
-returns-in-Ok-clause-transcript g c = rw c.in-Ok.ensures.same at c.run_config.ensures.transcript
+pub returns-in-Err : goal.returns-in-Err
+returns-in-Err g c = dex_ends (options_of c.args.options) _ c.in-Err.status refl (keeps (g.K.Sink.written c.args.out.now)) c.in-Err.ensures.ended c.in-Err.ensures.alone c.in-Err.ensures.cause
 
-pub returns-in-Ok-clause-one_entry : goal.returns-in-Ok-clause-one_entry
-returns-in-Ok-clause-one_entry g c = rw c.in-Ok.ensures.same at c.run_config.ensures.one_entry
-
-pub returns-in-Ok-clause-histories : goal.returns-in-Ok-clause-histories
-returns-in-Ok-clause-histories g c = rw c.in-Ok.ensures.same at c.run_config.ensures.histories
-
-pub returns-in-Ok-clause-two_worlds : goal.returns-in-Ok-clause-two_worlds
-returns-in-Ok-clause-two_worlds g c = rw c.in-Ok.ensures.same at c.run_config.ensures.two_worlds
+pub returns-in-Ok : goal.returns-in-Ok
+returns-in-Ok g c = rw (c.in-Ok.ensures.same, c.in-Ok.ensures.counts) at c.run_config.ensures
