@@ -2,7 +2,7 @@
 use Rattle.std.proofs.Common.{◌≡◌, ℕ, List, [], ◌++◌, Option, Some, None, refl, sym, ap, ◌∙◌, append-nil, option_to_list}
 use Rattle.std.specs.Prelude.{ℤ, unwrap_or}
 use Rattle.ps_base.specs.ById.{ById}
-use Rattle.ps_pms.proofs.MapLemmas.{get_inserted}
+use Rattle.hall_index.proofs.MapLemmas.{get_inserted}
 use Rattle.ps_ladder.specs.Ratings.{Standing, standing_of, rating}
 use Rattle.ps_hall.specs.declared.game.Game.{Game}
 use Rattle.ps_hall.specs.Records.{Record}

@@ -1,5 +1,5 @@
 -- The index of the search that is found.
-use Rattle.std.proofs.Common.{◌≡◌, ℕ, ◌+◌, ◌<◌, true, List, ◌∷◌, ◌++◌, length, get_or, take, drop, ℤ, Some, refl, sym, ap, ◌∙◌, add-one}
+use Rattle.std.proofs.Common.{◌≡◌, ℕ, ◌+◌, ◌<◌, Bool, true, false, cond, List, [], ◌∷◌, ◌++◌, length, get_or, take, drop, ℤ, Some, None, refl, sym, ap, ◌∙◌, add-one}
 use Rattle.std.proofs.lemmas.List.{drop_more, get_or_default}
 use Rattle.ps_ladder.specs.declared.searches.Search.{Search}
 use Rattle.ps_ladder.specs.Waiting.{suits, found, without, added, added_by, IsIndex}
@@ -29,3 +29,13 @@ module _ (user format : List ℕ) (rating : ℤ) where
 
   pub added_found : (list : List Search) (s : Search) → found list user format rating ≡ Some s → added list user format rating ≡ without list user format rating
   added_found list s e = ap (λ o. added_by o list user format rating) e
+
+  none_by : (b : Bool) (s : Search) (list : List Search) → cond b (Some s) (found list user format rating) ≡ None → (found list user format rating ≡ None → without list user format rating ≡ list)
+      → cond b list (s ∷ without list user format rating) ≡ s ∷ list
+  none_by true s list none more = absurd cc
+  none_by false s list none more = ap (λ (l : List Search). s ∷ l) (more none)
+
+  -- where nobody suits all stay
+  pub none_left : (list : List Search) → found list user format rating ≡ None → without list user format rating ≡ list
+  none_left [] none = refl
+  none_left (s ∷ list) none = none_by (suits user format rating s) s list none (none_left list)

@@ -2,7 +2,7 @@
 ghost use Rattle.std.specs.Prelude.{◌≡◌, OnOk, OnErr, IfOk, IfErr, IfNone, IfSome, None, Some, true, false, [], not};
 ghost use Rattle.std.specs.List.{list_any, filter};
 ghost use Rattle.std.specs.Option.{option_copied};
-ghost use Rattle.ps_ladder.specs.Waiting.{has_user, is_for, is_near, suits, waits, found, added, answer, cancelled, IsIndex, IsAddFault};
+ghost use Rattle.ps_ladder.specs.Waiting.{has_user, is_for, is_near, suits, waits, found, without, added, answer, cancelled, IsIndex, IsAddFault};
 ghost use Rattle.ps_ladder.specs.declared.searches.AddFault.TheVariants.{NoMemory};
 
 use crate::gain::distance;
@@ -200,6 +200,18 @@ fn add_new(
     }
 }
 
+// Takes out the search that has waited longest of those that suit.
+fn take_found(list: &mut Vec<Search>, user: &Id, format: &Id, rating: i32)
+    ensures { list.new.items ≡ without list.old.items user.now format.now rating }
+{
+    match index_of(list.as_slice(), user, format, rating) {
+        None => {}
+        Some(index) => {
+            let _ = list.remove(index);
+        }
+    }
+}
+
 impl Searches {
     /// Nobody searches. Takes no memory.
     pub fn new(alloc: Global) -> Searches
@@ -262,6 +274,13 @@ impl Searches {
         }
         let found = add_new(&mut self.list, alloc, user, format, rating)?;
         Ok(found)
+    }
+
+    /// Who a user at a rating is matched with waits no more: the search that `find` gives. Takes no memory.
+    pub fn take(&mut self, user: &Id, format: &Id, rating: i32)
+        ensures { self.new ≡ without self.old user.now format.now rating }
+    {
+        take_found(&mut self.list, user, format, rating);
     }
 
     /// All searches of a user go; `false` exactly where there was none. Takes no memory.

@@ -1,2 +1,1 @@
-pub mod MapLemmas
 pub mod BlockLemmas

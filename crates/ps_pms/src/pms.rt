@@ -4,7 +4,7 @@ ghost use Rattle.std.specs.Option.{option_copied};
 ghost use Rattle.ps_pms.specs.Records.{nothing};
 ghost use Rattle.ps_pms.specs.Lookups.{blocks, asked_by, asked_of, asked_to, partners};
 ghost use Rattle.ps_pms.specs.Refusals.{refusal_of_asking, refusal_of_challenge, refusal_of_cancel, refusal_of_answer, refusal_of_whisper, refusal_of_block, refusal_of_unblock, refusal};
-ghost use Rattle.ps_pms.specs.Changes.{after};
+ghost use Rattle.ps_pms.specs.Changes.{after, after_answer};
 
 use crate::asked::Asked;
 use crate::blocks::{Blocks, add_block, end_block, has_block};
@@ -222,5 +222,12 @@ impl Pms {
             }
             _ => Ok(()),
         }
+    }
+
+    /// The challenge that the user made to the actor ends. Takes no memory.
+    pub fn end(&mut self, actor: &Id, user: &Id)
+        ensures { self.new ≡ after_answer self.old actor.now user.now }
+    {
+        challenges::end_of(&mut self.asked, user, actor);
     }
 }

@@ -2,7 +2,7 @@ use Rattle.std.proofs.Common.{◌≡◌, ℕ, List, Some, ap, ◌∙◌}
 use Rattle.std.specs.FinMap.{get, insert}
 use Rattle.ps_hall.specs.Steps.{standing_with}
 use Rattle.ps_hall.proofs.LadderLemmas.{of_found}
-use Rattle.ps_pms.proofs.MapLemmas.{stands, exchanged, restored}
+use Rattle.hall_index.proofs.MapLemmas.{stands, exchanged, restored}
 use Rattle.ps_hall.proofs.report.settle.Goals as goal
 
 pub put_back-requires : goal.put_back-requires

@@ -1,7 +1,7 @@
 use Rattle.std.proofs.Common.{Some, ap, ◌∙◌}
 use Rattle.std.specs.FinMap.{insert}
 use Rattle.ps_pms.specs.Changes.{with_target}
-use Rattle.ps_pms.proofs.MapLemmas.{stands, exchanged, restored}
+use Rattle.hall_index.proofs.MapLemmas.{stands, exchanged, restored}
 use Rattle.ps_pms.proofs.blocks.add_block.Goals as goal
 
 pub put_back-requires : goal.put_back-requires

@@ -1,7 +1,7 @@
 use Rattle.std.proofs.Common.{ap, ◌∙◌}
 use Rattle.std.specs.FinMap.{insert}
 use Rattle.ps_pms.specs.Changes.{without_target}
-use Rattle.ps_pms.proofs.MapLemmas.{stands, exchanged}
+use Rattle.hall_index.proofs.MapLemmas.{stands, exchanged}
 use Rattle.ps_pms.proofs.blocks.end_block.Goals as goal
 
 pub put_back-requires : goal.put_back-requires

@@ -1,9 +1,9 @@
 -- Putting something else in the place of what is at a key, and putting that back.
-use Rattle.std.proofs.Common.{◌≡◌, ℕ, List, Bool, true, false, cond, is_some, Some, refl, sym, ap, ◌∙◌}
+use Rattle.std.proofs.Common.{◌≡◌, ℕ, List, Bool, true, false, cond, is_some, Option, None, Some, refl, sym, ap, ◌∙◌}
 use Rattle.std.specs.Ordering.{nat_cmp, eq_by_cmp}
 use Rattle.std.specs.Cmp.{Equal-is, eq_by_cmp_equiv}
 use Rattle.std.specs.Cmp.Lexicographic.{slice_cmp, nat_list_cmp_total}
-use Rattle.std.specs.FinMap.{get, insert, get-insert, get_tied, same_map, slice_cmp-IsAntisymmetric, nat_cmp-IsAntisymmetric}
+use Rattle.std.specs.FinMap.{get, insert, remove, get-insert, get-remove, get_tied, same_map, slice_cmp-IsAntisymmetric, nat_cmp-IsAntisymmetric}
 use Rattle.ps_base.specs.ById.{ById}
 
 twice : {A : Type 0} (b : Bool) (x y z : A) → cond b x (cond b y z) ≡ cond b x z
@@ -43,3 +43,15 @@ module _ {X : Type 0} where
   -- what was at the key is put back
   pub restored : (m n o : ById X) (k : List ℕ) (v w : X) → n ≡ insert m k v → o ≡ insert n k w → Some w ≡ get m k → o ≡ m
   restored m n o k v w e f found = exchanged m n o k v w e f ∙ insert_same m k w found
+
+  gone_twice : (b : Bool) (v : Option X) (w : X) → cond b None (cond b (Some w) v) ≡ cond b None v
+  gone_twice true v w = refl
+  gone_twice false v w = refl
+
+  -- what is put at a key is forgotten where that is taken away
+  pub remove_inserted : (m : ById X) (k : List ℕ) (v : X) → remove (insert m k v) k ≡ remove m k
+  remove_inserted m k v = same_map nat_list_cmp_total (slice_cmp-IsAntisymmetric nat_cmp-IsAntisymmetric) _ _
+      (λ q. get-remove nat_list_cmp_total (insert m k v) k q
+      ∙ ap (cond (eq_by_cmp (slice_cmp nat_cmp) q k) None) (get-insert nat_list_cmp_total m k v q)
+      ∙ gone_twice (eq_by_cmp (slice_cmp nat_cmp) q k) (get m q) v
+      ∙ sym (get-remove nat_list_cmp_total m k q))
