@@ -7,5 +7,8 @@ pub mod PackLemmas
 pub mod StartLemmas
 pub mod ApplyLemmas
 pub mod AnswerLemmas
+pub mod GameLemmas
+pub mod ComingLemmas
+pub mod MatchLemmas
 pub mod PullLemmas
 pub mod StepLemmas

@@ -3,10 +3,12 @@ pub mod Records
 pub mod Packs
 pub mod Lookups
 pub mod Refusals
+pub mod Games
 pub mod Starts
 pub mod Steps
 pub mod Lines
 pub mod Told
 pub mod Halls
 pub mod States
+pub mod Coming
 pub mod KeptIndices

@@ -14,6 +14,6 @@ record_of s = record {
   search_teams = s.search_teams.items;
   searches = s.searches;
   ladders = s.ladders;
-  started = s.started;
-  games = s.games.items;
+  started = s.games.started;
+  games = s.games.list;
 }

@@ -1,5 +1,5 @@
 //! What a command that is applied tells: its row of the table, over the lists as they will be after it.
-ghost use Rattle.std.specs.Prelude.{◌≡◌, ◌<◌, ◌+◌, ◌∷◌, [], IfOk, Some, None, true, false};
+ghost use Rattle.std.specs.Prelude.{◌≡◌, ◌<◌, ◌+◌, ◌++◌, ◌∷◌, [], option_to_list, IfOk, Some, None, true, false};
 ghost use Rattle.std.specs.Option.{option_copied, option_map};
 ghost use Rattle.ps_base.specs.Ids.{id_of};
 ghost use Rattle.ps_base.specs.Limits.{most_battles};
@@ -11,7 +11,7 @@ ghost use Rattle.ps_hall.specs.Lookups.{badge_of, challenge_from, game_in, ladde
 ghost use Rattle.ps_hall.specs.Refusals.{is_winner, refusal, refusal_by, refusal_of_named};
 ghost use Rattle.ps_hall.specs.Starts.{game_of, start_if, start_of_accept, start_of_challenge, start_of_match, start_of_search};
 ghost use Rattle.ps_hall.specs.States.{record_of};
-ghost use Rattle.ps_hall.specs.Steps.{after_accept, after_by, after_cancel_challenge, after_cancel_search, after_challenge, after_named, after_quit, after_reject, after_report, after_search, applied, forgotten_by, loser_of, reported, settled_by, standing_with, winner_of, with_settled};
+ghost use Rattle.ps_hall.specs.Steps.{after_accept, after_by, after_cancel_challenge, after_cancel_search, after_challenge, after_named, after_quit, after_reject, after_report, after_search, applied, forgotten_by, loser_of, reported, settled_by, standing_with, winner_of, with_accept, with_settled};
 ghost use Rattle.ps_hall.specs.Told as rows;
 ghost use Rattle.ps_hall.specs.Told.{told};
 
@@ -117,7 +117,7 @@ fn game_with(
     ensures { IfOk result (λ g. g ≡ record { number = (record_of state.now).started + 1; format = format.now; players = kept.now.name ∷ name.now ∷ []; rated = rated }) }
 {
     Ok(Game {
-        number: state.started + 1,
+        number: state.games.started() + 1,
         format: format.copy(alloc)?,
         players: [kept.name.copy(alloc)?, name.copy(alloc)?],
         rated,
@@ -197,12 +197,12 @@ fn told_search(
     let other = lookup::opponent(&state.searches, &state.ladders, me, format);
     let game = game_of_match(alloc, state, name, format, other)?;
     let new = new_search(alloc, state, me, format)?;
-    let games = games_and(alloc, state.games.as_slice(), game.as_ref())?;
+    let games = games_and(&state.games, game.as_ref());
     let searches = searches_and(alloc, &state.searches, &new)?;
     told_of_search(
         alloc,
         &state.users,
-        games.as_slice(),
+        &games,
         searches.as_slice(),
         conn,
         me,
@@ -218,9 +218,9 @@ fn told_cancel_search(
 ) -> Result<List<Notice>, AllocError>
     ensures { IfOk result (λ l. l ≡ rows.told_of_cancel_search (after_cancel_search (record_of state.now) me.now).games (after_cancel_search (record_of state.now) me.now).searches conn me.now) }
 {
-    let games = all_games(alloc, state.games.as_slice())?;
+    let games = all_games(&state.games);
     let searches = searches_not_of(alloc, state.searches.list(), me)?;
-    told_of_cancel_search(alloc, games.as_slice(), searches.as_slice(), conn, me)
+    told_of_cancel_search(alloc, &games, searches.as_slice(), conn, me)
 }
 
 // ---- challenges
@@ -302,6 +302,35 @@ fn game_of_challenge(
     }
 }
 
+// Whom an Accept tells what, with the battle that it starts, if it starts one.
+fn told_accepted(
+    alloc: Global,
+    state: &State,
+    conn: ConnNo,
+    me: &Id,
+    user: &Id,
+    game: Option<&Game>,
+) -> Result<List<Notice>, AllocError>
+    ensures { IfOk result (λ l. l ≡ rows.told_of_accept (record_of state.now).users.online
+        ((record_of state.now).games ++ option_to_list (option_copied game.entry))
+        (record_of state.now).searches (with_accept (record_of state.now) me.now user.now).pms.asked
+        conn me.now user.now) }
+{
+    let games = games_and(&state.games, game);
+    let searches = all_searches(alloc, state.searches.list())?;
+    let asked = asked_not_of(alloc, state.pms.challenges(), user, me)?;
+    told_of_accept(
+        alloc,
+        &state.users,
+        &games,
+        searches.as_slice(),
+        asked.as_slice(),
+        conn,
+        me,
+        user,
+    )
+}
+
 #[tactic(auto, using(crate::proofs::AnswerLemmas::starts), unfolding(crate::specs::Starts::start_of_accept))]
 fn told_accept(
     alloc: Global,
@@ -311,23 +340,15 @@ fn told_accept(
     user: &Id,
 ) -> Result<List<Notice>, AllocError>
     requires { (record_of state.now).started < most_battles }
-    ensures { IfOk result (λ l. l ≡ rows.told_of_accept (record_of state.now).users.online (after_accept (record_of state.now) name.now user.now).games (after_accept (record_of state.now) name.now user.now).searches (after_accept (record_of state.now) name.now user.now).pms.asked conn (id_of name.now) user.now) }
+    ensures { IfOk result (λ l. l ≡ rows.told_of_accept (record_of state.now).users.online
+        (after_accept (record_of state.now) name.now user.now).games
+        (after_accept (record_of state.now) name.now user.now).searches
+        (after_accept (record_of state.now) name.now user.now).pms.asked
+        conn (id_of name.now) user.now) }
 {
     let me = name.id();
     let game = game_of_challenge(alloc, state, name, challenge_from(state, me, user))?;
-    let games = games_and(alloc, state.games.as_slice(), game.as_ref())?;
-    let searches = all_searches(alloc, state.searches.list())?;
-    let asked = asked_not_of(alloc, state.pms.challenges(), user, me)?;
-    told_of_accept(
-        alloc,
-        &state.users,
-        games.as_slice(),
-        searches.as_slice(),
-        asked.as_slice(),
-        conn,
-        me,
-        user,
-    )
+    told_accepted(alloc, state, conn, me, user, game.as_ref())
 }
 
 // ---- reports
@@ -424,12 +445,12 @@ fn told_game(
     ensures { IfOk result (λ l. l ≡ rows.told_of_report (record_of state.now).users.online (reported (record_of state.now) number winner (Some game.now)) winner (Some game.now)) }
 {
     let (one, two) = ratings_after(alloc, &state.ladders, game, winner);
-    let games = games_but(alloc, state.games.as_slice(), number)?;
+    let games = games_but(&state.games, number);
     let searches = all_searches(alloc, state.searches.list())?;
     told_players(
         alloc,
         &state.users,
-        games.as_slice(),
+        &games,
         searches.as_slice(),
         one,
         two,
@@ -447,7 +468,7 @@ fn told_report(
     requires { is_winner winner ≡ true }
     ensures { IfOk result (λ l. l ≡ rows.told_of_report (record_of state.now).users.online (after_report (record_of state.now) number winner) winner (game_in (record_of state.now) number)) }
 {
-    match lookup::game_in(state.games.as_slice(), number) {
+    match state.games.find(number) {
         None => Ok(none(alloc)),
         Some(game) => told_game(alloc, state, number, winner, game),
     }

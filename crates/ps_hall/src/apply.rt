@@ -3,7 +3,6 @@ ghost use Rattle.std.specs.Prelude.{◌≡◌, OnOk, OnErr, IfOk, IfSome, IfNone
 ghost use Rattle.std.specs.Option.{option_copied};
 ghost use Rattle.ps_base.specs.Ids.{id_of};
 ghost use Rattle.rules_start.specs.Fits.{IsFit};
-ghost use Rattle.ps_lines.specs.declared.command.HallCmd.TheVariants.{Accept};
 ghost use Rattle.ps_hall.specs.States.{record_of};
 ghost use Rattle.ps_hall.specs.KeptIndices.{AreReady, IsKeepReady, IsLegalReady};
 ghost use Rattle.ps_hall.specs.Lookups.{badge_of, opponent};
@@ -54,17 +53,15 @@ fn allowed_accept(
     state: &mut State,
     name: &Name,
     user: &Id,
-    cmd: &HallCmd,
 ) -> Result<Option<Start>, AllocError>
     requires allowed { refusal_of_accept (record_of state.old) (id_of name.now) user.now ≡ None }
-    requires cmd { cmd.now ≡ Accept user.now }
     requires ready { AreReady (record_of state.old) }
     ensures value { IfOk result (λ o. o ≡ start_of_accept (record_of state.old) name.now user.now) }
     ensures fit { IfOk result (λ o. IfSome o (λ s. IsFit s (record_of state.old).config (record_of state.old).dex)) }
     ensures ok { OnOk result (record_of state.new ≡ after_accept (record_of state.old) name.now user.now) }
     ensures err { OnErr result (record_of state.new ≡ record_of state.old) }
 {
-    after_accept(alloc, state, name, user, cmd)
+    after_accept(alloc, state, name, user)
 }
 
 /// The commands that take a name: the battle that starts.
@@ -105,7 +102,7 @@ fn apply_named(
             after_reject(alloc, state, me, user, cmd)?;
             Ok(None)
         }
-        HallCmd::Accept { user } => allowed_accept(alloc, state, name, user, cmd),
+        HallCmd::Accept { user } => allowed_accept(alloc, state, name, user),
         HallCmd::Block { .. } => {
             with_pms(alloc, state, me, cmd)?;
             Ok(None)

@@ -4,9 +4,12 @@ ghost use Rattle.std.specs.List.{filter};
 ghost use Rattle.std.specs.Option.{option_copied};
 ghost use Rattle.ps_pms.specs.Lookups.{is_by, is_of, is_with};
 ghost use Rattle.ps_ladder.specs.Waiting.{without, added, cancelled};
+ghost use Rattle.ps_hall.specs.Lookups.{games_of};
+ghost use Rattle.ps_hall.specs.Coming.{games_after, staying};
 ghost use Rattle.ps_hall.specs.Steps.{without_game};
 
-use crate::game::Game;
+use crate::game::{Game, plays};
+use crate::games::Games;
 use ps_base::id::Id;
 use ps_ladder::searches::{Search, Searches, has_user, suits};
 use ps_pms::asked::Asked;
@@ -167,48 +170,113 @@ pub(crate) fn searches_and<'a>(
 
 // ---- battles
 
+/// The battles as they will be after a command.
+#[derive(Drop)]
+pub(crate) struct ComingGames<'a> {
+    games: &'a Games,
+    new: Option<&'a Game>,
+    gone: Option<u32>,
+}
+
 /// All battles.
-pub(crate) fn all_games<'a>(alloc: Global, list: &'a [Game]) -> Result<Vec<&'a Game>, AllocError>
-    ensures { IfOk result (λ v. map (λ x. x.now) v.items ≡ list.now) }
+#[tactic(auto, using(crate::proofs::ComingLemmas::coming))]
+pub(crate) fn all_games(games: &Games) -> ComingGames<'_>
+    ensures { games_after result ≡ games.now.list }
 {
-    let mut found = Vec::new(alloc);
-    for game in list {
-        found.push(game)?;
+    ComingGames {
+        games,
+        new: None,
+        gone: None,
     }
-    Ok(found)
 }
 
 /// The battles with one that starts, if one does.
-pub(crate) fn games_and<'a>(
-    alloc: Global,
-    list: &'a [Game],
-    new: Option<&'a Game>,
-) -> Result<Vec<&'a Game>, AllocError>
-    ensures { IfOk result (λ v. map (λ x. x.now) v.items ≡ list.now ++ option_to_list (option_copied new.entry)) }
+pub(crate) fn games_and<'a>(games: &'a Games, new: Option<&'a Game>) -> ComingGames<'a>
+    ensures { games_after result ≡ games.now.list ++ option_to_list (option_copied new.entry) }
 {
-    let mut found = all_games(alloc, list)?;
-    match new {
-        None => Ok(found),
-        Some(new) => {
-            found.push(new)?;
-            Ok(found)
-        }
+    ComingGames {
+        games,
+        new,
+        gone: None,
     }
 }
 
 /// The battles without the one with a number.
-pub(crate) fn games_but<'a>(
+#[tactic(auto, using(crate::proofs::ComingLemmas::coming))]
+pub(crate) fn games_but(games: &Games, number: u32) -> ComingGames<'_>
+    ensures { games_after result ≡ without_game games.now.list number }
+{
+    ComingGames {
+        games,
+        new: None,
+        gone: Some(number),
+    }
+}
+
+// The battles without the one that goes, if one does.
+fn staying<'a>(
     alloc: Global,
-    list: &'a [Game],
-    number: u32,
+    games: &[&'a Game],
+    gone: Option<u32>,
 ) -> Result<Vec<&'a Game>, AllocError>
-    ensures { IfOk result (λ v. map (λ x. x.now) v.items ≡ without_game list.now number) }
+    ensures { IfOk result (λ v. map (λ x. x.now) v.items ≡ staying gone (map (λ x. x.now) games.now)) }
+{
+    match gone {
+        None => all_of(alloc, games),
+        Some(number) => all_but(alloc, games, number),
+    }
+}
+
+fn all_of<'a>(alloc: Global, games: &[&'a Game]) -> Result<Vec<&'a Game>, AllocError>
+    ensures { IfOk result (λ v. map (λ x. x.now) v.items ≡ map (λ x. x.now) games.now) }
 {
     let mut found = Vec::new(alloc);
-    for game in list {
+    for game in games {
+        found.push(*game)?;
+    }
+    Ok(found)
+}
+
+fn all_but<'a>(alloc: Global, games: &[&'a Game], number: u32) -> Result<Vec<&'a Game>, AllocError>
+    ensures { IfOk result (λ v. map (λ x. x.now) v.items ≡ without_game (map (λ x. x.now) games.now) number) }
+{
+    let mut found = Vec::new(alloc);
+    for game in games {
         if game.number != number {
-            found.push(game)?;
+            found.push(*game)?;
         }
     }
+    Ok(found)
+}
+
+// The battle that starts, if one does that the user plays.
+fn push_new<'a>(found: &mut Vec<&'a Game>, new: Option<&'a Game>, id: &Id) -> Result<(), AllocError>
+    ensures { OnOk result (map (λ x. x.now) found.new.items ≡ map (λ x. x.now) found.old.items
+        ++ games_of (option_to_list (option_copied new.entry)) id.now) }
+{
+    match new {
+        None => Ok(()),
+        Some(game) => {
+            if plays(id.as_str(), game) {
+                found.push(game)?;
+                return Ok(());
+            }
+            Ok(())
+        }
+    }
+}
+
+/// The battles of a user.
+#[tactic(auto, using(crate::proofs::ComingLemmas::coming))]
+pub(crate) fn own_games<'a>(
+    alloc: Global,
+    games: &ComingGames<'a>,
+    id: &Id,
+) -> Result<Vec<&'a Game>, AllocError>
+    ensures { IfOk result (λ v. map (λ x. x.now) v.items ≡ games_of (games_after games.now) id.now) }
+{
+    let own = games.games.of(alloc, id)?;
+    let mut found = staying(alloc, own.as_slice(), games.gone)?;
+    push_new(&mut found, games.new, id)?;
     Ok(found)
 }

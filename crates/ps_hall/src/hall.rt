@@ -16,6 +16,7 @@ use crate::account::accounts_of;
 use crate::cursor::Cursor;
 use crate::enter::enter;
 use crate::entry::HallEntry;
+use crate::games::Games;
 use crate::log::{past, push_pulled};
 use crate::notice::Notice;
 use crate::outcome::HallOut;
@@ -93,8 +94,7 @@ fn opened(
         search_teams: Vec::new(alloc),
         searches: Searches::new(alloc),
         ladders: IdMap::new(alloc),
-        started: 0,
-        games: Vec::new(alloc),
+        games: Games::new(alloc),
     })
 }
 

@@ -9,6 +9,7 @@ pub mod cursor;
 mod enter;
 pub mod entry;
 pub mod game;
+mod games;
 pub mod hall;
 pub mod kept;
 pub mod law;

@@ -5,10 +5,12 @@ ghost use Rattle.std.specs.Option.{option_copied};
 ghost use Rattle.serde_json.specs.Data.{string, array, object, member, no_members, put as with_member};
 ghost use Rattle.serde_json.specs.View.{view, items_of, members_view};
 ghost use Rattle.ps_pms.specs.Lookups.{is_by, is_to};
+ghost use Rattle.ps_hall.specs.Coming.{games_after};
 ghost use Rattle.ps_hall.specs.Lookups.{games_of, searched};
 ghost use Rattle.ps_hall.specs.Lines.{challstr_line, guest_line, formats_line, open_lines, user_line, with_game, with_games, games_data, object_or_null, search_data, search_line, asked_data, with_asked, challenge_data, challenge_line, whisper_line, rating_line, taken_by, taken_line, refused_line};
 
-use crate::game::{Game, plays};
+use crate::coming::{ComingGames, own_games};
+use crate::game::Game;
 use ps_base::badge::Badge;
 use ps_base::hall_why::{HallWhy, nametaken_line, popup_line};
 use ps_base::id::Id;
@@ -128,35 +130,21 @@ fn put_game(alloc: Global, members: &mut Map<String, Value>, game: &Game) -> Res
     put_text(alloc, members, id.as_str(), title.as_str())
 }
 
-/// Puts a battle of a user there, and no other's.
-fn put_own_game(
-    alloc: Global,
-    members: &mut Map<String, Value>,
-    game: &Game,
-    id: &Id,
-) -> Result<(), AllocError>
-    ensures { OnOk result (members_view members.new.entries ≡ with_games (members_view members.old.entries) (games_of (game.now ∷ []) id.now)) }
-{
-    if plays(id.as_str(), game) {
-        return put_game(alloc, members, game);
-    }
-    Ok(())
-}
-
-fn own_games(alloc: Global, games: &[&Game], id: &Id) -> Result<Map<String, Value>, AllocError>
-    ensures { IfOk result (λ m. members_view m.entries ≡ with_games no_members (games_of (map (λ x. x.now) games.now) id.now)) }
+fn titles_of(alloc: Global, games: &[&Game]) -> Result<Map<String, Value>, AllocError>
+    ensures { IfOk result (λ m. members_view m.entries ≡ with_games no_members (map (λ x. x.now) games.now)) }
 {
     let mut members = Map::new(alloc);
     for game in games {
-        put_own_game(alloc, &mut members, *game, id)?;
+        put_game(alloc, &mut members, *game)?;
     }
     Ok(members)
 }
 
-fn games_value(alloc: Global, games: &[&Game], id: &Id) -> Result<Value, AllocError>
-    ensures { IfOk result (λ v. view v ≡ games_data (games_of (map (λ x. x.now) games.now) id.now)) }
+fn games_value(alloc: Global, games: &ComingGames, id: &Id) -> Result<Value, AllocError>
+    ensures { IfOk result (λ v. view v ≡ games_data (games_of (games_after games.now) id.now)) }
 {
-    let members = own_games(alloc, games, id)?;
+    let own = own_games(alloc, games, id)?;
+    let members = titles_of(alloc, own.as_slice())?;
     Ok(object_or_null(members))
 }
 
@@ -194,11 +182,12 @@ fn search_object(alloc: Global, games: Value, formats: Vec<Value>) -> Result<Val
 
 fn search_value(
     alloc: Global,
-    games: &[&Game],
+    games: &ComingGames,
     searches: &[&Search],
     id: &Id,
 ) -> Result<Value, AllocError>
-    ensures { IfOk result (λ v. view v ≡ search_data (games_of (map (λ x. x.now) games.now) id.now) (searched (map (λ x. x.now) searches.now) id.now)) }
+    ensures { IfOk result (λ v. view v
+        ≡ search_data (games_of (games_after games.now) id.now) (searched (map (λ x. x.now) searches.now) id.now)) }
 {
     let games = games_value(alloc, games, id)?;
     let formats = own_formats(alloc, searches, id)?;
@@ -210,11 +199,11 @@ fn search_value(
 #[tactic(auto, unfolding(crate::specs::Lines::search_line), using(crate::proofs::JsonLemmas::plain_lines))]
 pub(crate) fn search_line(
     alloc: Global,
-    games: &[&Game],
+    games: &ComingGames,
     searches: &[&Search],
     id: &Id,
 ) -> Result<Text, AllocError>
-    ensures { IfOk result (λ t. t ≡ search_line (map (λ x. x.now) games.now) (map (λ x. x.now) searches.now) id.now) }
+    ensures { IfOk result (λ t. t ≡ search_line (games_after games.now) (map (λ x. x.now) searches.now) id.now) }
 {
     let value = search_value(alloc, games, searches, id)?;
     let text = written(alloc, &value)?;

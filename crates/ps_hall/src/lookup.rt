@@ -1,5 +1,5 @@
 //! Lookups in the hall.
-ghost use Rattle.std.specs.Prelude.{◌≡◌, find, is_some, option_and_then, nat_le};
+ghost use Rattle.std.specs.Prelude.{◌≡◌, is_some, option_and_then, nat_le};
 ghost use Rattle.std.specs.FinMap.{get};
 ghost use Rattle.std.specs.Option.{option_copied};
 ghost use Rattle.ps_base.specs.Limits.{most_battles};
@@ -7,10 +7,9 @@ ghost use Rattle.ps_rules.specs.Resolve.{format_of};
 ghost use Rattle.ps_users.specs.Seats.{badge_in};
 ghost use Rattle.ps_ladder.specs.Ratings.{rating};
 ghost use Rattle.ps_ladder.specs.Waiting.{found};
-ghost use Rattle.ps_hall.specs.Lookups.{has_number, challenge_from, ladder_in};
+ghost use Rattle.ps_hall.specs.Lookups.{challenge_from, ladder_in};
 ghost use Rattle.ps_hall.specs.States.{record_of};
 
-use crate::game::Game;
 use crate::state::State;
 use ps_base::badge::Badge;
 use ps_base::id::Id;
@@ -80,18 +79,6 @@ pub(crate) fn challenge_from<'a>(state: &'a State, me: &Id, user: &Id) -> Option
         return None;
     }
     state.pms.asked(user, me)
-}
-
-/// The battle with a number, if it started and wasn't reported.
-pub(crate) fn game_in(games: &[Game], number: u32) -> Option<&Game>
-    ensures { option_copied result ≡ find (has_number number) games.now }
-{
-    for game in games {
-        if game.number == number {
-            return Some(game);
-        }
-    }
-    None
 }
 
 /// Whether as many battles have started as there may be.

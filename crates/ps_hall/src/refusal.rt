@@ -92,7 +92,7 @@ fn of_text(text: &str) -> Option<HallWhy>
 fn of_battles(state: &State) -> Option<HallWhy>
     ensures { result ≡ of_battles (record_of state.now) }
 {
-    if lookup::is_full(state.started) {
+    if lookup::is_full(state.games.started()) {
         return Some(HallWhy::BattlesFull);
     }
     None
@@ -306,7 +306,7 @@ fn is_winner(winner: Option<u8>) -> bool
 fn refusal_of_report(state: &State, number: u32, winner: Option<u8>) -> Option<HallWhy>
     ensures { result ≡ refusal_of_report (record_of state.now) number winner }
 {
-    if lookup::game_in(state.games.as_slice(), number).is_none() {
+    if state.games.find(number).is_none() {
         return Some(HallWhy::NoBattle);
     }
     if !is_winner(winner) {

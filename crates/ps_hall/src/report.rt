@@ -4,13 +4,11 @@ ghost use Rattle.std.specs.Option.{option_copied};
 ghost use Rattle.std.specs.FinMap.{get, insert};
 ghost use Rattle.ps_base.specs.Ids.{id_of};
 ghost use Rattle.ps_ladder.specs.Ratings.{Standing, standing_of};
-ghost use Rattle.ps_hall.specs.Lookups.{has_number};
 ghost use Rattle.ps_hall.specs.Refusals.{is_winner};
 ghost use Rattle.ps_hall.specs.States.{record_of};
-ghost use Rattle.ps_hall.specs.Steps.{winner_of, loser_of, takes, standing_with, with_settled, settled_by, without_game, after_report};
+ghost use Rattle.ps_hall.specs.Steps.{winner_of, loser_of, takes, standing_with, with_settled, settled_by, after_report};
 
 use crate::game::Game;
-use crate::lookup;
 use crate::state::State;
 use ps_base::id::Id;
 use ps_base::id_map::IdMap;
@@ -141,18 +139,6 @@ fn settle_game(
     }
 }
 
-fn has_number(game: &Game, number: u32) -> bool
-    ensures { result ≡ has_number number game.now }
-{
-    game.number == number
-}
-
-fn drop_game(games: &mut Vec<Game>, number: u32)
-    ensures { games.new.items ≡ without_game games.old.items number }
-{
-    games.retain(|game| !has_number(game, number));
-}
-
 /// A report: a battle that started and wasn't reported is reported.
 pub(crate) fn after_report(
     alloc: Global,
@@ -164,11 +150,11 @@ pub(crate) fn after_report(
     ensures ok { OnOk result (record_of state.new ≡ after_report (record_of state.old) number winner) }
     ensures err { OnErr result (record_of state.new ≡ record_of state.old) }
 {
-    match lookup::game_in(state.games.as_slice(), number) {
+    match state.games.find(number) {
         None => Ok(()),
         Some(game) => {
             settle_game(alloc, &mut state.ladders, game, winner)?;
-            drop_game(&mut state.games, number);
+            state.games.remove(alloc, number);
             Ok(())
         }
     }

@@ -1,5 +1,5 @@
 //! What a battle starts with.
-ghost use Rattle.std.specs.Prelude.{◌≡◌, ◌<◌, IfOk, IfSome, Option, Some, None};
+ghost use Rattle.std.specs.Prelude.{◌≡◌, ◌<◌, ◌+◌, IfOk, IfSome, Option, Some, None};
 ghost use Rattle.std.specs.Option.{option_copied, option_map};
 ghost use Rattle.ps_base.specs.Ids.{id_of};
 ghost use Rattle.ps_base.specs.Limits.{most_battles};
@@ -8,7 +8,7 @@ ghost use Rattle.ps_valid.specs.Ready.{IsReady};
 ghost use Rattle.ps_valid.specs.TeamRows.{legal_in};
 ghost use Rattle.ps_hall.specs.Lookups.{legal_or, legal_under, legal_team, challenge_from, opponent};
 ghost use Rattle.ps_hall.specs.KeptIndices.{AreReady};
-ghost use Rattle.ps_hall.specs.Starts.{start_with, start_if, start_of_match, start_of_search, start_of_challenge, start_of_accept, game_of};
+ghost use Rattle.ps_hall.specs.Starts.{start_with, start_if, start_of_match, start_of_challenge, start_of_accept, game_of};
 ghost use Rattle.ps_hall.specs.States.{record_of};
 
 use crate::game::Game;
@@ -89,7 +89,7 @@ fn start_with(
     requires { (record_of state.now).started < most_battles }
     ensures { IfOk result (λ s. s ≡ start_with (record_of state.now) format.now kept.now name.now legal) }
 {
-    let number = state.started + 1;
+    let number = state.games.started() + 1;
     let first = legal_copy(alloc, &kept.team)?;
     Ok(Start {
         number,
@@ -109,7 +109,8 @@ fn start_if(
     legal: Option<Legal>,
 ) -> Result<Option<Start>, AllocError>
     requires { (record_of state.now).started < most_battles }
-    ensures { IfOk result (λ o. o ≡ start_if (record_of state.now) format.now (option_copied kept.entry) name.now legal) }
+    ensures value { IfOk result (λ o. o ≡ start_if (record_of state.now) format.now (option_copied kept.entry) name.now legal) }
+    ensures next { IfOk result (λ o. IfSome o (λ s. s.number ≡ (record_of state.now).started + 1)) }
 {
     match kept {
         None => Ok(None),
@@ -123,8 +124,8 @@ fn start_if(
     }
 }
 
-// A match with a search.
-fn start_of_match(
+/// What a match with a search starts.
+pub(crate) fn start_of_match(
     alloc: Global,
     state: &State,
     name: &Name,
@@ -135,30 +136,12 @@ fn start_of_match(
     requires ready { AreReady (record_of state.now) }
     requires other { opponent (record_of state.now) (id_of name.now) format.now ≡ Some other.now }
     ensures value { IfOk result (λ o. o ≡ start_of_match (record_of state.now) name.now format.now (Some other.now)) }
+    ensures next { IfOk result (λ o. IfSome o (λ s. s.number ≡ (record_of state.now).started + 1)) }
     ensures fit { IfOk result (λ o. IfSome o (λ s. IsFit s (record_of state.now).config (record_of state.now).dex)) }
 {
     let kept = find_kept(state.search_teams.as_slice(), &other.user, format);
     let legal = legal_team(alloc, state, name.id(), format)?;
     start_if(alloc, state, format, kept, name, legal)
-}
-
-/// What an allowed Search starts.
-#[tactic(auto, unfolding(crate::specs::Starts::start_of_search))]
-pub(crate) fn start_of_search(
-    alloc: Global,
-    state: &State,
-    name: &Name,
-    format: &Id,
-) -> Result<Option<Start>, AllocError>
-    requires few { (record_of state.now).started < most_battles }
-    requires ready { AreReady (record_of state.now) }
-    ensures value { IfOk result (λ o. o ≡ start_of_search (record_of state.now) name.now format.now) }
-    ensures fit { IfOk result (λ o. IfSome o (λ s. IsFit s (record_of state.now).config (record_of state.now).dex)) }
-{
-    match lookup::opponent(&state.searches, &state.ladders, name.id(), format) {
-        None => Ok(None),
-        Some(other) => start_of_match(alloc, state, name, format, other),
-    }
 }
 
 // The battle of a challenge.
@@ -173,6 +156,7 @@ fn start_of_challenge(
     requires ready { AreReady (record_of state.now) }
     requires asked { challenge_from (record_of state.now) (id_of name.now) user.now ≡ Some asked.now }
     ensures value { IfOk result (λ o. o ≡ start_of_challenge (record_of state.now) name.now (Some asked.now)) }
+    ensures next { IfOk result (λ o. IfSome o (λ s. s.number ≡ (record_of state.now).started + 1)) }
     ensures fit { IfOk result (λ o. IfSome o (λ s. IsFit s (record_of state.now).config (record_of state.now).dex)) }
 {
     let kept = find_kept(state.challenge_teams.as_slice(), &asked.by, name.id());
@@ -191,6 +175,7 @@ pub(crate) fn start_of_accept(
     requires few { (record_of state.now).started < most_battles }
     requires ready { AreReady (record_of state.now) }
     ensures value { IfOk result (λ o. o ≡ start_of_accept (record_of state.now) name.now user.now) }
+    ensures next { IfOk result (λ o. IfSome o (λ s. s.number ≡ (record_of state.now).started + 1)) }
     ensures fit { IfOk result (λ o. IfSome o (λ s. IsFit s (record_of state.now).config (record_of state.now).dex)) }
 {
     match lookup::challenge_from(state, name.id(), user) {

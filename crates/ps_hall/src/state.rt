@@ -1,5 +1,5 @@
 //! The state of the hall.
-use crate::game::Game;
+use crate::games::Games;
 use crate::kept::KeptTeam;
 use ps_base::id_map::IdMap;
 use ps_dex::dex::Dex;
@@ -23,6 +23,5 @@ pub(crate) struct State {
     pub(crate) search_teams: Vec<KeptTeam>,
     pub(crate) searches: Searches,
     pub(crate) ladders: IdMap<Ladder>,
-    pub(crate) started: u32,
-    pub(crate) games: Vec<Game>,
+    pub(crate) games: Games,
 }

@@ -1,7 +1,7 @@
 //! The rows of the hall table: what each command changes, where it is applied. All memory is taken before
 //! anything changes.
-ghost use Rattle.std.specs.Prelude.{◌≡◌, ◌<◌, ◌++◌, ◌∷◌, [], OnOk, OnErr, IfOk, IfSome, IfNone, None, Some, true};
-ghost use Rattle.ps_lines.specs.declared.command.HallCmd.TheVariants.{Quit, Challenge, CancelChallenge, Reject, Accept};
+ghost use Rattle.std.specs.Prelude.{◌≡◌, ◌<◌, ◌+◌, OnOk, OnErr, IfOk, IfSome, IfNone, None, Some, true};
+ghost use Rattle.ps_lines.specs.declared.command.HallCmd.TheVariants.{Quit, Challenge, CancelChallenge, Reject};
 ghost use Rattle.ps_users.specs.Refusals.{refusal as refusal_of_user};
 ghost use Rattle.ps_users.specs.Steps.{granted};
 ghost use Rattle.std.specs.Option.{option_copied, option_map};
@@ -13,14 +13,13 @@ ghost use Rattle.ps_ladder.specs.Waiting.{added};
 ghost use Rattle.ps_hall.specs.States.{record_of};
 ghost use Rattle.ps_hall.specs.Lookups.{opponent, rating_in};
 ghost use Rattle.ps_hall.specs.KeptIndices.{AreReady, IsLegalReady};
-ghost use Rattle.ps_hall.specs.Starts.{start_of_search, start_of_accept, game_of, with_game};
+ghost use Rattle.ps_hall.specs.Starts.{start_of_search, start_of_accept, with_start};
 ghost use Rattle.ps_hall.specs.Steps.{with_users, with_pms, forgotten_by, forgotten_if, after_quit, after_team, with_team, kept_by, with_search, after_search, after_accept, after_challenge, after_cancel_search, after_cancel_challenge, after_reject};
 
-use crate::game::Game;
 use crate::kept::{KeptTeam, drop_either, drop_kept, drop_user, new_kept};
 use crate::lookup;
 use crate::pack::read_pack;
-use crate::start::{game_of, legal_team, start_of_accept, start_of_search};
+use crate::start::{game_of, legal_team, start_of_accept, start_of_match};
 use crate::state::State;
 use ps_base::badge::Badge;
 use ps_base::id::Id;
@@ -263,7 +262,6 @@ fn wait(
     requires rating { rating ≡ rating_in (record_of state.old) format.now (id_of name.now) }
     ensures ok { OnOk result (record_of state.new ≡ with_search (record_of state.old) name.now format.now) }
     ensures legal { OnOk result (IsLegalReady (record_of state.old) (id_of name.now) format.now) }
-    ensures games { state.new.games ≡ state.old.games }
     ensures err { OnErr result (record_of state.new ≡ record_of state.old) }
 {
     let team = legal_team(alloc, state, name.id(), format)?;
@@ -279,55 +277,114 @@ fn wait(
     }
 }
 
-// Who is matched takes the other's search.
-fn take_search(
+// A battle starts, if one does. Where memory fails nothing changes.
+fn begin(
+    alloc: Global,
+    state: &mut State,
+    rated: bool,
+    start: Option<&Start>,
+) -> Result<(), AllocError>
+    requires few { (record_of state.old).started < most_battles }
+    requires next { IfSome (option_copied start) (λ s. s.number ≡ (record_of state.old).started + 1) }
+    ensures ok { OnOk result (record_of state.new ≡ with_start (record_of state.old) rated (option_copied start.entry)) }
+    ensures err { OnErr result (record_of state.new ≡ record_of state.old) }
+{
+    match start {
+        None => Ok(()),
+        Some(start) => {
+            let game = game_of(alloc, rated, start)?;
+            state.games.push(alloc, game)
+        }
+    }
+}
+
+// Who is matched takes the other's search, and their battle starts.
+#[tactic(auto, using(crate::proofs::MatchLemmas::matched_then))]
+fn start_match(
     alloc: Global,
     state: &mut State,
     name: &Name,
     format: &Id,
     rating: i32,
     user: &Id,
+    start: Option<&Start>,
 ) -> Result<(), AllocError>
     requires matched { option_map (λ s. s.user) (opponent (record_of state.old) (id_of name.now) format.now) ≡ Some user.now }
     requires rating { rating ≡ rating_in (record_of state.old) format.now (id_of name.now) }
-    ensures ok { OnOk result (record_of state.new ≡ with_search (record_of state.old) name.now format.now) }
-    ensures games { state.new.games ≡ state.old.games }
+    requires few { (record_of state.old).started < most_battles }
+    requires next { IfSome (option_copied start) (λ s. s.number ≡ (record_of state.old).started + 1) }
+    ensures ok { OnOk result (record_of state.new
+        ≡ with_start (with_search (record_of state.old) name.now format.now) true (option_copied start.entry)) }
     ensures err { OnErr result (record_of state.new ≡ record_of state.old) }
 {
-    add_search(alloc, &mut state.searches, name.id(), format, rating)?;
+    begin(alloc, state, true, start)?;
+    state.searches.take(name.id(), format, rating);
     drop_kept(&mut state.search_teams, user, format);
     Ok(())
 }
 
-fn with_search(alloc: Global, state: &mut State, name: &Name, format: &Id) -> Result<(), AllocError>
-    ensures ok { OnOk result (record_of state.new ≡ with_search (record_of state.old) name.now format.now) }
-    ensures legal { OnOk result (IfNone (opponent (record_of state.old) (id_of name.now) format.now) (IsLegalReady (record_of state.old) (id_of name.now) format.now)) }
-    ensures games { state.new.games ≡ state.old.games }
-    ensures err { OnErr result (record_of state.new ≡ record_of state.old) }
+// Whom a search is matched with, and the battle that starts.
+#[derive(Drop)]
+struct Match {
+    user: Id,
+    start: Option<Start>,
+}
+
+// The match of a search, if it finds one.
+#[tactic(auto, unfolding(crate::specs::Starts::start_of_search))]
+fn match_of(
+    alloc: Global,
+    state: &State,
+    name: &Name,
+    format: &Id,
+) -> Result<Option<Match>, AllocError>
+    requires few { (record_of state.now).started < most_battles }
+    requires ready { AreReady (record_of state.now) }
+    ensures alone { IfOk result (λ o. IfNone o (opponent (record_of state.now) (id_of name.now) format.now ≡ None)) }
+    ensures user { IfOk result
+        (λ o. IfSome o (λ m. option_map (λ s. s.user) (opponent (record_of state.now) (id_of name.now) format.now) ≡ Some m.user)) }
+    ensures start { IfOk result (λ o. IfSome o (λ m. m.start ≡ start_of_search (record_of state.now) name.now format.now)) }
+    ensures next { IfOk result (λ o. IfSome o (λ m. IfSome m.start (λ s. s.number ≡ (record_of state.now).started + 1))) }
+    ensures fit { IfOk result
+        (λ o. IfSome o (λ m. IfSome m.start (λ s. IsFit s (record_of state.now).config (record_of state.now).dex))) }
 {
-    let rating = lookup::rating_in(&state.ladders, format, name.id());
     match lookup::opponent(&state.searches, &state.ladders, name.id(), format) {
-        None => wait(alloc, state, name, format, rating),
+        None => Ok(None),
         Some(other) => {
             let user = other.user.copy(alloc)?;
-            take_search(alloc, state, name, format, rating, &user)
+            let start = start_of_match(alloc, state, name, format, other)?;
+            Ok(Some(Match { user, start }))
         }
     }
 }
 
-fn game_if(alloc: Global, rated: bool, start: Option<&Start>) -> Result<Option<Game>, AllocError>
-    ensures { IfOk result (λ o. o ≡ option_map (game_of rated) (option_copied start.entry)) }
+// Who is matched takes the other's search, and the battle of both starts.
+fn apply_match(
+    alloc: Global,
+    state: &mut State,
+    name: &Name,
+    format: &Id,
+    rating: i32,
+    found: Match,
+) -> Result<Option<Start>, AllocError>
+    requires user { option_map (λ s. s.user) (opponent (record_of state.old) (id_of name.now) format.now) ≡ Some found.user }
+    requires start { found.start ≡ start_of_search (record_of state.old) name.now format.now }
+    requires rating { rating ≡ rating_in (record_of state.old) format.now (id_of name.now) }
+    requires few { (record_of state.old).started < most_battles }
+    requires next { IfSome found.start (λ s. s.number ≡ (record_of state.old).started + 1) }
+    requires fit { IfSome found.start (λ s. IsFit s (record_of state.old).config (record_of state.old).dex) }
+    ensures value { IfOk result (λ o. o ≡ start_of_search (record_of state.old) name.now format.now) }
+    ensures fit { IfOk result (λ o. IfSome o (λ s. IsFit s (record_of state.old).config (record_of state.old).dex)) }
+    ensures ok { OnOk result (record_of state.new ≡ after_search (record_of state.old) name.now format.now) }
+    ensures err { OnErr result (record_of state.new ≡ record_of state.old) }
 {
-    match start {
-        None => Ok(None),
-        Some(start) => {
-            let game = game_of(alloc, rated, start)?;
-            Ok(Some(game))
-        }
-    }
+    let Match { user, start } = found;
+    start_match(alloc, state, name, format, rating, &user, start.as_ref())?;
+    Ok(start)
 }
 
 /// Search: the battle that it starts, which is rated.
+#[tactic(auto, unfolding(crate::specs::Starts::start_of_search))]
 pub(crate) fn after_search(
     alloc: Global,
     state: &mut State,
@@ -342,29 +399,24 @@ pub(crate) fn after_search(
     ensures legal { OnOk result (IfNone (opponent (record_of state.old) (id_of name.now) format.now) (IsLegalReady (record_of state.old) (id_of name.now) format.now)) }
     ensures err { OnErr result (record_of state.new ≡ record_of state.old) }
 {
-    let start = start_of_search(alloc, state, name, format)?;
-    let game = game_if(alloc, true, start.as_ref())?;
-    state.games.reserve(1)?;
-    with_search(alloc, state, name, format)?;
-    match game {
-        None => Ok(start),
-        Some(game) => {
-            state.games.push(game).unwrap();
-            state.started += 1;
-            Ok(start)
+    let rating = lookup::rating_in(&state.ladders, format, name.id());
+    match match_of(alloc, state, name, format)? {
+        None => {
+            wait(alloc, state, name, format, rating)?;
+            Ok(None)
         }
+        Some(found) => apply_match(alloc, state, name, format, rating, found),
     }
 }
 
 /// Accept: the battle that it starts, which isn't rated.
+#[tactic(auto, using(crate::proofs::MatchLemmas::accepted_then))]
 pub(crate) fn after_accept(
     alloc: Global,
     state: &mut State,
     name: &Name,
     user: &Id,
-    cmd: &HallCmd,
 ) -> Result<Option<Start>, AllocError>
-    requires cmd { cmd.now ≡ Accept user.now }
     requires few { (record_of state.old).started < most_battles }
     requires ready { AreReady (record_of state.old) }
     ensures value { IfOk result (λ o. o ≡ start_of_accept (record_of state.old) name.now user.now) }
@@ -373,16 +425,8 @@ pub(crate) fn after_accept(
     ensures err { OnErr result (record_of state.new ≡ record_of state.old) }
 {
     let start = start_of_accept(alloc, state, name, user)?;
-    let game = game_if(alloc, false, start.as_ref())?;
-    state.games.reserve(1)?;
-    state.pms.apply(alloc, name.id(), cmd)?;
+    begin(alloc, state, false, start.as_ref())?;
+    state.pms.end(name.id(), user);
     drop_kept(&mut state.challenge_teams, user, name.id());
-    match game {
-        None => Ok(start),
-        Some(game) => {
-            state.games.push(game).unwrap();
-            state.started += 1;
-            Ok(start)
-        }
-    }
+    Ok(start)
 }

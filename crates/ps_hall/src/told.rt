@@ -1,9 +1,11 @@
 //! The rows of the hall table: whom each command tells what, where it is applied.
 ghost use Rattle.std.specs.Prelude.{◌≡◌, ◌∷◌, ◌++◌, [], map, Some, IfOk, OnOk};
 ghost use Rattle.std.specs.Option.{option_copied};
+ghost use Rattle.ps_hall.specs.Coming.{games_after};
 ghost use Rattle.ps_hall.specs.Lines.{search_line, challenge_line};
 ghost use Rattle.ps_hall.specs.Told.{notice, to_user, told_of_open, told_of_name, told_partners, told_of_quit, told_matched, told_of_search, told_of_cancel_search, told_both, told_of_cancel_challenge, accept_lines, told_of_accept, told_ends, told_whisper, told_of_pm, told_of_rank, rating_lines, told_player, told_players};
 
+use crate::coming::ComingGames;
 use crate::game::Game;
 use crate::line::{challenge_line, open_lines, rating_line, search_line, user_line, whisper_line};
 use crate::notice::Notice;
@@ -162,11 +164,12 @@ fn push_searches(
     alloc: Global,
     notices: &mut Vec<Notice>,
     users: &Users,
-    games: &[&Game],
+    games: &ComingGames,
     searches: &[&Search],
     id: &Id,
 ) -> Result<(), AllocError>
-    ensures { OnOk result (notices.new.items ≡ notices.old.items ++ to_user users.now.online id.now (search_line (map (λ x. x.now) games.now) (map (λ x. x.now) searches.now) id.now ∷ [])) }
+    ensures { OnOk result (notices.new.items ≡ notices.old.items
+        ++ to_user users.now.online id.now (search_line (games_after games.now) (map (λ x. x.now) searches.now) id.now ∷ [])) }
 {
     let line = search_line(alloc, games, searches, id)?;
     let lines = one_line(alloc, line)?;
@@ -178,11 +181,12 @@ fn push_matched(
     alloc: Global,
     notices: &mut Vec<Notice>,
     users: &Users,
-    games: &[&Game],
+    games: &ComingGames,
     searches: &[&Search],
     other: Option<&Search>,
 ) -> Result<(), AllocError>
-    ensures { OnOk result (notices.new.items ≡ notices.old.items ++ told_matched users.now.online (map (λ x. x.now) games.now) (map (λ x. x.now) searches.now) (option_copied other.entry)) }
+    ensures { OnOk result (notices.new.items ≡ notices.old.items
+        ++ told_matched users.now.online (games_after games.now) (map (λ x. x.now) searches.now) (option_copied other.entry)) }
 {
     match other {
         None => Ok(()),
@@ -192,12 +196,12 @@ fn push_matched(
 
 fn told_searcher(
     alloc: Global,
-    games: &[&Game],
+    games: &ComingGames,
     searches: &[&Search],
     conn: ConnNo,
     me: &Id,
 ) -> Result<Vec<Notice>, AllocError>
-    ensures { IfOk result (λ v. v.items ≡ told_of_cancel_search (map (λ x. x.now) games.now) (map (λ x. x.now) searches.now) conn me.now) }
+    ensures { IfOk result (λ v. v.items ≡ told_of_cancel_search (games_after games.now) (map (λ x. x.now) searches.now) conn me.now) }
 {
     let line = search_line(alloc, games, searches, me)?;
     told_line(alloc, conn, line)
@@ -207,13 +211,14 @@ fn told_searcher(
 pub(crate) fn told_of_search(
     alloc: Global,
     users: &Users,
-    games: &[&Game],
+    games: &ComingGames,
     searches: &[&Search],
     conn: ConnNo,
     me: &Id,
     other: Option<&Search>,
 ) -> Result<List<Notice>, AllocError>
-    ensures { IfOk result (λ l. l ≡ told_of_search users.now.online (map (λ x. x.now) games.now) (map (λ x. x.now) searches.now) conn me.now (option_copied other.entry)) }
+    ensures { IfOk result (λ l. l
+        ≡ told_of_search users.now.online (games_after games.now) (map (λ x. x.now) searches.now) conn me.now (option_copied other.entry)) }
 {
     let mut notices = told_searcher(alloc, games, searches, conn, me)?;
     push_matched(alloc, &mut notices, users, games, searches, other)?;
@@ -223,12 +228,12 @@ pub(crate) fn told_of_search(
 /// Who ends its searches. Battles and searches are those after the command.
 pub(crate) fn told_of_cancel_search(
     alloc: Global,
-    games: &[&Game],
+    games: &ComingGames,
     searches: &[&Search],
     conn: ConnNo,
     me: &Id,
 ) -> Result<List<Notice>, AllocError>
-    ensures { IfOk result (λ l. l ≡ told_of_cancel_search (map (λ x. x.now) games.now) (map (λ x. x.now) searches.now) conn me.now) }
+    ensures { IfOk result (λ l. l ≡ told_of_cancel_search (games_after games.now) (map (λ x. x.now) searches.now) conn me.now) }
 {
     Ok(List::from_vec(told_searcher(alloc, games, searches, conn, me)?))
 }
@@ -271,12 +276,13 @@ pub(crate) fn told_of_cancel_challenge(
 
 fn accept_lines(
     alloc: Global,
-    games: &[&Game],
+    games: &ComingGames,
     searches: &[&Search],
     asked: &[&Asked],
     id: &Id,
 ) -> Result<List<Text>, AllocError>
-    ensures { IfOk result (λ l. l ≡ accept_lines (map (λ x. x.now) games.now) (map (λ x. x.now) searches.now) (map (λ x. x.now) asked.now) id.now) }
+    ensures { IfOk result (λ l. l
+        ≡ accept_lines (games_after games.now) (map (λ x. x.now) searches.now) (map (λ x. x.now) asked.now) id.now) }
 {
     let mut lines = Vec::with_capacity(alloc, 2)?;
     lines.push(challenge_line(alloc, asked, id)?)?;
@@ -288,14 +294,16 @@ fn accept_lines(
 pub(crate) fn told_of_accept(
     alloc: Global,
     users: &Users,
-    games: &[&Game],
+    games: &ComingGames,
     searches: &[&Search],
     asked: &[&Asked],
     conn: ConnNo,
     me: &Id,
     user: &Id,
 ) -> Result<List<Notice>, AllocError>
-    ensures { IfOk result (λ l. l ≡ told_of_accept users.now.online (map (λ x. x.now) games.now) (map (λ x. x.now) searches.now) (map (λ x. x.now) asked.now) conn me.now user.now) }
+    ensures { IfOk result (λ l. l
+        ≡ told_of_accept users.now.online (games_after games.now) (map (λ x. x.now) searches.now) (map (λ x. x.now) asked.now)
+        conn me.now user.now) }
 {
     let lines = accept_lines(alloc, games, searches, asked, me)?;
     let mut notices = to_conn(alloc, conn, lines)?;
@@ -407,14 +415,16 @@ fn push_rating(
 
 fn player_lines(
     alloc: Global,
-    games: &[&Game],
+    games: &ComingGames,
     searches: &[&Search],
     rating: i32,
     game: &Game,
     winner: Option<u8>,
     id: &Id,
 ) -> Result<List<Text>, AllocError>
-    ensures { IfOk result (λ l. l ≡ search_line (map (λ x. x.now) games.now) (map (λ x. x.now) searches.now) id.now ∷ rating_lines rating game.now game.now.rated winner id.now) }
+    ensures { IfOk result (λ l. l
+        ≡ search_line (games_after games.now) (map (λ x. x.now) searches.now) id.now
+        ∷ rating_lines rating game.now game.now.rated winner id.now) }
 {
     let mut lines = Vec::with_capacity(alloc, 2)?;
     lines.push(search_line(alloc, games, searches, id)?)?;
@@ -426,14 +436,15 @@ fn push_player(
     alloc: Global,
     notices: &mut Vec<Notice>,
     users: &Users,
-    games: &[&Game],
+    games: &ComingGames,
     searches: &[&Search],
     rating: i32,
     game: &Game,
     winner: Option<u8>,
     id: &Id,
 ) -> Result<(), AllocError>
-    ensures { OnOk result (notices.new.items ≡ notices.old.items ++ told_player users.now.online (map (λ x. x.now) games.now) (map (λ x. x.now) searches.now) rating game.now winner id.now) }
+    ensures { OnOk result (notices.new.items ≡ notices.old.items
+        ++ told_player users.now.online (games_after games.now) (map (λ x. x.now) searches.now) rating game.now winner id.now) }
 {
     let lines = player_lines(alloc, games, searches, rating, game, winner, id)?;
     push_to_user(notices, users, id, lines)
@@ -444,14 +455,15 @@ fn push_player(
 pub(crate) fn told_players(
     alloc: Global,
     users: &Users,
-    games: &[&Game],
+    games: &ComingGames,
     searches: &[&Search],
     one: i32,
     two: i32,
     game: &Game,
     winner: Option<u8>,
 ) -> Result<List<Notice>, AllocError>
-    ensures { IfOk result (λ l. l ≡ told_players users.now.online (map (λ x. x.now) games.now) (map (λ x. x.now) searches.now) one two game.now winner) }
+    ensures { IfOk result (λ l. l
+        ≡ told_players users.now.online (games_after games.now) (map (λ x. x.now) searches.now) one two game.now winner) }
 {
     let first = game.first_id();
     let second = game.second_id();

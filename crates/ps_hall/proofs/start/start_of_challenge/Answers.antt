@@ -16,4 +16,4 @@ returns-clause-fit c =
     let h : Record = record_of c.args.state.now in
     let k : option_copied c.find_kept-kept.result ≡ kept_team c.args.asked.now.by (id_of c.args.name.now) h.challenge_teams = search rules in
     let l : c.in_ok-legal.legal ≡ legal_team h (id_of c.args.name.now) c.args.asked.now.format = search rules in
-    if_ok (λ (s : Start). IsFit s h.config h.dex) _ c.start_if.result c.start_if.ensures (fit_challenge h c.args.name.now c.args.user.now c.args.asked.now _ _ c.requires.ready c.requires.asked k l c.in_ok-legal.ensures.ready)
+    if_ok (λ (s : Start). IsFit s h.config h.dex) _ c.start_if.result c.start_if.ensures.value (fit_challenge h c.args.name.now c.args.user.now c.args.asked.now _ _ c.requires.ready c.requires.asked k l c.in_ok-legal.ensures.ready)

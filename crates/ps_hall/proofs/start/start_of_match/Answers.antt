@@ -16,4 +16,4 @@ returns-clause-fit c =
     let h : Record = record_of c.args.state.now in
     let k : option_copied c.find_kept-kept.result ≡ kept_team c.args.other.now.user c.args.format.now h.search_teams = search rules in
     let l : c.in_ok-legal.legal ≡ legal_team h (id_of c.args.name.now) c.args.format.now = search rules in
-    if_ok (λ (s : Start). IsFit s h.config h.dex) _ c.start_if.result c.start_if.ensures (fit_match h c.args.name.now c.args.format.now c.args.other.now _ _ c.requires.ready c.requires.other k l c.in_ok-legal.ensures.ready)
+    if_ok (λ (s : Start). IsFit s h.config h.dex) _ c.start_if.result c.start_if.ensures.value (fit_match h c.args.name.now c.args.format.now c.args.other.now _ _ c.requires.ready c.requires.other k l c.in_ok-legal.ensures.ready)
