@@ -1,17 +1,18 @@
 -- A legal team has no other end than Done.
 use Rattle.std.proofs.Common.{◌≡◌, ◌⊎◌, ℕ, List, Option, Some, None, Result, Ok, Err, refl, sym, ◌∙◌, subst, inl, inr}
-use Rattle.std.specs.Str.{chars}
+use Rattle.std.specs.Str.{IsUtf8, chars}
 use Rattle.ps_base.specs.declared.team_rule.TeamRule.{TeamRule}
 use Rattle.ps_base.specs.declared.pack_kind.PackKind.{PackKind}
 use Rattle.ps_outside.specs.Causes.{Rose}
 use Rattle.ps_outside.specs.Files.{FileCounts}
 use Rattle.ps_packed.specs.declared.set.Set.{Set}
+use Rattle.ps_packed.specs.Packed.{IsTeam}
 use Rattle.ps_packed.proofs.Unique.{one_team}
 use Rattle.ps_dex.specs.declared.item.Tables.{Tables}
 use Rattle.ps_rules.specs.declared.table.RuleTable.{RuleTable}
 use Rattle.ps_valid.specs.TeamRows.{legal_in}
 use Rattle.program_commands.specs.declared.status.Status.{Status}
-use Rattle.program_commands.specs.declared.status.Status.TheVariants.{Done, Usage, FileMissing, FileFault, FileLong, BadDex, BadConfig, BadScript, ScriptLong, ReadFault, WriteFault, BadTeam, NoMemory, DoorFault, UnknownFormat, BadPack}
+use Rattle.program_commands.specs.declared.status.Status.TheVariants.{Done, Usage, FileMissing, FileFault, FileLong, BadDex, BadConfig, BadScript, ScriptLong, ReadFault, WriteFault, BadTeam, NoMemory, DoorFault, UnknownFormat, BadPack, BadExport, NoExport}
 use Rattle.program_commands.specs.Words.{Checked}
 use Rattle.program_commands.specs.Steps.{IsFaultOf, dex_in, config_in}
 use Rattle.program_commands.specs.Setups.{IsSettled, Then, EndsIfKnown}
@@ -37,6 +38,8 @@ Harmless (BadTeam set rule subject) = ⊥
 Harmless DoorFault = ⊥
 Harmless (UnknownFormat id) = ⊥
 Harmless (BadPack at kind) = ⊥
+Harmless (BadExport line) = ⊥
+Harmless (NoExport set) = ⊥
 
 no_fault : (named : Option (List ℕ)) → IsFaultOf named Done → ⊥
 no_fault None fault = fault
@@ -62,15 +65,21 @@ not_broken dex rules text set rule subject legal broken =
     let e = broken.breaks in
     cc
 
+-- a text with a team has no fault
+pub no_pack_fault : (text : List ℕ) (at : ℕ) (kind : PackKind) (team : List Set) → IsUtf8 text → IsTeam (chars text) team → IsUnpacked text at kind → ⊥
+no_pack_fault text at kind team utf8 packed (inl none) = none.0 utf8
+no_pack_fault text at kind team utf8 packed (inr none) = none.1.1 team packed
+
 not_unpacked : (dex : Tables) (rules : RuleTable) (text : List ℕ) (at : ℕ) (kind : PackKind) → IsLegal dex rules text → IsUnpacked text at kind → ⊥
-not_unpacked dex rules text at kind legal (inl none) = none.0 legal.utf8
-not_unpacked dex rules text at kind legal (inr none) = none.1.1 legal.team legal.packed
+not_unpacked dex rules text at kind legal unpacked = no_pack_fault text at kind legal.team legal.utf8 legal.packed unpacked
 
 only_text : (dex : Tables) (rules : RuleTable) (text : List ℕ) (status : Status) → IsLegal dex rules text → TextEnds dex rules text status → Harmless status
 only_text dex rules text Done legal h = tt
 only_text dex rules text WriteFault legal h = tt
 only_text dex rules text (BadTeam set rule subject) legal h = absurd (not_broken dex rules text set rule subject legal h)
 only_text dex rules text (BadPack at kind) legal h = absurd (not_unpacked dex rules text at kind legal h)
+only_text dex rules text (BadExport line) legal h = absurd h
+only_text dex rules text (NoExport set) legal h = absurd h
 only_text dex rules text (FileFault name) legal h = tt
 only_text dex rules text NoMemory legal h = absurd h
 only_text dex rules text (Usage word) legal h = absurd h
@@ -109,6 +118,8 @@ harmless_settles one old new write_fault (BadTeam set rule subject) cause wrote 
 harmless_settles one old new write_fault DoorFault cause wrote files sink h = absurd h
 harmless_settles one old new write_fault (UnknownFormat id) cause wrote files sink h = absurd h
 harmless_settles one old new write_fault (BadPack at kind) cause wrote files sink h = absurd h
+harmless_settles one old new write_fault (BadExport line) cause wrote files sink h = absurd h
+harmless_settles one old new write_fault (NoExport set) cause wrote files sink h = absurd h
 
 -- completeness of a check
 pub check_settles : (contents : Option (List ℕ → Option (List ℕ))) (words : Checked) (old new : FileCounts) (write_fault : Type 0) (status : Status) → EndsIfKnown contents (λ lookup. CheckEnds lookup words) status → CheckCause (IsNamed words) old new status → (status ≡ WriteFault → write_fault) → SettlesCheck contents (Rose old.faults new.faults) write_fault words status

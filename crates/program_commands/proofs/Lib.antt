@@ -1,2 +1,3 @@
 pub mod SetupLemmas
 pub mod CheckLemmas
+pub mod ConvertLemmas

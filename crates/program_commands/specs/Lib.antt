@@ -3,4 +3,5 @@ pub mod Statuses
 pub mod Steps
 pub mod Setups
 pub mod Checks
+pub mod Conversions
 pub mod Ends

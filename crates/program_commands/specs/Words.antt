@@ -38,6 +38,8 @@ pub data Asked : Type 0 where
   Replays : Options → Asked
   Drills : Drilled → Asked
   Checks : Checked → Asked
+  Exports : List ℕ → Asked
+  Imports : List ℕ → Asked
 
 -- a word that names something: it isn't empty and doesn't begin with `-`
 abbrev pub is_name : List ℕ → Bool
@@ -47,16 +49,21 @@ is_name (b ∷ bytes) = not (b == 45)
 -- Everywhere here the answer `Err` is the index of the first word that can't stand, counted from 0, or how many words there are
 -- where one is missing. The words are those from the index `at` on.
 
--- behind the last option: one name, and nothing more
-abbrev pub last_name : ℕ → List (List ℕ) → Result (Option (List ℕ)) ℕ
+-- the last of the words: one name, and nothing more
+abbrev pub last_name : ℕ → List (List ℕ) → Result (List ℕ) ℕ
 last_name at [] = Err at
-last_name at (name ∷ []) = if is_name name then Ok (Some name) else Err at
+last_name at (name ∷ []) = if is_name name then Ok name else Err at
 last_name at (name ∷ more ∷ words) = if is_name name then Err (at + 1) else Err at
+
+-- behind the last option: its name
+abbrev pub named : Result (List ℕ) ℕ → Result (Option (List ℕ)) ℕ
+named (Ok name) = Ok (Some name)
+named (Err at) = Err at
 
 -- one option with its name, or nothing
 abbrev pub last_option : List ℕ → ℕ → List (List ℕ) → Result (Option (List ℕ)) ℕ
 last_option option at [] = Ok None
-last_option option at (word ∷ words) = if bytes_eq word option then last_name (at + 1) words else Err at
+last_option option at (word ∷ words) = if bytes_eq word option then named (last_name (at + 1) words) else Err at
 
 -- ---- the options, each at most once, in either order
 
@@ -134,6 +141,24 @@ abbrev pub check_in : List (List ℕ) → Result Asked ℕ
 check_in [] = Err 1
 check_in (format ∷ words) = if is_name format then team_in format words else Err 1
 
+-- ---- export and import: the name of a file
+
+abbrev pub exports : Result (List ℕ) ℕ → Result Asked ℕ
+exports (Ok name) = Ok (Exports name)
+exports (Err at) = Err at
+
+-- behind `export`: the packed team's file
+abbrev pub export_in : List (List ℕ) → Result Asked ℕ
+export_in words = exports (last_name 1 words)
+
+abbrev pub imports : Result (List ℕ) ℕ → Result Asked ℕ
+imports (Ok name) = Ok (Imports name)
+imports (Err at) = Err at
+
+-- behind `import`: the export text's file
+abbrev pub import_in : List (List ℕ) → Result Asked ℕ
+import_in words = imports (last_name 1 words)
+
 -- ---- serve
 
 abbrev pub most_count : ℕ
@@ -179,7 +204,9 @@ words_in (word ∷ words) =
     if bytes_eq word (codes "replay") then replay_in words
     else (if bytes_eq word (codes "drill") then drill_in words
     else (if bytes_eq word (codes "check") then check_in words
-    else Err 0))
+    else (if bytes_eq word (codes "export") then export_in words
+    else (if bytes_eq word (codes "import") then import_in words
+    else Err 0))))
 
 -- ---- what holds where the words ask for one of these
 
@@ -187,19 +214,41 @@ abbrev pub IfReplay : Result Asked ℕ → (Options → Type 0) → Type 0
 IfReplay (Ok (Replays options)) holds = holds options
 IfReplay (Ok (Drills words)) holds = Unit {0}
 IfReplay (Ok (Checks words)) holds = Unit {0}
+IfReplay (Ok (Exports name)) holds = Unit {0}
+IfReplay (Ok (Imports name)) holds = Unit {0}
 IfReplay (Err at) holds = Unit {0}
 
 abbrev pub IfDrill : Result Asked ℕ → (Drilled → Type 0) → Type 0
 IfDrill (Ok (Replays options)) holds = Unit {0}
 IfDrill (Ok (Drills words)) holds = holds words
 IfDrill (Ok (Checks words)) holds = Unit {0}
+IfDrill (Ok (Exports name)) holds = Unit {0}
+IfDrill (Ok (Imports name)) holds = Unit {0}
 IfDrill (Err at) holds = Unit {0}
 
 abbrev pub IfCheck : Result Asked ℕ → (Checked → Type 0) → Type 0
 IfCheck (Ok (Replays options)) holds = Unit {0}
 IfCheck (Ok (Drills words)) holds = Unit {0}
 IfCheck (Ok (Checks words)) holds = holds words
+IfCheck (Ok (Exports name)) holds = Unit {0}
+IfCheck (Ok (Imports name)) holds = Unit {0}
 IfCheck (Err at) holds = Unit {0}
+
+abbrev pub IfExport : Result Asked ℕ → (List ℕ → Type 0) → Type 0
+IfExport (Ok (Replays options)) holds = Unit {0}
+IfExport (Ok (Drills words)) holds = Unit {0}
+IfExport (Ok (Checks words)) holds = Unit {0}
+IfExport (Ok (Exports name)) holds = holds name
+IfExport (Ok (Imports name)) holds = Unit {0}
+IfExport (Err at) holds = Unit {0}
+
+abbrev pub IfImport : Result Asked ℕ → (List ℕ → Type 0) → Type 0
+IfImport (Ok (Replays options)) holds = Unit {0}
+IfImport (Ok (Drills words)) holds = Unit {0}
+IfImport (Ok (Checks words)) holds = Unit {0}
+IfImport (Ok (Exports name)) holds = Unit {0}
+IfImport (Ok (Imports name)) holds = holds name
+IfImport (Err at) holds = Unit {0}
 
 -- ---- for the code: what was read, as contracts see it
 
@@ -219,12 +268,16 @@ abbrev pub asked_of : Command → Asked
 asked_of (commands.Replay options) = Replays (options_of options)
 asked_of (commands.Drill words) = Drills (drilled_of words)
 asked_of (commands.Check words) = Checks (checked_of words)
+asked_of (commands.Export name) = Exports name.now
+asked_of (commands.Import name) = Imports name.now
 
 -- a drill has at most 4,000 steps
 abbrev pub HasFewSteps : Command → Type 0
 HasFewSteps (commands.Replay options) = Unit {0}
 HasFewSteps (commands.Drill words) = words.steps ≤ most_steps
 HasFewSteps (commands.Check words) = Unit {0}
+HasFewSteps (commands.Export name) = Unit {0}
+HasFewSteps (commands.Import name) = Unit {0}
 
 -- a server takes 1 to 1,024 connections
 abbrev pub IsCount : ℕ → Type 0

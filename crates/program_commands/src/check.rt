@@ -32,7 +32,8 @@ use std::str;
 /// The most bytes of a team's file.
 pub const MOST_TEAM: u32 = 8_192;
 
-fn without_newline(bytes: Vec<u8>) -> Vec<u8>
+/// The bytes but for one newline at their end.
+pub(crate) fn without_newline(bytes: Vec<u8>) -> Vec<u8>
     ensures { result.items ≡ strip_last 10 bytes.items }
 {
     let mut bytes = bytes;
@@ -42,8 +43,8 @@ fn without_newline(bytes: Vec<u8>) -> Vec<u8>
     bytes
 }
 
-// The team that the text has.
-fn team_of(alloc: Global, text: &[u8]) -> Result<Team, PackFault>
+/// The team that the text has.
+pub(crate) fn team_of(alloc: Global, text: &[u8]) -> Result<Team, PackFault>
     ensures found { IfOk result (λ t. IsUtf8 text.now × IsTeam (chars text.now) t) }
     ensures none { IfErr result (Unpacks text.now) }
 {

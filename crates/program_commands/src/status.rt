@@ -29,7 +29,8 @@ pub enum Status {
     FileFault {
         name: Text,
     },
-    /// The file is over its limit: 16,777,216 bytes for a dex, 1,048,576 for a configuration, 8,192 for a team.
+    /// The file is over its limit: 16,777,216 bytes for a dex, 1,048,576 for a configuration, 8,192 for a team,
+    /// packed or exported.
     FileLong {
         name: Text,
     },
@@ -79,6 +80,16 @@ pub enum Status {
         at: u32,
         kind: PackKind,
     },
+    /// The file is no export text: its first line that can't stand in one, counted from 1, or one more than it has lines where
+    /// all of them can. A file that isn't UTF-8 is reported at 0.
+    BadExport {
+        line: u32,
+    },
+    /// The team has no export text: its first set, counted from 1, that no export text has as it is, or 0 where the text
+    /// would be over 8,192 bytes.
+    NoExport {
+        set: u8,
+    },
 }
 
 impl Status {
@@ -103,6 +114,8 @@ impl Status {
             Status::DoorFault => 14,
             Status::UnknownFormat { .. } => 15,
             Status::BadPack { .. } => 16,
+            Status::BadExport { .. } => 21,
+            Status::NoExport { .. } => 22,
         }
     }
 }
@@ -128,6 +141,8 @@ impl fmt::Display for Status {
             Status::DoorFault => write!(f, "DoorFault"),
             Status::UnknownFormat { id } => write!(f, "UnknownFormat id={id}"),
             Status::BadPack { at, kind } => write!(f, "BadPack at={at} kind={kind:?}"),
+            Status::BadExport { line } => write!(f, "BadExport line={line}"),
+            Status::NoExport { set } => write!(f, "NoExport set={set}"),
         }
     }
 }

@@ -1,7 +1,7 @@
 //! The words of a command.
 ghost use Rattle.std.specs.Prelude.{◌≡◌, ◌<◌, ◌≤◌, IfOk, IfSome, Ok, Err, map, string_bytes, MatchResult};
 ghost use Rattle.std.specs.Option.{option_copied};
-ghost use Rattle.program_commands.specs.Words.{is_name, last_name, last_option, dex_first, config_first, options_in, replay_in, steps_in, drill_in, checks, team_in, check_in, words_in, count_in, counted_in, serve_in, serve_words_in, options_of, asked_of, serves_of, HasFewSteps, IsCount};
+ghost use Rattle.program_commands.specs.Words.{is_name, last_name, last_option, dex_first, config_first, options_in, replay_in, steps_in, drill_in, checks, team_in, check_in, export_in, import_in, words_in, count_in, counted_in, serve_in, serve_words_in, options_of, asked_of, serves_of, HasFewSteps, IsCount};
 
 use ps_base::decimal::read_u32;
 
@@ -62,6 +62,10 @@ pub enum Command<'a> {
     Drill(DrillWords<'a>),
     /// To check a team.
     Check(CheckWords<'a>),
+    /// To write the export text of the packed team in the file of this name.
+    Export(&'a str),
+    /// To write the packed text of the team whose export text is in the file of this name.
+    Import(&'a str),
 }
 
 fn is_name(word: &str) -> bool
@@ -74,15 +78,15 @@ fn is_name(word: &str) -> bool
 }
 
 // A name and nothing more.
-fn last_name(at: u32, words: &[String]) -> Result<Option<&str>, u32>
+fn last_name(at: u32, words: &[String]) -> Result<&str, u32>
     requires { at < 100 }
-    ensures { MatchResult result (λ o. last_name at (map string_bytes words.now) ≡ Ok (option_copied o)) (λ n. last_name at (map string_bytes words.now) ≡ Err n) }
+    ensures { MatchResult result (λ name. last_name at (map string_bytes words.now) ≡ Ok name.now) (λ n. last_name at (map string_bytes words.now) ≡ Err n) }
 {
     match words {
         [] => Err(at),
         [name] => {
             if is_name(name.as_str()) {
-                Ok(Some(name.as_str()))
+                Ok(name.as_str())
             } else {
                 Err(at)
             }
@@ -105,10 +109,12 @@ fn last_option<'a>(option: &str, at: u32, words: &'a [String]) -> Result<Option<
     match words {
         [] => Ok(None),
         [word, rest @ ..] => {
-            if word.as_str() == option {
-                last_name(at + 1, rest)
-            } else {
-                Err(at)
+            if word.as_str() != option {
+                return Err(at);
+            }
+            match last_name(at + 1, rest) {
+                Err(index) => Err(index),
+                Ok(name) => Ok(Some(name)),
             }
         }
     }
@@ -270,10 +276,30 @@ fn check_in(words: &[String]) -> Result<Command<'_>, u32>
     }
 }
 
+fn export_in(words: &[String]) -> Result<Command<'_>, u32>
+    ensures read { MatchResult result (λ c. export_in (map string_bytes words.now) ≡ Ok (asked_of c)) (λ n. export_in (map string_bytes words.now) ≡ Err n) }
+    ensures few { IfOk result HasFewSteps }
+{
+    match last_name(1, words) {
+        Err(at) => Err(at),
+        Ok(name) => Ok(Command::Export(name)),
+    }
+}
+
+fn import_in(words: &[String]) -> Result<Command<'_>, u32>
+    ensures read { MatchResult result (λ c. import_in (map string_bytes words.now) ≡ Ok (asked_of c)) (λ n. import_in (map string_bytes words.now) ≡ Err n) }
+    ensures few { IfOk result HasFewSteps }
+{
+    match last_name(1, words) {
+        Err(at) => Err(at),
+        Ok(name) => Ok(Command::Import(name)),
+    }
+}
+
 /// Reads the words of a command: `replay`, `drill N` or `check FORMAT TEAMFILE`, and then `--dex NAME` and `--config NAME`,
-/// each at most once, in either order. N is 1 to 4,000, without a sign or leading zeros; a name, format or file is a word that
-/// isn't empty and doesn't begin with `-`. The error is the index of the first word that can't stand, counted from 0, or how
-/// many there are where one is missing.
+/// each at most once, in either order; or `export FILE` or `import FILE`, and nothing more. N is 1 to 4,000, without a sign or
+/// leading zeros; a name, format or file is a word that isn't empty and doesn't begin with `-`. The error is the index of the
+/// first word that can't stand, counted from 0, or how many there are where one is missing.
 pub fn read_words(words: &[String]) -> Result<Command<'_>, u32>
     ensures read { MatchResult result (λ c. words_in (map string_bytes words.now) ≡ Ok (asked_of c)) (λ n. words_in (map string_bytes words.now) ≡ Err n) }
     ensures few { IfOk result HasFewSteps }
@@ -289,6 +315,12 @@ pub fn read_words(words: &[String]) -> Result<Command<'_>, u32>
             }
             if word.as_str() == "check" {
                 return check_in(rest);
+            }
+            if word.as_str() == "export" {
+                return export_in(rest);
+            }
+            if word.as_str() == "import" {
+                return import_in(rest);
             }
             Err(0)
         }

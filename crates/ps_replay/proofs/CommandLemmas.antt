@@ -3,10 +3,11 @@ use Rattle.std.proofs.Common.{◌≡◌, ℕ, List, [], Option, Some, None, Resu
 use Rattle.std.specs.Io.KnownBytes.{Keeps}
 use Rattle.replay_script.specs.Limits.{ReadsFew}
 use Rattle.program_commands.specs.declared.status.Status.{Status}
-use Rattle.program_commands.specs.declared.status.Status.TheVariants.{Done, Usage, FileMissing, FileFault, FileLong, BadDex, BadConfig, BadScript, ScriptLong, ReadFault, WriteFault, BadTeam, NoMemory, DoorFault, UnknownFormat, BadPack}
-use Rattle.program_commands.specs.Words.{Asked, Replays, Drills, Checks, Options, Drilled, Checked}
+use Rattle.program_commands.specs.declared.status.Status.TheVariants.{Done, Usage, FileMissing, FileFault, FileLong, BadDex, BadConfig, BadScript, ScriptLong, ReadFault, WriteFault, BadTeam, NoMemory, DoorFault, UnknownFormat, BadPack, BadExport, NoExport}
+use Rattle.program_commands.specs.Words.{Asked, Replays, Drills, Checks, Exports, Imports, Options, Drilled, Checked}
 use Rattle.program_commands.specs.Setups.{usage_reported, HasSetup, EndsIfKnown}
 use Rattle.program_commands.specs.Checks.{CheckEnds, IsNamed, CheckCause, WritesLegal, SettlesCheck}
+use Rattle.program_commands.specs.Conversions.{HasExport, MakesExport, MakesPacked, ExportCause, ImportCause, WritesConversion, SettlesConversion}
 use Rattle.ps_replay.specs.Outcomes.{KeepsInput}
 use Rattle.ps_replay.specs.Drills.{DrillEnds, DrillCause, WritesSummary, WritesDrill, SettlesDrill}
 use Rattle.ps_replay.specs.Commands.{Met, IsReplay, IsRun, FilesFailed, OutputFailed}
@@ -30,6 +31,8 @@ keeps_input left left_after NoMemory same = tt
 keeps_input left left_after DoorFault same = same
 keeps_input left left_after (UnknownFormat id) same = same
 keeps_input left left_after (BadPack at kind) same = same
+keeps_input left left_after (BadExport line) same = same
+keeps_input left left_after (NoExport set) same = same
 
 reads_none : (left : Option (List ℕ)) → ReadsFew left left
 reads_none None = record { front = []; taken = tt; few = omega arith }
@@ -61,6 +64,8 @@ no_usage P NoMemory none p = refl
 no_usage P DoorFault none p = refl
 no_usage P (UnknownFormat id) none p = refl
 no_usage P (BadPack at kind) none p = refl
+no_usage P (BadExport line) none p = refl
+no_usage P (NoExport set) none p = refl
 
 -- ---- command by command
 
@@ -78,6 +83,12 @@ of_drill asked words m status is same ended caused told wrote failed settled = r
   check_cause = tt;
   check_untouched = tt;
   check_summary = tt;
+  export_cause = tt;
+  export_untouched = tt;
+  export_written = tt;
+  import_cause = tt;
+  import_untouched = tt;
+  import_written = tt;
   drill_ends = ended;
   drill_cause = caused;
   drill_untouched = same;
@@ -88,6 +99,8 @@ of_drill asked words m status is same ended caused told wrote failed settled = r
   write_fault = failed;
   complete = tt;
   complete_check = tt;
+  complete_export = tt;
+  complete_import = tt;
   complete_drill = settled;
 })
 
@@ -105,6 +118,12 @@ of_check asked words m status is same ended caused wrote failed settled = rw is 
   check_cause = caused;
   check_untouched = same;
   check_summary = λ done. subst (WritesLegal m.written m.written_after) done wrote;
+  export_cause = tt;
+  export_untouched = tt;
+  export_written = tt;
+  import_cause = tt;
+  import_untouched = tt;
+  import_written = tt;
   drill_ends = tt;
   drill_cause = tt;
   drill_untouched = tt;
@@ -115,6 +134,78 @@ of_check asked words m status is same ended caused wrote failed settled = rw is 
   write_fault = failed;
   complete = tt;
   complete_check = settled;
+  complete_export = tt;
+  complete_import = tt;
+  complete_drill = tt;
+})
+
+pub of_export : (asked : Result Asked ℕ) (name : List ℕ) (m : Met) (status : Status) → asked ≡ Ok (Exports name) → m.left_after ≡ m.left → ExportCause m.contents name m.counts m.counts_after status → WritesConversion m.contents name MakesExport m.written m.written_after status → (status ≡ WriteFault → OutputFailed m) → SettlesConversion m.contents HasExport (FilesFailed m) (OutputFailed m) name status → IsRun asked m status
+of_export asked name m status is same caused wrote failed settled = rw is (record {
+  usage = no_usage (ExportCause m.contents name m.counts m.counts_after) status (λ word wrong. wrong) caused;
+  cause = tt;
+  input = keeps_input m.left m.left_after status same;
+  whole = tt;
+  transcript = tt;
+  one_entry = tt;
+  histories = tt;
+  two_worlds = tt;
+  check_ends = tt;
+  check_cause = tt;
+  check_untouched = tt;
+  check_summary = tt;
+  export_cause = caused;
+  export_untouched = same;
+  export_written = λ done. subst (WritesConversion m.contents name MakesExport m.written m.written_after) done wrote;
+  import_cause = tt;
+  import_untouched = tt;
+  import_written = tt;
+  drill_ends = tt;
+  drill_cause = tt;
+  drill_untouched = tt;
+  drill_summary = tt;
+  prefix = wrote;
+  bounded = few_read m.left m.left_after same;
+  read_fault = λ read. absurd (subst (ExportCause m.contents name m.counts m.counts_after) read caused);
+  write_fault = failed;
+  complete = tt;
+  complete_check = tt;
+  complete_export = settled;
+  complete_import = tt;
+  complete_drill = tt;
+})
+
+pub of_import : (asked : Result Asked ℕ) (name : List ℕ) (m : Met) (status : Status) → asked ≡ Ok (Imports name) → m.left_after ≡ m.left → ImportCause m.contents name m.counts m.counts_after status → WritesConversion m.contents name MakesPacked m.written m.written_after status → (status ≡ WriteFault → OutputFailed m) → SettlesConversion m.contents MakesPacked (FilesFailed m) (OutputFailed m) name status → IsRun asked m status
+of_import asked name m status is same caused wrote failed settled = rw is (record {
+  usage = no_usage (ImportCause m.contents name m.counts m.counts_after) status (λ word wrong. wrong) caused;
+  cause = tt;
+  input = keeps_input m.left m.left_after status same;
+  whole = tt;
+  transcript = tt;
+  one_entry = tt;
+  histories = tt;
+  two_worlds = tt;
+  check_ends = tt;
+  check_cause = tt;
+  check_untouched = tt;
+  check_summary = tt;
+  export_cause = tt;
+  export_untouched = tt;
+  export_written = tt;
+  import_cause = caused;
+  import_untouched = same;
+  import_written = λ done. subst (WritesConversion m.contents name MakesPacked m.written m.written_after) done wrote;
+  drill_ends = tt;
+  drill_cause = tt;
+  drill_untouched = tt;
+  drill_summary = tt;
+  prefix = wrote;
+  bounded = few_read m.left m.left_after same;
+  read_fault = λ read. absurd (subst (ImportCause m.contents name m.counts m.counts_after) read caused);
+  write_fault = failed;
+  complete = tt;
+  complete_check = tt;
+  complete_export = tt;
+  complete_import = settled;
   complete_drill = tt;
 })
 
@@ -132,6 +223,12 @@ of_replay asked options m status is run = rw is (record {
   check_cause = tt;
   check_untouched = tt;
   check_summary = tt;
+  export_cause = tt;
+  export_untouched = tt;
+  export_written = tt;
+  import_cause = tt;
+  import_untouched = tt;
+  import_written = tt;
   drill_ends = tt;
   drill_cause = tt;
   drill_untouched = tt;
@@ -142,6 +239,8 @@ of_replay asked options m status is run = rw is (record {
   write_fault = run.write_fault;
   complete = run.complete;
   complete_check = tt;
+  complete_export = tt;
+  complete_import = tt;
   complete_drill = tt;
 })
 
@@ -159,6 +258,12 @@ of_usage asked m word is same unwritten = rw is (record {
   check_cause = tt;
   check_untouched = tt;
   check_summary = tt;
+  export_cause = tt;
+  export_untouched = tt;
+  export_written = tt;
+  import_cause = tt;
+  import_untouched = tt;
+  import_written = tt;
   drill_ends = tt;
   drill_cause = tt;
   drill_untouched = tt;
@@ -169,5 +274,7 @@ of_usage asked m word is same unwritten = rw is (record {
   write_fault = λ wrong. cc;
   complete = tt;
   complete_check = tt;
+  complete_export = tt;
+  complete_import = tt;
   complete_drill = tt;
 })

@@ -6,7 +6,7 @@ use Rattle.ps_dex.specs.declared.item.Tables.{Tables}
 use Rattle.rules_config.specs.declared.settings.Settings.{Settings}
 use Rattle.replay_script.specs.Limits.{ReadsFew}
 use Rattle.program_commands.specs.declared.status.Status.{Status}
-use Rattle.program_commands.specs.declared.status.Status.TheVariants.{Done, Usage, FileMissing, FileFault, FileLong, BadDex, BadConfig, BadScript, ScriptLong, ReadFault, WriteFault, BadTeam, NoMemory, DoorFault, UnknownFormat, BadPack}
+use Rattle.program_commands.specs.declared.status.Status.TheVariants.{Done, Usage, FileMissing, FileFault, FileLong, BadDex, BadConfig, BadScript, ScriptLong, ReadFault, WriteFault, BadTeam, NoMemory, DoorFault, UnknownFormat, BadPack, BadExport, NoExport}
 use Rattle.program_commands.specs.Words.{Options}
 use Rattle.program_commands.specs.Steps.{dex_in, config_in}
 use Rattle.program_commands.specs.Setups.{Stands, IsSetUp, IsStopOf, Stops, IsOption, StepCause, Ended}
@@ -51,6 +51,8 @@ step_cause contents o left named old new (BadTeam set rule subject) option stops
 step_cause contents o left named old new DoorFault option stops stepped = absurd stepped
 step_cause contents o left named old new (UnknownFormat id) option stops stepped = absurd stepped
 step_cause contents o left named old new (BadPack at kind) option stops stepped = absurd stepped
+step_cause contents o left named old new (BadExport line) option stops stepped = absurd stepped
+step_cause contents o left named old new (NoExport set) option stops stepped = absurd stepped
 
 step_prefix : (contents : Option (List ℕ → Option (List ℕ))) (o : Options) (left written written_after named : Option (List ℕ)) (old new : FileCounts) (status : Status) → Keeps written written_after → StepCause named old new status → WritesPrefix contents o left written written_after status
 step_prefix contents o left written written_after named old new (FileMissing name) kept stepped = kept
@@ -69,6 +71,8 @@ step_prefix contents o left written written_after named old new (BadTeam set rul
 step_prefix contents o left written written_after named old new DoorFault kept stepped = kept
 step_prefix contents o left written written_after named old new (UnknownFormat id) kept stepped = kept
 step_prefix contents o left written written_after named old new (BadPack at kind) kept stepped = kept
+step_prefix contents o left written written_after named old new (BadExport line) kept stepped = kept
+step_prefix contents o left written written_after named old new (NoExport set) kept stepped = kept
 
 step_ends : (o : Options) (m : Met) (named : Option (List ℕ)) (status : Status) → m.left_after ≡ m.left → Keeps m.written m.written_after → ((name : List ℕ) → named ≡ Some name → IsOption o name) → ((status ≡ NoMemory → ⊥) → Stops m.contents o status) → StepCause named m.counts m.counts_after status → Settles m.contents o m.left (FilesFailed m) (InputFailed m) (OutputFailed m) status → IsReplay o m status
 step_ends o m named status same kept option stops stepped settled =
@@ -122,6 +126,8 @@ input_keeps left left_after (BadTeam set rule subject) of = absurd of
 input_keeps left left_after DoorFault of = absurd of
 input_keeps left left_after (UnknownFormat id) of = absurd of
 input_keeps left left_after (BadPack at kind) of = absurd of
+input_keeps left left_after (BadExport line) of = absurd of
+input_keeps left left_after (NoExport set) of = absurd of
 
 input_prefix : (contents : Option (List ℕ → Option (List ℕ))) (o : Options) (left written written_after : Option (List ℕ)) (config : Settings) (dex : Tables) (status : Status) → IsSetUp contents o config dex → IsOfInput status → WritesOfInput config dex left written written_after status → WritesPrefix contents o left written written_after status
 input_prefix contents o left written written_after config dex Done s of wrote = tt
@@ -141,6 +147,8 @@ input_prefix contents o left written written_after config dex (BadTeam set rule 
 input_prefix contents o left written written_after config dex DoorFault s of wrote = absurd of
 input_prefix contents o left written written_after config dex (UnknownFormat id) s of wrote = absurd of
 input_prefix contents o left written written_after config dex (BadPack at kind) s of wrote = absurd of
+input_prefix contents o left written written_after config dex (BadExport line) s of wrote = absurd of
+input_prefix contents o left written written_after config dex (NoExport set) s of wrote = absurd of
 
 part_of : (P Q : List ℕ → Type 0) (left : Option (List ℕ)) → ((bytes : List ℕ) → P bytes → Q bytes) → IfSome left P → IfSome left Q
 part_of P Q None part p = tt

@@ -7,9 +7,10 @@ use Rattle.ps_outside.specs.Files.{FileCounts}
 use Rattle.replay_script.specs.Limits.{ReadsFew}
 use Rattle.program_commands.specs.declared.status.Status.{Status}
 use Rattle.program_commands.specs.declared.status.Status.TheVariants.{Done, ReadFault, WriteFault}
-use Rattle.program_commands.specs.Words.{Asked, Options, IfReplay, IfDrill, IfCheck}
+use Rattle.program_commands.specs.Words.{Asked, Options, IfReplay, IfDrill, IfCheck, IfExport, IfImport}
 use Rattle.program_commands.specs.Setups.{usage_in, usage_reported, HasSetup, EndsIfKnown}
 use Rattle.program_commands.specs.Checks.{legal_line, CheckEnds, IsNamed, CheckCause, SettlesCheck}
+use Rattle.program_commands.specs.Conversions.{HasExport, MakesPacked, ExportCause, ImportCause, WritesExport, WritesPacked, SettlesConversion}
 use Rattle.ps_replay.specs.Outcomes.{KeepsInput, IsTranscript, HasOneEntryEachText, HasHistories, HasEqualWorlds, WritesPrefix, ReplayCause, Settles}
 use Rattle.ps_replay.specs.Drills.{DrillEnds, DrillCause, WritesSummary, SettlesDrill}
 use Rattle.ps_replay.specs.Writes.{Writes}
@@ -69,6 +70,12 @@ pub record IsRun (asked : Result Asked ℕ) (m : Met) (status : Status) : Type 0
   pub check_cause : IfCheck asked (λ words. CheckCause (IsNamed words) m.counts m.counts_after status)
   pub check_untouched : IfCheck asked (λ _. m.left_after ≡ m.left)
   pub check_summary : IfCheck asked (λ _. status ≡ Done → Appends m.written m.written_after legal_line)
+  pub export_cause : IfExport asked (λ name. ExportCause m.contents name m.counts m.counts_after status)
+  pub export_untouched : IfExport asked (λ _. m.left_after ≡ m.left)
+  pub export_written : IfExport asked (λ name. status ≡ Done → WritesExport m.contents name m.written m.written_after)
+  pub import_cause : IfImport asked (λ name. ImportCause m.contents name m.counts m.counts_after status)
+  pub import_untouched : IfImport asked (λ _. m.left_after ≡ m.left)
+  pub import_written : IfImport asked (λ name. status ≡ Done → WritesPacked m.contents name m.written m.written_after)
   pub drill_ends : IfDrill asked (λ words. EndsIfKnown m.contents (λ lookup. DrillEnds lookup words.options) status)
   pub drill_cause : IfDrill asked (λ words. DrillCause words.options m.counts m.counts_after status)
   pub drill_untouched : IfDrill asked (λ _. m.left_after ≡ m.left)
@@ -80,4 +87,6 @@ pub record IsRun (asked : Result Asked ℕ) (m : Met) (status : Status) : Type 0
   pub write_fault : status ≡ WriteFault → OutputFailed m
   pub complete : IfReplay asked (λ o. Settles m.contents o m.left (FilesFailed m) (InputFailed m) (OutputFailed m) status)
   pub complete_check : IfCheck asked (λ words. SettlesCheck m.contents (FilesFailed m) (OutputFailed m) words status)
+  pub complete_export : IfExport asked (λ name. SettlesConversion m.contents HasExport (FilesFailed m) (OutputFailed m) name status)
+  pub complete_import : IfImport asked (λ name. SettlesConversion m.contents MakesPacked (FilesFailed m) (OutputFailed m) name status)
   pub complete_drill : IfDrill asked (λ words. SettlesDrill m.contents (FilesFailed m) (OutputFailed m) words.options status)

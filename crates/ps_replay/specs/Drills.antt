@@ -19,7 +19,7 @@ use Rattle.replay_state.specs.Transcript.{output}
 use Rattle.replay_drill.specs.Drills.{drill_text}
 use Rattle.replay_drill.specs.Messages.{messages_in}
 use Rattle.program_commands.specs.declared.status.Status.{Status}
-use Rattle.program_commands.specs.declared.status.Status.TheVariants.{Done, Usage, FileMissing, FileFault, FileLong, BadDex, BadConfig, BadScript, ScriptLong, ReadFault, WriteFault, BadTeam, NoMemory, DoorFault, UnknownFormat, BadPack}
+use Rattle.program_commands.specs.declared.status.Status.TheVariants.{Done, Usage, FileMissing, FileFault, FileLong, BadDex, BadConfig, BadScript, ScriptLong, ReadFault, WriteFault, BadTeam, NoMemory, DoorFault, UnknownFormat, BadPack, BadExport, NoExport}
 use Rattle.program_commands.specs.Words.{Options, Drilled}
 use Rattle.program_commands.specs.Steps.{IsFaultOf, dex_in, config_in}
 use Rattle.program_commands.specs.Setups.{HasSetup, IsOption, AreGood, IsSettled, Then}
@@ -88,6 +88,8 @@ WritesDrill contents words old new NoMemory = Keeps old new
 WritesDrill contents words old new DoorFault = Keeps old new
 WritesDrill contents words old new (UnknownFormat id) = Keeps old new
 WritesDrill contents words old new (BadPack at kind) = Keeps old new
+WritesDrill contents words old new (BadExport line) = Keeps old new
+WritesDrill contents words old new (NoExport set) = Keeps old new
 
 -- ---- How a drill may end, where the files are known. A file that is there may still fail.
 
@@ -109,6 +111,8 @@ RunEnds NoMemory = ⊥
 RunEnds DoorFault = ⊥
 RunEnds (UnknownFormat id) = ⊥
 RunEnds (BadPack at kind) = ⊥
+RunEnds (BadExport line) = ⊥
+RunEnds (NoExport set) = ⊥
 
 abbrev pub SetUpEnds : Settings → Status → Type 0
 SetUpEnds config status = RunEnds status
@@ -139,6 +143,8 @@ DrillCause options old new NoMemory = Unit {0}
 DrillCause options old new DoorFault = ⊥
 DrillCause options old new (UnknownFormat id) = ⊥
 DrillCause options old new (BadPack at kind) = ⊥
+DrillCause options old new (BadExport line) = ⊥
+DrillCause options old new (NoExport set) = ⊥
 
 -- good files, with no fault of the files or the sink, settle a drill
 pub record SettlesDrill (contents : Option (List ℕ → Option (List ℕ))) (file_fault write_fault : Type 0) (options : Options) (status : Status) : Type 0 where
@@ -163,6 +169,8 @@ IsOfRun (BadTeam set rule subject) = ⊥
 IsOfRun DoorFault = ⊥
 IsOfRun (UnknownFormat id) = ⊥
 IsOfRun (BadPack at kind) = ⊥
+IsOfRun (BadExport line) = ⊥
+IsOfRun (NoExport set) = ⊥
 
 abbrev pub WritesRun : Settings → Tables → ℕ → Option (List ℕ) → Option (List ℕ) → Status → Type 0
 WritesRun config dex steps old new Done = WritesSummary config dex steps old new

@@ -6,10 +6,11 @@ ghost use Rattle.ps_outside.specs.Causes.{Rose};
 ghost use Rattle.replay_script.specs.Scripts.{IsScript};
 ghost use Rattle.replay_script.specs.Limits.{long_of, ReadsFew};
 ghost use Rattle.replay_script.specs.declared.item.Item.{Item};
-ghost use Rattle.program_commands.specs.Words.{words_in, options_of, IfReplay, IfDrill, IfCheck};
+ghost use Rattle.program_commands.specs.Words.{words_in, options_of, IfReplay, IfDrill, IfCheck, IfExport, IfImport};
 ghost use Rattle.program_commands.specs.Steps.{dex_in};
 ghost use Rattle.program_commands.specs.Setups.{usage_of, usage_reported, HasSetup, Stands, EndsIfKnown};
 ghost use Rattle.program_commands.specs.Checks.{legal_line, CheckEnds, IsNamed, CheckCause, SettlesCheck};
+ghost use Rattle.program_commands.specs.Conversions.{HasExport, MakesPacked, ExportCause, ImportCause, WritesExport, WritesPacked, SettlesConversion};
 ghost use Rattle.ps_replay.specs.Outcomes.{symbols_of, IsOfInput, KeepsInput, IsTranscript, HasOneEntryEachText, HasHistories, HasEqualWorlds, IsReplayed, WritesOfInput, ReplayCause, InputCause, Settles, SettlesInput};
 ghost use Rattle.ps_replay.specs.Drills.{DrillEnds, DrillCause, WritesSummary, SettlesDrill};
 ghost use Rattle.ps_replay.specs.Writes.{Writes};
@@ -20,6 +21,7 @@ use crate::replay::{ReplayEnd, replay};
 use crate::setup::{shared_config, shared_dex};
 use crate::symbols::symbols_of;
 use program_commands::check::check;
+use program_commands::convert::{export, import};
 use program_commands::status::Status;
 use program_commands::words::{Command, OptionWords, read_words};
 use ps_dex::dex::Dex;
@@ -202,6 +204,8 @@ fn run_words<F: Files, S: Source, K: Sink>(
         Ok(Command::Replay(options)) => run_replay(alloc, options, files, input, out),
         Ok(Command::Drill(words)) => drill(alloc, words, files, out),
         Ok(Command::Check(words)) => check(alloc, words, files, out),
+        Ok(Command::Export(name)) => export(alloc, name, files, out),
+        Ok(Command::Import(name)) => import(alloc, name, files, out),
     }
 }
 
@@ -209,7 +213,8 @@ fn run_words<F: Files, S: Source, K: Sink>(
 /// from the input whole, and then writes the transcript of the script's entries. `check` reads the dex file and the
 /// configuration, if the words name them, and the file of a packed team, and writes `legal` where the team keeps the
 /// rules of the format. `drill` reads the dex file and the configuration, if the words name them, makes a script, runs it,
-/// and writes six lines that tell what came of it. `check` and `drill` leave the input alone.
+/// and writes six lines that tell what came of it. `export` reads the file of a packed team, and writes its export text; `import`
+/// reads the file of an export text, and writes the packed text and a newline. All but `replay` leave the input alone.
 pub fn run<F: Files, S: Source, K: Sink>(
     alloc: Global,
     words: &[String],
@@ -245,6 +250,20 @@ pub fn run<F: Files, S: Source, K: Sink>(
     // At Done of a check `legal` and a newline were written.
     ensures check_summary { IfCheck (words_in (map string_bytes words.now)) (λ _. result ≡ Status.Done → Appends (K.written out.old) (K.written out.new) legal_line) }
 
+    // An export ends with a status that has its cause, and at Done the export text of the file's packed team was written.
+    ensures export_cause { IfExport (words_in (map string_bytes words.now)) (λ name.
+        ExportCause (F.contents files.old) name (F.counts files.old) (F.counts files.new) result) }
+    ensures export_untouched { IfExport (words_in (map string_bytes words.now)) (λ _. S.left input.new ≡ S.left input.old) }
+    ensures export_written { IfExport (words_in (map string_bytes words.now)) (λ name.
+        result ≡ Status.Done → WritesExport (F.contents files.old) name (K.written out.old) (K.written out.new)) }
+
+    // So does an import, and at Done the packed text of the team that the file's export text has, and a newline, were written.
+    ensures import_cause { IfImport (words_in (map string_bytes words.now)) (λ name.
+        ImportCause (F.contents files.old) name (F.counts files.old) (F.counts files.new) result) }
+    ensures import_untouched { IfImport (words_in (map string_bytes words.now)) (λ _. S.left input.new ≡ S.left input.old) }
+    ensures import_written { IfImport (words_in (map string_bytes words.now)) (λ name.
+        result ≡ Status.Done → WritesPacked (F.contents files.old) name (K.written out.old) (K.written out.new)) }
+
     // A drill ends as the first of the dex and the configuration that ends in a status, and else in Done, unless the sink or
     // memory fails: its text is a script whatever they say. The input isn't touched.
     ensures drill_ends { IfDrill (words_in (map string_bytes words.now)) (λ asked. EndsIfKnown (F.contents files.old) (λ lookup. DrillEnds lookup asked.options) result) }
@@ -263,6 +282,12 @@ pub fn run<F: Files, S: Source, K: Sink>(
     ensures write_fault { result ≡ Status.WriteFault → Rose (K.faults out.old) (K.faults out.new) }
     ensures complete { IfReplay (words_in (map string_bytes words.now)) (λ o. Settles (F.contents files.old) o (S.left input.old) (Rose (F.counts files.old).faults (F.counts files.new).faults) (Rose (S.faults input.old) (S.faults input.new)) (Rose (K.faults out.old) (K.faults out.new)) result) }
     ensures complete_check { IfCheck (words_in (map string_bytes words.now)) (λ asked. SettlesCheck (F.contents files.old) (Rose (F.counts files.old).faults (F.counts files.new).faults) (Rose (K.faults out.old) (K.faults out.new)) asked result) }
+    ensures complete_export { IfExport (words_in (map string_bytes words.now)) (λ name.
+        SettlesConversion (F.contents files.old) HasExport (Rose (F.counts files.old).faults (F.counts files.new).faults)
+        (Rose (K.faults out.old) (K.faults out.new)) name result) }
+    ensures complete_import { IfImport (words_in (map string_bytes words.now)) (λ name.
+        SettlesConversion (F.contents files.old) MakesPacked (Rose (F.counts files.old).faults (F.counts files.new).faults)
+        (Rose (K.faults out.old) (K.faults out.new)) name result) }
     ensures complete_drill { IfDrill (words_in (map string_bytes words.now)) (λ asked. SettlesDrill (F.contents files.old) (Rose (F.counts files.old).faults (F.counts files.new).faults) (Rose (K.faults out.old) (K.faults out.new)) asked.options result) }
 {
     run_words(alloc, words, files, input, out)

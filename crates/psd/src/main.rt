@@ -36,6 +36,11 @@ Usage:
   psd check FORMAT TEAMFILE [--dex NAME] [--config NAME]
       checks the packed team of a file against the rules of a format, and prints
       `legal`, or ends with the first rule that the team breaks
+  psd import FILE
+      reads a team as a teambuilder exports it, and prints its packed text; do this
+      first: `psd import FILE > TEAMFILE`
+  psd export FILE
+      reads a packed team, and prints it as a teambuilder imports it
   psd drill N [--dex NAME] [--config NAME]
       makes a script of N steps, 1 to 4000, runs it, and prints six lines that say
       what came of it: the same on every machine, as long as the files are

@@ -1,6 +1,6 @@
 use Rattle.std.proofs.Common.{◌≡◌, map, string_bytes, Ok, refl}
-use Rattle.program_commands.specs.Words.{Replays, Drills, Checks, words_in, options_of, drilled_of, checked_of}
-use Rattle.ps_replay.proofs.CommandLemmas.{of_usage, of_replay, of_drill, of_check}
+use Rattle.program_commands.specs.Words.{Replays, Drills, Checks, Exports, Imports, words_in, options_of, drilled_of, checked_of}
+use Rattle.ps_replay.proofs.CommandLemmas.{of_usage, of_replay, of_drill, of_check, of_export, of_import}
 use Rattle.ps_replay.proofs.run.run_words.Goals as goal
 
 pub returns-in-Err : goal.returns-in-Err
@@ -20,3 +20,13 @@ pub returns-in-Ok-Check : goal.returns-in-Ok-Check
 returns-in-Ok-Check g c =
     let is : words_in (map string_bytes c.args.words.now) ≡ Ok (Checks (checked_of c.in-Ok-Check.words)) = rw c.in-Ok-Check.field-0-is at c.in-Ok-Check.ensures.read in
     of_check _ (checked_of c.in-Ok-Check.words) _ c.check.result is refl c.check.ensures.ends c.check.ensures.cause c.check.ensures.wrote c.check.ensures.write_fault c.check.ensures.settles
+
+pub returns-in-Ok-Export : goal.returns-in-Ok-Export
+returns-in-Ok-Export g c =
+    let is : words_in (map string_bytes c.args.words.now) ≡ Ok (Exports c.in-Ok-Export.name.now) = rw c.in-Ok-Export.field-0-is at c.in-Ok-Export.ensures.read in
+    of_export _ c.in-Ok-Export.name.now _ c.export.result is refl c.export.ensures.cause c.export.ensures.wrote c.export.ensures.write_fault c.export.ensures.settles
+
+pub returns-in-Ok-Import : goal.returns-in-Ok-Import
+returns-in-Ok-Import g c =
+    let is : words_in (map string_bytes c.args.words.now) ≡ Ok (Imports c.in-Ok-Import.name.now) = rw c.in-Ok-Import.field-0-is at c.in-Ok-Import.ensures.read in
+    of_import _ c.in-Ok-Import.name.now _ c.import.result is refl c.import.ensures.cause c.import.ensures.wrote c.import.ensures.write_fault c.import.ensures.settles
