@@ -1,9 +1,6 @@
 //! The command `check`.
-use crate::runs::{end_of, named_file};
-use program_commands::status::Status;
-use ps_outside::files::{MemFiles, NamedFile};
-use ps_outside::sink::MemSink;
-use ps_outside::source::MemSource;
+use crate::runs::{named_file, run_of};
+use ps_outside::files::NamedFile;
 use std::alloc::{AllocError, Global};
 use std::test::Fail;
 use test_data::{SMALL_CONFIG, SMALL_DEX, TAUROS_TEAM};
@@ -22,45 +19,7 @@ fn three_files(
     Ok(files)
 }
 
-/// Words parted by spaces; `_` is an empty word.
-fn split(alloc: Global, words: &str) -> Result<Vec<String>, AllocError> {
-    let mut list = Vec::new(alloc);
-    for word in words.split(' ') {
-        let word = if word == "_" { "" } else { word };
-        list.push(String::from_str(alloc, word)?)?;
-    }
-    Ok(list)
-}
-
-fn status_of(
-    alloc: Global,
-    words: &str,
-    files: Vec<NamedFile>,
-    read: &[u64],
-    out: &mut MemSink,
-) -> Result<Status, AllocError> {
-    let words = split(alloc, words)?;
-    let mut files = MemFiles::new(files, read.to_vec(alloc)?);
-    let mut input = MemSource::new(Vec::new(alloc), [1].to_vec(alloc)?);
-    Ok(end_of(alloc, &words, &mut files, &mut input, out))
-}
-
-/// The status of the words over these files, and behind a colon what was written. The calls of these
-/// numbers fail; the input fails at its first call.
-fn run_of(
-    alloc: Global,
-    words: &str,
-    files: Vec<NamedFile>,
-    read: &[u64],
-    write: &[u64],
-) -> Result<String, AllocError> {
-    let mut out = MemSink::new(alloc, write.to_vec(alloc)?);
-    let status = status_of(alloc, words, files, read, &mut out)?;
-    let written = std::str::from_utf8(out.bytes()).unwrap_or("");
-    format!(in alloc; "{status}:{written}")
-}
-
-/// The same of a check over the files.
+/// What comes of a check over the files.
 fn check_of(alloc: Global, dex: &str, config: &str, team: &[u8]) -> Result<String, AllocError> {
     let files = three_files(alloc, dex.as_bytes(), config.as_bytes(), team)?;
     run_of(alloc, "check gen1ou t --dex d --config c", files, &[], &[])
@@ -192,7 +151,7 @@ fn longest_team_files(rt: HostRuntime) -> Result<(), Fail> {
     Ok(())
 }
 
-/// A check of the legal team, where the calls of these numbers fail.
+/// A run over the dex, the configuration and a legal team, where the calls of these numbers fail.
 fn legal_check(
     alloc: Global,
     words: &str,
@@ -208,18 +167,55 @@ fn legal_check(
     run_of(alloc, words, files, read, write)
 }
 
+/// The words of a run, the numbers of the calls that fail of its files and of its output, and how it ends, with what was written.
+type Faults = &'static [(&'static str, &'static [u64], &'static [u64], &'static str)];
+
+/// Each read of a file, and each write, fails once, and then the one beyond. A file that fails leaves the input alone, whose first
+/// call fails too.
+const FAULTS: Faults = &[
+    (
+        "check gen1ou t --dex d --config c",
+        &[1],
+        &[],
+        "FileFault name=d:",
+    ),
+    (
+        "check gen1ou t --dex d --config c",
+        &[2],
+        &[],
+        "FileFault name=c:",
+    ),
+    (
+        "check gen1ou t --dex d --config c",
+        &[3],
+        &[],
+        "FileFault name=t:",
+    ),
+    (
+        "check gen1ou t --dex d --config c",
+        &[4],
+        &[1],
+        "WriteFault:",
+    ),
+    (
+        "check gen1ou t --dex d --config c",
+        &[],
+        &[2],
+        "Done:legal\n",
+    ),
+    ("replay --dex d --config c", &[1], &[], "FileFault name=d:"),
+    ("replay --dex d --config c", &[2], &[], "FileFault name=c:"),
+    ("replay --dex d --config c", &[3], &[], "ReadFault:"),
+    ("drill 1 --config c --dex d", &[1], &[], "FileFault name=d:"),
+    ("drill 1 --config c --dex d", &[2], &[], "FileFault name=c:"),
+    ("drill 1 --config c --dex d", &[3], &[1], "WriteFault:"),
+];
+
 #[test]
-fn faults_of_check(rt: HostRuntime) -> Result<(), Fail> {
+fn each_call_fails_once(rt: HostRuntime) -> Result<(), Fail> {
     let alloc = rt.alloc();
-    let cases: &[(&[u64], &[u64], &str)] = &[
-        (&[1], &[], "FileFault name=d:"),
-        (&[2], &[], "FileFault name=c:"),
-        (&[3], &[], "FileFault name=t:"),
-        (&[4], &[1], "WriteFault:"),
-        (&[], &[2], "Done:legal\n"),
-    ];
-    for (read, write, wanted) in cases {
-        let told = legal_check(alloc, "check gen1ou t --dex d --config c", read, write)?;
+    for (words, read, write, wanted) in FAULTS {
+        let told = legal_check(alloc, words, read, write)?;
         assert_eq!(rt; told.as_str(), *wanted);
     }
     Ok(())

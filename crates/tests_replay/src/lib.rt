@@ -1,9 +1,11 @@
-//! Tests of whole runs: replays, checks and drills, from their words to what is written and the line of their status. It has tests
-//! alone, and no crate stands on it.
+//! Tests of whole runs: replays, checks, drills, exports and imports, from their words to what is written and the line of their
+//! status. It has tests alone, and no crate stands on it.
 #![tactic(auto)]
 
 #[cfg(test)]
 mod check_tests;
+#[cfg(test)]
+mod convert_tests;
 #[cfg(test)]
 mod drill_tests;
 #[cfg(test)]

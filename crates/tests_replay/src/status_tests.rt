@@ -1,11 +1,12 @@
 //! What the program does, worked out by hand.
-ghost use Rattle.std.specs.Prelude.{◌≤◌};
+ghost use Rattle.std.specs.Prelude.{◌≤◌, None};
 
 use crate::runs::{end_of, lines_of, named_file, told, words_of};
 use ps_base::decimal::read_u32;
 use ps_base::id::{read_id, to_id};
-use ps_outside::files::{MemFiles, SureFiles};
-use ps_outside::sink::{MemSink, SureSink};
+use ps_outside::Failed;
+use ps_outside::files::SureFiles;
+use ps_outside::sink::{MemSink, Sink, SureSink};
 use ps_outside::source::{MemSource, SureSource};
 use std::alloc::{AllocError, Global};
 use std::test::Fail;
@@ -19,10 +20,10 @@ const QUIET_LOBBY: &str =
 const LOBBY_OF_BOB: &str =
     "2< |challstr|0-2\n2. |updateuser| Guest 2|0|0|{}\n2. |formats|\n2< |updateuser| Bob|1|0|{}\n2< >lobby\n2. |init|chat\n2. |title|Lobby\n2. |users|2,%Ann, Bob\n2< >lobby\n2. |c:|0| Bob|hi\n";
 
-fn replay_into(
+fn replay_into<K: Sink>(
     alloc: Global,
     source: &mut MemSource,
-    sink: &mut MemSink,
+    sink: &mut K,
 ) -> Result<String, AllocError> {
     let words = words_of(alloc, &["replay"])?;
     let mut files = SureFiles::new(Vec::new(alloc));
@@ -30,28 +31,23 @@ fn replay_into(
     told(alloc, &status)
 }
 
-fn replay(
-    alloc: Global,
-    input: &[u8],
-    read: &[u64],
-    write: &[u64],
-) -> Result<(String, Vec<u8>), AllocError> {
-    let mut source = MemSource::new(input.to_vec(alloc)?, read.to_vec(alloc)?);
-    let mut sink = MemSink::new(alloc, write.to_vec(alloc)?);
+fn replay(alloc: Global, input: &[u8]) -> Result<(String, Vec<u8>), AllocError> {
+    let mut source = MemSource::new(input.to_vec(alloc)?, Vec::new(alloc));
+    let mut sink = MemSink::new(alloc, Vec::new(alloc));
     let status = replay_into(alloc, &mut source, &mut sink)?;
     Ok((status, sink.bytes().to_vec(alloc)?))
 }
 
-/// The files with the name `dex`, of which the calls of these numbers fail.
-fn dex_file(alloc: Global, bytes: &[u8], failing: &[u64]) -> Result<MemFiles, AllocError> {
+/// The file with the name `dex`.
+fn dex_file(alloc: Global, bytes: &[u8]) -> Result<SureFiles, AllocError> {
     let mut files = Vec::new(alloc);
     files.push(named_file(alloc, "dex", bytes)?)?;
-    Ok(MemFiles::new(files, failing.to_vec(alloc)?))
+    Ok(SureFiles::new(files))
 }
 
 fn replay_over(
     alloc: Global,
-    files: &mut MemFiles,
+    files: &mut SureFiles,
     sink: &mut MemSink,
 ) -> Result<String, AllocError> {
     let words = words_of(alloc, &["replay", "--dex", "dex"])?;
@@ -60,14 +56,9 @@ fn replay_over(
     told(alloc, &status)
 }
 
-/// Replays the lobby's script with the words `--dex dex`, where the dex file has these bytes, and the
-/// calls of these numbers fail.
-fn replay_with(
-    alloc: Global,
-    bytes: &[u8],
-    failing: &[u64],
-) -> Result<(String, Vec<u8>), AllocError> {
-    let mut files = dex_file(alloc, bytes, failing)?;
+/// Replays the lobby's script with the words `--dex dex`, where the dex file has these bytes.
+fn replay_with(alloc: Global, bytes: &[u8]) -> Result<(String, Vec<u8>), AllocError> {
+    let mut files = dex_file(alloc, bytes)?;
     let mut sink = MemSink::new(alloc, Vec::new(alloc));
     let status = replay_over(alloc, &mut files, &mut sink)?;
     Ok((status, sink.bytes().to_vec(alloc)?))
@@ -132,7 +123,7 @@ fn scripts_by_their_status(rt: HostRuntime) -> Result<(), Fail> {
         ("G \u{e9} ann\n", "BadScript line=1 kind=Group"),
     ];
     for (input, status) in cases {
-        let (ended, _) = replay(alloc, input.as_bytes(), &[], &[])?;
+        let (ended, _) = replay(alloc, input.as_bytes())?;
         assert_eq!(rt; ended.as_str(), *status, "{input:?}");
     }
     Ok(())
@@ -141,7 +132,7 @@ fn scripts_by_their_status(rt: HostRuntime) -> Result<(), Fail> {
 /// What so many empty lines end in.
 fn end_of_lines(alloc: Global, count: usize) -> Result<String, AllocError> {
     let lines = vec![in alloc; b'\n'; count]?;
-    let (ended, written) = replay(alloc, &lines, &[], &[])?;
+    let (ended, written) = replay(alloc, &lines)?;
     format!(in alloc; "{ended}, {}", written.len())
 }
 
@@ -158,8 +149,8 @@ fn longest_scripts(rt: HostRuntime) -> Result<(), Fail> {
 #[test]
 fn staff_note_is_unseen(rt: HostRuntime) -> Result<(), Fail> {
     let alloc = rt.alloc();
-    let (_, noted) = replay(alloc, LOBBY.as_bytes(), &[], &[])?;
-    let (_, quiet) = replay(alloc, QUIET_LOBBY.as_bytes(), &[], &[])?;
+    let (_, noted) = replay(alloc, LOBBY.as_bytes())?;
+    let (_, quiet) = replay(alloc, QUIET_LOBBY.as_bytes())?;
     let noted = lines_of(alloc, &noted, '2')?;
     let quiet = lines_of(alloc, &quiet, '2')?;
     assert_eq!(rt; noted.as_str(), LOBBY_OF_BOB);
@@ -167,18 +158,64 @@ fn staff_note_is_unseen(rt: HostRuntime) -> Result<(), Fail> {
     Ok(())
 }
 
+/// How much of the output a failing sink is given in one call.
+const PART: usize = 100;
+
+/// A sink that takes a part at a time, over one whose calls fail at their numbers.
+#[derive(Drop)]
+struct Parts {
+    inner: MemSink,
+}
+
+impl Sink for Parts {
+    ghost written = { λ _. None };
+
+    ghost faults = { λ s. s.inner.faults };
+
+    fn write(&mut self, buf: &[u8]) -> Result<usize, Failed> {
+        let count = buf.len().min(PART);
+        self.inner.write(&buf[..count])
+    }
+}
+
+/// How a replay of the lobby ends, and what was written, if the calls of these numbers fail.
+fn replay_in_parts(
+    alloc: Global,
+    read: &[u64],
+    write: &[u64],
+) -> Result<(String, Vec<u8>), AllocError> {
+    let mut source = MemSource::new(LOBBY.as_bytes().to_vec(alloc)?, read.to_vec(alloc)?);
+    let mut sink = Parts {
+        inner: MemSink::new(alloc, write.to_vec(alloc)?),
+    };
+    let status = replay_into(alloc, &mut source, &mut sink)?;
+    Ok((status, sink.inner.bytes().to_vec(alloc)?))
+}
+
+/// The numbers of the reads and of the writes that fail, the status, and how many bytes were written. The transcript of the lobby
+/// has 406.
+const FAULTS: &[(&[u64], &[u64], &str, usize)] = &[
+    (&[1], &[], "ReadFault", 0),
+    (&[2], &[], "ReadFault", 0),
+    (&[3], &[], "Done", 406),
+    (&[], &[1], "WriteFault", 0),
+    (&[], &[2], "WriteFault", 100),
+    (&[], &[3], "WriteFault", 200),
+    (&[], &[4], "WriteFault", 300),
+    (&[], &[5], "WriteFault", 400),
+    (&[], &[6], "Done", 406),
+];
+
+/// Each read and each write fails once, and then the one beyond: what was written is a prefix of the transcript.
 #[test]
 fn faults_of_the_outside(rt: HostRuntime) -> Result<(), Fail> {
     let alloc = rt.alloc();
-    let cases: &[(&[u64], &[u64], &str)] = &[
-        (&[1], &[], "ReadFault"),
-        (&[2], &[], "ReadFault"),
-        (&[], &[1], "WriteFault"),
-    ];
-    for (read, write, status) in cases {
-        let (ended, written) = replay(alloc, LOBBY.as_bytes(), read, write)?;
+    let (_, whole) = replay(alloc, LOBBY.as_bytes())?;
+    for (read, write, status, count) in FAULTS {
+        let (ended, written) = replay_in_parts(alloc, read, write)?;
         assert_eq!(rt; ended.as_str(), *status);
-        assert_eq!(rt; written.len(), 0);
+        assert_eq!(rt; written.len(), *count);
+        assert!(rt; whole.starts_with(&written));
     }
     Ok(())
 }
@@ -186,22 +223,19 @@ fn faults_of_the_outside(rt: HostRuntime) -> Result<(), Fail> {
 #[test]
 fn dex_files_by_their_status(rt: HostRuntime) -> Result<(), Fail> {
     let alloc = rt.alloc();
-    let (_, lobby) = replay(alloc, LOBBY.as_bytes(), &[], &[])?;
+    let (_, lobby) = replay(alloc, LOBBY.as_bytes())?;
     let (ended, written) = replay_with(
         alloc,
         b"{\"types\": [{\"name\": \"Normal\", \"special\": false}]}",
-        &[],
     )?;
     assert_eq!(rt; ended.as_str(), "Done");
     assert_eq!(rt; written, lobby);
-    let cases: &[(&str, &[u64], &str)] = &[
-        ("", &[], "BadDex path= kind=Json"),
-        ("[]", &[], "BadDex path= kind=Shape"),
-        ("{}", &[1], "FileFault name=dex"),
-        ("{}", &[2], "Done"),
+    let cases: &[(&str, &str)] = &[
+        ("", "BadDex path= kind=Json"),
+        ("[]", "BadDex path= kind=Shape"),
     ];
-    for (bytes, failing, status) in cases {
-        let (ended, _) = replay_with(alloc, bytes.as_bytes(), failing)?;
+    for (bytes, status) in cases {
+        let (ended, _) = replay_with(alloc, bytes.as_bytes())?;
         assert_eq!(rt; ended.as_str(), *status, "{bytes:?}");
     }
     Ok(())
@@ -214,7 +248,7 @@ fn end_of_spaces(alloc: Global, count: usize) -> Result<String, AllocError>
     let mut bytes = vec![in alloc; b' '; count]?;
     bytes[0] = b'{';
     bytes[1] = b'}';
-    let (ended, written) = replay_with(alloc, &bytes, &[])?;
+    let (ended, written) = replay_with(alloc, &bytes)?;
     format!(in alloc; "{ended}, {}", written.len())
 }
 
