@@ -1,7 +1,17 @@
-use Rattle.std.proofs.Common.{◌≡◌, ◌∷◌, [], length, arith, rules, length-append}
+use Rattle.std.proofs.Common.{◌≡◌, ◌∷◌, [], true, length, refl, sym, arith, rules, length-append}
+use Rattle.std.proofs.lemmas.Bool.Decides.{nat_tests}
+use Rattle.std.specs.Prelude.{nat_lt, slice_get, Some}
 use Rattle.std.specs.Arc.{arc_value}
+use Rattle.std.proofs.lemmas.Option.{slice_get_read}
 use Rattle.ps_hub.proofs.LockLemmas.{at_end}
 use Rattle.ps_hub.proofs.hub.chats.Goals as goal
+
+pub chat-requires : goal.chat-requires
+chat-requires c =
+    let low : nat_lt c.loop-number.number 16 ≡ true = grind (arith, nat_tests) in
+    let same : arc_value c.in_ok-clone.field-0 ≡ arc_value c.args.config.now = search rules in
+    let listed : slice_get c.args.rooms.now c.loop-number.number ≡ Some c.index-rooms-number.result = slice_get_read c.args.rooms.now (length c.args.rooms.now) c.loop-number.number c.index-rooms-number.result refl (omega arith) c.index-rooms-number.is in
+    rw (low, same, sym c.requires.0, listed) refl
 
 pub loop-number-preserved : goal.loop-number-preserved
 loop-number-preserved c =
