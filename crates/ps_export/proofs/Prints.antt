@@ -7,13 +7,8 @@ use Rattle.std.proofs.lemmas.Bool.{cases_lt, le-leb, and_parts, and_from}
 use Rattle.std.proofs.lemmas.List.{append-nil}
 use Rattle.std.proofs.lemmas.Str.{encode_ascii, inside_one}
 use Rattle.ps_packed.specs.Forms.{is_field_char}
+use Rattle.ps_packed.proofs.Ids.{wide_bytes}
 use Rattle.ps_export.proofs.Spelling.{Printed, printed_append}
-
-wide_bytes : (c : ℕ) → 128 ≤ c → (k : ℕ) → k < length (encode_utf8 c) → 128 ≤ get_or (encode_utf8 c) k 0
-wide_bytes c le k lt = elim (cases_lt (get_or (encode_utf8 c) k 0) 128) [
-  | inl low ↦ absurd (let same = inside_one c [] (encode_utf8 c) k (sym (append-nil (encode_utf8 c))) lt low in omega (arith, same, low, le))
-  | inr high ↦ high
-]
 
 all_wide : (bs : List ℕ) → ((k : ℕ) → k < length bs → 128 ≤ get_or bs k 0) → Printed bs
 all_wide [] h = refl

@@ -12,7 +12,7 @@ use Rattle.ps_export.specs.Lines.{lines}
 use Rattle.ps_export.specs.Sheets.{start, packed_of, with_line, with_lines}
 use Rattle.ps_export.specs.Export.{IsTeamOf, IsExport, SheetStands, SomeStands, LinesStand, IsFirstFault, IsRefused, limit_of, past_end}
 
-same_sheet : (x y : Sheet) → Some x ≡ Some y → x ≡ y
+pub same_sheet : (x y : Sheet) → Some x ≡ Some y → x ≡ y
 same_sheet x y e = cc
 
 pub one_of_sheet : (sheet other : Sheet) (a b : List Set) → sheet ≡ other → IsTeamOf sheet a → IsTeamOf other b → a ≡ b

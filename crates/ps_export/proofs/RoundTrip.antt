@@ -20,6 +20,7 @@ use Rattle.ps_export.specs.Details.{detail_of}
 use Rattle.ps_export.specs.Sheets.{draft_of, drafted, say, with_move, with_detail, detailed, spoken, fields_of, set_text, joined_sets, start, packed_with, opened, gone_on, with_clean, with_line, with_lines}
 use Rattle.ps_export.specs.Export.{IsTeamOf, IsExport}
 use Rattle.ps_export.specs.Written.{is_nature, is_writable, first_unwritable, first_line, words_line, level_line, shiny_line, nature_line, stats_text, or_zero, evs_line, ivs_line, move_line, set_lines, block, export_text}
+use Rattle.ps_export.proofs.ReadLemmas.{same_sheet}
 use Rattle.ps_export.proofs.Spelling.{parts_append, lacks_append, Printed, printed_lacks, clean_is, IsPlain}
 use Rattle.ps_export.proofs.StatLemmas.{AreSix}
 use Rattle.ps_export.proofs.SetFacts.{IsMoveId, IsKept, team_kept}
@@ -30,9 +31,6 @@ use Rattle.ps_export.proofs.FirstLemmas.{FirstLine, IsSafe, safe, first_draft, f
 
 abbrev Reads : Sheet → List (List ℕ) → Sheet → Type 0
 Reads old lines new = with_lines old lines ≡ Some new
-
-same_sheet : (x y : Sheet) → Some x ≡ Some y → x ≡ y
-same_sheet x y e = cc
 
 next_step : (found : Option Sheet) (ls ms : List (List ℕ)) (y : Sheet) → option_and_then (λ next. with_lines next ls) found ≡ Some y → ((x : Sheet) → Reads x ls y → with_lines x (ls ++ ms) ≡ with_lines y ms) → option_and_then (λ next. with_lines next (ls ++ ms)) found ≡ with_lines y ms
 next_step None ls ms y e h = absurd cc

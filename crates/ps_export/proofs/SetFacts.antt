@@ -13,6 +13,7 @@ use Rattle.ps_packed.specs.declared.set.Set.{Set}
 use Rattle.ps_packed.specs.Canon.{nick_text}
 use Rattle.ps_packed.specs.Forms.{is_field_char, are_digits, number_of, is_number, parts, is_id_letter, has_id, ids_of, are_short, is_zero, words, evs, ivs, level, gender, in_form, form_of}
 use Rattle.ps_packed.specs.Packed.{is_nil, is_nameless, or_other, six, field, evs_of, iv_of, ivs_of, gender_of, level_of, set_of, bytes_of, AreFieldTexts, team_text, IsTeamOf, IsTeam}
+use Rattle.ps_packed.proofs.CanonTeams.{named_at, scalars_at}
 use Rattle.ps_packed.proofs.Bytes.{length_bytes, low_encodes, low_scalars}
 use Rattle.ps_packed.proofs.Joins.{scalars_each}
 use Rattle.ps_packed.proofs.Laws.{is_low}
@@ -247,17 +248,6 @@ unfolding are_short
 moves_kept w e = move_ids (parts w) (moves_facts w e).are
 
 -- ---- sets
-
-scalars_at : (ws : List (List ℕ)) (k : ℕ) → list_all all_scalars ws ≡ true → all_scalars (field ws k) ≡ true
-scalars_at [] zero e = refl
-scalars_at [] (suc k) e = refl
-scalars_at (w ∷ ws) zero e = (and_parts (all_scalars w) (list_all all_scalars ws) e).0
-scalars_at (w ∷ ws) (suc k) e = scalars_at ws k (and_parts (all_scalars w) (list_all all_scalars ws) e).1
-
-named_at : (ws : List (List ℕ)) → is_nameless ws ≡ false → (is_nil (field ws 0) && is_nil (field ws 1)) ≡ false
-named_at [] e = absurd cc
-named_at (n ∷ []) e = ap (λ (b : Bool). b && true) e
-named_at (n ∷ s ∷ ws) e = e
 
 kept_of : (ws : List (List ℕ)) → AreFieldTexts ws → list_all all_scalars ws ≡ true → IsKept (set_of ws)
 kept_of ws r letters =

@@ -123,13 +123,13 @@ is_twelve (n ∷ s ∷ i ∷ a ∷ m ∷ t ∷ f ∷ g ∷ v ∷ h ∷ l ∷ [])
 is_twelve (n ∷ s ∷ i ∷ a ∷ m ∷ t ∷ f ∷ g ∷ v ∷ h ∷ l ∷ x ∷ []) e = record { are = refl }
 is_twelve (n ∷ s ∷ i ∷ a ∷ m ∷ t ∷ f ∷ g ∷ v ∷ h ∷ l ∷ x ∷ y ∷ ws) e = absurd (omega (arith, e))
 
-scalars_at : (ws : List (List ℕ)) (k : ℕ) → list_all all_scalars ws ≡ true → all_scalars (field ws k) ≡ true
+pub scalars_at : (ws : List (List ℕ)) (k : ℕ) → list_all all_scalars ws ≡ true → all_scalars (field ws k) ≡ true
 scalars_at [] zero e = refl
 scalars_at [] (suc k) e = refl
 scalars_at (w ∷ ws) zero e = (and_parts (all_scalars w) (list_all all_scalars ws) e).0
 scalars_at (w ∷ ws) (suc k) e = scalars_at ws k (and_parts (all_scalars w) (list_all all_scalars ws) e).1
 
-named_at : (ws : List (List ℕ)) → is_nameless ws ≡ false → (is_nil (field ws 0) && is_nil (field ws 1)) ≡ false
+pub named_at : (ws : List (List ℕ)) → is_nameless ws ≡ false → (is_nil (field ws 0) && is_nil (field ws 1)) ≡ false
 named_at [] e = absurd cc
 named_at (n ∷ []) e = ap (λ (b : Bool). b && true) e
 named_at (n ∷ s ∷ ws) e = e

@@ -23,7 +23,7 @@ none_kept : (bs : List ℕ) → ((k : ℕ) → k < length bs → 128 ≤ get_or 
 none_kept [] h = refl
 none_kept (b ∷ bs) h = rw (past_ascii b (h 0 (omega arith))) (none_kept bs (λ k lt. h (suc k) (omega (arith, lt))))
 
-wide_bytes : (c : ℕ) → 128 ≤ c → (k : ℕ) → k < length (encode_utf8 c) → 128 ≤ get_or (encode_utf8 c) k 0
+pub wide_bytes : (c : ℕ) → 128 ≤ c → (k : ℕ) → k < length (encode_utf8 c) → 128 ≤ get_or (encode_utf8 c) k 0
 wide_bytes c le k lt = elim (cases_lt (get_or (encode_utf8 c) k 0) 128) [
   | inl low ↦ absurd (let same = inside_one c [] (encode_utf8 c) k (sym (append-nil (encode_utf8 c))) lt low in omega (arith, same, low, le))
   | inr high ↦ high
