@@ -109,6 +109,8 @@ def stripped(text, own, names, traits):
             out += [use] if use else []
         elif ghost_trait(head, rest) in names or re.match(r"impl \w+ for \w+ \{$", head) and head.split()[1] in names:
             out += [""] + ghosts(head, rest)
+        elif re.match(r"impl.*\bDrop for\b", head):
+            out += [""] + rest
         elif re.match(r"impl.*\bModel for\b", head) or re.match(ITEM + r"(struct|enum|mod|type|static|const(?! fn))\b", head):
             out += [""] + list(type_lines(rest))
     return "\n".join(out) + "\n"
