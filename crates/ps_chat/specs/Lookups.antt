@@ -8,6 +8,7 @@ use Rattle.ps_group.specs.Ranks.{higher, is_below, in_force}
 use Rattle.ps_group.specs.declared.group.Group.{Group}
 use Rattle.ps_base.specs.ById.{ById}
 use Rattle.ps_lines.specs.SentTexts.{is_long}
+use Rattle.ps_chat.specs.declared.lookup.TheConstants.{MUTE_SECONDS}
 use Rattle.ps_chat.specs.declared.present.Present.{Present}
 
 -- the member of a connection
@@ -38,10 +39,10 @@ kept groups badge = record { name = badge.name; rank = in_force badge.rank group
 abbrev pub rank_with : List Group → ById ℕ → Badge → ℕ
 rank_with groups ranks badge = higher badge.rank (room_rank groups ranks (id_of badge.name))
 
--- A mute that began at a moment holds for 420 seconds, and at every moment before it.
+-- A mute that began at a moment holds for `MUTE_SECONDS`, and at every moment before it.
 abbrev pub mute_holds : ℕ → Option ℕ → Bool
 mute_holds moment None = false
-mute_holds moment (Some start) = nat_lt moment (start + 420)
+mute_holds moment (Some start) = nat_lt moment (start + MUTE_SECONDS)
 
 abbrev pub is_muted : ById ℕ → ℕ → List ℕ → Bool
 is_muted mutes moment id = mute_holds moment (get mutes id)

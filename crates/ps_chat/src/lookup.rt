@@ -13,7 +13,7 @@ use ps_group::rank::{higher, is_below};
 use ps_lines::sent_text::is_long;
 
 /// How long a mute lasts, in seconds.
-const MUTE: u64 = 420;
+pub const MUTE_SECONDS: u64 = 420;
 
 /// Whether a member has an id.
 pub fn has_id(member: &Present, id: &str) -> bool
@@ -50,7 +50,7 @@ pub(crate) fn is_muted(mutes: &IdMap<Moment>, moment: Moment, id: &str) -> bool
 {
     match mutes.get(id) {
         None => false,
-        Some(start) => moment.0 < start.0 || moment.0 - start.0 < MUTE,
+        Some(start) => moment.0 < start.0 || moment.0 - start.0 < MUTE_SECONDS,
     }
 }
 

@@ -24,8 +24,9 @@ mod gate_tests;
 #[cfg(test)]
 mod tests;
 
-/// How many entries one pass may make: 4,096 texts of a connection, 256 reports of battles that they end, and its end.
-pub const OWN_LIMIT: u64 = 4353;
+/// How many entries one pass may make: all texts that a connection may give to one place, 256 reports of battles that they
+/// end, and its end.
+pub const OWN_LIMIT: u64 = 16_641;
 
 /// A lock round a value with a history. Contracts see a name, which its passes share, and the value's origin.
 #[derive(Drop)]

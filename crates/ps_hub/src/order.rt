@@ -103,7 +103,7 @@ impl Hub {
     ///
     /// `NoSuchRoom` and `Busy` come as of `enter`, and then there is no entry. `Busy` also comes where the turn of the entry
     /// met an odd word, or two words that differ; the order comes back. `OwnLimit` comes exactly where the connection's pass
-    /// has made 4,353 entries at the place. After `NoMemory` the entry stands only if memory ran out for its messages.
+    /// has made `OWN_LIMIT` entries at the place. After `NoMemory` the entry stands only if memory ran out for its messages.
     /// It waits for nobody.
     pub fn order(
         &self,

@@ -21,6 +21,7 @@ use Rattle.ps_base.specs.ById.{ById}
 use Rattle.ps_hub.specs.Hubs.{Hub}
 use Rattle.ps_hub.specs.declared.pass.RoomPass.{RoomPass}
 use Rattle.ps_session.specs.Counts.{count_in, raised, with_left}
+use Rattle.ps_session.specs.declared.session.TheConstants.{MOST_TEXTS}
 use Rattle.ps_session.specs.Sessions.{Record, begun, is_full, counted, uncounted}
 use Rattle.ps_session.specs.Routes.{by_client, order_of, place_of, limited, within_limit, taken}
 use Rattle.ps_session.specs.declared.session.TakeFault.TheVariants as take_faults
@@ -95,9 +96,9 @@ begun_few conn = record { hall = omega arith; rooms = λ id. subst (λ (o : Opti
 
 -- ---- what a text is taken for
 
-full_many : (place : Option (List ℕ)) (n : ℕ) (r : Record) → Few n r → is_full place r ≡ true → 4096 ≤ n
-full_many None n r f e = let h : r.hall ≤ n = f.hall in let l : 4096 ≤ r.hall = grind (arith, nat_tests) in omega arith
-full_many (Some id) n r f e = let h : count_in id r.rooms ≤ n = f.rooms id in let l : 4096 ≤ count_in id r.rooms = grind (arith, nat_tests) in omega arith
+full_many : (place : Option (List ℕ)) (n : ℕ) (r : Record) → Few n r → is_full place r ≡ true → MOST_TEXTS ≤ n
+full_many None n r f e = let h : r.hall ≤ n = f.hall in let l : MOST_TEXTS ≤ r.hall = grind (arith, nat_tests) in omega arith
+full_many (Some id) n r f e = let h : count_in id r.rooms ≤ n = f.rooms id in let l : MOST_TEXTS ≤ count_in id r.rooms = grind (arith, nat_tests) in omega arith
 
 limit_by : (b : Bool) (order : Order) (room : Option (List ℕ)) → limited b order ≡ Err (take_faults.Limit room) → b ≡ true
 limit_by true order room e = refl
@@ -145,7 +146,7 @@ rest_read t old new bytes k all e =
     let there : Contains (t.rest ++ texts_in new.inbox) bytes = Contains-append_left t.rest (texts_in new.inbox) bytes (subst (λ (l : List (List ℕ)). Contains l bytes) (sym e) (0, omega arith, refl)) in
     All-contains IsReadable (texts_in old.inbox) bytes all (subst (λ (l : List (List ℕ)). Contains l bytes) (sym (inbox_texts t old new k)) (Contains-append_right (texts_in (map arrival_of t.acts)) (t.rest ++ texts_in new.inbox) bytes there))
 
-few_heard : (t : Account) (old new : Talk) (i : ℕ) → IsTalk t old new → length (texts_in old.inbox) ≤ 4096 → i < length t.rest → heard_in t.acts < 4096
+few_heard : (t : Account) (old new : Talk) (i : ℕ) → IsTalk t old new → length (texts_in old.inbox) ≤ MOST_TEXTS → i < length t.rest → heard_in t.acts < MOST_TEXTS
 few_heard t old new i k all lt =
     let parts = ap length (inbox_texts t old new k) ∙ length-append (texts_in (map arrival_of t.acts)) (t.rest ++ texts_in new.inbox) in
     let rest = length-append t.rest (texts_in new.inbox) in
@@ -153,20 +154,20 @@ few_heard t old new i k all lt =
 
 -- ---- the end
 
-too_many : (room : Option (List ℕ)) (hub : Hub) (conn : ℕ) (t : Account) (rooms : List RoomPass) (bytes : List ℕ) → heard_in t.acts < 4096 → IsTooMany room hub conn t rooms bytes → ⊥
+too_many : (room : Option (List ℕ)) (hub : Hub) (conn : ℕ) (t : Account) (rooms : List RoomPass) (bytes : List ℕ) → heard_in t.acts < MOST_TEXTS → IsTooMany room hub conn t rooms bytes → ⊥
 unfolding order_of
 too_many room hub conn t rooms bytes less (inl c) =
     let r = after_acts (begun conn) t.acts in
     let f : Few (0 + heard_in t.acts) r = acts_few 0 (begun conn) t.acts (begun_few conn) in
     let l = limit_full r (order_of r.badge r bytes) room c.0 in
-    let many : 4096 ≤ 0 + heard_in t.acts = full_many l.0 (0 + heard_in t.acts) r f l.1 in
+    let many : MOST_TEXTS ≤ 0 + heard_in t.acts = full_many l.0 (0 + heard_in t.acts) r f l.1 in
     omega arith
 too_many room hub conn t rooms bytes less (inr c) =
     let r = after_acts (begun conn) t.acts in
     let f : Few (0 + heard_in t.acts) r = acts_few 0 (begun conn) t.acts (begun_few conn) in
     let h : r.hall ≤ 0 + heard_in t.acts = f.hall in
-    let full : nat_le 4096 r.hall ≡ true = c.5 in
-    let l : 4096 ≤ r.hall = grind (arith, nat_tests) in
+    let full : nat_le MOST_TEXTS r.hall ≡ true = c.5 in
+    let l : MOST_TEXTS ≤ r.hall = grind (arith, nat_tests) in
     omega arith
 
 -- whatever became of them, none of so few texts is one more than its place takes

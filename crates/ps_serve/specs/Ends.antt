@@ -16,6 +16,7 @@ use Rattle.ps_histlock.specs.Histories.{commands, entries_of}
 use Rattle.ps_histlock.specs.Seated.{TableId}
 use Rattle.ps_histlock.specs.Views.{IsAtRest}
 use Rattle.ps_histlock.specs.declared.view.View.{View}
+use Rattle.ps_session.specs.declared.session.TheConstants.{MOST_TEXTS}
 use Rattle.ps_session.specs.Sessions.{begun, is_full, counted}
 use Rattle.ps_session.specs.Routes.{taken}
 use Rattle.ps_session.specs.Texts.{behind}
@@ -424,7 +425,7 @@ EndsWellWithin end hub conn t rooms told old new = (talk : Talk) → told ≡ So
 -- so few texts in all that whatever becomes of them no place is given too many, and each can be read
 pub record AreFew (inbox : List Arrival) : Type 0 where
   pub readable : All IsReadable (texts_in inbox)
-  pub few : length (texts_in inbox) ≤ 4096
+  pub few : length (texts_in inbox) ≤ MOST_TEXTS
 
 -- ---- all of it
 

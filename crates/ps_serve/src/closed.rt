@@ -9,7 +9,7 @@ pub enum End {
     Closed,
     /// The link failed.
     LinkFault,
-    /// A text more than 4,096 came for a room, which is named by its id, or for the hall (`None`).
+    /// A text more than `MOST_TEXTS` came for a room, which is named by its id, or for the hall (`None`).
     OwnLimit { room: Option<Text> },
     /// A text of more than 8,192 bytes, or one that is no UTF-8, came: its bytes.
     BadText { bytes: Vec<u8> },

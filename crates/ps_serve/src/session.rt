@@ -131,7 +131,7 @@ fn serve<R: Wait, L: Link, C: Clock>(
 /// sent, and the moments. The passes come from the hub if they hold the hall, as they do unless memory ran
 /// out for the Open; so its calls take them. `LinkFault` and `Closed` come only where the link's count of them rose, `BadText` and `OwnLimit` only
 /// by the text that came last, and `NoMemory` if out of memory, for the Quits too. A link that doesn't fail, and whose
-/// texts are UTF-8 and within the limits of bytes and of texts for a place, gives `Closed` or `NoMemory`; with 4,096 texts in all
+/// texts are UTF-8 and within the limits of bytes and of texts for a place, gives `Closed` or `NoMemory`; with `MOST_TEXTS` texts in all
 /// they are within the latter whatever becomes of them.
 pub fn serve_session<R: Wait, L: Link, C: Clock>(
     alloc: Global,

@@ -3,6 +3,7 @@ use Rattle.std.specs.Prelude.{ℕ, ◌+◌, ◌-◌, Bool, true, false, List, Op
 use Rattle.std.specs.FinMap.{empty, get}
 use Rattle.ps_base.specs.declared.badge.Badge.{Badge}
 use Rattle.ps_base.specs.ById.{ById}
+use Rattle.ps_session.specs.declared.session.TheConstants.{MOST_TEXTS, MOST_ROOMS}
 use Rattle.ps_session.specs.Counts.{count_in, raised, joined_with, lowered, joined_left}
 
 -- `hall` counts the texts for the hall, `rooms` those for each room with at least one, by its id as the whole text;
@@ -21,14 +22,6 @@ begun conn = record { conn = conn; badge = None; hall = 0; rooms = empty; joined
 
 -- ---- limits
 
--- how many texts a connection gives to one place at the most
-abbrev pub most_texts : ℕ
-most_texts = 4096
-
--- how many rooms a connection gives texts to at the most
-abbrev pub most_rooms : ℕ
-most_rooms = 256
-
 -- how many texts were given to a place: the hall, or the room with an id
 abbrev pub texts_at : Option (List ℕ) → Record → ℕ
 texts_at None r = r.hall
@@ -36,7 +29,7 @@ texts_at (Some id) r = count_in id r.rooms
 
 -- whether these are as many as may be given
 abbrev pub is_full : Option (List ℕ) → Record → Bool
-is_full place r = nat_le most_texts (texts_at place r)
+is_full place r = nat_le MOST_TEXTS (texts_at place r)
 
 abbrev pub is_none : Option ℕ → Bool
 is_none None = true
@@ -44,7 +37,7 @@ is_none (Some count) = false
 
 -- whether a room would be one more than a connection may have
 abbrev pub is_past_rooms : List ℕ → Record → Bool
-is_past_rooms id r = if nat_lt r.joined most_rooms then false else is_none (get r.rooms id)
+is_past_rooms id r = if nat_lt r.joined MOST_ROOMS then false else is_none (get r.rooms id)
 
 -- ---- counting
 

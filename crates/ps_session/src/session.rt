@@ -23,7 +23,7 @@ use std::marker::Model;
 use thiserror::Error;
 
 /// How many texts a connection gives to the hall, or to one room, at the most.
-pub const MOST_TEXTS: u32 = 4096;
+pub const MOST_TEXTS: u32 = 16_384;
 
 /// How many rooms a connection gives texts to at the most.
 pub const MOST_ROOMS: u32 = 256;
@@ -34,7 +34,7 @@ pub enum TakeFault {
     /// More than 8,192 bytes, or no UTF-8.
     #[error("no text")]
     BadText,
-    /// A text more than 4,096 to one room, which is named, or to the hall.
+    /// A text more than `MOST_TEXTS` to one room, which is named, or to the hall.
     #[error("a text more than a place takes")]
     Limit { room: Option<Text> },
     /// Out of memory.
@@ -255,8 +255,8 @@ impl Session {
     /// of these that holds: NoBar, UnknownCommand, BadArgs, and for a room NotNamed without a badge, and RoomLimit
     /// where 256 rooms have texts and this is none of them.
     ///
-    /// `BadText` comes exactly where `read_client` tells Long or NotUtf8, `Limit` where the order's place has 4,096
-    /// texts already. At each fault nothing changes.
+    /// `BadText` comes exactly where `read_client` tells Long or NotUtf8, `Limit` where the order's place has
+    /// `MOST_TEXTS` texts already. At each fault nothing changes.
     pub fn take(&mut self, alloc: Global, bytes: &[u8]) -> Result<Order, TakeFault>
         ensures order { IfOk result (λ o. taken self.old bytes.now ≡ Ok o) }
         ensures fault { IfErr result (λ f. IsTakeFault f (taken self.old bytes.now)) }
@@ -277,8 +277,8 @@ impl Session {
     }
 
     /// Says that the room of the order just taken isn't there. Its text then counts to the hall and no more to that
-    /// room, and the hall's order in its place says NoSuchRoom. `None` exactly where the hall had 4,096 texts of this
-    /// connection already; then nothing changes, and the session is to end. Takes no memory.
+    /// room, and the hall's order in its place says NoSuchRoom. `None` exactly where the hall had `MOST_TEXTS` texts of
+    /// this connection already; then nothing changes, and the session is to end. Takes no memory.
     pub fn no_room(&mut self) -> Option<Order>
         requires last { is_some self.old.last ≡ true }
         ensures order { result ≡ no_room self.old }

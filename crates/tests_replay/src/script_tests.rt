@@ -1,5 +1,6 @@
 //! Scripts of chat rooms and names, by what a connection is sent at their end.
 use crate::runs::{lines_of, replayed};
+use ps_session::session::MOST_TEXTS;
 use std::alloc::{AllocError, Global};
 use std::process::Abort;
 use std::test::Fail;
@@ -156,9 +157,13 @@ fn talk(alloc: Global, count: usize) -> Result<String, AllocError> {
 #[test]
 fn most_texts_of_a_place(rt: HostRuntime) -> Result<(), Fail> {
     let alloc = rt.alloc();
-    let lines = lines_of(alloc, &replayed(alloc, talk(alloc, 4095)?)?, '1')?;
+    let lines = lines_of(
+        alloc,
+        &replayed(alloc, talk(alloc, MOST_TEXTS as usize - 1)?)?,
+        '1',
+    )?;
     assert!(rt; lines.ends_with("1. |c:|0| Ann|a\n"));
-    let mut script = talk(alloc, 4096)?;
+    let mut script = talk(alloc, MOST_TEXTS as usize)?;
     script.push_str(">1 |/jump\n-1\n")?;
     let bytes = replayed(alloc, script)?;
     let lines = lines_of(alloc, &bytes, '1')?;

@@ -4,10 +4,12 @@ ghost use Rattle.ps_hub.specs.Passes.{AreOf};
 use crate::files::{ANN, BOB, assert_ended, close, end_of, inbox_of, make_hub, push, push_text};
 use crate::watching::{count_at, count_in_hall, last_line, leave, told, watcher};
 use ps_base::msg::Msg;
+use ps_histlock::OWN_LIMIT;
 use ps_hub::hub::Hub;
 use ps_hub::passes::Passes;
 use ps_outside::link::{Arrival, MemLink, SentText, SureLink};
 use ps_serve::closed::End;
+use ps_session::session::MOST_TEXTS;
 use std::alloc::Global;
 use std::process::Abort;
 use std::sync::Wait;
@@ -244,18 +246,18 @@ fn assert_limit(rt: &impl Abort, end: End, wanted: &str) {
 }
 
 fn talks_too_often<R: Abort + Wait>(rt: &R, alloc: Global, hub: &Hub) {
-    let mut link = talkative(rt, alloc, 4_096);
+    let mut link = talkative(rt, alloc, MOST_TEXTS as usize);
     let end = end_of(rt, alloc, hub, 1, &mut link);
     assert_limit(rt, end, "lobby");
     hang_up(link);
 }
 
 fn are_of_ann(rt: &impl Abort, messages: &[Msg]) {
-    assert_eq!(rt; messages.len(), 4_097);
+    assert_eq!(rt; messages.len(), MOST_TEXTS as usize + 1);
     assert_eq!(rt; last_line(messages), "|l|%Ann");
 }
 
-/// Who watches is told of Ann's Join, of 4,095 texts, and that Ann leaves, and of nothing else.
+/// Who watches is told of Ann's Join, of all other texts that the lobby takes, and that Ann leaves, and of nothing else.
 fn is_told_of_ann<R: Abort + Wait>(rt: &R, hub: &Hub, eve: &mut Passes)
     requires { AreOf hub.now eve.old }
 {
@@ -270,11 +272,20 @@ fn watches_ann<R: Abort + Wait>(rt: &R, alloc: Global, hub: &Hub) {
     leave(eve);
 }
 
-/// Ann's Join is her first text to the lobby. The 4,097th is no entry, and her Quit follows the 4,096 that are, beside Eve's Join.
+/// A place takes a fixed number of texts of a connection, and of a pass so many entries that these fit, with 256 Reports and a
+/// Quit.
+#[test]
+fn limits_of_a_place(rt: HostRuntime) {
+    assert_eq!(rt; MOST_TEXTS, 1 << 14);
+    assert_eq!(rt; OWN_LIMIT, u64::from(MOST_TEXTS) + 256 + 1);
+}
+
+/// Ann's Join is her first text to the lobby. One text more than the lobby takes is no entry, and her Quit follows those that
+/// are, beside Eve's Join.
 #[test]
 fn a_text_too_many(rt: HostRuntime) {
     let hub = make_hub(&rt, rt.alloc());
     watches_ann(&rt, rt.alloc(), &hub);
-    assert_eq!(rt; count_at(&rt, &hub, "lobby"), 4_098);
+    assert_eq!(rt; count_at(&rt, &hub, "lobby"), u64::from(MOST_TEXTS) + 2);
     close(hub);
 }
