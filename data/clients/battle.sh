@@ -1,12 +1,14 @@
 #!/bin/sh
 # A server for two connections, and two clients of other people's libraries that chat and play a battle to its end. Their
-# packages in Debian are python3-websockets and node-ws. It listens at a free port of this machine, or at the address given.
+# packages in Debian are python3-websockets and node-ws. It listens at a free port of this machine, or at the address given;
+# a second word names another configuration than data/small/config.json, as data/small/preview.json, with Team Preview.
 top=$(cd "$(dirname "$0")/../.." && pwd) || exit 1
 folder=$(mktemp -d) || exit 1
 trap 'rm -rf "$folder"' EXIT
 mkfifo "$folder/errors" || exit 1
 address=${1:-127.0.0.1:0}
-"$top/psd" serve "$address" 2 --dex "$top/data/small/dex.json" --config "$top/data/small/config.json" 2>"$folder/errors" &
+config=${2:-$top/data/small/config.json}
+"$top/psd" serve "$address" 2 --dex "$top/data/small/dex.json" --config "$config" 2>"$folder/errors" &
 server=$!
 exec 3<"$folder/errors"
 # The server says where it listens. What comes before that line is of a build, or says why it ended.

@@ -141,7 +141,6 @@ impl RoomBattle {
     ) -> RoomBattle
         requires first { IsFresh (team_of teams.now 0) }
         requires second { IsFresh (team_of teams.now 1) }
-        requires clauses { clauses < 128 }
         requires first_known { IsTeamKnown (length cast.dex.moves) (team_of teams.now 0) }
         requires second_known { IsTeamKnown (length cast.dex.moves) (team_of teams.now 1) }
         requires empty { out.old.items ≡ [] }

@@ -31,7 +31,6 @@ pub fn open(
 ) -> Bout
     requires first { IsFresh (team_of teams.now 0) }
     requires second { IsFresh (team_of teams.now 1) }
-    requires clauses { clauses < 128 }
     requires fair { AreFair (figures facts) }
     requires first_known { IsTeamKnown (move_count (figures facts)) (team_of teams.now 0) }
     requires second_known { IsTeamKnown (move_count (figures facts)) (team_of teams.now 1) }

@@ -169,6 +169,7 @@ act_alike facts user choices.Struggle hidden front formed a b lt shown unshown h
 act_alike facts user choices.Continue hidden front formed a b lt shown unshown has w = tried_again_alike facts user lt hidden front formed a b unshown has w
 act_alike facts user (choices.Switch position) hidden front formed a b lt shown unshown has w = w
 act_alike facts user choices.Pass hidden front formed a b lt shown unshown has w = w
+act_alike facts user (choices.Team numbers) hidden front formed a b lt shown unshown has w = w
 
 either-adds : (b : Bool) (c d : Course) → Grows c.told d.told → Grows c.told (cond b c d).told
 either-adds true c d grows = grows-none c.told

@@ -49,6 +49,7 @@ switched-copied s choices.Struggle c i stays h = h
 switched-copied s choices.Continue c i stays h = h
 switched-copied s (choices.Switch position) c i stays h = ap (λ (x : ChangedSlots). is_some x.copied) (switch-slots c.battle s position i (λ e. true≢false (stays e))) ∙ h
 switched-copied s choices.Pass c i stays h = h
+switched-copied s (choices.Team numbers) c i stays h = h
 
 switch-plain : (s : ℕ) (a : SideState) → IsPlain (switch_event s a)
 unfolding switch_event
@@ -62,6 +63,7 @@ switched-told s choices.Struggle c i k = refl
 switched-told s choices.Continue c i k = refl
 switched-told s (choices.Switch position) c i k = forms-behind i k c.told (switch_event s _ ∷ []) (switch-plain s _, tt)
 switched-told s choices.Pass c i k = refl
+switched-told s (choices.Team numbers) c i k = refl
 
 -- ---- both sides
 

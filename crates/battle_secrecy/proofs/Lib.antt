@@ -6,6 +6,7 @@ pub mod FormLemmas
 pub mod FrontLemmas
 pub mod KindLemmas
 pub mod OpeningLemmas
+pub mod OrderLemmas
 pub mod ShowLemmas
 pub mod SideLemmas
 pub mod SlotLemmas

@@ -1,10 +1,15 @@
 -- Battles of alike teams are alike at the opening, and tell the same of it; a forfeit keeps them so.
-use Rattle.std.proofs.Common.{◌≡◌, ℕ, ◌<◌, ◌≤◌, ◌-◌, ◌++◌, List, [], ◌∷◌, length, get_or, arith, refl, le_refl, subst, inl, inr, Bool, true, false}
+use Rattle.std.proofs.Common.{◌≡◌, ◌⊎◌, ℕ, zero, suc, ◌<◌, ◌≤◌, ◌-◌, ◌==◌, ◌++◌, List, [], ◌∷◌, All, length, map, take, get_or, arith, refl, le_refl, ap, ◌∙◌, sym, subst, inl, inr, Bool, true, false, not}
+use Rattle.std.specs.Prelude.{bit_and}
+use Rattle.std.proofs.lemmas.List.Elements.{All-nil}
 use Rattle.std.proofs.lemmas.Bool.Decides.{leb_tells}
 use Rattle.std.proofs.lemmas.List.{get_or_past}
 use Rattle.ps_event.specs.declared.event.Event.{Event}
 use Rattle.ps_event.specs.declared.event.Event.TheVariants as events
+use Rattle.ps_event.specs.declared.side.Side.{Side}
+use Rattle.ps_event.specs.declared.side.Side.TheVariants.{P1, P2}
 use Rattle.ps_mon.specs.declared.record.Battle.{Battle}
+use Rattle.ps_mon.specs.declared.record.Phase.{Phase}
 use Rattle.ps_mon.specs.declared.record.Phase.TheVariants as phases
 use Rattle.ps_mon.specs.declared.team.BattleTeam.{BattleTeam}
 use Rattle.ps_mon.specs.declared.team.Member.{Member}
@@ -12,15 +17,18 @@ use Rattle.ps_mon.specs.Reading.{side_of, no_member}
 use Rattle.ps_mon.specs.Teams.{opened, IsFresh, IsFreshMember}
 use Rattle.ps_mon.proofs.SideLemmas.{each_side}
 use Rattle.ps_mon.proofs.OpeningLemmas.{at-six}
-use Rattle.ps_battle.specs.Closings.{asks}
+use Rattle.ps_hits.specs.Courses.{untold}
+use Rattle.ps_battle.specs.Closings.{asks, enter}
 use Rattle.ps_battle.specs.Switches.{switch_event}
-use Rattle.ps_battle.specs.Openings.{rules, heads, fresh_battle, opening, open_course, give_up}
+use Rattle.ps_battle.specs.Openings.{team_of, rules, heads, previews, first_phase, fresh_battle, poke, pokes, previewed, started, shown_in, opening, open_course, give_up}
 use Rattle.battle_secrecy.specs.Places.{Hidden}
-use Rattle.battle_secrecy.specs.Alike.{AreAlike, AreSidesAlike, AreMembersAlike, AreShownAlike, IsPlaced, IsUnhurt}
-use Rattle.battle_secrecy.specs.Courses.{AreCoursesAlike, KeepsAlike}
-use Rattle.battle_secrecy.specs.Teams.{IsSized, AreTeamsAlike, AreBothTeamsAlike, teammate}
+use Rattle.battle_secrecy.specs.Alike.{AreAlike, AreSidesAlikeUnsent, AreBattlesAlike, AreActiveShown, IsUnsent, AreMembersAlike, AreShownAlike, IsPlaced, IsUnhurt}
+use Rattle.battle_secrecy.specs.Laws.{AreToldAlike}
+use Rattle.battle_secrecy.specs.Showing.{whos}
+use Rattle.battle_secrecy.specs.Teams.{IsSized, AreTeamsAlike, AreBothTeamsAlike, AreKindsSame, teammate}
 use Rattle.battle_secrecy.proofs.SwitchLemmas.{switch_event_alike}
-use Rattle.battle_secrecy.proofs.CloseLemmas.{enter_alike}
+use Rattle.battle_secrecy.proofs.OrderLemmas.{sent_alike}
+use Rattle.battle_secrecy.proofs.TellTurnLemmas.{IsOut, IsShown, give_up_names, open_names}
 
 -- a member that is read past the list has no slots, so it isn't fresh
 short : (t : BattleTeam) → IsFresh t → length t.members < t.count → ⊥
@@ -49,15 +57,16 @@ either-way true slot move m n one two shown = (fresh_unhurt m one, fresh_unhurt 
 either-way false slot move m n one two shown = shown refl
 
 -- of fresh teams only the members that aren't hidden need be alike
-pub fresh_teams_alike : (member : ℕ → Bool) (slot : ℕ → ℕ → Bool) (move : ℕ → ℕ → ℕ) (a b : BattleTeam) → length a.members ≡ length b.members → IsFresh a → IsFresh b →
-    a.count ≡ b.count → member 0 ≡ false → ((k : ℕ) → k < a.count → member k ≡ false → AreShownAlike (slot k) (move k) (teammate a k) (teammate b k)) →
-    ((k : ℕ) → a.count ≤ k → teammate a k ≡ teammate b k) → AreTeamsAlike member slot move a b
-fresh_teams_alike member slot move a b long one two count first shown rest = record {
+pub fresh_teams_alike : (preview : Bool) (member : ℕ → Bool) (slot : ℕ → ℕ → Bool) (move : ℕ → ℕ → ℕ) (a b : BattleTeam) → length a.members ≡ length b.members → IsFresh a → IsFresh b →
+    a.count ≡ b.count → (preview ≡ false → member 0 ≡ false) → (preview ≡ true → (k : ℕ) → k < a.count → AreKindsSame (teammate a k) (teammate b k)) → ((k : ℕ) → k < a.count → member k ≡ false → AreShownAlike (slot k) (move k) (teammate a k) (teammate b k)) →
+    ((k : ℕ) → a.count ≤ k → teammate a k ≡ teammate b k) → AreTeamsAlike preview member slot move a b
+fresh_teams_alike preview member slot move a b long one two count first kinds shown rest = record {
   first = fresh_sized a one;
   second = fresh_sized b two;
   long = long;
   count = count;
   active = first;
+  kinds = kinds;
   members = λ k h. either-way (member k) (slot k) (move k) _ _ (one.members k h) (two.members k (omega (arith, count))) (shown k h);
   rest = rest;
 }
@@ -72,60 +81,182 @@ opened-placed t sized = record {
 }
 
 -- a side of each of two alike teams
-pub opened_alike : (member : ℕ → Bool) (slot : ℕ → ℕ → Bool) (move : ℕ → ℕ → ℕ) (a b : BattleTeam) → AreTeamsAlike member slot move a b → AreSidesAlike member slot move (opened a) (opened b)
-opened_alike member slot move a b alike = record {
+opened-alike : (preview : Bool) (member : ℕ → Bool) (slot : ℕ → ℕ → Bool) (move : ℕ → ℕ → ℕ) (a b : BattleTeam) → AreTeamsAlike preview member slot move a b → AreSidesAlikeUnsent member slot move (opened a) (opened b)
+opened-alike preview member slot move a b alike = record {
   first = opened-placed a alike.first;
   second = opened-placed b alike.second;
   count = alike.count;
   order = refl;
   vol = refl;
-  active = alike.active;
   members = alike.members;
   long = alike.long;
   rest = alike.rest;
 }
 
-pub fresh_alike : (hidden : Hidden) (a b : List BattleTeam) (clauses seed : ℕ) → AreBothTeamsAlike hidden a b → AreAlike hidden (fresh_battle a clauses seed) (fresh_battle b clauses seed)
+fresh-alike : (preview : Bool) (hidden : Hidden) (a b : List BattleTeam) (clauses seed : ℕ) → AreBothTeamsAlike preview hidden a b → IsUnsent (first_phase clauses) ⊎ AreActiveShown hidden (fresh_battle a clauses seed) → AreBattlesAlike hidden (fresh_battle a clauses seed) (fresh_battle b clauses seed)
 unfolding fresh_battle
-fresh_alike hidden a b clauses seed alike = record {
+fresh-alike preview hidden a b clauses seed alike active = record {
   first_two = refl;
   second_two = refl;
   turn = refl;
   phase = refl;
   clauses = refl;
   rng = refl;
-  sides = each_side (λ s. AreSidesAlike (hidden.member s) (hidden.slot s) (hidden.move s) (side_of (fresh_battle a clauses seed) s) (side_of (fresh_battle b clauses seed) s))
-      (opened_alike _ _ _ _ _ (alike 0 (omega arith))) (opened_alike _ _ _ _ _ (alike 1 (omega arith)));
+  sides = each_side (λ s. AreSidesAlikeUnsent (hidden.member s) (hidden.slot s) (hidden.move s) (side_of (fresh_battle a clauses seed) s) (side_of (fresh_battle b clauses seed) s))
+      (opened-alike preview _ _ _ _ _ (alike 0 (omega arith))) (opened-alike preview _ _ _ _ _ (alike 1 (omega arith)));
+  active = active;
 }
 
--- the rows of the opening, from what they show of the sides
-rows-of : ℕ → ℕ → ℕ → Event → Event → List Event → List Event
-rows-of clauses one two first second told = rules clauses (heads one two told) ++ events.Start ∷ first ∷ second ∷ events.Turn 1 ∷ asks
+-- ---- what is told
 
-opening-is : (b : Battle) (told : List Event) → opening b told ≡ rows-of b.clauses (side_of b 0).count (side_of b 1).count (switch_event 0 (side_of b 0)) (switch_event 1 (side_of b 1)) told
-unfolding opening rows-of
-opening-is b told = refl
+-- the rows before the teams or their first members
+rows : Battle → List Event → List Event
+rows b told = rules b.clauses (heads (side_of b 0).count (side_of b 1).count told)
 
--- both tell the same at their opening
-pub opening_alike : (hidden : Hidden) (a b : Battle) (told : List Event) → AreAlike hidden a b → opening a told ≡ opening b told
-opening_alike hidden a b told alike =
-    let one = alike.sides 0 (omega arith) in
-    let two = alike.sides 1 (omega arith) in
-    let first = switch_event_alike _ _ _ 0 _ _ one in
-    let second = switch_event_alike _ _ _ 1 _ _ two in
-    cc (opening-is a told, opening-is b told, alike.clauses, one.count, two.count, first, second)
+rows-alike : (hidden : Hidden) (a b : Battle) (told : List Event) → AreBattlesAlike hidden a b → rows a told ≡ rows b told
+unfolding rows
+rows-alike hidden a b told w =
+    ap (λ (n : ℕ). rules n (heads (side_of a 0).count (side_of a 1).count told)) w.clauses
+    ∙ ap (λ (n : ℕ). rules b.clauses (heads n (side_of a 1).count told)) (w.sides 0 (omega arith)).count
+    ∙ ap (λ (n : ℕ). rules b.clauses (heads (side_of b 0).count n told)) (w.sides 1 (omega arith)).count
 
--- the first members are active
-fresh-front : (teams : List BattleTeam) (clauses seed s : ℕ) → s < 2 → get_or (side_of (fresh_battle teams clauses seed) s).order 0 0 ≡ 0
+opening-in : (b : Battle) (phase : Phase) (told : List Event) → b.phase ≡ phase → opening b told ≡ shown_in phase b (rows b told)
+unfolding opening rows
+opening-in b phase told is = ap (λ (p : Phase). shown_in p b (rules b.clauses (heads (side_of b 0).count (side_of b 1).count told))) is
+
+starts-of : Event → Event → List Event → List Event
+starts-of first second told = told ++ events.Start ∷ first ∷ second ∷ events.Turn 1 ∷ asks
+
+started-is : (b : Battle) (told : List Event) → started b told ≡ starts-of (switch_event 0 (side_of b 0)) (switch_event 1 (side_of b 1)) told
+unfolding started starts-of
+started-is b told = refl
+
+-- both tell the same of their first members
+pub started_alike : (hidden : Hidden) (a b : Battle) (told : List Event) → AreAlike hidden a b → started a told ≡ started b told
+started_alike hidden a b told alike =
+    let first = switch_event_alike _ _ _ 0 _ _ (alike.sides 0 (omega arith)) in
+    let second = switch_event_alike _ _ _ 1 _ _ (alike.sides 1 (omega arith)) in
+    cc (started-is a told, started-is b told, first, second)
+
+-- and where all members are of the same kinds, of their teams
+pokes-same : (name : Side) (n : ℕ) (xs ys : List Member) → n ≤ length xs → n ≤ length ys → ((k : ℕ) → k < n → AreKindsSame (get_or xs k no_member) (get_or ys k no_member)) → map (poke name) (take n xs) ≡ map (poke name) (take n ys)
+pokes-same name zero [] [] p q same = refl
+pokes-same name zero [] (y ∷ ys) p q same = refl
+pokes-same name zero (x ∷ xs) [] p q same = refl
+pokes-same name zero (x ∷ xs) (y ∷ ys) p q same = refl
+pokes-same name (suc n) [] ys p q same = absurd (omega (arith, p))
+pokes-same name (suc n) (x ∷ xs) [] p q same = absurd (omega (arith, q))
+pokes-same name (suc n) (x ∷ xs) (y ∷ ys) p q same =
+    let first : AreKindsSame x y = same 0 (omega arith) in
+    let rest = pokes-same name n xs ys (omega (arith, p)) (omega (arith, q)) (λ k lt. same (suc k) (omega (arith, lt))) in
+    ap (λ (s : ℕ). events.Poke name s x.level ∷ map (poke name) (take n xs)) first.species
+    ∙ ap (λ (l : ℕ). events.Poke name y.species l ∷ map (poke name) (take n xs)) first.level
+    ∙ ap (λ (es : List Event). poke name y ∷ es) rest
+
+team-shown : (name : Side) (member : ℕ → Bool) (slot : ℕ → ℕ → Bool) (move : ℕ → ℕ → ℕ) (a b : BattleTeam) → AreTeamsAlike true member slot move a b → pokes name (opened a) ≡ pokes name (opened b)
+team-shown name member slot move a b w =
+    pokes-same name a.count a.members b.members w.first.long (omega (arith, w.count, w.second.long)) (w.kinds refl)
+    ∙ ap (λ (n : ℕ). map (poke name) (take n b.members)) w.count
+
+previews-of : List Event → List Event → List Event → List Event
+previews-of first second told = told ++ events.ClearPoke ∷ [] ++ first ++ second ++ events.TeamPreview ∷ asks
+
+previewed-is : (b : Battle) (told : List Event) → previewed b told ≡ previews-of (pokes P1 (side_of b 0)) (pokes P2 (side_of b 1)) told
+unfolding previewed previews-of
+previewed-is b told = refl
+
+-- ---- the opening
+
+first-turn : (clauses : ℕ) → (bit_and clauses 64 == 0) ≡ true → first_phase clauses ≡ phases.Turn
+unfolding first_phase
+first-turn clauses e = rw e refl
+
+first-preview : (clauses : ℕ) → (bit_and clauses 64 == 0) ≡ false → first_phase clauses ≡ phases.Preview
+unfolding first_phase
+first-preview clauses e = rw e refl
+
+fresh-phase : (teams : List BattleTeam) (clauses seed : ℕ) → (fresh_battle teams clauses seed).phase ≡ first_phase clauses
 unfolding fresh_battle
-fresh-front teams clauses seed = each_side (λ s. get_or (side_of (fresh_battle teams clauses seed) s).order 0 0 ≡ 0) refl refl
+fresh-phase teams clauses seed = refl
 
-pub open_alike : (hidden : Hidden) (a b : List BattleTeam) (clauses seed : ℕ) → AreBothTeamsAlike hidden a b → AreCoursesAlike hidden (λ s. 0) (open_course a clauses seed) (open_course b clauses seed)
-open_alike hidden a b clauses seed alike =
-    let battle : AreAlike hidden (fresh_battle a clauses seed) (fresh_battle b clauses seed) = fresh_alike hidden a b clauses seed alike in
-    record { battle = battle; indices = fresh-front a clauses seed; told = opening_alike hidden _ _ [] battle }
+fresh-shown : (hidden : Hidden) (teams : List BattleTeam) (clauses seed : ℕ) → hidden.member 0 0 ≡ false → hidden.member 1 0 ≡ false → AreActiveShown hidden (fresh_battle teams clauses seed)
+unfolding fresh_battle
+fresh-shown hidden teams clauses seed first second = each_side (λ s. hidden.member s (get_or (side_of (fresh_battle teams clauses seed) s).order 0 0) ≡ false) first second
+
+-- both begin with turn 1
+open-turn : (hidden : Hidden) (a b : List BattleTeam) (clauses seed : ℕ) → (bit_and clauses 64 == 0) ≡ true → AreBothTeamsAlike false hidden a b → AreToldAlike hidden (open_course a clauses seed) (open_course b clauses seed)
+open-turn hidden a b clauses seed e alike =
+    let zero_in : 0 < 2 = omega arith in
+    let one_in : 1 < 2 = omega arith in
+    let first : hidden.member 0 0 ≡ false = (alike 0 zero_in).active refl in
+    let second : hidden.member 1 0 ≡ false = (alike 1 one_in).active refl in
+    let shown : AreActiveShown hidden (fresh_battle a clauses seed) = fresh-shown hidden a clauses seed first second in
+    let battle : AreBattlesAlike hidden (fresh_battle a clauses seed) (fresh_battle b clauses seed) = fresh-alike false hidden a b clauses seed alike (inr shown) in
+    let is : (ts : List BattleTeam) → (fresh_battle ts clauses seed).phase ≡ phases.Turn = λ ts. fresh-phase ts clauses seed ∙ first-turn clauses e in
+    record {
+      battle = battle;
+      told = opening-in _ phases.Turn [] (is a)
+          ∙ started_alike hidden _ _ _ (sent_alike hidden _ _ shown battle)
+          ∙ ap (started (fresh_battle b clauses seed)) (rows-alike hidden _ _ [] battle)
+          ∙ sym (opening-in _ phases.Turn [] (is b));
+      names = open_names hidden a clauses seed (λ out. first) (λ out. second);
+    }
+
+previewed-same : (hidden : Hidden) (a b : List BattleTeam) (clauses seed : ℕ) (told : List Event) → AreBothTeamsAlike true hidden a b → previewed (fresh_battle a clauses seed) told ≡ previewed (fresh_battle b clauses seed) told
+unfolding fresh_battle
+previewed-same hidden a b clauses seed told alike =
+    let first = team-shown P1 _ _ _ (team_of a 0) (team_of b 0) (alike 0 (omega arith)) in
+    let second = team-shown P2 _ _ _ (team_of a 1) (team_of b 1) (alike 1 (omega arith)) in
+    previewed-is _ told
+    ∙ ap (λ (es : List Event). previews-of es (pokes P2 (opened (team_of a 1))) told) first
+    ∙ ap (λ (es : List Event). previews-of (pokes P1 (opened (team_of b 0))) es told) second
+    ∙ sym (previewed-is _ told)
+
+-- both begin with Team Preview
+open-preview : (hidden : Hidden) (a b : List BattleTeam) (clauses seed : ℕ) → (bit_and clauses 64 == 0) ≡ false → AreBothTeamsAlike true hidden a b → AreToldAlike hidden (open_course a clauses seed) (open_course b clauses seed)
+open-preview hidden a b clauses seed e alike =
+    let phase : first_phase clauses ≡ phases.Preview = first-preview clauses e in
+    let unsent : IsUnsent (first_phase clauses) = subst IsUnsent (sym phase) tt in
+    let battle : AreBattlesAlike hidden (fresh_battle a clauses seed) (fresh_battle b clauses seed) = fresh-alike true hidden a b clauses seed alike (inl unsent) in
+    let is : (ts : List BattleTeam) → (fresh_battle ts clauses seed).phase ≡ phases.Preview = λ ts. fresh-phase ts clauses seed ∙ phase in
+    let never : IsOut (first_phase clauses) → ⊥ = λ out. subst IsOut phase out in
+    record {
+      battle = battle;
+      told = opening-in _ phases.Preview [] (is a)
+          ∙ previewed-same hidden a b clauses seed _ alike
+          ∙ ap (previewed (fresh_battle b clauses seed)) (rows-alike hidden _ _ [] battle)
+          ∙ sym (opening-in _ phases.Preview [] (is b));
+      names = open_names hidden a clauses seed (λ out. absurd (never out)) (λ out. absurd (never out));
+    }
+
+by-bit : (t : Bool) (hidden : Hidden) (a b : List BattleTeam) (clauses seed : ℕ) → (bit_and clauses 64 == 0) ≡ t → AreBothTeamsAlike (not t) hidden a b → AreToldAlike hidden (open_course a clauses seed) (open_course b clauses seed)
+by-bit true hidden a b clauses seed e alike = open-turn hidden a b clauses seed e alike
+by-bit false hidden a b clauses seed e alike = open-preview hidden a b clauses seed e alike
+
+-- battles of alike teams are alike at the opening, and tell the same of it
+pub open_alike : (hidden : Hidden) (a b : List BattleTeam) (clauses seed : ℕ) → AreBothTeamsAlike (previews clauses) hidden a b → AreToldAlike hidden (open_course a clauses seed) (open_course b clauses seed)
+open_alike hidden a b clauses seed alike = by-bit (bit_and clauses 64 == 0) hidden a b clauses seed refl alike
+
+-- ---- a forfeit
 
 -- a side gives up
-pub give_up_alike : (s : ℕ) → KeepsAlike (give_up s)
-unfolding give_up
-give_up_alike s = enter_alike (phases.Won (1 - s)) _
+pub give_up_alike : (s : ℕ) (hidden : Hidden) (a b : Battle) → AreBattlesAlike hidden a b → AreToldAlike hidden (give_up s (untold a)) (give_up s (untold b))
+unfolding give_up enter
+give_up_alike s hidden a b w = record {
+  battle = record {
+    first_two = w.first_two;
+    second_two = w.second_two;
+    turn = w.turn;
+    phase = refl;
+    clauses = w.clauses;
+    rng = w.rng;
+    sides = w.sides;
+    active = still w.active;
+  };
+  told = refl;
+  names = give_up_names s hidden (untold a) (All-nil (λ e. All (IsShown hidden) (whos e)));
+}
+  where
+    still : IsUnsent a.phase ⊎ AreActiveShown hidden a → IsUnsent (phases.Won (1 - s)) ⊎ AreActiveShown hidden a
+    still (inl unsent) = inl tt
+    still (inr shown) = inr shown

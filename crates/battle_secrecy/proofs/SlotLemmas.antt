@@ -133,6 +133,7 @@ chosen_move_alike hidden s a b choices.Continue shown alike = ap (λ (v : Volati
 chosen_move_alike hidden s a b choices.Struggle shown alike = refl
 chosen_move_alike hidden s a b (choices.Switch position) shown alike = refl
 chosen_move_alike hidden s a b choices.Pass shown alike = refl
+chosen_move_alike hidden s a b (choices.Team numbers) shown alike = refl
 
 pub priority_alike : (facts : Figures) (hidden : Hidden) (s : ℕ) (a b : SideState) (choice : Choice) → IsActUnhidden hidden s (active_index a) choice → AreSidesAlike (hidden.member s) (hidden.slot s) (hidden.move s) a b → priority_of facts a choice ≡ priority_of facts b choice
 unfolding priority_of

@@ -142,6 +142,7 @@ sends_shown hidden s side choices.Struggle there shown = tt
 sends_shown hidden s side choices.Continue there shown = tt
 sends_shown hidden s side (choices.Switch p) there shown = (there.0, there.1, shown)
 sends_shown hidden s side choices.Pass there shown = tt
+sends_shown hidden s side (choices.Team numbers) there shown = tt
 
 -- a side's own order and count say which
 pub sends_kept : (member : ℕ → Bool) (old new : SideState) (choice : Choice) → new.order ≡ old.order → new.count ≡ old.count → SendsShown member old choice → SendsShown member new choice
@@ -151,6 +152,7 @@ sends_kept member old new choices.Continue order count shown = tt
 sends_kept member old new (choices.Switch p) order count shown =
     (shown.0, omega (arith, shown.1, count), ap (λ l. member (get_or l (p - 1) 0)) order ∙ shown.2)
 sends_kept member old new choices.Pass order count shown = tt
+sends_kept member old new (choices.Team numbers) order count shown = tt
 
 -- the same courses, seen from where their active members are
 pub seated : (hidden : Hidden) (front : ℕ → ℕ) (a b : Course) → AreCoursesAlike hidden front a b → AreCoursesAlike hidden (fronts a.battle) a b
@@ -164,6 +166,7 @@ switched_alike s choices.Struggle hidden front a b lt shown w = seated hidden fr
 switched_alike s choices.Continue hidden front a b lt shown w = seated hidden front a b w
 switched_alike s (choices.Switch p) hidden front a b lt shown w = sent_in_alike s p hidden front a b lt shown.0 shown.1 shown.2 w
 switched_alike s choices.Pass hidden front a b lt shown w = seated hidden front a b w
+switched_alike s (choices.Team numbers) hidden front a b lt shown w = seated hidden front a b w
 
 -- the other side's order and count stay
 pub switched_foe : (s : ℕ) (choice : Choice) (c : Course) → s < 2 → length c.battle.sides ≡ 2 →
@@ -177,6 +180,7 @@ switched_foe s (choices.Switch p) c lt two =
     let is = switch_foe c.battle s p lt two in
     (ap (λ (a : SideState). a.order) is ∙ kept.0, ap (λ (a : SideState). a.count) is ∙ kept.1)
 switched_foe s choices.Pass c lt two = (refl, refl)
+switched_foe s (choices.Team numbers) c lt two = (refl, refl)
 
 -- both sides send in members that are there and aren't hidden
 pub both_switched_alike : (one two : Choice) (hidden : Hidden) (front : ℕ → ℕ) (a b : Course) → SendsShown (hidden.member 0) (side_of a.battle 0) one →

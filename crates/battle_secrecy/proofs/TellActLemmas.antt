@@ -320,6 +320,7 @@ act_step facts user lt choices.Struggle c = tried_step facts user lt None strugg
 act_step facts user lt choices.Continue c = tried_again_step facts user lt c
 act_step facts user lt (choices.Switch position) c = no_step c
 act_step facts user lt choices.Pass c = no_step c
+act_step facts user lt (choices.Team numbers) c = no_step c
 
 pub two_acts_step : (facts : Figures) (s : ℕ) → s < 2 → (first : Choice) (t : ℕ) → t < 2 → (second : Choice) (c : Course) → TellsOfActive c (two_acts facts s first t second c)
 unfolding two_acts

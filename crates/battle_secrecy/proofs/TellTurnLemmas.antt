@@ -1,11 +1,12 @@
 -- What a turn, an opening and a forfeit tell: no event names a member but those that are active before and those that come in.
-use Rattle.std.proofs.Common.{◌≡◌, ◌≢◌, ◌∙◌, ℕ, zero, suc, ◌<◌, ◌-◌, ◌+◌, ◌&&◌, ◌||◌, ◌==◌, not, Bool, true, false, List, [], ◌∷◌, ◌++◌, All, is_some, length, get_or, set, arith, refl, ap, if◌then◌else◌}
+use Rattle.std.proofs.Common.{◌≡◌, ◌≢◌, ◌∙◌, ℕ, zero, suc, ◌<◌, ◌-◌, ◌+◌, ◌&&◌, ◌||◌, ◌==◌, not, Bool, true, false, List, [], ◌∷◌, ◌++◌, All, map, is_some, length, get_or, set, arith, refl, ap, if◌then◌else◌}
 use Rattle.std.specs.Prelude.{bit_and}
 use Rattle.std.specs.List.{swap}
 use Rattle.std.proofs.lemmas.List.Elements.{All-nil}
 use Rattle.ps_event.specs.declared.event.Event.{Event}
 use Rattle.ps_event.specs.declared.event.Event.TheVariants as events
 use Rattle.ps_event.specs.declared.event.Who.{Who}
+use Rattle.ps_event.specs.declared.side.Side.{Side}
 use Rattle.ps_event.specs.declared.side.Side.TheVariants.{P1, P2}
 use Rattle.ps_event.specs.Sides.{side_number}
 use Rattle.ps_mon.specs.declared.record.Battle.{Battle}
@@ -13,6 +14,7 @@ use Rattle.ps_mon.specs.declared.record.Phase.{Phase}
 use Rattle.ps_mon.specs.declared.record.Phase.TheVariants as phases
 use Rattle.ps_mon.specs.declared.record.SideState.{SideState}
 use Rattle.ps_mon.specs.declared.team.BattleTeam.{BattleTeam}
+use Rattle.ps_mon.specs.declared.team.Member.{Member}
 use Rattle.ps_mon.specs.declared.choice.Choice.{Choice}
 use Rattle.ps_mon.specs.declared.choice.Choice.TheVariants as choices
 use Rattle.ps_mon.specs.Facts.{Figures}
@@ -27,7 +29,7 @@ use Rattle.ps_battle.specs.Acts.{is_down}
 use Rattle.ps_battle.specs.Switches.{switch_event, sent_in, switched, refreshed_duel, begun}
 use Rattle.ps_battle.specs.Closings.{enter, asks, next_turn, closed}
 use Rattle.ps_battle.specs.Turns.{acted, both_switched, turn_in, turn}
-use Rattle.ps_battle.specs.Openings.{rule, rules, heads, fresh_battle, opening, open_course, give_up}
+use Rattle.ps_battle.specs.Openings.{rule, rules, heads, first_phase, fresh_battle, poke, pokes, previewed, started, shown_in, opening, open_course, give_up}
 use Rattle.battle_secrecy.specs.Places.{Hidden}
 use Rattle.battle_secrecy.specs.Showing.{whos, NamesNoHidden}
 use Rattle.battle_secrecy.specs.Courses.{TellsOfActive, active_who}
@@ -109,6 +111,7 @@ sends-kept P s a b choices.Struggle e sends = tt
 sends-kept P s a b choices.Continue e sends = tt
 sends-kept P s a b (choices.Switch position) e sends = rw e sends
 sends-kept P s a b choices.Pass e sends = tt
+sends-kept P s a b (choices.Team numbers) e sends = tt
 
 -- a read past the end gives what it is told to
 past-end : (Q : ℕ → Type 0) (xs : List ℕ) (k d : ℕ) → Q d → Q (get_or xs k 0) → Q (get_or xs k d)
@@ -169,6 +172,7 @@ switched_such P s lt choices.Struggle c sends such = such
 switched_such P s lt choices.Continue c sends such = such
 switched_such P s lt (choices.Switch position) c sends such = sent_in-such P s lt position c sends such
 switched_such P s lt choices.Pass c sends such = such
+switched_such P s lt (choices.Team numbers) c sends such = such
 
 switched-other : (s i : ℕ) → i ≢ s → (choice : Choice) (c : Course) → (side_of (switched s choice c).battle i).order ≡ (side_of c.battle i).order
 unfolding switched sent_in
@@ -177,6 +181,7 @@ switched-other s i ne choices.Struggle c = refl
 switched-other s i ne choices.Continue c = refl
 switched-other s i ne (choices.Switch position) c = switch-other c.battle s position i ne
 switched-other s i ne choices.Pass c = refl
+switched-other s i ne (choices.Team numbers) c = refl
 
 pub both_switched_such : (P : Who → Type 0) (one two : Choice) (c : Course) → SendsSuch P 0 (side_of c.battle 0) one → SendsSuch P 1 (side_of c.battle 1) two → NamesSuch P c → NamesSuch P (both_switched one two c)
 unfolding both_switched
@@ -186,18 +191,24 @@ both_switched_such P one two c first second such =
 
 -- ---- the turn
 
-pub turn_such : (P : Who → Type 0) (phase : Phase) (facts : Figures) (one two : Choice) (c : Course) → SendsSuch P 0 (side_of c.battle 0) one → SendsSuch P 1 (side_of c.battle 1) two → NamesSuch P c → NamesSuch P (turn_in phase facts one two c)
+-- members are sent out
+abbrev pub IsOut : Phase → Type 0
+IsOut phases.Preview = ⊥
+IsOut other = Unit {0}
+
+pub turn_such : (P : Who → Type 0) (phase : Phase) (facts : Figures) (one two : Choice) (c : Course) → IsOut phase → SendsSuch P 0 (side_of c.battle 0) one → SendsSuch P 1 (side_of c.battle 1) two → NamesSuch P c → NamesSuch P (turn_in phase facts one two c)
 unfolding turn_in
-turn_such P phases.Turn facts one two c first second such =
+turn_such P phases.Preview facts one two c out first second such = absurd out
+turn_such P phases.Turn facts one two c out first second such =
     let from : Course = record c { battle = begun c.battle } in
     let came : Course = both_switched one two from in
     step_such P came _ (step_trans came (acted facts one two came) _ (acted_step facts one two came) (closed_step (acted facts one two came)))
     (both_switched_such P one two from (sends-kept P 0 (side_of c.battle 0) (side_of from.battle 0) one (begun-order c.battle 0) first) (sends-kept P 1 (side_of c.battle 1) (side_of from.battle 1) two (begun-order c.battle 1) second)
     (step_such P c from (begun_step c) such))
-turn_such P (phases.Replace p1 p2) facts one two c first second such =
+turn_such P (phases.Replace p1 p2) facts one two c out first second such =
     step_such P (both_switched one two c) _ (next_step (both_switched one two c)) (both_switched_such P one two c first second such)
-turn_such P (phases.Won side) facts one two c first second such = such
-turn_such P phases.Tied facts one two c first second such = such
+turn_such P (phases.Won side) facts one two c out first second such = such
+turn_such P phases.Tied facts one two c out first second such = such
 
 -- ---- hidden members
 
@@ -211,19 +222,21 @@ sends-shown hidden s side choices.Struggle named shown = tt
 sends-shown hidden s side choices.Continue named shown = tt
 sends-shown hidden s side (choices.Switch position) named shown = rw named shown
 sends-shown hidden s side choices.Pass named shown = tt
+sends-shown hidden s side (choices.Team numbers) named shown = tt
 
 -- no event of a turn names a hidden member, and none is active after it, where the active members aren't hidden before it and the choices show none
-pub turn_shown : (facts : Figures) (one two : Choice) (hidden : Hidden) (c : Course) → IsChoiceUnhidden hidden 0 (side_of c.battle 0) one → IsChoiceUnhidden hidden 1 (side_of c.battle 1) two → NamesSuch (IsShown hidden) c → NamesSuch (IsShown hidden) (turn facts one two c)
-turn_shown facts one two hidden c first second such =
-    turn_such (IsShown hidden) c.battle.phase facts one two c (sends-shown hidden 0 (side_of c.battle 0) one refl first) (sends-shown hidden 1 (side_of c.battle 1) two refl second) such
+pub turn_shown : (facts : Figures) (one two : Choice) (hidden : Hidden) (c : Course) → IsOut c.battle.phase → IsChoiceUnhidden hidden 0 (side_of c.battle 0) one → IsChoiceUnhidden hidden 1 (side_of c.battle 1) two → NamesSuch (IsShown hidden) c → NamesSuch (IsShown hidden) (turn facts one two c)
+turn_shown facts one two hidden c out first second such =
+    turn_such (IsShown hidden) c.battle.phase facts one two c out (sends-shown hidden 0 (side_of c.battle 0) one refl first) (sends-shown hidden 1 (side_of c.battle 1) two refl second) such
 
-pub turn_names : (facts : Figures) (one two : Choice) (hidden : Hidden) (b : Battle) → hidden.member 0 (active_index (side_of b 0)) ≡ false → hidden.member 1 (active_index (side_of b 1)) ≡ false → IsChoiceUnhidden hidden 0 (side_of b 0) one → IsChoiceUnhidden hidden 1 (side_of b 1) two → NamesNoHidden hidden (turn facts one two (untold b)).told
-turn_names facts one two hidden b active active_too first second =
-    (turn_shown facts one two hidden (untold b) first second (record { first = active; second = active_too; told = All-nil (λ e. All (IsShown hidden) (whos e)) })).told
+pub turn_names : (facts : Figures) (one two : Choice) (hidden : Hidden) (b : Battle) → IsOut b.phase → hidden.member 0 (active_index (side_of b 0)) ≡ false → hidden.member 1 (active_index (side_of b 1)) ≡ false → IsChoiceUnhidden hidden 0 (side_of b 0) one → IsChoiceUnhidden hidden 1 (side_of b 1) two → NamesNoHidden hidden (turn facts one two (untold b)).told
+turn_names facts one two hidden b out active active_too first second =
+    (turn_shown facts one two hidden (untold b) out first second (record { first = active; second = active_too; told = All-nil (λ e. All (IsShown hidden) (whos e)) })).told
 
 -- nor does a forfeit
-pub give_up_names : (s : ℕ) (hidden : Hidden) (c : Course) → NamesSuch (IsShown hidden) c → NamesSuch (IsShown hidden) (give_up s c)
-give_up_names s hidden c such = step_such (IsShown hidden) c (give_up s c) (give_up_step s c) such
+pub give_up_names : (s : ℕ) (hidden : Hidden) (c : Course) → NamesNoHidden hidden c.told → NamesNoHidden hidden (give_up s c).told
+unfolding give_up enter
+give_up_names s hidden c names = All-more (IsShown hidden) c.told _ names (tt, (tt, tt))
 
 -- ---- the opening
 
@@ -239,26 +252,40 @@ rules-such : (P : Who → Type 0) (clauses : ℕ) (told : List Event) → All (�
 unfolding rules
 rules-such P clauses told all =
     let on : (bit clause : ℕ) (told : List Event) → All (λ e. All P (whos e)) told → All (λ e. All P (whos e)) (rule clauses bit clause told) = rule-such P clauses in
-    on 64 6 _ (on 32 5 _ (on 16 4 _ (on 8 3 _ (on 4 2 _ (on 2 1 _ (on 1 0 told all))))))
+    on 128 7 _ (on 64 6 _ (on 32 5 _ (on 16 4 _ (on 8 3 _ (on 4 2 _ (on 2 1 _ (on 1 0 told all)))))))
 
 heads-such : (P : Who → Type 0) (one two : ℕ) (told : List Event) → All (λ e. All P (whos e)) told → All (λ e. All P (whos e)) (heads one two told)
 unfolding heads
 heads-such P one two told all = All-more P told _ all (tt, (tt, (tt, (tt, (tt, (tt, (tt, tt)))))))
 
-pub opening_such : (P : Who → Type 0) (b : Battle) (told : List Event) → P (active_who b 0) → P (active_who b 1) → All (λ e. All P (whos e)) told → All (λ e. All P (whos e)) (opening b told)
+pub started_such : (P : Who → Type 0) (b : Battle) (told : List Event) → P (active_who b 0) → P (active_who b 1) → All (λ e. All P (whos e)) told → All (λ e. All P (whos e)) (started b told)
+unfolding started
+started_such P b told first second all =
+    All-more P told _ all (tt, (event-so P 0 (side_of b 0) first, (event-so P 1 (side_of b 1) second, (tt, (tt, (tt, tt))))))
+
+-- what is shown of members before they are sent out names none of them
+pokes-so : (P : Who → Type 0) (name : Side) (ms : List Member) → AreSo (λ e. AreSo P (whos e)) (map (poke name) ms)
+pokes-so P name [] = tt
+pokes-so P name (m ∷ ms) = (tt, pokes-so P name ms)
+
+previewed-such : (P : Who → Type 0) (b : Battle) (told : List Event) → All (λ e. All P (whos e)) told → All (λ e. All P (whos e)) (previewed b told)
+unfolding previewed
+previewed-such P b told all =
+    All-more P _ (events.TeamPreview ∷ asks) (All-more P _ (pokes P2 (side_of b 1)) (All-more P _ (pokes P1 (side_of b 0)) (All-more P told (events.ClearPoke ∷ []) all (tt, tt)) (pokes-so P P1 _)) (pokes-so P P2 _)) (tt, (tt, (tt, tt)))
+
+shown-such : (P : Who → Type 0) (phase : Phase) (b : Battle) (told : List Event) → (IsOut phase → P (active_who b 0)) → (IsOut phase → P (active_who b 1)) → All (λ e. All P (whos e)) told → All (λ e. All P (whos e)) (shown_in phase b told)
+shown-such P phases.Preview b told first second all = previewed-such P b told all
+shown-such P phases.Turn b told first second all = started_such P b told (first tt) (second tt) all
+shown-such P (phases.Replace p1 p2) b told first second all = started_such P b told (first tt) (second tt) all
+shown-such P (phases.Won side) b told first second all = started_such P b told (first tt) (second tt) all
+shown-such P phases.Tied b told first second all = started_such P b told (first tt) (second tt) all
+
+opening-such : (P : Who → Type 0) (b : Battle) (told : List Event) → (IsOut b.phase → P (active_who b 0)) → (IsOut b.phase → P (active_who b 1)) → All (λ e. All P (whos e)) told → All (λ e. All P (whos e)) (opening b told)
 unfolding opening
-opening_such P b told first second all =
-    All-more P (rules b.clauses (heads (side_of b 0).count (side_of b 1).count told)) _ (rules-such P b.clauses _ (heads-such P _ _ told all))
-    (tt, (event-so P 0 (side_of b 0) first, (event-so P 1 (side_of b 1) second, (tt, (tt, (tt, tt))))))
+opening-such P b told first second all = shown-such P b.phase b _ first second (rules-such P b.clauses _ (heads-such P _ _ told all))
 
--- no event of the opening names a hidden member, and none is active after it, where the first member of each side isn't hidden
-pub open_shown : (hidden : Hidden) (teams : List BattleTeam) (clauses seed : ℕ) → hidden.member 0 0 ≡ false → hidden.member 1 0 ≡ false → NamesSuch (IsShown hidden) (open_course teams clauses seed)
+-- no event of the opening names a hidden member, where the first member of each side isn't hidden if it is sent out
+pub open_names : (hidden : Hidden) (teams : List BattleTeam) (clauses seed : ℕ) → (IsOut (first_phase clauses) → hidden.member 0 0 ≡ false) → (IsOut (first_phase clauses) → hidden.member 1 0 ≡ false) → NamesNoHidden hidden (open_course teams clauses seed).told
 unfolding fresh_battle
-open_shown hidden teams clauses seed first second = record {
-  first = first;
-  second = second;
-  told = opening_such (IsShown hidden) (fresh_battle teams clauses seed) [] first second (All-nil (λ e. All (IsShown hidden) (whos e)));
-}
-
-pub open_names : (hidden : Hidden) (teams : List BattleTeam) (clauses seed : ℕ) → hidden.member 0 0 ≡ false → hidden.member 1 0 ≡ false → NamesNoHidden hidden (open_course teams clauses seed).told
-open_names hidden teams clauses seed first second = (open_shown hidden teams clauses seed first second).told
+open_names hidden teams clauses seed first second =
+    opening-such (IsShown hidden) (fresh_battle teams clauses seed) [] first second (All-nil (λ e. All (IsShown hidden) (whos e)))

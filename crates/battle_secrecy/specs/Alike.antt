@@ -1,7 +1,9 @@
 -- Alike: two battles are equal but for hidden places.
-use Rattle.std.specs.Prelude.{◌≡◌, ◌≤◌, ◌<◌, ℕ, Bool, true, false, [], length, slice_index}
+use Rattle.std.specs.Prelude.{◌≡◌, ◌⊎◌, ◌≤◌, ◌<◌, ℕ, Bool, true, false, [], length, slice_index}
 use Rattle.ps_mon.specs.declared.record.Battle.{Battle}
 use Rattle.ps_mon.specs.declared.record.SideState.{SideState}
+use Rattle.ps_mon.specs.declared.record.Phase.{Phase}
+use Rattle.ps_mon.specs.declared.record.Phase.TheVariants as phases
 use Rattle.ps_mon.specs.declared.team.Member.{Member}
 use Rattle.ps_mon.specs.declared.team.MoveSlot.{MoveSlot}
 use Rattle.ps_mon.specs.declared.status.Status.TheVariants.{Healthy}
@@ -63,3 +65,37 @@ pub record AreAlike (hidden : Hidden) (a b : Battle) : Type 0 where
   pub clauses : a.clauses ≡ b.clauses
   pub rng : a.rng ≡ b.rng
   pub sides : (s : ℕ) → s < 2 → AreSidesAlike (hidden.member s) (hidden.slot s) (hidden.move s) (side_of a s) (side_of b s)
+
+-- ---- also before members are sent out
+
+-- alike sides, of which nothing is said of who stands at position 1
+pub record AreSidesAlikeUnsent (member : ℕ → Bool) (slot : ℕ → ℕ → Bool) (move : ℕ → ℕ → ℕ) (a b : SideState) : Type 0 where
+  pub first : IsPlaced a
+  pub second : IsPlaced b
+  pub count : a.count ≡ b.count
+  pub order : a.order ≡ b.order
+  pub vol : a.vol ≡ b.vol
+  pub members : (k : ℕ) → k < a.count → AreMembersAlike (member k) (slot k) (move k) (member_of a k) (member_of b k)
+  pub long : length a.members ≡ length b.members
+  pub rest : (k : ℕ) → a.count ≤ k → member_of a k ≡ member_of b k
+
+-- phases in which nobody may be sent out yet: Team Preview, and a battle that was won, since that may have been by a forfeit in it
+abbrev pub IsUnsent : Phase → Type 0
+IsUnsent phases.Preview = Unit {0}
+IsUnsent (phases.Won side) = Unit {0}
+IsUnsent other = ⊥
+
+-- the active members aren't hidden
+abbrev pub AreActiveShown : Hidden → Battle → Type 0
+AreActiveShown hidden b = (s : ℕ) → s < 2 → hidden.member s (active_index (side_of b s)) ≡ false
+
+-- Battles between two rounds: alike, and where members are sent out the active ones aren't hidden.
+pub record AreBattlesAlike (hidden : Hidden) (a b : Battle) : Type 0 where
+  pub first_two : length a.sides ≡ 2
+  pub second_two : length b.sides ≡ 2
+  pub turn : a.turn ≡ b.turn
+  pub phase : a.phase ≡ b.phase
+  pub clauses : a.clauses ≡ b.clauses
+  pub rng : a.rng ≡ b.rng
+  pub sides : (s : ℕ) → s < 2 → AreSidesAlikeUnsent (hidden.member s) (hidden.slot s) (hidden.move s) (side_of a s) (side_of b s)
+  pub active : IsUnsent a.phase ⊎ AreActiveShown hidden a

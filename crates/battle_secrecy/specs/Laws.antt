@@ -6,24 +6,27 @@ use Rattle.ps_mon.specs.declared.choice.Choice.{Choice}
 use Rattle.ps_mon.specs.declared.choice.Choice.TheVariants as choices
 use Rattle.ps_mon.specs.Choices.{IsChoiceOf}
 use Rattle.ps_mon.specs.Facts.{Figures}
+use Rattle.ps_mon.specs.Orders.{index_at}
 use Rattle.ps_mon.specs.Reading.{side_of, active_index}
 use Rattle.ps_hits.specs.Courses.{Course, untold}
 use Rattle.ps_battle.specs.Turns.{turn}
 use Rattle.battle_secrecy.specs.Places.{Hidden}
-use Rattle.battle_secrecy.specs.Alike.{AreAlike}
+use Rattle.battle_secrecy.specs.Alike.{AreBattlesAlike}
 use Rattle.battle_secrecy.specs.Showing.{ShowsNoHidden, NamesNoHidden}
 use Rattle.battle_secrecy.specs.Courses.{has_copied}
 
 -- alike battles after the same events, none of which names a hidden member
 pub record AreToldAlike (hidden : Hidden) (a b : Course) : Type 0 where
-  pub battle : AreAlike hidden a.battle b.battle
+  pub battle : AreBattlesAlike hidden a.battle b.battle
   pub told : a.told ≡ b.told
   pub names : NamesNoHidden hidden a.told
 
--- a choice that a side may be committed with, and that shows no hidden place: its slot isn't hidden, and the member that it sends in isn't
+-- a choice that a side may be committed with, and that shows no hidden place: its slot isn't hidden, and the member that it sends in, or
+-- puts first, isn't
 abbrev pub IsChoiceUnhidden : Hidden → ℕ → SideState → Choice → Type 0
 IsChoiceUnhidden hidden s side (choices.Move n) = hidden.slot s (active_index side) (n - 1) ≡ false
 IsChoiceUnhidden hidden s side (choices.Switch position) = hidden.member s (slice_index side.order (position - 1)) ≡ false
+IsChoiceUnhidden hidden s side (choices.Team numbers) = hidden.member s (index_at side.order (slice_index numbers 0)) ≡ false
 IsChoiceUnhidden hidden s side choice = Unit {0}
 
 -- the place of the active member of each side
@@ -46,7 +49,7 @@ forms b one two (suc s) k = has_form b two (suc s) k
 
 -- A turn is the same in two alike battles, where neither its choices nor what is told of it show a hidden place.
 abbrev pub TurnKeepsAlike : Type 0
-TurnKeepsAlike = (facts : Figures) (one two : Choice) (hidden : Hidden) (a b : Battle) → AreAlike hidden a b →
+TurnKeepsAlike = (facts : Figures) (one two : Choice) (hidden : Hidden) (a b : Battle) → AreBattlesAlike hidden a b →
     IsChoiceOf a 0 one → IsChoiceOf a 1 two → IsChoiceUnhidden hidden 0 (side_of a 0) one → IsChoiceUnhidden hidden 1 (side_of a 1) two →
     ShowsNoHidden hidden (fronts (turn facts one two (untold a)).battle) (forms a one two) (turn facts one two (untold a)).told →
     AreToldAlike hidden (turn facts one two (untold a)) (turn facts one two (untold b))

@@ -4,8 +4,8 @@ use Rattle.ps_mon.specs.declared.record.Battle.{Battle}
 use Rattle.ps_mon.specs.declared.record.Phase.{Phase}
 use Rattle.ps_mon.specs.declared.record.Phase.TheVariants as phases
 use Rattle.ps_mon.specs.declared.choice.Choice.{Choice}
-use Rattle.ps_mon.specs.Reading.{side_of}
-use Rattle.ps_mon.specs.Valid.{IsStanding, replaces}
+use Rattle.ps_mon.specs.Reading.{side_of, active_index}
+use Rattle.ps_mon.specs.Valid.{IsSound, IsStanding, IsValid, AllStand, StandBefore, has_standing, replaces}
 use Rattle.ps_mon.specs.Choices.{is_asked, fault_of, IsChoice, IsChoiceOf, IsThere, incoming}
 use Rattle.ps_mon.proofs.ChoiceLemmas.{legal-is, there-is, replaced-stands}
 
@@ -40,3 +40,21 @@ pub stands-replaced : (p1 p2 : Bool) (b : Battle) (s : ℕ) (choice : Choice) �
 stands-replaced p1 p2 b s choice e lt standing h =
     let P : Phase → Type 0 = λ phase. IsChoice (is_asked phase s) b s choice in
     stands-where-asked (is_asked (phases.Replace p1 p2) s) p1 p2 b s choice refl e lt standing (subst P e h)
+
+-- ---- before members are sent out
+
+-- all of them stand
+pub all-stand : (b : Battle) → b.phase ≡ phases.Preview → IsStanding b → (s : ℕ) → s < 2 → AllStand (side_of b s)
+all-stand b e standing s lt = subst (λ p. StandBefore p (side_of b s)) e (standing.before s lt)
+
+-- so those that are sent out do
+pub sent-valid : (b : Battle) → IsSound b → b.turn < 1000 → ((s : ℕ) → s < 2 → has_standing (side_of b s) ≡ true) → ((s : ℕ) → s < 2 → AllStand (side_of b s)) → IsValid (record b { phase = phases.Turn })
+sent-valid b sound turn some stand = record {
+  sound = record { two = sound.two; sides = sound.sides; turn = sound.turn; clauses = sound.clauses };
+  standing = λ goes. record {
+    turn = turn;
+    some = some;
+    before = λ s h. tt;
+    active = λ s h stays. stand s h (active_index (side_of b s)) ((sound.sides s h).shape.order 0 (sound.sides s h).shape.count);
+  };
+}

@@ -25,6 +25,7 @@ replacing-valid b p1 p2 sound turn one two first second = record {
   standing = λ goes. record {
     turn = turn;
     some = both-standing b one two;
+    before = λ s h. tt;
     active = each_side (λ s. replaces (phases.Replace p1 p2) s ≡ false → 1 ≤ (active_of (side_of b s)).hp) (λ e. up b 0 (sym first ∙ e)) (λ e. up b 1 (sym second ∙ e));
   };
 }

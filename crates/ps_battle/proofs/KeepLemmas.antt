@@ -13,6 +13,7 @@ there-kept a b choices.Struggle kept there = tt
 there-kept a b choices.Continue kept there = tt
 there-kept a b (choices.Switch position) kept there = (there.0, rw kept.count there.1)
 there-kept a b choices.Pass kept there = tt
+there-kept a b (choices.Team numbers) kept there = rw kept.count there
 
 -- a release changes nobody's health
 pub released-incoming : (a : SideState) (choice : Choice) → (incoming (released a) choice).hp ≡ (incoming a choice).hp
@@ -22,3 +23,4 @@ released-incoming a choices.Struggle = refl
 released-incoming a choices.Continue = refl
 released-incoming a (choices.Switch position) = refl
 released-incoming a choices.Pass = refl
+released-incoming a (choices.Team numbers) = refl

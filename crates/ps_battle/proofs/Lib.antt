@@ -2,3 +2,4 @@ pub mod KeepLemmas
 pub mod ChoiceLemmas
 pub mod CloseLemmas
 pub mod OrderLemmas
+pub mod OpeningLemmas

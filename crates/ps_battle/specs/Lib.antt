@@ -5,5 +5,5 @@ pub mod Chosen
 pub mod Acts
 pub mod Switches
 pub mod Closings
-pub mod Turns
 pub mod Openings
+pub mod Turns

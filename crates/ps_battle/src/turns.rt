@@ -1,21 +1,22 @@
 //! A commit of both sides' choices.
-ghost use Rattle.std.specs.Prelude.{◌≡◌, ◌≤◌, ◌<◌, ◌+◌, ℕ, [], false, true};
+ghost use Rattle.std.specs.Prelude.{◌≡◌, ◌≤◌, ◌<◌, ◌+◌, ◌-◌, ℕ, [], false, true};
 ghost use Rattle.arrayvec.specs.ArrayVec.{array_vec_len};
 ghost use Rattle.ps_mon.specs.Facts.{AreFair, figures};
 ghost use Rattle.ps_mon.specs.Known.{AreKnown, AreFairFor};
 ghost use Rattle.ps_mon.specs.Moves.{move_count};
 ghost use Rattle.ps_mon.specs.Reading.{side_of, active_of};
-ghost use Rattle.ps_mon.specs.Valid.{IsSound, IsValid, has_standing, is_over};
+ghost use Rattle.ps_mon.specs.Valid.{AllStand, IsSound, IsValid, has_standing, is_over};
 ghost use Rattle.ps_mon.specs.Choices.{IsThere, IsChoiceOf, incoming};
 ghost use Rattle.ps_mon.specs.Duels.{IsFit};
 ghost use Rattle.ps_hits.specs.Courses.{course};
-ghost use Rattle.ps_battle.specs.Turns.{faster, first_of, acted, both_switched, turn};
+ghost use Rattle.ps_battle.specs.Turns.{faster, first_of, acted, both_switched, placed, sent_out, turn};
 ghost use Rattle.ps_battle.specs.Switches.{begun};
 ghost use Rattle.ps_battle.specs.Closings.{closed, next_turn};
 
 use crate::acts::do_two_acts;
 use crate::chosen::{acts, priority};
 use crate::closings::{close, go_on};
+use crate::openings::start;
 use crate::switches::{begin, do_switch};
 use ps_calc::Rng5;
 use ps_event::event::Events;
@@ -151,7 +152,48 @@ fn replace(battle: &mut Battle, c1: Choice, c2: Choice, out: &mut Events)
     go_on(battle, out);
 }
 
-/// Commits the choices of both sides, P1's and P2's: a turn, or replacements. It adds at most 84 events.
+/// Puts a team into the order that its side chose.
+#[tactic(auto, unfolding(crate::specs::Turns::placed))]
+fn place(battle: &mut Battle, side: u8, choice: Choice)
+    requires sound { IsSound battle.old }
+    requires side { side < 2 }
+    requires there { IsThere (side_of battle.old side) choice }
+    ensures value { battle.new ≡ placed side choice battle.old }
+    ensures sound { IsSound battle.new }
+    ensures known { (moves : ℕ) → AreKnown moves battle.old → AreKnown moves battle.new }
+    ensures turn { battle.new.turn ≡ battle.old.turn }
+    ensures some { (s : ℕ) → s < 2 → has_standing (side_of battle.old s) ≡ true → has_standing (side_of battle.new s) ≡ true }
+    ensures stand { (s : ℕ) → s < 2 → AllStand (side_of battle.old s) → AllStand (side_of battle.new s) }
+    ensures foe { side_of battle.new (1 - side) ≡ side_of battle.old (1 - side) }
+{
+    match choice {
+        Choice::Team(numbers) => battle.set_order(side, numbers),
+        _ => (),
+    }
+}
+
+#[tactic(auto, unfolding(crate::specs::Turns::sent_out))]
+fn send_out(battle: &mut Battle, c1: Choice, c2: Choice, out: &mut Events)
+    requires sound { IsSound battle.old }
+    requires turn { battle.old.turn < 1000 }
+    requires first { IsThere (side_of battle.old 0) c1 }
+    requires second { IsThere (side_of battle.old 1) c2 }
+    requires some { (s : ℕ) → s < 2 → has_standing (side_of battle.old s) ≡ true }
+    requires stand { (s : ℕ) → s < 2 → AllStand (side_of battle.old s) }
+    requires empty { out.old.items ≡ [] }
+    ensures after { course battle.new out.new ≡ sent_out c1 c2 (course battle.old out.old) }
+    ensures valid { IsValid battle.new }
+    ensures known { (moves : ℕ) → AreKnown moves battle.old → AreKnown moves battle.new }
+    ensures room { array_vec_len out.new ≤ 6 }
+{
+    place(battle, 0, c1);
+    place(battle, 1, c2);
+    start(battle, out);
+    battle.phase = Phase::Turn;
+}
+
+/// Commits the choices of both sides, P1's and P2's: the orders of both teams, a turn, or replacements. It adds at most 84
+/// events.
 ///
 /// The battle is valid and isn't over, the facts are fair for it, the choice of a side that is asked is legal, and the other
 /// side's is Pass.
@@ -169,6 +211,7 @@ pub fn commit(battle: &mut Battle, facts: Facts<'_>, c1: Choice, c2: Choice, out
     ensures room { array_vec_len out.new ≤ 84 }
 {
     match battle.phase {
+        Phase::Preview => send_out(battle, c1, c2, out),
         Phase::Turn => take_turn(battle, facts, c1, c2, out),
         Phase::Replace { .. } => replace(battle, c1, c2, out),
         _ => unreachable!(),

@@ -12,6 +12,6 @@ pub mod stats;
 pub use chances::{accuracy_byte, crit_byte};
 pub use draws::Rng5;
 pub use formula::{Hit, damage};
-pub use health::hundredths;
+pub use health::{hundredths, pixels};
 pub use stages::staged;
 pub use stats::{dv, hp_dv, hp_stat, stat};

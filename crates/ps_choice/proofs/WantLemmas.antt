@@ -7,7 +7,7 @@ use Rattle.std.proofs.lemmas.Slice.Eq.{bytes_eq-Decides}
 use Rattle.std.proofs.lemmas.Option.{same_Some, none-some}
 use Rattle.ps_base.specs.Cuts.{after_front}
 use Rattle.ps_choice.specs.declared.wanted.Wanted.{Wanted}
-use Rattle.ps_choice.specs.Wants.{Want, Slot, Named, Position, Default, IsForm, digit_in, slot_or_name, move_want, position_want, switch_want, behind_switch, behind_move, want_in, want_of}
+use Rattle.ps_choice.specs.Wants.{Want, Slot, Named, Position, Team, Default, IsForm, are_digits, digit_in, slot_or_name, move_want, position_want, switch_want, team_want, behind_team, behind_switch, behind_move, want_in, want_of}
 
 -- ---- digits
 
@@ -57,10 +57,18 @@ at-default : want_in (codes "default") ≡ Some Default
 unfolding want_in
 at-default = refl
 
+behind-team : (rest : List ℕ) → want_in (codes "team " ++ rest) ≡ team_want rest
+unfolding want_in
+behind-team rest = refl
+
+read_team : (digits : List ℕ) → are_digits digits ≡ true → team_want digits ≡ Some (Team digits)
+read_team digits are = rw are refl
+
 pub form-reads : (w : Want) (text : List ℕ) → IsForm w text → want_in text ≡ Some w
 form-reads (Slot n) text f = rw f.1 (behind-move ((48 + n) ∷ []) ∙ read_slot n f.0)
 form-reads (Named name) text f = rw f.0 (behind-move name ∙ read_name name f.1 f.2)
 form-reads (Position n) text f = rw f.1 (behind-switch ((48 + n) ∷ []) ∙ read_position n f.0)
+form-reads (Team digits) text f = rw f.0 (behind-team digits ∙ read_team digits f.1)
 form-reads Default text f = rw f at-default
 
 -- ---- what is read is a form
@@ -94,9 +102,19 @@ position-is (Some n) rest w d e =
     subst (λ v. IsForm v (codes "switch " ++ rest)) is (digit.0, ap (λ (x : List ℕ). codes "switch " ++ x) digit.1)
 position-is None rest w d e = absurd (none-some w e)
 
-after_switch : (o : Option (List ℕ)) (text : List ℕ) (w : Want) → after_front (codes "switch ") text ≡ o → behind_switch o ≡ Some w → IsForm w text
+team-is : (b : Bool) (rest : List ℕ) (w : Want) → are_digits rest ≡ b → cond b (Some (Team rest)) None ≡ Some w → IsForm w (codes "team " ++ rest)
+team-is true rest w are e =
+    let is : Team rest ≡ w = cc e in
+    subst (λ v. IsForm v (codes "team " ++ rest)) is (refl, are)
+team-is false rest w are e = absurd (none-some w e)
+
+after_team : (o : Option (List ℕ)) (text : List ℕ) (w : Want) → after_front (codes "team ") text ≡ o → behind_team o ≡ Some w → IsForm w text
+after_team (Some rest) text w o e = rw (front-is (codes "team ") text rest o) (team-is (are_digits rest) rest w refl e)
+after_team None text w o e = absurd (none-some w e)
+
+after_switch : (o : Option (List ℕ)) (text : List ℕ) (w : Want) → after_front (codes "switch ") text ≡ o → behind_switch o text ≡ Some w → IsForm w text
 after_switch (Some rest) text w o e = rw (front-is (codes "switch ") text rest o) (position-is (digit_in rest) rest w refl e)
-after_switch None text w o e = absurd (none-some w e)
+after_switch None text w o e = after_team (after_front (codes "team ") text) text w refl e
 
 after_move : (o : Option (List ℕ)) (text : List ℕ) (w : Want) → after_front (codes "move ") text ≡ o → behind_move o text ≡ Some w → IsForm w text
 after_move (Some rest) text w o e = rw (front-is (codes "move ") text rest o) (move-is rest w e)

@@ -1,4 +1,5 @@
 pub mod Wants
+pub mod Orders
 pub mod Resolved
 pub mod Shown
 pub mod Requests

@@ -1,6 +1,6 @@
 -- The JSON of a request. It looks at the phase, the dex and the own side alone, with that side's names. The members of each
 -- object stand in the order of their keys, as they are written.
-use Rattle.std.specs.Prelude.{ℕ, zero, suc, ◌==◌, Bool, true, List, [], ◌∷◌, map, take, codes, Option, Some, None, slice_index, if◌then◌else◌}
+use Rattle.std.specs.Prelude.{ℕ, zero, suc, ◌==◌, Bool, true, false, ◌&&◌, List, [], ◌∷◌, map, take, codes, Option, Some, None, slice_index, if◌then◌else◌}
 use Rattle.serde_json.specs.Data.{Data, boolean, number, unsigned, string, array, object, no_items, item, no_members, member}
 use Rattle.serde_json.specs.View.{items_of}
 use Rattle.serde_json.specs.Written.{compact_text}
@@ -89,19 +89,19 @@ member_data dex s active nick m = object
     (member (codes "stats") (stats_data m.stats)
     no_members))))))
 
--- the member at an index of the team
-unfoldable pub member_at_data : Tables → List (List ℕ) → ℕ → SideState → ℕ → Data
-member_at_data dex nicks s side k = member_data dex s (k == active_index side) (nick_of nicks k) (member_of side k)
+-- the member at an index of the team; once members are sent out the first in the order is active
+unfoldable pub member_at_data : Tables → List (List ℕ) → ℕ → Bool → SideState → ℕ → Data
+member_at_data dex nicks s out side k = member_data dex s (out && k == active_index side) (nick_of nicks k) (member_of side k)
 
 -- all members, in their order now
-abbrev pub members_data : Tables → List (List ℕ) → ℕ → SideState → List Data
-members_data dex nicks s side = map (member_at_data dex nicks s side) (take side.count side.order)
+abbrev pub members_data : Tables → List (List ℕ) → ℕ → Bool → SideState → List Data
+members_data dex nicks s out side = map (member_at_data dex nicks s out side) (take side.count side.order)
 
-unfoldable pub side_data : Tables → List ℕ → List (List ℕ) → ℕ → SideState → Data
-side_data dex name nicks s side = object
+unfoldable pub side_data : Tables → List ℕ → List (List ℕ) → ℕ → Bool → SideState → Data
+side_data dex name nicks s out side = object
     (member (codes "id") (text (side_id s))
     (member (codes "name") (text name)
-    (member (codes "pokemon") (array (items_of (members_data dex nicks s side)))
+    (member (codes "pokemon") (array (items_of (members_data dex nicks s out side)))
     no_members)))
 
 -- ---- all of it
@@ -130,16 +130,31 @@ wait_data round side = object
     (member (codes "wait") (boolean true)
     no_members)))
 
+-- an order of the team
+abbrev pub preview_data : ℕ → Data → Data
+preview_data round side = object
+    (member (codes "rqid") (count round)
+    (member (codes "side") side
+    (member (codes "teamPreview") (boolean true)
+    no_members)))
+
 abbrev pub switch_or_wait : Bool → ℕ → Data → Data
 switch_or_wait replaced round side = if replaced then switch_data round side else wait_data round side
 
 abbrev pub asked_data : Phase → ℕ → List Data → ℕ → Data → Data
+asked_data phases.Preview s moves round side = preview_data round side
 asked_data phases.Turn s moves round side = turn_data moves round side
 asked_data phase s moves round side = switch_or_wait (replaces phase s) round side
 
+-- whether members are sent out
+abbrev pub is_out : Phase → Bool
+is_out phases.Preview = false
+is_out other = true
+
 -- the request of a side, with the number of the round that is open
 unfoldable pub request_data : Phase → Tables → List ℕ → List (List ℕ) → ℕ → SideState → ℕ → Data
-request_data phase dex name nicks s side round = asked_data phase s (moves_data dex.moves side) round (side_data dex name nicks s side)
+request_data phase dex name nicks s side round =
+    asked_data phase s (moves_data dex.moves side) round (side_data dex name nicks s (is_out phase) side)
 
 -- as it is written, without spaces
 abbrev pub request : Phase → Tables → List ℕ → List (List ℕ) → ℕ → SideState → ℕ → List ℕ

@@ -14,7 +14,8 @@ use Rattle.ps_mon.specs.Slots.{slot_count_now, slot_now, is_usable, has_usable}
 use Rattle.ps_mon.specs.Choices.{is_locked, fault_of}
 use Rattle.ps_dex.specs.declared.item.Tables.{Tables}
 use Rattle.ps_dex.specs.Lookups.{move_of}
-use Rattle.ps_choice.specs.Wants.{Want, Slot, Named, Position, Default}
+use Rattle.ps_choice.specs.Orders.{whole, nobody, order_of}
+use Rattle.ps_choice.specs.Wants.{Want, Slot, Named, Position, Team, Default}
 
 -- ---- slots, which count from 1
 
@@ -53,7 +54,9 @@ abbrev pub replacement : Option ℕ → Choice
 replacement None = choices.Switch 0
 replacement (Some k) = choices.Switch (k + 2)
 
+-- before members are sent out the order as it stands
 abbrev pub by_default : Phase → SideState → Choice
+by_default phases.Preview side = choices.Team (whole side.count nobody)
 by_default (phases.Replace p1 p2) side = replacement (first_standing side)
 by_default other side = first_act side
 
@@ -103,6 +106,7 @@ abbrev pub meant : Phase → SideState → Tables → Want → Choice
 meant phase side dex (Slot n) = numbered side n
 meant phase side dex (Named name) = named dex side name
 meant phase side dex (Position n) = choices.Switch n
+meant phase side dex (Team digits) = choices.Team (order_of side.count digits)
 meant phase side dex Default = by_default phase side
 
 abbrev pub judged : Choice → Option ChoiceFault → Result Choice ChoiceFault

@@ -1,15 +1,18 @@
 -- What a player asks for, and the texts that say it.
-use Rattle.std.specs.Prelude.{◌≡◌, ◌≢◌, ℕ, ◌+◌, ◌-◌, ◌≤◌, ◌&&◌, nat_le, List, [], ◌∷◌, ◌++◌, codes, Option, Some, None, if◌then◌else◌}
+use Rattle.std.specs.Prelude.{◌≡◌, ◌≢◌, ℕ, ◌+◌, ◌-◌, ◌≤◌, true, ◌&&◌, nat_le, nat_lt, List, [], ◌∷◌, ◌++◌, codes, length, Bool, Option, Some, None, if◌then◌else◌}
+use Rattle.std.specs.List.{list_all}
 use Rattle.std.specs.Str.{bytes_eq}
 use Rattle.ps_base.specs.Cuts.{after_front}
 use Rattle.ps_choice.specs.declared.wanted.Wanted.{Wanted}
 use Rattle.ps_choice.specs.declared.wanted.Wanted.TheVariants as wanted
 
--- what a player asks for: the move in a slot, the move of a name, the member at a position, or what comes first
+-- what a player asks for: the move in a slot, the move of a name, the member at a position, the members whose positions are these
+-- digits to stand first, or what comes first
 pub data Want : Type 0 where
   Slot : ℕ → Want
   Named : List ℕ → Want
   Position : ℕ → Want
+  Team : List ℕ → Want
   Default : Want
 
 -- ---- the texts
@@ -20,11 +23,22 @@ digit_in [] = None
 digit_in (b ∷ []) = if nat_le 48 b && nat_le b 57 then Some (b - 48) else None
 digit_in (b ∷ c ∷ bytes) = None
 
--- `move N`, `move NAME`, `switch N`, `default`. N is one digit, and NAME is neither empty nor one
+abbrev pub are_few : ℕ → Bool
+are_few count = nat_lt 0 count && nat_le count 6
+
+abbrev pub is_digit : ℕ → Bool
+is_digit byte = nat_le 48 byte && nat_le byte 57
+
+-- one to six digits
+abbrev pub are_digits : List ℕ → Bool
+are_digits bytes = are_few (length bytes) && list_all is_digit bytes
+
+-- `move N`, `move NAME`, `switch N`, `team D..D`, `default`. N is one digit, D..D are one to six, and NAME is neither empty nor one digit
 abbrev pub IsForm : Want → List ℕ → Type 0
 IsForm (Slot n) text = (n ≤ 9) × (text ≡ codes "move " ++ (48 + n) ∷ [])
 IsForm (Named name) text = (text ≡ codes "move " ++ name) × (name ≢ []) × (digit_in name ≡ None)
 IsForm (Position n) text = (n ≤ 9) × (text ≡ codes "switch " ++ (48 + n) ∷ [])
+IsForm (Team digits) text = (text ≡ codes "team " ++ digits) × (are_digits digits ≡ true)
 IsForm Default text = text ≡ codes "default"
 
 -- ---- the same by reading
@@ -46,13 +60,21 @@ position_want None = None
 abbrev pub switch_want : List ℕ → Option Want
 switch_want text = position_want (digit_in text)
 
-abbrev pub behind_switch : Option (List ℕ) → Option Want
-behind_switch (Some rest) = switch_want rest
-behind_switch None = None
+-- what stands behind `team `
+abbrev pub team_want : List ℕ → Option Want
+team_want digits = if are_digits digits then Some (Team digits) else None
+
+abbrev pub behind_team : Option (List ℕ) → Option Want
+behind_team (Some rest) = team_want rest
+behind_team None = None
+
+abbrev pub behind_switch : Option (List ℕ) → List ℕ → Option Want
+behind_switch (Some rest) text = switch_want rest
+behind_switch None text = behind_team (after_front (codes "team ") text)
 
 abbrev pub behind_move : Option (List ℕ) → List ℕ → Option Want
 behind_move (Some rest) text = move_want rest
-behind_move None text = behind_switch (after_front (codes "switch ") text)
+behind_move None text = behind_switch (after_front (codes "switch ") text) text
 
 -- what a text asks for
 unfoldable pub want_in : List ℕ → Option Want
@@ -64,4 +86,5 @@ abbrev pub want_of : Wanted → Want
 want_of (wanted.Move n) = Slot n
 want_of (wanted.Named name) = Named name.now
 want_of (wanted.Switch n) = Position n
+want_of (wanted.Team digits) = Team digits.now
 want_of wanted.Default = Default

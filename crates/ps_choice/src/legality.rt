@@ -2,8 +2,9 @@
 ghost use Rattle.std.specs.Prelude.{◌≡◌, ◌<◌, Some, None, false, OnOk, IfErr};
 ghost use Rattle.ps_mon.specs.Valid.{IsSound, IsSide, replaces};
 ghost use Rattle.ps_mon.specs.Slots.{is_ready, is_usable, has_usable, is_disabled};
-ghost use Rattle.ps_mon.specs.Choices.{is_asked, is_locked, wrong_phase, locked, no_such_move, no_pp, disabled, no_such_member, already_out, fainted, fault_of, legal as fault_in};
+ghost use Rattle.ps_mon.specs.Choices.{is_asked, is_locked, wrong_for_order, wrong_for_switch, wrong_for_act, wrong_phase, locked, no_such_move, no_pp, disabled, no_such_member, already_out, fainted, fault_of, legal as fault_in};
 
+use crate::ordering::is_order;
 use ps_mon::choice::{Choice, ChoiceFault};
 use ps_mon::record::{Battle, Disabled, Phase, SideState};
 
@@ -24,9 +25,27 @@ pub fn is_asked(phase: Phase, side: u8) -> bool
     ensures { result ≡ is_asked phase side }
 {
     match phase {
-        Phase::Turn => true,
+        Phase::Preview | Phase::Turn => true,
         _ => replaces(phase, side),
     }
+}
+
+fn wrong_for_order(phase: Phase) -> bool
+    ensures { result ≡ wrong_for_order phase }
+{
+    !matches!(phase, Phase::Preview)
+}
+
+fn wrong_for_switch(phase: Phase) -> bool
+    ensures { result ≡ wrong_for_switch phase }
+{
+    matches!(phase, Phase::Preview)
+}
+
+fn wrong_for_act(phase: Phase) -> bool
+    ensures { result ≡ wrong_for_act phase }
+{
+    matches!(phase, Phase::Preview | Phase::Replace { .. })
 }
 
 fn wrong_phase(phase: Phase, choice: Choice) -> bool
@@ -34,8 +53,9 @@ fn wrong_phase(phase: Phase, choice: Choice) -> bool
 {
     match choice {
         Choice::Pass => true,
-        Choice::Switch(_) => false,
-        _ => matches!(phase, Phase::Replace { .. }),
+        Choice::Team(_) => wrong_for_order(phase),
+        Choice::Switch(_) => wrong_for_switch(phase),
+        _ => wrong_for_act(phase),
     }
 }
 
@@ -50,7 +70,7 @@ fn locked(phase: Phase, side: &SideState, choice: Choice) -> bool
     ensures { result ≡ locked phase side.now choice }
 {
     match phase {
-        Phase::Replace { .. } => false,
+        Phase::Preview | Phase::Replace { .. } => false,
         _ => match choice {
             Choice::Continue => !is_locked(side),
             _ => is_locked(side),
@@ -134,6 +154,7 @@ fn no_such_member(side: &SideState, choice: Choice) -> bool
 {
     match choice {
         Choice::Switch(position) => position == 0 || position > side.count,
+        Choice::Team(numbers) => !is_order(side.count, numbers),
         _ => false,
     }
 }
@@ -196,9 +217,10 @@ fn fault(phase: Phase, number: u8, side: &SideState, choice: Choice) -> Option<C
 }
 
 /// Whether a side, 0 or 1, may choose so, or the first fault in the order of `ChoiceFault`: `NotYourTurn` where the side
-/// isn't asked; `WrongPhase` for Pass, and for what isn't a switch where a member must come in; `Locked` in a turn where the
-/// member must go on and doesn't, or goes on and nothing holds it; `NoSuchMove` for a slot that isn't there, and for Struggle
-/// while a slot is usable; `NoPp`; `Disabled`; `NoSuchMember` for a position that is 0 or above the count; `AlreadyOut` for
+/// isn't asked; `WrongPhase` for Pass, for what isn't a switch where a member must come in, and for an order elsewhere than
+/// in Team Preview or anything else there; `Locked` in a turn where the member must go on and doesn't, or goes on and nothing
+/// holds it; `NoSuchMove` for a slot that isn't there, and for Struggle while a slot is usable; `NoPp`; `Disabled`;
+/// `NoSuchMember` for a position that is 0 or above the count, and for what is no order of all members; `AlreadyOut` for
 /// position 1; `Fainted`. Takes no memory.
 pub fn legal(battle: &Battle, side: u8, choice: Choice) -> Result<(), ChoiceFault>
     requires sound { IsSound battle.now }

@@ -2,6 +2,7 @@
 #![tactic(auto)]
 
 pub mod legality;
+pub mod ordering;
 pub mod request;
 pub mod resolution;
 mod shown;

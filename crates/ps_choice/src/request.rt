@@ -1,5 +1,5 @@
 //! Requests: what a player is asked. They are written straight into one text.
-ghost use Rattle.std.specs.Prelude.{◌≡◌, ◌<◌, ◌++◌, ◌∷◌, [], codes, decimal, map, IfOk, OnOk, string_bytes};
+ghost use Rattle.std.specs.Prelude.{◌≡◌, ◌<◌, ◌++◌, ◌∷◌, [], true, false, codes, decimal, map, IfOk, OnOk, string_bytes};
 ghost use Rattle.json.specs.Token.{key, string, number as number_token};
 ghost use Rattle.json.specs.Tree.{json_tokens};
 ghost use Rattle.serde_json.specs.View.{items_of};
@@ -8,7 +8,7 @@ ghost use Rattle.json_text.specs.Lines.{with_tokens, with_value, with_items};
 ghost use Rattle.ps_mon.specs.Reading.{side_of};
 ghost use Rattle.ps_mon.specs.Valid.{IsSound, IsSide};
 ghost use Rattle.ps_choice.specs.Shown.{details, condition, nick_of, ident};
-ghost use Rattle.ps_choice.specs.Requests.{slot_data, slots_data, only_move, unheld_moves, moves_data, stats_data, move_id_data, member_data, member_at_data, members_data, side_data, turn_data, switch_data, wait_data, request_data, request};
+ghost use Rattle.ps_choice.specs.Requests.{slot_data, slots_data, only_move, unheld_moves, moves_data, stats_data, move_id_data, member_data, member_at_data, members_data, side_data, turn_data, switch_data, wait_data, preview_data, switch_or_wait, request_data, request};
 
 use crate::legality::{has_usable, is_disabled, replaces};
 use crate::shown::{id_of_move, push_condition, push_details, push_ident, side_id};
@@ -180,16 +180,17 @@ fn write_member(
     dex: &Dex,
     nicks: &[Text],
     number: u8,
+    out: bool,
     side: &SideState,
     index: u8,
 ) -> Result<(), AllocError>
     requires side { IsSide side.now }
     requires index { index < side.now.count }
-    ensures { OnOk result (line.new ≡ with_value (member_at_data dex.now nicks.now number side.now index) line.old) }
+    ensures { OnOk result (line.new ≡ with_value (member_at_data dex.now nicks.now number out side.now index) line.old) }
 {
     let m = &side.members[index as usize];
     line.open_object()?;
-    line.boolean_member("active", index == side.order[0])?;
+    line.boolean_member("active", out && index == side.order[0])?;
     write_condition(line, scratch, m)?;
     write_details(line, scratch, dex, m)?;
     write_ident(line, scratch, nicks, number, index)?;
@@ -209,13 +210,14 @@ fn write_members(
     dex: &Dex,
     nicks: &[Text],
     number: u8,
+    out: bool,
     side: &SideState,
 ) -> Result<(), AllocError>
     requires { IsSide side.now }
-    ensures { OnOk result (line.new ≡ with_items (items_of (members_data dex.now nicks.now number side.now)) line.old) }
+    ensures { OnOk result (line.new ≡ with_items (items_of (members_data dex.now nicks.now number out side.now)) line.old) }
 {
     for index in &side.order[..side.count as usize] {
-        write_member(line, scratch, dex, nicks, number, side, *index)?;
+        write_member(line, scratch, dex, nicks, number, out, side, *index)?;
     }
     line.close_array()?;
     Ok(())
@@ -228,17 +230,18 @@ fn write_side(
     dex: &Dex,
     names: SideNames<'_>,
     number: u8,
+    out: bool,
     side: &SideState,
 ) -> Result<(), AllocError>
     requires { IsSide side.now }
-    ensures { OnOk result (line.new ≡ with_value (side_data dex.now names.entry.player.now names.entry.nicks.now number side.now) line.old) }
+    ensures { OnOk result (line.new ≡ with_value (side_data dex.now names.entry.player.now names.entry.nicks.now number out side.now) line.old) }
 {
     line.open_object()?;
     line.text_member("id", side_id(number))?;
     line.text_member("name", names.player)?;
     line.key("pokemon")?;
     line.open_array()?;
-    write_members(line, scratch, dex, names.nicks, number, side)?;
+    write_members(line, scratch, dex, names.nicks, number, out, side)?;
     line.close_object()?;
     Ok(())
 }
@@ -251,15 +254,16 @@ fn write_round(
     dex: &Dex,
     names: SideNames<'_>,
     number: u8,
+    out: bool,
     side: &SideState,
     round: u32,
 ) -> Result<(), AllocError>
     requires { IsSide side.now }
-    ensures { OnOk result (line.new ≡ with_tokens (key (codes "rqid") ∷ number_token (decimal round) ∷ key (codes "side") ∷ json_tokens (outline (side_data dex.now names.entry.player.now names.entry.nicks.now number side.now))) line.old) }
+    ensures { OnOk result (line.new ≡ with_tokens (key (codes "rqid") ∷ number_token (decimal round) ∷ key (codes "side") ∷ json_tokens (outline (side_data dex.now names.entry.player.now names.entry.nicks.now number out side.now))) line.old) }
 {
     line.count_member("rqid", u64::from(round))?;
     line.key("side")?;
-    write_side(line, scratch, dex, names, number, side)?;
+    write_side(line, scratch, dex, names, number, out, side)?;
     Ok(())
 }
 
@@ -273,7 +277,7 @@ fn write_turn(
     round: u32,
 ) -> Result<(), AllocError>
     requires { IsSide side.now }
-    ensures { OnOk result (line.new ≡ with_value (turn_data (moves_data dex.now.moves side.now) round (side_data dex.now names.entry.player.now names.entry.nicks.now number side.now)) line.old) }
+    ensures { OnOk result (line.new ≡ with_value (turn_data (moves_data dex.now.moves side.now) round (side_data dex.now names.entry.player.now names.entry.nicks.now number true side.now)) line.old) }
 {
     line.open_object()?;
     line.key("active")?;
@@ -284,7 +288,7 @@ fn write_turn(
     write_moves(line, dex, side)?;
     line.close_object()?;
     line.close_array()?;
-    write_round(line, scratch, dex, names, number, side, round)?;
+    write_round(line, scratch, dex, names, number, true, side, round)?;
     line.close_object()?;
     Ok(())
 }
@@ -299,14 +303,14 @@ fn write_switch(
     round: u32,
 ) -> Result<(), AllocError>
     requires { IsSide side.now }
-    ensures { OnOk result (line.new ≡ with_value (switch_data round (side_data dex.now names.entry.player.now names.entry.nicks.now number side.now)) line.old) }
+    ensures { OnOk result (line.new ≡ with_value (switch_data round (side_data dex.now names.entry.player.now names.entry.nicks.now number true side.now)) line.old) }
 {
     line.open_object()?;
     line.key("forceSwitch")?;
     line.open_array()?;
     line.boolean(true)?;
     line.close_array()?;
-    write_round(line, scratch, dex, names, number, side, round)?;
+    write_round(line, scratch, dex, names, number, true, side, round)?;
     line.close_object()?;
     Ok(())
 }
@@ -322,13 +326,53 @@ fn write_wait(
     round: u32,
 ) -> Result<(), AllocError>
     requires { IsSide side.now }
-    ensures { OnOk result (line.new ≡ with_value (wait_data round (side_data dex.now names.entry.player.now names.entry.nicks.now number side.now)) line.old) }
+    ensures { OnOk result (line.new ≡ with_value (wait_data round (side_data dex.now names.entry.player.now names.entry.nicks.now number true side.now)) line.old) }
 {
     line.open_object()?;
-    write_round(line, scratch, dex, names, number, side, round)?;
+    write_round(line, scratch, dex, names, number, true, side, round)?;
     line.boolean_member("wait", true)?;
     line.close_object()?;
     Ok(())
+}
+
+#[tactic(auto, using(json_text::proofs::LineLemmas::joined))]
+fn write_preview(
+    line: &mut JsonLine,
+    scratch: &mut String,
+    dex: &Dex,
+    names: SideNames<'_>,
+    number: u8,
+    side: &SideState,
+    round: u32,
+) -> Result<(), AllocError>
+    requires { IsSide side.now }
+    ensures { OnOk result (line.new ≡ with_value (preview_data round (side_data dex.now names.entry.player.now names.entry.nicks.now number false side.now)) line.old) }
+{
+    line.open_object()?;
+    write_round(line, scratch, dex, names, number, false, side, round)?;
+    line.boolean_member("teamPreview", true)?;
+    line.close_object()?;
+    Ok(())
+}
+
+fn write_switch_or_wait(
+    line: &mut JsonLine,
+    scratch: &mut String,
+    dex: &Dex,
+    names: SideNames<'_>,
+    number: u8,
+    replaced: bool,
+    side: &SideState,
+    round: u32,
+) -> Result<(), AllocError>
+    requires { IsSide side.now }
+    ensures { OnOk result (line.new ≡ with_value (switch_or_wait replaced round (side_data dex.now names.entry.player.now names.entry.nicks.now number true side.now)) line.old) }
+{
+    if replaced {
+        write_switch(line, scratch, dex, names, number, side, round)
+    } else {
+        write_wait(line, scratch, dex, names, number, side, round)
+    }
 }
 
 /// The request of a side, with the number of the round that is open.
@@ -347,13 +391,14 @@ fn write_request(
     ensures { OnOk result (line.new ≡ with_value (request_data battle.now.phase dex.now names.entry.player.now names.entry.nicks.now number (side_of battle.now number) round) line.old) }
 {
     let side = &battle.sides[number as usize];
-    if battle.phase == Phase::Turn {
-        return write_turn(line, scratch, dex, names, number, side, round);
+    match battle.phase {
+        Phase::Preview => write_preview(line, scratch, dex, names, number, side, round),
+        Phase::Turn => write_turn(line, scratch, dex, names, number, side, round),
+        phase => {
+            let replaced = replaces(phase, number);
+            write_switch_or_wait(line, scratch, dex, names, number, replaced, side, round)
+        }
     }
-    if replaces(battle.phase, number) {
-        return write_switch(line, scratch, dex, names, number, side, round);
-    }
-    write_wait(line, scratch, dex, names, number, side, round)
 }
 
 /// A text that begins with this front, and behind it the JSON of the request of a side, as `request_text` gives it.
@@ -378,7 +423,8 @@ pub fn request_behind(
 }
 
 /// The JSON of the request of a side, 0 or 1, as SIM-PROTOCOL.md's `|request|` carries it, with the number of the round
-/// that is open: its moves in a turn, `forceSwitch` where it must send in another member, and else `wait`.
+/// that is open: its moves in a turn, `forceSwitch` where it must send in another member, `teamPreview` where it must put its
+/// team into an order, and else `wait`.
 pub fn request_text(
     alloc: Global,
     battle: &Battle,

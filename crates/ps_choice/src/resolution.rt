@@ -7,6 +7,7 @@ ghost use Rattle.ps_choice.specs.Wants.{want_of};
 ghost use Rattle.ps_choice.specs.Resolved.{first_of, lowest_usable, has_move_at, slot_with, first_act, bench, first_standing, replacement, by_default, numbered, is_number, is_lock_name, is_locked_name, slot_of_move, is_struggle, named, meant, resolved};
 
 use crate::legality::{has_usable, is_locked, is_usable, legal};
+use crate::ordering::{NOBODY, order_of, whole};
 use crate::wanted::Wanted;
 use ps_dex::dex::Dex;
 use ps_dex::spelled::is_id_of;
@@ -115,6 +116,7 @@ fn by_default(phase: Phase, side: &SideState) -> Choice
     ensures { result ≡ by_default phase side.now }
 {
     match phase {
+        Phase::Preview => Choice::Team(whole(side.count, NOBODY)),
         Phase::Replace { .. } => replacement(side),
         _ => first_act(side),
     }
@@ -205,6 +207,7 @@ fn meant(phase: Phase, side: &SideState, dex: &Dex, wanted: Wanted<'_>) -> Choic
         Wanted::Move(n) => numbered(side, n),
         Wanted::Named(name) => named(dex, side, name),
         Wanted::Switch(n) => Choice::Switch(n),
+        Wanted::Team(digits) => Choice::Team(order_of(side.count, digits.as_bytes())),
         Wanted::Default => by_default(phase, side),
     }
 }
@@ -212,10 +215,12 @@ fn meant(phase: Phase, side: &SideState, dex: &Dex, wanted: Wanted<'_>) -> Choic
 /// The choice that a wish of a side, 0 or 1, stands for, or the first fault of `legal` that it has.
 ///
 /// A slot is named by its number, from 1, or by its move's id or an alias, which stands for the lowest slot with that move.
-/// Under a lock `move 1` and the lock's name go on; with no usable slot `move 1` and `move struggle` are Struggle. The default
-/// is in a turn the first that is legal of going on, Struggle and the lowest usable slot, and else the lowest position from 2
-/// whose member stands. A name is looked up only where the side is asked, the phase fits and the member isn't locked; then
-/// `NoSuchMove` where no slot has it. Takes no memory.
+/// Under a lock `move 1` and the lock's name go on; with no usable slot `move 1` and `move struggle` are Struggle. The
+/// default is in a turn the first that is legal of going on, Struggle and the lowest usable slot, in Team Preview the order
+/// as it stands, and else the lowest position from 2 whose member stands. Digits name the members that are to stand first,
+/// and the others follow in their order; `NoSuchMember` where a digit names none, or one that an earlier digit names. A
+/// name is looked up only where the side is asked, the phase fits and the member isn't locked; then `NoSuchMove` where no
+/// slot has it. Takes no memory.
 #[tactic(auto, using(crate::proofs::ChoiceLemmas::legal_choices))]
 pub fn resolve(
     battle: &Battle,

@@ -9,11 +9,12 @@ use Rattle.ps_mon.specs.declared.team.Member.{Member}
 use Rattle.ps_mon.specs.declared.team.MoveSlot.{MoveSlot}
 use Rattle.ps_mon.specs.Reading.{side_of, active_index, active_of, no_side, no_slot}
 use Rattle.ps_mon.specs.Slots.{slot_count_now, slot_now, count_in_force}
-use Rattle.ps_mon.specs.Valid.{IsSound, IsValid, IsSide, IsMember, IsCopied, AreChanged, has_standing}
+use Rattle.ps_mon.specs.Valid.{IsSound, IsValid, IsSide, IsMember, IsCopied, AreChanged, StandBefore, has_standing}
 use Rattle.ps_mon.specs.Known.{AreKnown, IsSideKnown, AreChangedKnown}
 use Rattle.ps_mon.specs.Duels.{duel_of}
 use Rattle.ps_mon.proofs.Lists.{at_one}
 use Rattle.ps_mon.proofs.KeepLemmas.{slot-known}
+use Rattle.ps_mon.proofs.PutLemmas.{before-kept}
 use Rattle.ps_copy.specs.Changing.{with_changes, with_slots, copied_if, copied_at, copied_from}
 
 changed-side : (a : SideState) (slots : ChangedSlots) → AreChanged slots → IsSide a → IsSide (with_changes a slots)
@@ -57,6 +58,8 @@ slots-whole b u slots lt fit v =
         turn = old.turn;
         some = λ s h. at_one (λ i (a : SideState). i < 2 → has_standing a ≡ true) b.sides u (with_changes (side_of b u) slots) no_side inside
             (λ i. same-standing (side_of b u) slots ∙ old.some u i) s (λ _. old.some s) h;
+        before = λ s h. at_one (λ i (a : SideState). i < 2 → StandBefore b.phase a) b.sides u (with_changes (side_of b u) slots) no_side inside
+            (λ i. before-kept b.phase (side_of b u) (with_changes (side_of b u) slots) (λ all. all) (old.before u i)) s (λ _. old.before s) h;
         active = λ s h stays. at_one (λ i (a : SideState). 1 ≤ (active_of (side_of b i)).hp → 1 ≤ (active_of a).hp) b.sides u (with_changes (side_of b u) slots) no_side inside
             (λ up. up) s (λ _ up. up) (old.active s h stays);
       });

@@ -41,10 +41,20 @@ pub enum Event {
     /// The format.
     Tier,
     /// A clause is on: Species Clause, Sleep Clause Mod, Freeze Clause Mod, OHKO Clause, Evasion Moves Clause, Nickname
-    /// Clause, HP Percentage Mod, from 0.
+    /// Clause, Team Preview, HP Percentage Mod, from 0.
     Rule {
         clause: u8,
     },
+    /// Both teams are shown next.
+    ClearPoke,
+    /// A member of a side is shown: its species and its level.
+    Poke {
+        side: Side,
+        species: u16,
+        level: u8,
+    },
+    /// Both teams were shown, and their players order them.
+    TeamPreview,
     /// The battle begins.
     Start,
     /// A member comes in.

@@ -5,7 +5,7 @@ ghost use Rattle.ps_event.specs.Table.{audience_of, is_logged};
 use crate::audience::Audience;
 use crate::event::Event;
 
-/// Who sees an event. What tells a member's health is split: its side sees it exactly, all others in hundredths.
+/// Who sees an event. What tells a member's health is split: its side sees it exactly, all others as a share.
 pub fn audience(event: &Event) -> Audience
     ensures { result ≡ audience_of event.now }
 {

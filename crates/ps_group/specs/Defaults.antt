@@ -1,5 +1,5 @@
--- The groups where a configuration names none.
-use Rattle.std.specs.Prelude.{List, [], ◌∷◌, codes, Option, Some, None, true, false}
+-- The groups where a configuration names none: those of its first form, and those of its second, which have a bot.
+use Rattle.std.specs.Prelude.{List, [], ◌∷◌, ◌++◌, codes, Option, Some, None, true, false}
 use Rattle.ps_group.specs.declared.group.Jurisdiction.{Jurisdiction}
 use Rattle.ps_group.specs.declared.group.Group.{Group}
 use Rattle.ps_group.specs.Reading.{no_permissions}
@@ -28,6 +28,10 @@ moderator = record { symbol = 64; id = codes "mod"; name = codes "Moderator"; in
 abbrev pub driver : Group
 driver = record { symbol = 37; id = codes "driver"; name = codes "Driver"; inherit = Some 43; permissions = record { announce = None; modnote = all; warn = under; mute = under; ban = None; modchat = None; promote = None } }
 
+-- `*`
+abbrev pub bot : Group
+bot = record { symbol = 42; id = codes "bot"; name = codes "Bot"; inherit = Some 43; permissions = record { announce = all; modnote = None; warn = None; mute = None; ban = None; modchat = None; promote = None } }
+
 -- `+`
 abbrev pub voice : Group
 voice = record { symbol = 43; id = codes "voice"; name = codes "Voice"; inherit = Some 32; permissions = no_permissions }
@@ -36,5 +40,13 @@ voice = record { symbol = 43; id = codes "voice"; name = codes "Voice"; inherit 
 abbrev pub user : Group
 user = record { symbol = 32; id = codes "user"; name = codes "User"; inherit = None; permissions = no_permissions }
 
+-- those down to `%`
+abbrev pub staff_groups : List Group
+staff_groups = admin ∷ owner ∷ moderator ∷ driver ∷ []
+
 unfoldable pub default_groups : List Group
-default_groups = admin ∷ owner ∷ moderator ∷ driver ∷ voice ∷ user ∷ []
+default_groups = staff_groups ++ voice ∷ user ∷ []
+
+-- the same with the bot between `%` and `+`
+unfoldable pub groups_with_bot : List Group
+groups_with_bot = staff_groups ++ bot ∷ voice ∷ user ∷ []

@@ -1,6 +1,6 @@
 //! The groups where a configuration names none.
 ghost use Rattle.std.specs.Prelude.{◌≡◌, IfOk};
-ghost use Rattle.ps_group.specs.Defaults.{admin, owner, moderator, driver, voice, user, default_groups};
+ghost use Rattle.ps_group.specs.Defaults.{admin, owner, moderator, driver, bot, voice, user, staff_groups, default_groups, groups_with_bot};
 
 use crate::group::{Group, Jurisdiction, Permissions};
 use crate::groups::Groups;
@@ -100,6 +100,21 @@ fn driver(alloc: Global) -> Result<Group, AllocError>
     })
 }
 
+fn bot(alloc: Global) -> Result<Group, AllocError>
+    ensures { IfOk result (λ g. g ≡ bot) }
+{
+    Ok(Group {
+        symbol: '*',
+        id: to_id(alloc, "bot")?,
+        name: Text::copy_of(alloc, "Bot")?,
+        inherit: Some('+'),
+        permissions: Permissions {
+            announce: ALL,
+            ..NO_PERMISSIONS
+        },
+    })
+}
+
 fn voice(alloc: Global) -> Result<Group, AllocError>
     ensures { IfOk result (λ g. g ≡ voice) }
 {
@@ -124,18 +139,38 @@ fn user(alloc: Global) -> Result<Group, AllocError>
     })
 }
 
+/// The groups down to the driver.
+fn staff(alloc: Global) -> Result<Vec<Group>, AllocError>
+    ensures { IfOk result (λ v. v.items ≡ staff_groups) }
+{
+    let mut list = Vec::new(alloc);
+    list.push(admin(alloc)?)?;
+    list.push(owner(alloc)?)?;
+    list.push(moderator(alloc)?)?;
+    list.push(driver(alloc)?)?;
+    Ok(list)
+}
+
 impl Groups {
-    /// The groups where a configuration names none: administrator `~`, room owner `#`, moderator `@`,
+    /// The groups where a configuration of version 1 names none: administrator `~`, room owner `#`, moderator `@`,
     /// driver `%`, voice `+`, and the user, whose symbol is the space.
     #[tactic(auto, unfolding(crate::specs::Defaults::default_groups))]
     pub fn standard(alloc: Global) -> Result<Groups, AllocError>
         ensures { IfOk result (λ g. g ≡ default_groups) }
     {
-        let mut list = Vec::new(alloc);
-        list.push(admin(alloc)?)?;
-        list.push(owner(alloc)?)?;
-        list.push(moderator(alloc)?)?;
-        list.push(driver(alloc)?)?;
+        let mut list = staff(alloc)?;
+        list.push(voice(alloc)?)?;
+        list.push(user(alloc)?)?;
+        Ok(Groups::from_list(list))
+    }
+
+    /// The groups where a configuration of version 2 names none: the same with the bot `*` between `%` and `+`.
+    #[tactic(auto, unfolding(crate::specs::Defaults::groups_with_bot))]
+    pub fn with_bot(alloc: Global) -> Result<Groups, AllocError>
+        ensures { IfOk result (λ g. g ≡ groups_with_bot) }
+    {
+        let mut list = staff(alloc)?;
+        list.push(bot(alloc)?)?;
         list.push(voice(alloc)?)?;
         list.push(user(alloc)?)?;
         Ok(Groups::from_list(list))

@@ -30,11 +30,11 @@ pub row_same : (exact : Bool) (places : Hidden) (one two : Names) (dex : Tables)
 unfolding row_of
 row_same exact places one two dex (events.Player side) w n = rw (player_same places one two side w) refl
 row_same exact places one two dex events.Tier w n = rw w.format refl
-row_same exact places one two dex (events.Switch who species level health) w n = rw (w.nicks who (n 0 who (omega arith))) refl
+row_same exact places one two dex (events.Switch who species level health) w n = rw (w.percent, w.nicks who (n 0 who (omega arith))) refl
 row_same exact places one two dex (events.Move who mv target still from) w n = rw (w.nicks who (n 0 who (omega arith)), w.nicks target (n 1 who (omega arith))) refl
 row_same exact places one two dex (events.Cant who reason) w n = rw (w.nicks who (n 0 who (omega arith))) refl
-row_same exact places one two dex (events.Damage who health from) w n = rw (w.nicks who (n 0 who (omega arith))) refl
-row_same exact places one two dex (events.Heal who health) w n = rw (w.nicks who (n 0 who (omega arith))) refl
+row_same exact places one two dex (events.Damage who health from) w n = rw (w.percent, w.nicks who (n 0 who (omega arith))) refl
+row_same exact places one two dex (events.Heal who health) w n = rw (w.percent, w.nicks who (n 0 who (omega arith))) refl
 row_same exact places one two dex (events.Status who status) w n = rw (w.nicks who (n 0 who (omega arith))) refl
 row_same exact places one two dex (events.CureStatus who status) w n = rw (w.nicks who (n 0 who (omega arith))) refl
 row_same exact places one two dex (events.Boost who stat by) w n = rw (w.nicks who (n 0 who (omega arith))) refl

@@ -20,7 +20,7 @@ use Rattle.ps_room.proofs.ChatLemmas.{IsChat, chat_opened, chat_after, choice_re
 use Rattle.ps_room.proofs.UnseenLemmas.{note_unseen}
 use Rattle.ps_room.specs.Stories.{story}
 use Rattle.ps_laws.specs.Users.{user_of, users_from, users}
-use Rattle.ps_laws.specs.Hidden.{hidden_in_both}
+use Rattle.ps_laws.specs.Hidden.{hidden_in_both, is_previewed}
 use Rattle.ps_laws.specs.Low.{Item, whole, items_of_round, items_of_allowed, items_of_others, items_of, is_own, low_from}
 use Rattle.ps_laws.specs.Same.{AreBattlesSame, UnshownMayBeMissing}
 use Rattle.ps_laws.specs.HallLow.{is_user}
@@ -71,9 +71,9 @@ fits : (config : Settings) (dex : Tables) (bo : Option Start) → bo ≡ None �
 fits config dex None good = tt
 fits config dex (Some st) good = absurd cc
 
-none_same : (places : Hidden) (bo : Option Start) → bo ≡ None → AreBattlesSame places bo bo
-none_same places None good = tt
-none_same places (Some st) good = absurd cc
+none_same : (preview : Bool) (places : Hidden) (bo : Option Start) → bo ≡ None → AreBattlesSame preview places bo bo
+none_same preview places None good = tt
+none_same preview places (Some st) good = absurd cc
 
 pub unshown_may_be_missing : UnshownMayBeMissing
 unshown_may_be_missing conn o before e later good none =
@@ -85,5 +85,5 @@ unshown_may_be_missing conn o before e later good none =
       histories =
           ap (λ (x : List (List ℕ)). low_from conn x (opened o) (before ++ e ∷ later)) (same_users conn (opened o) before e later i)
           ∙ same_low conn ids (opened o) before e later none i.kept;
-      openings = record { no = refl; id = refl; title = refl; config = refl; dex = refl; battle = none_same (hidden_in_both conn (story o (before ++ e ∷ later)) (story o (before ++ later))) o.battle good };
+      openings = record { no = refl; id = refl; title = refl; config = refl; dex = refl; battle = none_same (is_previewed o.config o.battle) (hidden_in_both conn (story o (before ++ e ∷ later)) (story o (before ++ later))) o.battle good };
     }

@@ -25,13 +25,12 @@ use Rattle.ps_hits.specs.Courses.{Course}
 use Rattle.battle_secrecy.specs.Places.{Hidden}
 use Rattle.battle_secrecy.specs.Alike.{AreSlotsAlike, AreShownAlike}
 use Rattle.battle_secrecy.specs.Showing.{NamesNoHidden}
-use Rattle.battle_secrecy.specs.Teams.{AreTeamsAlike, AreBothTeamsAlike}
+use Rattle.battle_secrecy.specs.Teams.{AreTeamsAlike, AreBothTeamsAlike, AreKindsSame}
 use Rattle.battle_secrecy.proofs.OpeningLemmas.{fresh_teams_alike, open_alike}
-use Rattle.battle_secrecy.proofs.TellTurnLemmas.{open_names}
-use Rattle.ps_room.specs.Openings.{Opening, format_in, name_of_format, clauses_of_format, team_of_legal, nicks_of_legal, names_of, bout_with, fight_with}
+use Rattle.ps_room.specs.Openings.{Opening, format_in, name_of_format, clauses_of_format, in_percent, team_of_legal, nicks_of_legal, names_of, bout_with, fight_with}
 use Rattle.ps_room.specs.Records.{logged_events, logged_with, opened}
 use Rattle.ps_laws.specs.Alike.{AreNamesAlike, AreBoutsAlike, AreFightsAlike, AreMaybeAlike, IsLoggedOpenly, own_bout, own_fight}
-use Rattle.ps_laws.specs.Hidden.{member_in, hidden_with, own_sides}
+use Rattle.ps_laws.specs.Hidden.{member_in, hidden_with, is_previewed, own_sides}
 use Rattle.ps_laws.specs.Rounds.{Round}
 use Rattle.ps_laws.specs.Same.{IsSlotSame, AreEqualMembers, IsMemberSame, IsNickSame, nick_in, AreTeamsSame, AreStartsSame, AreBattlesSame}
 use Rattle.ps_laws.proofs.PartLemmas.{if_none, side_below_two}
@@ -61,11 +60,11 @@ owned ids o = owns_opened ids o.config o.dex o.battle
 -- ---- what is hidden at the opening
 
 -- the places that are hidden in two stories, the first of which has these rounds
-abbrev pub both : (own : ℕ → Bool) → Option Start → List Round → Hidden → Hidden
-both own bo rs other = record {
-  member = λ s k. (hidden_with own bo rs).member s k && other.member s k;
-  slot = λ s k j. (hidden_with own bo rs).slot s k j && other.slot s k j;
-  move = (hidden_with own bo rs).move;
+abbrev pub both : (preview : Bool) (own : ℕ → Bool) → Option Start → List Round → Hidden → Hidden
+both preview own bo rs other = record {
+  member = λ s k. (hidden_with preview own bo rs).member s k && other.member s k;
+  slot = λ s k j. (hidden_with preview own bo rs).slot s k j && other.slot s k j;
+  move = (hidden_with preview own bo rs).move;
 }
 
 never : (a b c : Bool) → (a && b && not true && c) ≡ false
@@ -73,13 +72,14 @@ never true true c = refl
 never true false c = refl
 never false b c = refl
 
-pub own_open : (own : ℕ → Bool) (bo : Option Start) (rs : List Round) (other : Hidden) → IsOpen own (both own bo rs other)
-own_open own None rs other = record { member = λ s k lt mine. refl; slot = λ s k j lt mine. refl }
-own_open own (Some st) rs other = record { member = λ s k lt mine. rw mine refl; slot = λ s k j lt mine. rw mine refl }
+pub own_open : (preview : Bool) (own : ℕ → Bool) (bo : Option Start) (rs : List Round) (other : Hidden) → IsOpen own (both preview own bo rs other)
+own_open preview own None rs other = record { member = λ s k lt mine. refl; slot = λ s k j lt mine. refl }
+own_open preview own (Some st) rs other = record { member = λ s k lt mine. rw mine refl; slot = λ s k j lt mine. rw mine refl }
 
--- the first member of a team isn't hidden
-first_shown : (own : ℕ → Bool) (st : Start) (rs : List Round) (other : Hidden) (s : ℕ) → (both own (Some st) rs other).member s 0 ≡ false
-first_shown own st rs other s = never (not (own s)) (nat_lt 0 (legal_of st.teams s).team.count) (other.member s 0)
+-- the first member of a team isn't hidden, but for Team Preview
+first_shown : (preview : Bool) (own : ℕ → Bool) (st : Start) (rs : List Round) (other : Hidden) (s : ℕ) → preview ≡ false → (both preview own (Some st) rs other).member s 0 ≡ false
+first_shown false own st rs other s sent = never (not (own s)) (nat_lt 0 (legal_of st.teams s).team.count) (other.member s 0)
+first_shown true own st rs other s sent = absurd cc
 
 -- a slot that is hidden is one of its member's
 inside_by : (a b c d : Bool) → (a && b && c && d) ≡ true → b ≡ true
@@ -107,9 +107,15 @@ member_alike hides m n one two inside w =
       slots = λ j. slot_alike (hides j) (slot_of m j) (slot_of n j) (λ h. one.pp j (inside j h)) (λ h. two.pp j (let lt = inside j h in omega (arith, lt, counts))) (w.slots j);
     }
 
-shown_same : (hidden : Bool) (hides : ℕ → Bool) (m n : Member) → hidden ≡ false → IsMemberSame hidden hides m n → AreEqualMembers hides m n
-shown_same false hides m n open_it w = w
-shown_same true hides m n open_it w = absurd cc
+shown_same : (preview hidden : Bool) (hides : ℕ → Bool) (m n : Member) → hidden ≡ false → IsMemberSame preview hidden hides m n → AreEqualMembers hides m n
+shown_same preview false hides m n open_it w = w
+shown_same preview true hides m n open_it w = absurd cc
+
+-- under Team Preview all members are of the same kinds
+kinds_same : (preview hidden : Bool) (hides : ℕ → Bool) (m n : Member) → preview ≡ true → IsMemberSame preview hidden hides m n → AreKindsSame m n
+kinds_same preview false hides m n is w = record { species = ap (λ (x : Member). x.species) w.front; level = ap (λ (x : Member). x.level) w.front }
+kinds_same true true hides m n is w = record { species = w.species; level = w.level }
+kinds_same false true hides m n is w = absurd cc
 
 moved_alike : (hides : ℕ → Bool) (moves : ℕ → ℕ) (m n : Member) → ((j : ℕ) → moves j ≡ (slot_of m j).mv) → AreShownAlike hides (λ j. (slot_of m j).mv) m n → AreShownAlike hides moves m n
 moved_alike hides moves m n same w = record {
@@ -119,27 +125,27 @@ moved_alike hides moves m n same w = record {
   slots = λ j. subst (λ (mv : ℕ). AreSlotsAlike (hides j) mv (slot_of m j) (slot_of n j)) (sym (same j)) (w.slots j);
 }
 
-team_alike : (places : Hidden) (one two : Start) (s : ℕ) → ((k j : ℕ) → places.slot s k j ≡ true → j < (member_in one s k).slot_count) → ((k j : ℕ) → places.move s k j ≡ (slot_of (member_in one s k) j).mv) → places.member s 0 ≡ false → IsFresh (legal_of one.teams s).team → IsFresh (legal_of two.teams s).team → AreTeamsSame places one two s → AreTeamsAlike (places.member s) (places.slot s) (places.move s) (legal_of one.teams s).team (legal_of two.teams s).team
-team_alike places one two s inside moves first fresh fresh_too w =
-    fresh_teams_alike (places.member s) (places.slot s) (places.move s) (legal_of one.teams s).team (legal_of two.teams s).team w.long fresh fresh_too w.count first
+team_alike : (preview : Bool) (places : Hidden) (one two : Start) (s : ℕ) → ((k j : ℕ) → places.slot s k j ≡ true → j < (member_in one s k).slot_count) → ((k j : ℕ) → places.move s k j ≡ (slot_of (member_in one s k) j).mv) → (preview ≡ false → places.member s 0 ≡ false) → IsFresh (legal_of one.teams s).team → IsFresh (legal_of two.teams s).team → AreTeamsSame preview places one two s → AreTeamsAlike preview (places.member s) (places.slot s) (places.move s) (legal_of one.teams s).team (legal_of two.teams s).team
+team_alike preview places one two s inside moves first fresh fresh_too w =
+    fresh_teams_alike preview (places.member s) (places.slot s) (places.move s) (legal_of one.teams s).team (legal_of two.teams s).team w.long fresh fresh_too w.count first (λ is k lt. kinds_same preview (places.member s k) (places.slot s k) (member_in one s k) (member_in two s k) is (w.members k lt))
     (λ k lt shown. moved_alike (places.slot s k) (places.move s k) (member_in one s k) (member_in two s k) (moves k)
-    (member_alike (places.slot s k) (member_in one s k) (member_in two s k) (fresh.members k lt) (fresh_too.members k (let count = w.count in omega (arith, lt, count))) (inside k) (shown_same (places.member s k) (places.slot s k) _ _ shown (w.members k lt))))
+    (member_alike (places.slot s k) (member_in one s k) (member_in two s k) (fresh.members k lt) (fresh_too.members k (let count = w.count in omega (arith, lt, count))) (inside k) (shown_same preview (places.member s k) (places.slot s k) _ _ shown (w.members k lt))))
     w.rest
 
-slot_inside : (own : ℕ → Bool) (st : Start) (rs : List Round) (other : Hidden) (s k j : ℕ) → (both own (Some st) rs other).slot s k j ≡ true → j < (member_in st s k).slot_count
-slot_inside own st rs other s k j h = ltb-true j (member_in st s k).slot_count (inside_by (not (own s)) (nat_lt j (member_in st s k).slot_count) _ (other.slot s k j) h)
+slot_inside : (preview : Bool) (own : ℕ → Bool) (st : Start) (rs : List Round) (other : Hidden) (s k j : ℕ) → (both preview own (Some st) rs other).slot s k j ≡ true → j < (member_in st s k).slot_count
+slot_inside preview own st rs other s k j h = ltb-true j (member_in st s k).slot_count (inside_by (not (own s)) (nat_lt j (member_in st s k).slot_count) _ (other.slot s k j) h)
 
-slot_move : (own : ℕ → Bool) (st : Start) (rs : List Round) (other : Hidden) (s k j : ℕ) → (both own (Some st) rs other).move s k j ≡ (slot_of (member_in st s k) j).mv
-slot_move own st rs other s k j = refl
+slot_move : (preview : Bool) (own : ℕ → Bool) (st : Start) (rs : List Round) (other : Hidden) (s k j : ℕ) → (both preview own (Some st) rs other).move s k j ≡ (slot_of (member_in st s k) j).mv
+slot_move preview own st rs other s k j = refl
 
-teams_alike : (own : ℕ → Bool) (rs : List Round) (other : Hidden) (config : Settings) (dex : Tables) (one two : Start) → IsFit one config dex → IsFit two config dex → AreStartsSame (both own (Some one) rs other) one two → AreBothTeamsAlike (both own (Some one) rs other) (map team_of_legal one.teams) (map team_of_legal two.teams)
-teams_alike own rs other config dex one two fit fit_too w = λ s lt.
-    let places = both own (Some one) rs other in
+teams_alike : (preview : Bool) (own : ℕ → Bool) (rs : List Round) (other : Hidden) (config : Settings) (dex : Tables) (one two : Start) → IsFit one config dex → IsFit two config dex → AreStartsSame preview (both preview own (Some one) rs other) one two → AreBothTeamsAlike preview (both preview own (Some one) rs other) (map team_of_legal one.teams) (map team_of_legal two.teams)
+teams_alike preview own rs other config dex one two fit fit_too w = λ s lt.
+    let places = both preview own (Some one) rs other in
     let fresh : IsFresh (legal_of one.teams s).team = each_side (λ s. IsFresh (legal_of one.teams s).team) fit.first.fresh fit.second.fresh s lt in
     let fresh_too : IsFresh (legal_of two.teams s).team = each_side (λ s. IsFresh (legal_of two.teams s).team) fit_too.first.fresh fit_too.second.fresh s lt in
-    let alike = team_alike places one two s (slot_inside own one rs other s) (slot_move own one rs other s) (first_shown own one rs other s) fresh fresh_too (w.teams s lt) in
-    subst (λ (t : BattleTeam). AreTeamsAlike (places.member s) (places.slot s) (places.move s) t (team_of (map team_of_legal two.teams) s)) (sym (team_at one.teams s))
-    (subst (λ (t : BattleTeam). AreTeamsAlike (places.member s) (places.slot s) (places.move s) (legal_of one.teams s).team t) (sym (team_at two.teams s)) alike)
+    let alike = team_alike preview places one two s (slot_inside preview own one rs other s) (slot_move preview own one rs other s) (first_shown preview own one rs other s) fresh fresh_too (w.teams s lt) in
+    subst (λ (t : BattleTeam). AreTeamsAlike preview (places.member s) (places.slot s) (places.move s) t (team_of (map team_of_legal two.teams) s)) (sym (team_at one.teams s))
+    (subst (λ (t : BattleTeam). AreTeamsAlike preview (places.member s) (places.slot s) (places.move s) (legal_of one.teams s).team t) (sym (team_at two.teams s)) alike)
 
 -- ---- names
 
@@ -157,10 +163,11 @@ nick_is config st P2 k = ap (λ (ns : List (List ℕ)). unwrap_or (slice_get ns 
 format_same : (config : Settings) (one two : Start) → one.format ≡ two.format → format_in config one ≡ format_in config two
 format_same config one two e = ap (λ (f : List ℕ). format_in config (record one { format = f })) e
 
-names_alike : (places : Hidden) (config : Settings) (one two : Start) → AreStartsSame places one two → AreNamesAlike places (names_of config one) (names_of config two)
-names_alike places config one two w = record {
+names_alike : (preview : Bool) (places : Hidden) (config : Settings) (one two : Start) → AreStartsSame preview places one two → AreNamesAlike places (names_of config one) (names_of config two)
+names_alike preview places config one two w = record {
   players = w.players;
   format = ap name_of_format (format_same config one two w.format);
+  percent = ap in_percent (format_same config one two w.format);
   nicks = λ who shown. nick_is config one who.side who.member ∙ nick_same _ _ _ shown ((w.teams (side_number who.side) (side_below_two who.side)).nicks who.member) ∙ sym (nick_is config two who.side who.member);
 }
 
@@ -172,29 +179,30 @@ record AreOpeningsAlike (places : Hidden) (one two : Outcome) : Type 0 where
   told : one.told ≡ two.told
   names : NamesNoHidden places one.told
 
-course_alike : (own : ℕ → Bool) (rs : List Round) (other : Hidden) (config : Settings) (dex : Tables) (one two : Start) → IsFit one config dex → IsFit two config dex → AreStartsSame (both own (Some one) rs other) one two → AreOpeningsAlike (both own (Some one) rs other) (bout_with config one) (bout_with config two)
+course_alike : (own : ℕ → Bool) (rs : List Round) (other : Hidden) (config : Settings) (dex : Tables) (one two : Start) → IsFit one config dex → IsFit two config dex →
+    AreStartsSame (is_previewed config (Some one)) (both (is_previewed config (Some one)) own (Some one) rs other) one two → AreOpeningsAlike (both (is_previewed config (Some one)) own (Some one) rs other) (bout_with config one) (bout_with config two)
 unfolding opened_bout
 course_alike own rs other config dex one two fit fit_too w =
-    let places = both own (Some one) rs other in
+    let preview = is_previewed config (Some one) in
+    let places = both preview own (Some one) rs other in
     let clauses = clauses_of_format (format_in config one) in
-    let c = open_alike places (map team_of_legal one.teams) (map team_of_legal two.teams) clauses one.seed (teams_alike own rs other config dex one two fit fit_too w) in
-    let names = open_names places (map team_of_legal one.teams) clauses one.seed (first_shown own one rs other 0) (first_shown own one rs other 1) in
+    let c = open_alike places (map team_of_legal one.teams) (map team_of_legal two.teams) clauses one.seed (teams_alike preview own rs other config dex one two fit fit_too w) in
     let same : open_course (map team_of_legal two.teams) clauses one.seed ≡ open_course (map team_of_legal two.teams) (clauses_of_format (format_in config two)) two.seed =
     ap (λ (x : ℕ). open_course (map team_of_legal two.teams) x one.seed) (ap clauses_of_format (format_same config one two w.format)) ∙ ap (open_course (map team_of_legal two.teams) (clauses_of_format (format_in config two))) w.seed in
     subst (λ (x : Course). AreOpeningsAlike places (bout_with config one) (in_round 1 x)) same (record {
       bout = record { battle = c.battle; round = refl; first = refl; second = refl };
       told = c.told;
-      names = names;
+      names = c.names;
     })
 
 own_outcome : (own : ℕ → Bool) (config : Settings) (st : Start) → own_bout own (bout_with config st).bout ≡ (bout_with config st).bout
 unfolding opened_bout
 own_outcome own config st = rw (if_none (own 0), if_none (own 1)) refl
 
-fights_alike : (own : ℕ → Bool) (rs : List Round) (other : Hidden) (config : Settings) (dex : Tables) (one two : Start) → AreStartsSame (both own (Some one) rs other) one two → AreOpeningsAlike (both own (Some one) rs other) (bout_with config one) (bout_with config two) → AreFightsAlike (both own (Some one) rs other) (record (fight_with config dex one) { bout = own_bout own (bout_with config one).bout }) (record (fight_with config dex two) { bout = own_bout own (bout_with config two).bout })
-fights_alike own rs other config dex one two w o = record {
+fights_alike : (preview : Bool) (own : ℕ → Bool) (rs : List Round) (other : Hidden) (config : Settings) (dex : Tables) (one two : Start) → AreStartsSame preview (both preview own (Some one) rs other) one two → AreOpeningsAlike (both preview own (Some one) rs other) (bout_with config one) (bout_with config two) → AreFightsAlike (both preview own (Some one) rs other) (record (fight_with config dex one) { bout = own_bout own (bout_with config one).bout }) (record (fight_with config dex two) { bout = own_bout own (bout_with config two).bout })
+fights_alike preview own rs other config dex one two w o = record {
   number = w.number;
-  names = names_alike (both own (Some one) rs other) config one two w;
+  names = names_alike preview (both preview own (Some one) rs other) config one two w;
   dex = refl;
   bout = rw (own_outcome own config one, own_outcome own config two) o.bout;
 }
@@ -215,15 +223,17 @@ abbrev pub FitsWith : Settings → Tables → Option Start → Type 0
 FitsWith config dex None = Unit {0}
 FitsWith config dex (Some st) = IsFit st config dex
 
-pub begun_alike : (own : ℕ → Bool) (rs : List Round) (other : Hidden) (config : Settings) (dex : Tables) (one two : Option Start) → FitsWith config dex one → FitsWith config dex two → AreBattlesSame (both own one rs other) one two → AreBegunAlike own (both own one rs other) config dex one two
+pub begun_alike : (own : ℕ → Bool) (rs : List Round) (other : Hidden) (config : Settings) (dex : Tables) (one two : Option Start) → FitsWith config dex one → FitsWith config dex two →
+    AreBattlesSame (is_previewed config one) (both (is_previewed config one) own one rs other) one two → AreBegunAlike own (both (is_previewed config one) own one rs other) config dex one two
 begun_alike own rs other config dex None None fit fit_too w = record { some = refl; logged = refl; openly = λ k d lt. absurd (omega arith); battle = tt }
 begun_alike own rs other config dex None (Some two) fit fit_too w = absurd w
 begun_alike own rs other config dex (Some one) None fit fit_too w = absurd w
 begun_alike own rs other config dex (Some one) (Some two) fit fit_too w =
+    let preview = is_previewed config (Some one) in
     let o = course_alike own rs other config dex one two fit fit_too w in
     record {
       some = refl;
       logged = ap logged_events o.told;
-      openly = events_openly (both own (Some one) rs other) (bout_with config one).told o.names;
-      battle = fights_alike own rs other config dex one two w o;
+      openly = events_openly (both preview own (Some one) rs other) (bout_with config one).told o.names;
+      battle = fights_alike preview own rs other config dex one two w o;
     }

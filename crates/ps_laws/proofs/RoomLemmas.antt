@@ -16,7 +16,7 @@ use Rattle.ps_room.specs.Records.{chat_opening, logged_with}
 use Rattle.ps_room.specs.Stories.{Story, begun, view_of}
 use Rattle.ps_laws.specs.Users.{users, is_own_side}
 use Rattle.ps_laws.specs.Alike.{AreAlike, AreMaybeAlike, own_fight, own_part}
-use Rattle.ps_laws.specs.Hidden.{own_sides, hidden, hidden_in_both}
+use Rattle.ps_laws.specs.Hidden.{is_previewed, own_sides, hidden, hidden_in_both}
 use Rattle.ps_laws.specs.Rounds.{rounds}
 use Rattle.ps_laws.specs.Low.{low}
 use Rattle.ps_laws.specs.Same.{AreBattlesSame, AreOpenedAlike, AreSame}
@@ -82,11 +82,11 @@ users_same conn one two same =
 plays_same : (ids : List (List ℕ)) (config : Settings) (one two : Start) (s : ℕ) → one.players ≡ two.players → is_own_side ids (names_of config one) s ≡ is_own_side ids (names_of config two) s
 plays_same ids config one two s e = ap (λ (ps : List (List ℕ)). list_any (plays (record (names_of config two) { players = ps }) (side_name s)) ids) e
 
-own_same : (ids : List (List ℕ)) (config : Settings) (places : Hidden) (one two : Option Start) (s : ℕ) → AreBattlesSame places one two → own_sides ids config one s ≡ own_sides ids config two s
-own_same ids config places None None s w = refl
-own_same ids config places None (Some two) s w = absurd w
-own_same ids config places (Some one) None s w = absurd w
-own_same ids config places (Some one) (Some two) s w = plays_same ids config one two s w.players
+own_same : (ids : List (List ℕ)) (config : Settings) (preview : Bool) (places : Hidden) (one two : Option Start) (s : ℕ) → AreBattlesSame preview places one two → own_sides ids config one s ≡ own_sides ids config two s
+own_same ids config preview places None None s w = refl
+own_same ids config preview places None (Some two) s w = absurd w
+own_same ids config preview places (Some one) None s w = absurd w
+own_same ids config preview places (Some one) (Some two) s w = plays_same ids config one two s w.players
 
 owns_too : (ids : List (List ℕ)) (own other : ℕ → Bool) (fo : Option Fight) → ((s : ℕ) → own s ≡ other s) → OwnsOf ids other fo → OwnsOf ids own fo
 owns_too ids own other None same h = tt
@@ -111,7 +111,7 @@ views_are_equal conn one two same =
     let settled = settled_opened conn ids own one.opening owns in
     let known = users_self ids in
     let sides : (s : ℕ) → own s ≡ own_sides (users conn two) two.opening.config two.opening.battle s = λ s.
-    own_same ids one.opening.config places one.opening.battle two.opening.battle s w.battle
+    own_same ids one.opening.config (is_previewed one.opening.config one.opening.battle) places one.opening.battle two.opening.battle s w.battle
     ∙ ap (λ (c : Settings). own_sides ids c two.opening.battle s) w.config
     ∙ ap (λ (us : List (List ℕ)). own_sides us two.opening.config two.opening.battle s) both in
     let settled_too = settled_opened conn (users conn two) own two.opening (owns_too (users conn two) own _ (begun two).battle sides (owned (users conn two) two.opening)) in
@@ -119,6 +119,6 @@ views_are_equal conn one two same =
     let listed : AreUsers ids (items_users conn (begun one).opening (begun one).chat (low conn one)) = subst (AreUsers ids) (users_told conn one) known in
     view_is conn ids own (begun one) one.history settled known
     ∙ views_alike conn ids own places (own_part own (begun one)) (own_part own (begun two)) (low conn one) (part_owns ids own (begun one).battle owns) tt listed
-    (own_open own one.opening.battle (rounds one) (hidden conn two)) fine alike
+    (own_open (is_previewed one.opening.config one.opening.battle) own one.opening.battle (rounds one) (hidden conn two)) fine alike
     ∙ ap (items_view conn (own_part own (begun two))) same.histories
     ∙ sym (view_is conn (users conn two) own (begun two) two.history settled_too (users_self (users conn two)))

@@ -8,16 +8,17 @@ use Rattle.ps_mon.specs.declared.record.SideState.{SideState}
 use Rattle.ps_mon.specs.declared.choice.Choice.{Choice}
 use Rattle.ps_mon.specs.declared.choice.Choice.TheVariants as choices
 use Rattle.ps_mon.specs.Facts.{Figures}
+use Rattle.ps_mon.specs.Orders.{index_at}
 use Rattle.ps_mon.specs.Reading.{side_of, active_index, slot_of}
 use Rattle.ps_battle.specs.Turns.{turn}
 use Rattle.rules_start.specs.declared.start.Start.{Start}
 use Rattle.battle_secrecy.specs.Places.{Hidden}
-use Rattle.battle_secrecy.specs.Alike.{AreAlike as AreBattlesAlike, IsPlaced}
+use Rattle.battle_secrecy.specs.Alike.{AreBattlesAlike, IsPlaced}
 use Rattle.battle_secrecy.specs.Showing.{shows_one, ShowsNoHidden}
 use Rattle.battle_secrecy.specs.Laws.{IsChoiceUnhidden, forms, fronts}
 use Rattle.battle_secrecy.proofs.FrontLemmas.{turn_front, front_after, choice_of_side}
 use Rattle.ps_laws.specs.Rounds.{Round, choice_of, round_of_choices, rounds}
-use Rattle.ps_laws.specs.Hidden.{member_in, has_stood, is_member_hidden, is_chosen, is_told, is_slot_shown, is_slot_hidden, hidden_with, own_sides, hidden, hidden_in_both}
+use Rattle.ps_laws.specs.Hidden.{member_in, has_stood, is_member_hidden, is_chosen, is_told, is_slot_shown, is_slot_hidden, hidden_with, is_previewed, own_sides, hidden, hidden_in_both}
 use Rattle.ps_room.specs.Stories.{Story}
 use Rattle.ps_laws.specs.Users.{users}
 use Rattle.ps_laws.proofs.WaitLemmas.{AreChoices}
@@ -62,10 +63,10 @@ each_unshown st places (r ∷ rs) never =
 last_of_three : (a b c : Bool) → (a && b && not c) ≡ true → c ≡ false
 last_of_three a b c e = not-true c (and_parts (a && b) (not c) e).1
 
-never_shown : (own : ℕ → Bool) (st : Start) (rs : List Round) (other : Hidden) (places : Hidden) → ((s k : ℕ) → places.member s k ≡ (is_member_hidden (own s) st rs s k && other.member s k)) → ((s k j : ℕ) → places.slot s k j ≡ (is_slot_hidden (own s) st rs s k j && other.slot s k j)) → ((s k j : ℕ) → places.move s k j ≡ (slot_of (member_in st s k) j).mv) → AreNeverShown st places rs
-never_shown own st rs other places members slots moves = record {
+never_shown : (preview : Bool) (own : ℕ → Bool) (st : Start) (rs : List Round) (other : Hidden) (places : Hidden) → ((s k : ℕ) → places.member s k ≡ (is_member_hidden preview (own s) st rs s k && other.member s k)) → ((s k j : ℕ) → places.slot s k j ≡ (is_slot_hidden (own s) st rs s k j && other.slot s k j)) → ((s k j : ℕ) → places.move s k j ≡ (slot_of (member_in st s k) j).mv) → AreNeverShown st places rs
+never_shown preview own st rs other places members slots moves = record {
   moves = moves;
-  members = λ s k h. (or_parts (k == 0) _ (last_of_three (not (own s)) _ (has_stood rs s k) (and_parts _ _ (sym (members s k) ∙ h)).0)).1;
+  members = λ s k h. (or_parts (not preview && k == 0) _ (last_of_three (not (own s)) _ (has_stood preview rs s k) (and_parts _ _ (sym (members s k) ∙ h)).0)).1;
   slots = λ s k j h. last_of_three (not (own s)) _ _ (and_parts _ _ (sym (slots s k j) ∙ h)).0;
 }
 
@@ -80,17 +81,17 @@ none_hidden places (r ∷ rs) members slots = (
   none_hidden places rs members slots,
 )
 
-both_with : (own : ℕ → Bool) (bo : Option Start) (rs : List Round) (other : Hidden) → AreUnshown (record {
-  member = λ s k. (hidden_with own bo rs).member s k && other.member s k;
-  slot = λ s k j. (hidden_with own bo rs).slot s k j && other.slot s k j;
-  move = (hidden_with own bo rs).move;
+both_with : (preview : Bool) (own : ℕ → Bool) (bo : Option Start) (rs : List Round) (other : Hidden) → AreUnshown (record {
+  member = λ s k. (hidden_with preview own bo rs).member s k && other.member s k;
+  slot = λ s k j. (hidden_with preview own bo rs).slot s k j && other.slot s k j;
+  move = (hidden_with preview own bo rs).move;
 }) rs
-both_with own None rs other = none_hidden _ rs (λ s k. refl) (λ s k j. refl)
-both_with own (Some st) rs other = each_unshown st _ rs (never_shown own st rs other _ (λ s k. refl) (λ s k j. refl) (λ s k j. refl))
+both_with preview own None rs other = none_hidden _ rs (λ s k. refl) (λ s k j. refl)
+both_with preview own (Some st) rs other = each_unshown st _ rs (never_shown preview own st rs other _ (λ s k. refl) (λ s k j. refl) (λ s k j. refl))
 
 -- no round of the first of two stories shows a place that is hidden in both
 pub story_unshown : (conn : ℕ) (one two : Story) → AreUnshown (hidden_in_both conn one two) (rounds one)
-story_unshown conn one two = both_with (own_sides (users conn one) one.opening.config one.opening.battle) one.opening.battle (rounds one) (hidden conn two)
+story_unshown conn one two = both_with (is_previewed one.opening.config one.opening.battle) (own_sides (users conn one) one.opening.config one.opening.battle) one.opening.battle (rounds one) (hidden conn two)
 
 -- ---- the choices and the events of such a round
 
@@ -100,6 +101,8 @@ choice_unhidden places r s side (choices.Move n) h is before after = false_from_
     let wrong : true ≡ false = sym (rw (is, before) (rw (eq-eqb (active_index side) (active_index side) refl, eq-eqb (n - 1) (n - 1) refl) refl)) ∙ h.chosen s (active_index side) (n - 1) t in absurd cc)
 choice_unhidden places r s side (choices.Switch p) h is before after = false_from_ne_true (places.member s (get_or side.order (p - 1) 0)) (λ t.
     let wrong : true ≡ false = sym (rw after (eq-eqb (get_or side.order (p - 1) 0) (get_or side.order (p - 1) 0) refl)) ∙ h.members s (get_or side.order (p - 1) 0) t in absurd cc)
+choice_unhidden places r s side (choices.Team numbers) h is before after = false_from_ne_true (places.member s (index_at side.order (get_or numbers 0 0))) (λ t.
+    let wrong : true ≡ false = sym (rw after (eq-eqb (index_at side.order (get_or numbers 0 0)) (index_at side.order (get_or numbers 0 0)) refl)) ∙ h.members s (index_at side.order (get_or numbers 0 0)) t in absurd cc)
 choice_unhidden places r s side choices.Struggle h is before after = tt
 choice_unhidden places r s side choices.Continue h is before after = tt
 choice_unhidden places r s side choices.Pass h is before after = tt

@@ -7,7 +7,7 @@ use Rattle.ps_mon.specs.declared.record.Volatiles.{Volatiles}
 use Rattle.ps_mon.specs.declared.team.Member.{Member}
 use Rattle.ps_mon.specs.declared.team.MoveSlot.{MoveSlot}
 use Rattle.ps_mon.specs.Reading.{no_member, no_slot}
-use Rattle.battle_secrecy.specs.Alike.{AreShownAlike, AreMembersAlike, AreSidesAlike}
+use Rattle.battle_secrecy.specs.Alike.{AreShownAlike, AreMembersAlike, AreSidesAlikeUnsent}
 use Rattle.battle_secrecy.proofs.SlotLemmas.{slots_shown}
 
 shown_equal : (hides : ℕ → Bool) (moves : ℕ → ℕ) (m n : Member) → ((j : ℕ) → hides j ≡ false) → AreShownAlike hides moves m n → m ≡ n
@@ -20,7 +20,7 @@ member_equal false hides moves m n shown none w = shown_equal hides moves m n no
 member_equal true hides moves m n shown none w = absurd cc
 
 -- a side of which neither a member nor a slot is hidden
-pub side_equal : (member : ℕ → Bool) (slot : ℕ → ℕ → Bool) (move : ℕ → ℕ → ℕ) (a b : SideState) → ((k : ℕ) → member k ≡ false) → ((k j : ℕ) → slot k j ≡ false) → AreSidesAlike member slot move a b → a ≡ b
+pub side_equal : (member : ℕ → Bool) (slot : ℕ → ℕ → Bool) (move : ℕ → ℕ → ℕ) (a b : SideState) → ((k : ℕ) → member k ≡ false) → ((k j : ℕ) → slot k j ≡ false) → AreSidesAlikeUnsent member slot move a b → a ≡ b
 side_equal member slot move a b shown plain w =
     let members : a.members ≡ b.members = ext_get_or no_member a.members b.members w.long (λ k lt. elim (leb_tells a.count k) [
       | inl past ↦ w.rest k past.1

@@ -1,6 +1,6 @@
 -- Two battles that are alike ask an own side alike, and a connection is asked of own sides alone.
 use Rattle.std.proofs.Common.{◌≡◌, ℕ, zero, suc, ◌<◌, Bool, true, false, cond, List, [], ◌∷◌, ◌++◌, map, take, Option, Some, None, refl, ap, ◌∙◌, sym, arith}
-use Rattle.std.specs.Prelude.{codes, ◌==◌, slice_get, unwrap_or}
+use Rattle.std.specs.Prelude.{codes, ◌&&◌, ◌==◌, slice_get, unwrap_or}
 use Rattle.std.specs.List.{cons_option}
 use Rattle.ps_event.specs.declared.event.Event.{Event}
 use Rattle.ps_event.specs.declared.event.Event.TheVariants as events
@@ -14,7 +14,7 @@ use Rattle.ps_mon.specs.Valid.{is_over}
 use Rattle.ps_hits.specs.Told.{side_name}
 use Rattle.ps_dex.specs.declared.item.Tables.{Tables}
 use Rattle.ps_choice.specs.Shown.{text_or_none, nick_of as nick_at}
-use Rattle.ps_choice.specs.Requests.{member_data, member_at_data, members_data, side_data, request_data, request}
+use Rattle.ps_choice.specs.Requests.{member_data, member_at_data, members_data, side_data, is_out, request_data, request}
 use Rattle.ps_view.specs.declared.names.Names.{Names}
 use Rattle.ps_view.specs.declared.role.Role.{Role}
 use Rattle.ps_view.specs.Named.{nick_of, nicks_of, player_of}
@@ -57,20 +57,20 @@ player_same_at places one two zero w = ap (λ (ps : List (List ℕ)). player_of 
 player_same_at places one two (suc s) w = ap (λ (ps : List (List ℕ)). player_of (record two { players = ps }) P2) w.players
 
 -- a team is told by its nicknames one by one
-members_same : (dex : Tables) (one two : List (List ℕ)) (s : ℕ) (side : SideState) → ((k : ℕ) → nick_at one k ≡ nick_at two k) → members_data dex one s side ≡ members_data dex two s side
+members_same : (dex : Tables) (one two : List (List ℕ)) (s : ℕ) (out : Bool) (side : SideState) → ((k : ℕ) → nick_at one k ≡ nick_at two k) → members_data dex one s out side ≡ members_data dex two s out side
 unfolding member_at_data
-members_same dex one two s side same = ap (λ (nick : ℕ → List ℕ). map (λ k. member_data dex s (k == active_index side) (nick k) (member_of side k)) (take side.count side.order)) (λ i k. same k i)
+members_same dex one two s out side same = ap (λ (nick : ℕ → List ℕ). map (λ k. member_data dex s (out && k == active_index side) (nick k) (member_of side k)) (take side.count side.order)) (λ i k. same k i)
 
-side_data_same : (dex : Tables) (name : List ℕ) (one two : List (List ℕ)) (s : ℕ) (side : SideState) → ((k : ℕ) → nick_at one k ≡ nick_at two k) →
-    side_data dex name one s side ≡ side_data dex name two s side
+side_data_same : (dex : Tables) (name : List ℕ) (one two : List (List ℕ)) (s : ℕ) (out : Bool) (side : SideState) → ((k : ℕ) → nick_at one k ≡ nick_at two k) →
+    side_data dex name one s out side ≡ side_data dex name two s out side
 unfolding side_data
-side_data_same dex name one two s side same =
-    rw (members_same dex one two s side same) refl
+side_data_same dex name one two s out side same =
+    rw (members_same dex one two s out side same) refl
 
 request_nicks_same : (phase : Phase) (dex : Tables) (name : List ℕ) (one two : List (List ℕ)) (s : ℕ) (side : SideState) (round : ℕ) → ((k : ℕ) → nick_at one k ≡ nick_at two k) →
     request phase dex name one s side round ≡ request phase dex name two s side round
 unfolding request_data
-request_nicks_same phase dex name one two s side round same = rw (side_data_same dex name one two s side same) refl
+request_nicks_same phase dex name one two s side round same = rw (side_data_same dex name one two s (is_out phase) side same) refl
 
 line_is : (b : Bout) (dex : Tables) (names : Names) (s : ℕ) →
     request_line b dex names s ≡ codes "|request|" ++ request b.battle.phase dex (player_of names (side_name s)) (nicks_of names (side_name s)) s (side_of b.battle s) b.round

@@ -24,12 +24,11 @@ use Rattle.battle_rounds.specs.Rounds.{Outcome, in_round, next_round, undone, ga
 use Rattle.battle_rounds.specs.Fights.{Fight, still, outcome_in}
 use Rattle.ps_chat.specs.declared.present.Present.{Present}
 use Rattle.battle_secrecy.specs.Places.{Hidden}
-use Rattle.battle_secrecy.specs.Alike.{AreAlike as AreBattlesAlike}
-use Rattle.battle_secrecy.specs.Courses.{AreCoursesAlike}
+use Rattle.battle_secrecy.specs.Alike.{AreBattlesAlike}
 use Rattle.battle_secrecy.specs.Laws.{forms, IsChoiceUnhidden, fronts, AreToldAlike}
 use Rattle.battle_secrecy.specs.Showing.{NamesNoHidden, ShowsNoHidden, whos}
 use Rattle.battle_secrecy.proofs.OpeningLemmas.{give_up_alike}
-use Rattle.battle_secrecy.proofs.TellTurnLemmas.{NamesSuch, IsShown, give_up_names}
+use Rattle.battle_secrecy.proofs.TellTurnLemmas.{IsShown}
 use Rattle.battle_secrecy.proofs.TurnLemmas.{turn_alike}
 use Rattle.ps_room.specs.Roles.{side_of_member}
 use Rattle.ps_room.specs.Rooms.{outcome_by}
@@ -100,18 +99,9 @@ undone_alike places a b s w = record {
 in_round_alike : (places : Hidden) (one two : ℕ) (c d : Course) → one ≡ two → AreToldAlike places c d → AreOutcomesAlike places (in_round one c) (in_round two d)
 in_round_alike places one two c d same w = record { bout = record { battle = w.battle; round = same; first = refl; second = refl }; told = w.told; names = w.names }
 
-active_shown : (places : Hidden) (a b : Battle) → AreBattlesAlike places a b → NamesSuch (IsShown places) (untold a)
-active_shown places a b w = record { first = (w.sides 0 (omega arith)).active; second = (w.sides 1 (omega arith)).active; told = names_none places }
-
-give_up_told : (places : Hidden) (a b : Battle) (s : ℕ) → AreBattlesAlike places a b → AreToldAlike places (give_up s (untold a)) (give_up s (untold b))
-give_up_told places a b s w =
-    let courses : AreCoursesAlike places (fronts a) (untold a) (untold b) = record { battle = w; indices = λ t h. refl; told = refl } in
-    let later = give_up_alike s places (fronts a) (untold a) (untold b) courses in
-    record { battle = later.battle; told = later.told; names = (give_up_names s places (untold a) (active_shown places a b w)).told }
-
 gave_up_alike : (places : Hidden) (a b : Bout) (s : ℕ) → AreBoutsAlike places a b → AreOutcomesAlike places (gave_up s a) (gave_up s b)
 unfolding gave_up
-gave_up_alike places a b s w = in_round_alike places a.round b.round _ _ w.round (give_up_told places a.battle b.battle s w.battle)
+gave_up_alike places a b s w = in_round_alike places a.round b.round _ _ w.round (give_up_alike s places a.battle b.battle w.battle)
 
 side_outcome_alike : (places : Hidden) (f g : Fight) (side : Option ℕ) (cmd : Command) → is_choose cmd ≡ false → AreFightsAlike places f g →
     AreOutcomesAlike places (outcome_in f.cast.dex f.bout side cmd) (outcome_in g.cast.dex g.bout side cmd)

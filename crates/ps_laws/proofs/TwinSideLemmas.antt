@@ -23,7 +23,7 @@ use Rattle.battle_rounds.specs.Refusals.{with_why, is_stale, choice_in, chosen, 
 use Rattle.battle_rounds.specs.Fights.{Fight, refusal_in}
 use Rattle.ps_chat.specs.declared.present.Present.{Present}
 use Rattle.battle_secrecy.specs.Places.{Hidden}
-use Rattle.battle_secrecy.specs.Alike.{AreAlike as AreBattlesAlike}
+use Rattle.battle_secrecy.specs.Alike.{AreBattlesAlike}
 use Rattle.ps_room.specs.Records.{cast_in}
 use Rattle.ps_room.specs.Roles.{role_of, role_of_member, side_of_member}
 use Rattle.ps_room.specs.Rooms.{refusal_by_battle}

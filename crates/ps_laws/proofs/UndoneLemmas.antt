@@ -26,9 +26,9 @@ use Rattle.ps_room.proofs.AnswerLemmas.{battle_allows}
 use Rattle.ps_room.specs.Stories.{story}
 use Rattle.ps_laws.specs.Users.{user_of, users_from, users}
 use Rattle.ps_laws.specs.Rounds.{round_of}
-use Rattle.ps_laws.specs.Hidden.{hidden_in_both, member_in}
+use Rattle.ps_laws.specs.Hidden.{is_previewed, hidden_in_both, member_in}
 use Rattle.ps_laws.specs.Low.{Item, whole, items_of, items_of_round, is_own, low_from}
-use Rattle.ps_laws.specs.Same.{IsSlotSame, IsMemberSame, IsNickSame, nick_in, AreBattlesSame, IdleMayBeMissing, UndoneLeavesNothing}
+use Rattle.ps_laws.specs.Same.{IsSlotSame, IsKindSame, IsMemberSame, IsNickSame, nick_in, AreBattlesSame, IdleMayBeMissing, UndoneLeavesNothing}
 use Rattle.ps_laws.proofs.PartLemmas.{side_below}
 use Rattle.ps_laws.proofs.ItemLemmas.{put_choice, waiting_in, waiting_fight, with_choice}
 use Rattle.ps_laws.proofs.ChoiceLemmas.{Waits, Completes, choice_does}
@@ -41,24 +41,28 @@ slot_self : (hides : Bool) (x : MoveSlot) → IsSlotSame hides x x
 slot_self true x = tt
 slot_self false x = refl
 
-member_self : (hidden : Bool) (hides : ℕ → Bool) (m : Member) → IsMemberSame hidden hides m m
-member_self true hides m = tt
-member_self false hides m = record { front = refl; long = refl; slots = λ j. slot_self (hides j) (slot_of m j) }
+kind_self : (preview : Bool) (m : Member) → IsKindSame preview m m
+kind_self true m = record { species = refl; level = refl; types = refl; base_speed = refl }
+kind_self false m = tt
+
+member_self : (preview hidden : Bool) (hides : ℕ → Bool) (m : Member) → IsMemberSame preview hidden hides m m
+member_self preview true hides m = kind_self preview m
+member_self preview false hides m = record { front = refl; long = refl; slots = λ j. slot_self (hides j) (slot_of m j) }
 
 nick_self : (hidden : Bool) (x : List ℕ) → IsNickSame hidden x x
 nick_self true x = tt
 nick_self false x = refl
 
-battle_self : (places : Hidden) (bo : Option Start) → AreBattlesSame places bo bo
-battle_self places None = tt
-battle_self places (Some st) = record {
+battle_self : (preview : Bool) (places : Hidden) (bo : Option Start) → AreBattlesSame preview places bo bo
+battle_self preview places None = tt
+battle_self preview places (Some st) = record {
   number = refl;
   format = refl;
   players = refl;
   seed = refl;
   teams = λ s lt. record {
     count = refl;
-    members = λ k below. member_self (places.member s k) (places.slot s k) (member_in st s k);
+    members = λ k below. member_self preview (places.member s k) (places.slot s k) (member_in st s k);
     long = refl;
     rest = λ k past. refl;
     nicks = λ k. nick_self (places.member s k) (nick_in st s k);
@@ -106,7 +110,7 @@ idle_may_be_missing conn o before es later fit none same =
       histories =
           ap (λ (us : List (List ℕ)). low_from conn us (opened o) (before ++ (es ++ later))) (users_without conn ids (opened o) before es later none same)
           ∙ low_without conn ids (opened o) before es later none same;
-      openings = record { no = refl; id = refl; title = refl; config = refl; dex = refl; battle = battle_self (hidden_in_both conn (story o (before ++ (es ++ later))) (story o (before ++ later))) o.battle };
+      openings = record { no = refl; id = refl; title = refl; config = refl; dex = refl; battle = battle_self (is_previewed o.config o.battle) (hidden_in_both conn (story o (before ++ (es ++ later))) (story o (before ++ later))) o.battle };
     }
 
 -- ---- a choice that is taken back

@@ -8,7 +8,7 @@ use Rattle.ps_view.specs.Named.{nick_of}
 use Rattle.battle_rounds.specs.declared.bout.Bout.{Bout}
 use Rattle.battle_rounds.specs.Fights.{Fight}
 use Rattle.battle_secrecy.specs.Places.{Hidden}
-use Rattle.battle_secrecy.specs.Alike.{AreAlike as AreBattlesAlike}
+use Rattle.battle_secrecy.specs.Alike.{AreBattlesAlike}
 use Rattle.battle_secrecy.specs.Showing.{whos}
 use Rattle.ps_room.specs.Tolds as logs
 use Rattle.ps_room.specs.Tolds.{Logged}
@@ -38,6 +38,7 @@ own_part own r = record r { battle = own_fight own r.battle }
 pub record AreNamesAlike (places : Hidden) (one two : Names) : Type 0 where
   pub players : one.players ≡ two.players
   pub format : one.format ≡ two.format
+  pub percent : one.percent ≡ two.percent
   pub nicks : (who : Who) → places.member (side_number who.side) who.member ≡ false → nick_of one who ≡ nick_of two who
 
 -- equal but for the battle's hidden places

@@ -11,7 +11,8 @@ use Rattle.rules_start.specs.Fits.{legal_of}
 use Rattle.battle_secrecy.specs.Places.{Hidden}
 use Rattle.battle_secrecy.specs.Showing.{shows_one}
 use Rattle.battle_secrecy.specs.Laws.{forms}
-use Rattle.ps_room.specs.Openings.{names_of}
+use Rattle.ps_battle.specs.Openings.{previews}
+use Rattle.ps_room.specs.Openings.{names_of, format_in, clauses_of_format}
 use Rattle.ps_room.specs.Stories.{Story}
 use Rattle.ps_laws.specs.Users.{users, is_own_side}
 use Rattle.ps_laws.specs.Rounds.{Round, choice_of, rounds}
@@ -22,13 +23,18 @@ use Rattle.ps_laws.specs.Rounds.{Round, choice_of, rounds}
 abbrev pub member_in : Start → ℕ → ℕ → Member
 member_in st s k = slice_index_or (legal_of st.teams s).team.members k no_member
 
--- whether a member ever stood at position 1: the first one does at the opening
-abbrev pub has_stood : List Round → ℕ → ℕ → Bool
-has_stood rs s k = k == 0 || list_any (λ r. active_index (side_of r.after s) == k) rs
+-- whether a battle's format has Team Preview, whose bit is 64
+abbrev pub is_previewed : Settings → Option Start → Bool
+is_previewed config None = false
+is_previewed config (Some st) = previews (clauses_of_format (format_in config st))
 
--- a member is hidden where its side isn't the connection's own and it never stood at position 1
-abbrev pub is_member_hidden : Bool → Start → List Round → ℕ → ℕ → Bool
-is_member_hidden own st rs s k = not own && nat_lt k (legal_of st.teams s).team.count && not (has_stood rs s k)
+-- whether a member was ever sent out: the first one is at the opening, but for a battle with Team Preview
+abbrev pub has_stood : Bool → List Round → ℕ → ℕ → Bool
+has_stood preview rs s k = (not preview && k == 0) || list_any (λ r. active_index (side_of r.after s) == k) rs
+
+-- a member is hidden where its side isn't the connection's own and it was never sent out
+abbrev pub is_member_hidden : Bool → Bool → Start → List Round → ℕ → ℕ → Bool
+is_member_hidden preview own st rs s k = not own && nat_lt k (legal_of st.teams s).team.count && not (has_stood preview rs s k)
 
 -- ---- slots
 
@@ -56,10 +62,10 @@ is_slot_hidden own st rs s k j = not own && nat_lt j (member_in st s k).slot_cou
 -- ---- a story
 
 -- a chat room has neither members of a side nor slots
-abbrev pub hidden_with : (ℕ → Bool) → Option Start → List Round → Hidden
-hidden_with own None rs = record { member = λ s k. false; slot = λ s k j. false; move = λ s k j. 0 }
-hidden_with own (Some st) rs = record {
-  member = λ s k. is_member_hidden (own s) st rs s k;
+abbrev pub hidden_with : Bool → (ℕ → Bool) → Option Start → List Round → Hidden
+hidden_with preview own None rs = record { member = λ s k. false; slot = λ s k j. false; move = λ s k j. 0 }
+hidden_with preview own (Some st) rs = record {
+  member = λ s k. is_member_hidden preview (own s) st rs s k;
   slot = λ s k j. is_slot_hidden (own s) st rs s k j;
   move = λ s k j. (slot_of (member_in st s k) j).mv;
 }
@@ -71,7 +77,9 @@ own_sides ids config (Some st) s = is_own_side ids (names_of config st) s
 
 -- the places that are hidden to a connection in a story
 abbrev pub hidden : ℕ → Story → Hidden
-hidden conn s = hidden_with (own_sides (users conn s) s.opening.config s.opening.battle) s.opening.battle (rounds s)
+hidden conn s =
+    hidden_with (is_previewed s.opening.config s.opening.battle) (own_sides (users conn s) s.opening.config s.opening.battle)
+    s.opening.battle (rounds s)
 
 -- the places that are hidden in both of two stories; the moves are those of the first
 abbrev pub hidden_in_both : ℕ → Story → Story → Hidden

@@ -13,7 +13,7 @@ use Rattle.ps_room.specs.Records.{Record, opened}
 use Rattle.ps_room.specs.Rooms.{verdict, after, run_record}
 use Rattle.ps_room.specs.Stories.{Story, story}
 use Rattle.ps_laws.specs.Users.{users}
-use Rattle.ps_laws.specs.Hidden.{hidden_in_both, member_in}
+use Rattle.ps_laws.specs.Hidden.{hidden_in_both, is_previewed, member_in}
 use Rattle.ps_laws.specs.Rounds.{round_of}
 use Rattle.ps_laws.specs.Low.{items_of, low_from, low}
 use Rattle.ps_lines.specs.declared.command.Command.TheVariants.{Choose, Undo}
@@ -31,10 +31,21 @@ pub record AreEqualMembers (hides : ℕ → Bool) (m n : Member) : Type 0 where
   pub long : length m.slots ≡ length n.slots
   pub slots : (j : ℕ) → IsSlotSame (hides j) (slot_of m j) (slot_of n j)
 
--- so may a hidden member
-abbrev pub IsMemberSame : Bool → (ℕ → Bool) → Member → Member → Type 0
-IsMemberSame true hides m n = Unit {0}
-IsMemberSame false hides m n = AreEqualMembers hides m n
+-- what Team Preview makes known of each member: its species, its level, and what the dex says of the species
+pub record AreKindsEqual (m n : Member) : Type 0 where
+  pub species : m.species ≡ n.species
+  pub level : m.level ≡ n.level
+  pub types : m.types ≡ n.types
+  pub base_speed : m.base_speed ≡ n.base_speed
+
+abbrev pub IsKindSame : Bool → Member → Member → Type 0
+IsKindSame true m n = AreKindsEqual m n
+IsKindSame false m n = Unit {0}
+
+-- a hidden member may be anything, but for what Team Preview makes known
+abbrev pub IsMemberSame : Bool → Bool → (ℕ → Bool) → Member → Member → Type 0
+IsMemberSame preview true hides m n = IsKindSame preview m n
+IsMemberSame preview false hides m n = AreEqualMembers hides m n
 
 -- and its nickname
 abbrev pub IsNickSame : Bool → List ℕ → List ℕ → Type 0
@@ -46,25 +57,26 @@ abbrev pub nick_in : Start → ℕ → ℕ → List ℕ
 nick_in st s k = unwrap_or (slice_get (legal_of st.teams s).nicks k) []
 
 -- the teams of a side; what stands past the members is equal
-pub record AreTeamsSame (places : Hidden) (one two : Start) (s : ℕ) : Type 0 where
+pub record AreTeamsSame (preview : Bool) (places : Hidden) (one two : Start) (s : ℕ) : Type 0 where
   pub count : (legal_of one.teams s).team.count ≡ (legal_of two.teams s).team.count
-  pub members : (k : ℕ) → k < (legal_of one.teams s).team.count → IsMemberSame (places.member s k) (places.slot s k) (member_in one s k) (member_in two s k)
+  pub members : (k : ℕ) → k < (legal_of one.teams s).team.count →
+      IsMemberSame preview (places.member s k) (places.slot s k) (member_in one s k) (member_in two s k)
   pub long : length (legal_of one.teams s).team.members ≡ length (legal_of two.teams s).team.members
   pub rest : (k : ℕ) → (legal_of one.teams s).team.count ≤ k → member_in one s k ≡ member_in two s k
   pub nicks : (k : ℕ) → IsNickSame (places.member s k) (nick_in one s k) (nick_in two s k)
 
-pub record AreStartsSame (places : Hidden) (one two : Start) : Type 0 where
+pub record AreStartsSame (preview : Bool) (places : Hidden) (one two : Start) : Type 0 where
   pub number : one.number ≡ two.number
   pub format : one.format ≡ two.format
   pub players : one.players ≡ two.players
   pub seed : one.seed ≡ two.seed
-  pub teams : (s : ℕ) → s < 2 → AreTeamsSame places one two s
+  pub teams : (s : ℕ) → s < 2 → AreTeamsSame preview places one two s
 
 -- both open a chat room, or both open a battle
-abbrev pub AreBattlesSame : Hidden → Option Start → Option Start → Type 0
-AreBattlesSame places None None = Unit {0}
-AreBattlesSame places (Some one) (Some two) = AreStartsSame places one two
-AreBattlesSame places one two = ⊥
+abbrev pub AreBattlesSame : Bool → Hidden → Option Start → Option Start → Type 0
+AreBattlesSame preview places None None = Unit {0}
+AreBattlesSame preview places (Some one) (Some two) = AreStartsSame preview places one two
+AreBattlesSame preview places one two = ⊥
 
 pub record AreOpenedAlike (places : Hidden) (one two : Opening) : Type 0 where
   pub no : one.no ≡ two.no
@@ -72,7 +84,7 @@ pub record AreOpenedAlike (places : Hidden) (one two : Opening) : Type 0 where
   pub title : one.title ≡ two.title
   pub config : one.config ≡ two.config
   pub dex : one.dex ≡ two.dex
-  pub battle : AreBattlesSame places one.battle two.battle
+  pub battle : AreBattlesSame (is_previewed one.config one.battle) places one.battle two.battle
 
 -- ---- stories
 

@@ -8,6 +8,7 @@ use Rattle.ps_mon.specs.declared.record.Phase.TheVariants as phases
 use Rattle.ps_mon.specs.declared.choice.Choice.{Choice}
 use Rattle.ps_mon.specs.declared.choice.Choice.TheVariants as choices
 use Rattle.ps_mon.specs.declared.choice.ChoiceFault.{ChoiceFault}
+use Rattle.ps_mon.specs.Orders.{is_order}
 use Rattle.ps_mon.specs.Choices.{is_asked, wrong_phase, locked, no_such_move, no_pp, disabled, no_such_member, already_out, fainted, unless, fault_of, IsThere, incoming}
 
 passes : (test : Bool) (fault : ChoiceFault) (more : Option ChoiceFault) → unless test fault more ≡ None → (test ≡ false) × (more ≡ None)
@@ -43,12 +44,17 @@ legal-is phase s side choice e =
 within : (n most : ℕ) → (n == 0 || nat_lt most n) ≡ false → (1 ≤ n) × (n ≤ most)
 within n most e = (grind (arith, nat_tests), grind (arith, nat_tests))
 
--- a legal choice names a slot or a position that is there
+not-not : (b : Bool) → not b ≡ false → b ≡ true
+not-not true e = refl
+not-not false e = absurd (true≢false e)
+
+-- a legal choice names a slot, a position or an order that is there
 pub there-is : (phase : Phase) (s : ℕ) (side : SideState) (choice : Choice) → IsLegal phase s side choice → IsThere side choice
 there-is phase s side (choices.Move n) legal = within n _ legal.slot
 there-is phase s side choices.Struggle legal = tt
 there-is phase s side choices.Continue legal = tt
 there-is phase s side (choices.Switch position) legal = within position _ legal.member
+there-is phase s side (choices.Team numbers) legal = not-not (is_order side.count numbers) legal.member
 there-is phase s side choices.Pass legal = tt
 
 pub above : (n : ℕ) → (n == 0) ≡ false → 1 ≤ n
@@ -60,4 +66,5 @@ replaced-stands p1 p2 s side (choices.Move n) legal = absurd (true≢false legal
 replaced-stands p1 p2 s side choices.Struggle legal = absurd (true≢false legal.phase_fits)
 replaced-stands p1 p2 s side choices.Continue legal = absurd (true≢false legal.phase_fits)
 replaced-stands p1 p2 s side (choices.Switch position) legal = above _ legal.stands
+replaced-stands p1 p2 s side (choices.Team numbers) legal = absurd (true≢false legal.phase_fits)
 replaced-stands p1 p2 s side choices.Pass legal = absurd (true≢false legal.phase_fits)

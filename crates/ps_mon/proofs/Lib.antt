@@ -3,6 +3,7 @@ pub mod PutLemmas
 pub mod SpendLemmas
 pub mod SwitchLemmas
 pub mod OpeningLemmas
+pub mod OrderLemmas
 pub mod KeepLemmas
 pub mod ChoiceLemmas
 pub mod SideLemmas

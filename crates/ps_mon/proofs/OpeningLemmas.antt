@@ -4,7 +4,7 @@ use Rattle.std.proofs.lemmas.List.Folds.{list_any_at}
 use Rattle.std.proofs.lemmas.Bool.{lt-ltb}
 use Rattle.ps_mon.specs.declared.team.BattleTeam.{BattleTeam}
 use Rattle.ps_mon.specs.Reading.{active_of, no_member}
-use Rattle.ps_mon.specs.Valid.{IsSide, has_standing}
+use Rattle.ps_mon.specs.Valid.{AllStand, IsSide, has_standing}
 use Rattle.ps_mon.specs.Known.{IsSideKnown}
 use Rattle.ps_mon.specs.Teams.{IsFresh, IsTeamKnown, opened}
 use Rattle.ps_mon.proofs.SwitchLemmas.{calm-fit, calm-named}
@@ -44,6 +44,11 @@ open-standing t six fresh =
     let low : 0 < t.count = omega (arith, fresh.count) in
     list_any_at (λ m. nat_lt 0 m.hp) (take t.count t.members) 0 no_member in-take
     (rw get_or-take (lt-ltb 0 _ (open-active t fresh)))
+
+pub open-stand : (t : BattleTeam) → IsFresh t → AllStand (opened t)
+open-stand t fresh k h =
+    let m = fresh.members k h in
+    rw m.full m.ranges.max
 
 pub open-known : (moves : ℕ) (t : BattleTeam) → IsTeamKnown moves t → IsSideKnown moves (opened t)
 open-known moves t known = record { members = known; vol = calm-named moves }

@@ -1,15 +1,17 @@
 -- Putting a duel back: what stays.
-use Rattle.std.proofs.Common.{◌≡◌, ℕ, ◌<◌, ◌≤◌, ◌-◌, true, Option, Some, None, get_or, nat_lt, length, arith, refl, ap, ◌∙◌, inl, inr, get_or-set_same, length-set}
+use Rattle.std.proofs.Common.{◌≡◌, ℕ, ◌<◌, ◌≤◌, ◌-◌, Bool, true, subst, Option, Some, None, get_or, nat_lt, length, arith, refl, ap, ◌∙◌, inl, inr, get_or-set_same, length-set}
 use Rattle.std.proofs.lemmas.Bool.Decides.{nat_tests}
 use Rattle.ps_mon.specs.declared.record.Battle.{Battle}
 use Rattle.ps_mon.specs.declared.record.SideState.{SideState}
+use Rattle.ps_mon.specs.declared.record.Phase.{Phase}
+use Rattle.ps_mon.specs.declared.record.Phase.TheVariants as phases
 use Rattle.ps_mon.specs.declared.record.CopiedSlots.{CopiedSlots}
 use Rattle.ps_mon.specs.declared.team.Member.{Member}
 use Rattle.ps_mon.specs.declared.duel.Duel.{Duel}
 use Rattle.ps_mon.specs.declared.duel.Fighter.{Fighter}
 use Rattle.ps_mon.specs.Reading.{side_of, active_index, active_of, no_side, no_member}
 use Rattle.ps_mon.specs.Slots.{slot_count_now, count_in_force, slot_now, slot_in_force}
-use Rattle.ps_mon.specs.Valid.{IsSound, IsValid, IsSide, IsShaped, IsMember, has_standing}
+use Rattle.ps_mon.specs.Valid.{IsSound, IsValid, IsSide, IsShaped, IsMember, AllStand, StandBefore, has_standing}
 use Rattle.ps_mon.specs.Known.{AreKnown, IsSideKnown, AreOwnKnown, AreNamed}
 use Rattle.ps_mon.specs.Keeping.{StillStands, KeepsTeam, Keeps}
 use Rattle.ps_mon.specs.declared.team.MoveSlot.{MoveSlot}
@@ -76,6 +78,23 @@ put-standing a f shape keeps h =
     let hp : (active_of (with_fighter a f)).hp ≡ f.hp = ap (λ (m : Member). m.hp) is in
     any-set (λ m. nat_lt 0 m.hp) a.members a.count (active_index a) (worn (active_of a) f) no_member (λ e. stands-again _ _ hp keeps e) h
 
+pub before-kept : (phase : Phase) (a b : SideState) → (AllStand a → AllStand b) → StandBefore phase a → StandBefore phase b
+before-kept phases.Preview a b keeps h = keeps h
+before-kept phases.Turn a b keeps h = tt
+before-kept (phases.Replace p1 p2) a b keeps h = tt
+before-kept (phases.Won side) a b keeps h = tt
+before-kept phases.Tied a b keeps h = tt
+
+-- all members stand still, where the active one does
+put-all : (a : SideState) (f : Fighter) → IsShaped a → (1 ≤ (active_of a).hp → 1 ≤ (active_of (with_fighter a f)).hp) → AllStand a → AllStand (with_fighter a f)
+unfolding with_fighter
+put-all a f shape keeps h =
+    let is : active_of (with_fighter a f) ≡ worn (active_of a) f = put-index a f shape in
+    let hp : (active_of (with_fighter a f)).hp ≡ f.hp = ap (λ (m : Member). m.hp) is in
+    let there : active_index a < a.count = shape.order 0 shape.count in
+    let up : 1 ≤ f.hp = subst (λ n. 1 ≤ n) hp (keeps (h (active_index a) there)) in
+    λ k lt. at_one (λ i (m : Member). i < a.count → 1 ≤ m.hp) a.members (active_index a) (worn (active_of a) f) no_member (index-inside a shape) (λ _. up) k (λ _. h k) lt
+
 pub put-whole : (b : Battle) (u : ℕ) (d : Duel) → u < 2 → IsValid b → StillStands b (with_duel b u d) → IsSound (with_duel b u d) → IsValid (with_duel b u d)
 unfolding with_duel
 put-whole b u d lt v still sound =
@@ -87,6 +106,10 @@ put-whole b u d lt v still sound =
         some = λ s h. (elim (which_of u s lt h) [
           | inl e ↦ rw e (rw (at_user b.sides u _ _ no_side lt v.sound.two) (put-standing _ _ (v.sound.sides u lt).shape (rw (at_user b.sides u _ _ no_side lt v.sound.two) at (still.active u lt)) (old.some u lt)))
           | inr e ↦ rw e (rw (at_foe b.sides u _ _ no_side lt v.sound.two) (put-standing _ _ (v.sound.sides (1 - u) lt').shape (rw (at_foe b.sides u _ _ no_side lt v.sound.two) at (still.active (1 - u) lt')) (old.some (1 - u) lt')))
+        ]);
+        before = λ s h. (elim (which_of u s lt h) [
+          | inl e ↦ rw e (rw (at_user b.sides u _ _ no_side lt v.sound.two) (before-kept b.phase _ _ (put-all _ _ (v.sound.sides u lt).shape (rw (at_user b.sides u _ _ no_side lt v.sound.two) at (still.active u lt))) (old.before u lt)))
+          | inr e ↦ rw e (rw (at_foe b.sides u _ _ no_side lt v.sound.two) (before-kept b.phase _ _ (put-all _ _ (v.sound.sides (1 - u) lt').shape (rw (at_foe b.sides u _ _ no_side lt v.sound.two) at (still.active (1 - u) lt'))) (old.before (1 - u) lt')))
         ]);
         active = λ s h stays. still.active s h (old.active s h stays);
       });

@@ -12,19 +12,36 @@ use Rattle.ps_mon.specs.declared.team.Member.{Member}
 use Rattle.ps_mon.specs.Reading.{side_of, active_of, member_at}
 use Rattle.ps_mon.specs.Slots.{slot_count_now, slot_now, is_disabled, has_usable}
 use Rattle.ps_mon.specs.Valid.{replaces}
+use Rattle.ps_mon.specs.Orders.{is_order}
 
--- a side is asked in a turn, and where it must send in another member
+-- a side is asked for its order, in a turn, and where it must send in another member
 abbrev pub is_asked : Phase → ℕ → Bool
+is_asked phases.Preview s = true
 is_asked phases.Turn s = true
 is_asked (phases.Replace p1 p2) s = replaces (phases.Replace p1 p2) s
 is_asked other s = false
 
--- a side that is asked passes, or a move is chosen where a member must come in
+-- an order is for Team Preview alone
+abbrev pub wrong_for_order : Phase → Bool
+wrong_for_order phases.Preview = false
+wrong_for_order other = true
+
+abbrev pub wrong_for_switch : Phase → Bool
+wrong_for_switch phases.Preview = true
+wrong_for_switch other = false
+
+abbrev pub wrong_for_act : Phase → Bool
+wrong_for_act phases.Preview = true
+wrong_for_act (phases.Replace p1 p2) = true
+wrong_for_act other = false
+
+-- a side that is asked passes, a move is chosen where a member must come in, something else than an order where one is asked for, or
+-- an order where none is
 abbrev pub wrong_phase : Phase → Choice → Bool
 wrong_phase phase choices.Pass = true
-wrong_phase phase (choices.Switch position) = false
-wrong_phase (phases.Replace p1 p2) choice = true
-wrong_phase phase choice = false
+wrong_phase phase (choices.Team numbers) = wrong_for_order phase
+wrong_phase phase (choices.Switch position) = wrong_for_switch phase
+wrong_phase phase choice = wrong_for_act phase
 
 -- whether a member must go on with a long move, or recharge
 abbrev pub is_locked : SideState → Bool
@@ -32,6 +49,7 @@ is_locked side = is_some side.vol.lock || side.vol.recharge
 
 -- in a turn, who is locked into a move doesn't go on, or who isn't does
 abbrev pub locked : Phase → SideState → Choice → Bool
+locked phases.Preview side choice = false
 locked (phases.Replace p1 p2) side choice = false
 locked phase side choices.Continue = not (is_locked side)
 locked phase side choice = is_locked side
@@ -50,8 +68,10 @@ abbrev pub disabled : SideState → Choice → Bool
 disabled side (choices.Move n) = is_disabled side.vol.disabled (n - 1)
 disabled side choice = false
 
+-- there is no such position, or what should be an order isn't one
 abbrev pub no_such_member : SideState → Choice → Bool
 no_such_member side (choices.Switch position) = position == 0 || nat_lt side.count position
+no_such_member side (choices.Team numbers) = not (is_order side.count numbers)
 no_such_member side choice = false
 
 abbrev pub already_out : Choice → Bool
@@ -91,10 +111,11 @@ IsChoice false b s choice = choice ≡ choices.Pass
 abbrev pub IsChoiceOf : Battle → ℕ → Choice → Type 0
 IsChoiceOf b s choice = IsChoice (is_asked b.phase s) b s choice
 
--- the slot or the position that a choice names is there
+-- the slot, the position or the order that a choice names is there
 abbrev pub IsThere : SideState → Choice → Type 0
 IsThere side (choices.Move n) = (1 ≤ n) × (n ≤ slot_count_now side)
 IsThere side (choices.Switch position) = (1 ≤ position) × (position ≤ side.count)
+IsThere side (choices.Team numbers) = is_order side.count numbers ≡ true
 IsThere side choice = Unit {0}
 
 -- who is active after the switches of a turn

@@ -4,6 +4,7 @@ pub mod Slots
 pub mod Moves
 pub mod Valid
 pub mod Known
+pub mod Orders
 pub mod Teams
 pub mod Choices
 pub mod Keeping

@@ -98,7 +98,7 @@ pub record IsSound (b : Battle) : Type 0 where
   pub two : length b.sides ≡ 2
   pub sides : (s : ℕ) → s < 2 → IsSide (side_of b s)
   pub turn : b.turn ≤ 1000
-  pub clauses : b.clauses < 128
+  pub clauses : b.clauses < 256
 
 abbrev pub is_over : Phase → Bool
 is_over (phases.Won side) = true
@@ -115,10 +115,19 @@ replaces other s = false
 unfoldable pub has_standing : SideState → Bool
 has_standing side = list_any (λ m. nat_lt 0 m.hp) (take side.count side.members)
 
+abbrev pub AllStand : SideState → Type 0
+AllStand side = (k : ℕ) → k < side.count → 1 ≤ (member_of side k).hp
+
+-- as long as nobody is sent out, every member stands
+abbrev pub StandBefore : Phase → SideState → Type 0
+StandBefore phases.Preview side = AllStand side
+StandBefore other side = Unit {0}
+
 -- who stands in a battle that goes on: some member of each side, and its active one unless it is to be replaced
 pub record IsStanding (b : Battle) : Type 0 where
   pub turn : b.turn < 1000
   pub some : (s : ℕ) → s < 2 → has_standing (side_of b s) ≡ true
+  pub before : (s : ℕ) → s < 2 → StandBefore b.phase (side_of b s)
   pub active : (s : ℕ) → s < 2 → replaces b.phase s ≡ false → 1 ≤ (active_of (side_of b s)).hp
 
 pub record IsValid (b : Battle) : Type 0 where

@@ -11,6 +11,8 @@ pub enum Choice {
     Continue,
     /// Sends in the member at a position.
     Switch(u8),
+    /// Puts the team into an order before it is sent out: the positions of all its members, and 0 behind the last.
+    Team([u8; 6]),
     /// Nothing: of a side that isn't asked.
     Pass,
 }
@@ -20,7 +22,8 @@ pub enum Choice {
 pub enum ChoiceFault {
     /// The side isn't asked.
     NotYourTurn,
-    /// A side that is asked passes, or a move is chosen where a member must come in.
+    /// A side that is asked passes, a move is chosen where a member must come in, or something else than an order where one
+    /// is asked for, or an order where none is.
     WrongPhase,
     /// The member must go on with what holds it; or it goes on and nothing holds it.
     Locked,
@@ -30,7 +33,7 @@ pub enum ChoiceFault {
     NoPp,
     /// The slot is disabled.
     Disabled,
-    /// There is no such position.
+    /// There is no such position; or what should be an order isn't one.
     NoSuchMember,
     /// The member at that position is active.
     AlreadyOut,

@@ -7,6 +7,7 @@ pub mod effect;
 pub mod facts;
 pub mod moves;
 pub mod opening;
+pub mod ordering;
 pub mod record;
 pub mod slots;
 pub mod spending;

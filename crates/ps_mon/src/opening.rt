@@ -1,6 +1,6 @@
 //! A side at the opening.
 ghost use Rattle.std.specs.Prelude.{◌≡◌, ◌≤◌, ℕ, true};
-ghost use Rattle.ps_mon.specs.Valid.{IsSide, has_standing};
+ghost use Rattle.ps_mon.specs.Valid.{AllStand, IsSide, has_standing};
 ghost use Rattle.ps_mon.specs.Known.{IsSideKnown};
 ghost use Rattle.ps_mon.specs.Reading.{active_of};
 ghost use Rattle.ps_mon.specs.Teams.{IsFresh, IsTeamKnown, opened};
@@ -48,6 +48,7 @@ pub fn open_side(team: &BattleTeam) -> SideState
     ensures known { (moves : ℕ) → IsTeamKnown moves team.now → IsSideKnown moves result }
     ensures some { has_standing result ≡ true }
     ensures active { 1 ≤ (active_of result).hp }
+    ensures stand { AllStand result }
 {
     let members = team.members;
     SideState {

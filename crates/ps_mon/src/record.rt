@@ -133,7 +133,8 @@ pub struct SideState {
     pub members: [Member; 6],
     /// How many members there are, 1 to 6.
     pub count: u8,
-    /// The indices of the members in their order now. The first, position 1, is active; those from `count` on mean nothing.
+    /// The indices of the members in their order now. The first, position 1, is active once members are sent out; those
+    /// from `count` on mean nothing.
     pub order: [u8; 6],
     /// What a switch of the active member ends.
     pub vol: Volatiles,
@@ -142,6 +143,8 @@ pub struct SideState {
 /// What the battle waits for.
 #[derive(Clone, Copy, Debug, PartialEq, Eq)]
 pub enum Phase {
+    /// An order of each team: nobody is sent out yet.
+    Preview,
     /// A choice of each side.
     Turn,
     /// A new member of each side whose flag is set.
@@ -162,7 +165,7 @@ pub struct Battle {
     /// What it waits for.
     pub phase: Phase,
     /// A bit for each clause, the lowest for the first: Species Clause, Sleep Clause Mod, Freeze Clause Mod, OHKO Clause,
-    /// Evasion Moves Clause, Nickname Clause, HP Percentage Mod.
+    /// Evasion Moves Clause, Nickname Clause, Team Preview, HP Percentage Mod.
     pub clauses: u8,
     /// The state of the random source.
     pub rng: u64,

@@ -1,8 +1,11 @@
 -- What a room is opened with: the chat rooms of a configuration, and the rooms of battles that start.
-use Rattle.std.specs.Prelude.{ℕ, suc, ◌+◌, List, [], ◌∷◌, map, slice_index_or, Option, Some, None, IfSome, bit_and}
+use Rattle.std.specs.Prelude.{ℕ, Bool, suc, ◌+◌, List, [], ◌∷◌, map, slice_index_or, Option, Some, None, IfSome}
 use Rattle.ps_mon.specs.declared.team.BattleTeam.{BattleTeam}
 use Rattle.ps_dex.specs.declared.item.Tables.{Tables}
+use Rattle.ps_mon.specs.Clauses.{has_clause}
+use Rattle.ps_rules.specs.declared.clause.Clause.TheVariants.{Percentage}
 use Rattle.ps_rules.specs.declared.table.Format.{Format}
+use Rattle.ps_rules.specs.Clauses.{bit_of}
 use Rattle.ps_rules.specs.Resolve.{format_of}
 use Rattle.rules_config.specs.declared.settings.Settings.{Settings}
 use Rattle.rules_config.specs.declared.settings.ChatRoom.{ChatRoom}
@@ -32,10 +35,10 @@ abbrev pub name_of_format : Option Format → List ℕ
 name_of_format None = []
 name_of_format (Some f) = f.name
 
--- the clauses that are on, each by its bit; there are seven
+-- the clauses that are on, each by its bit
 abbrev pub clauses_of_format : Option Format → ℕ
 clauses_of_format None = 0
-clauses_of_format (Some f) = bit_and f.table.clauses 127
+clauses_of_format (Some f) = f.table.clauses
 
 -- the format that is played
 abbrev pub format_in : Settings → Start → Option Format
@@ -47,8 +50,12 @@ team_of_legal l = l.team
 abbrev pub nicks_of_legal : Legal → List (List ℕ)
 nicks_of_legal l = l.nicks
 
+-- whether HP Percentage Mod is on
+abbrev pub in_percent : Option Format → Bool
+in_percent format = has_clause (clauses_of_format format) (bit_of Percentage)
+
 abbrev pub names_of : Settings → Start → Names
-names_of config s = record { players = s.players; nicks = map nicks_of_legal s.teams; format = name_of_format (format_in config s) }
+names_of config s = record { players = s.players; nicks = map nicks_of_legal s.teams; format = name_of_format (format_in config s); percent = in_percent (format_in config s) }
 
 abbrev pub cast_with : Settings → Tables → Start → Cast
 cast_with config dex s = record { names = names_of config s; dex = dex }

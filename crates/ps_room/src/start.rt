@@ -1,9 +1,9 @@
 //! The battle of a room at its opening.
-ghost use Rattle.std.specs.Prelude.{◌≡◌, ◌<◌, [], ◌∷◌, IfSome, IfOk, Some, None, bit_and, map, option_map};
+ghost use Rattle.std.specs.Prelude.{◌≡◌, [], ◌∷◌, IfSome, IfOk, Some, None, map, option_map};
 ghost use Rattle.std.specs.Arc.{arc_value};
 ghost use Rattle.rules_start.specs.Fits.{legal_of, IsFit};
 ghost use Rattle.std.specs.Option.{option_copied};
-ghost use Rattle.ps_room.specs.Openings.{name_of_format, clauses_of_format, team_of_legal, nicks_of_legal, fight_with};
+ghost use Rattle.ps_room.specs.Openings.{name_of_format, clauses_of_format, in_percent, team_of_legal, nicks_of_legal, fight_with};
 ghost use Rattle.ps_room.specs.Logs.{log_entry_with, opened_log};
 
 use battle_rounds::cast::Cast;
@@ -15,6 +15,7 @@ use ps_base::text::{Text, copies};
 use ps_dex::dex::Dex;
 use ps_event::event::{Event, Events};
 use ps_mon::team::BattleTeam;
+use ps_rules::clause::Clause;
 use ps_rules::table::Format;
 use ps_splitlog::log::SplitLog;
 use ps_valid::legal::Legal;
@@ -36,15 +37,21 @@ fn name_of_format(alloc: Global, format: Option<&Format>) -> Result<Text, AllocE
     }
 }
 
-/// The clauses that are on, each by its bit; there are seven.
+/// The clauses that are on, each by its bit.
 fn clauses_of_format(format: Option<&Format>) -> u8
-    ensures value { result ≡ clauses_of_format (option_copied format.entry) }
-    ensures few { result < 128 }
+    ensures { result ≡ clauses_of_format (option_copied format.entry) }
 {
     match format {
         None => 0,
-        Some(format) => format.table.clauses & 127,
+        Some(format) => format.table.clauses,
     }
+}
+
+/// Whether others see health in hundredths.
+fn in_percent(format: Option<&Format>) -> bool
+    ensures { result ≡ in_percent (option_copied format.entry) }
+{
+    Clause::Percentage.is_in(clauses_of_format(format))
 }
 
 /// The battle of a room, if it has one, and the room's log, which begins with the battle's opening.
@@ -80,21 +87,23 @@ fn nicks_of(alloc: Global, teams: &[Legal; 2]) -> Result<[List<Text>; 2], AllocE
     Ok([first, second])
 }
 
-/// The names of a battle: of its players, of their members and of its format.
+/// The names of a battle: of its players, of their members and of its format, and how its lines show health.
 fn names_with(
     alloc: Global,
     format: Option<&Format>,
     players: [Name; 2],
     teams: &[Legal; 2],
 ) -> Result<Names, AllocError>
-    ensures { IfOk result (λ n. n ≡ record { players = players; nicks = map nicks_of_legal teams.now; format = name_of_format (option_copied format.entry) }) }
+    ensures { IfOk result (λ n. n ≡ record { players = players; nicks = map nicks_of_legal teams.now; format = name_of_format (option_copied format.entry); percent = in_percent (option_copied format.entry) }) }
 {
+    let percent = in_percent(format);
     let format = name_of_format(alloc, format)?;
     let nicks = nicks_of(alloc, teams)?;
     Ok(Names {
         players,
         nicks,
         format,
+        percent,
     })
 }
 

@@ -1,4 +1,5 @@
 pub mod Clauses
+pub mod Versions
 pub mod Rules
 pub mod Walk
 pub mod Marks

@@ -22,7 +22,9 @@ use Rattle.ps_rules.specs.declared.table.Said.{Said}
 use Rattle.ps_rules.specs.declared.name.Named.{Named}
 use Rattle.ps_rules.specs.declared.fault.RuleFault.{RuleFault}
 use Rattle.ps_rules.specs.declared.fault.RuleFault.TheVariants as rule_faults
+use Rattle.ps_rules.specs.declared.version.Version.{Version}
 use Rattle.ps_rules.specs.Rules.{rule_of}
+use Rattle.ps_rules.specs.Versions.{version_in, always_on}
 use Rattle.ps_rules.specs.Walk.{clauses_of}
 
 -- ---- rulesets
@@ -80,11 +82,11 @@ abbrev pub or_kind : Result ℕ RuleFault → Result ℕ Fault
 or_kind (Ok clauses) = Ok clauses
 or_kind (Err fault) = refuse (kind_of fault)
 
--- the clauses that a format's rule list leaves on, or a fault of the list as a whole
-unfoldable pub clauses_in : List Ruleset → Data → Result ℕ Fault
-clauses_in sets d = do
+-- the clauses that are on by a format's rule list, or a fault of the list as a whole
+unfoldable pub clauses_in : Version → List Ruleset → Data → Result ℕ Fault
+clauses_in version sets d = do
   rules ← rules_in d
-  or_kind (clauses_of sets rules)
+  or_kind (clauses_of version sets rules)
 
 -- ---- bans: ids of species or moves or aliases of them, none of them twice
 
@@ -131,10 +133,10 @@ levels_in d = do
 
 -- ---- a format, and all of them
 
--- The keys behind the name, in their order. Without `rules` HP Percentage Mod alone is on, as with an empty list.
-unfoldable pub table_in : List Ruleset → Tables → Data → Result RuleTable Fault
-table_in sets dex d = do
-  clauses ← optional (codes "rules") 64 (clauses_in sets) d
+-- The keys behind the name, in their order. Without `rules` what is always on is on alone, as with an empty list.
+unfoldable pub table_in : Version → List Ruleset → Tables → Data → Result RuleTable Fault
+table_in version sets dex d = do
+  clauses ← optional (codes "rules") (always_on version) (clauses_in version sets) d
   bans ← optional (codes "bans") [] (bans_in dex) d
   least ← optional (codes "min") 1 (number_in 1 6) d
   most ← optional (codes "max") 6 (number_in 1 6) d
@@ -142,22 +144,26 @@ table_in sets dex d = do
   rated ← optional (codes "rated") true boolean_in d
   Ok (record { clauses = clauses; bans = bans; min = least; max = most; levels = levels; rated = rated })
 
-unfoldable pub format_in : List Ruleset → Tables → List Format → Data → Result Format Fault
-format_in sets dex before d = do
+unfoldable pub format_in : Version → List Ruleset → Tables → List Format → Data → Result Format Fault
+format_in version sets dex before d = do
   _ ← object_in d
   named ← required (codes "name") (name_in before) d
-  table ← table_in sets dex d
+  table ← table_in version sets dex d
   Ok (record { name = named.name; id = named.id; table = table })
 
-unfoldable pub formats_in : List Ruleset → Tables → Data → Result (List Format) Fault
-formats_in sets dex d = do
+unfoldable pub formats_in : Version → List Ruleset → Tables → Data → Result (List Format) Fault
+formats_in version sets dex d = do
   items ← array_in d
-  each (λ before after. format_in sets dex before) [] items
+  each (λ before after. format_in version sets dex before) [] items
 
--- the two keys of a configuration, each of which may be missing
-unfoldable pub said_in : Tables → Data → Result Said Fault
-said_in dex d = do
+-- the two keys of a configuration of a version, each of which may be missing
+unfoldable pub said_in : Version → Tables → Data → Result Said Fault
+said_in version dex d = do
   _ ← object_in d
   rulesets ← entries_at (codes "rulesets") ruleset_in d
-  formats ← optional (codes "formats") [] (formats_in rulesets dex) d
-  Ok (record { rulesets = rulesets; formats = formats })
+  formats ← optional (codes "formats") [] (formats_in version rulesets dex) d
+  Ok (record { version = version; rulesets = rulesets; formats = formats })
+
+-- the same of a configuration by itself, whose version is read first
+unfoldable pub said_of : Tables → Data → Result Said Fault
+said_of dex d = version_in d >>= λ version. said_in version dex d

@@ -3,12 +3,13 @@ use Rattle.std.specs.Prelude.{ℕ, true, false, List, [], ◌∷◌, bytes_eq, p
 use Rattle.ps_rules.specs.declared.table.RuleTable.{RuleTable}
 use Rattle.ps_rules.specs.declared.table.Format.{Format}
 use Rattle.ps_rules.specs.declared.table.Said.{Said}
+use Rattle.ps_rules.specs.declared.version.Version.{Version}
 use Rattle.ps_rules.specs.declared.fault.RuleFault.{RuleFault}
 use Rattle.ps_rules.specs.Walk.{◌>>>◌, clauses_of}
 
--- what a configuration without rulesets and formats says
-abbrev pub no_formats : Said
-no_formats = record { rulesets = []; formats = [] }
+-- what a configuration of a version without rulesets and formats says
+abbrev pub no_formats : Version → Said
+no_formats version = record { version = version; rulesets = []; formats = [] }
 
 -- the index of the format with an id
 unfoldable pub format_index : List ℕ → List Format → Option ℕ
@@ -28,7 +29,7 @@ plain clauses = record { clauses = clauses; bans = []; min = 1; max = 6; levels 
 
 -- the table of a format whose one rule is the id, with the defaults for the rest
 unfoldable pub alone : Said → List ℕ → Result RuleTable RuleFault
-alone said id = clauses_of said.rulesets (record { id = id; repeals = false } ∷ []) >>> λ clauses. Ok (plain clauses)
+alone said id = clauses_of said.version said.rulesets (record { id = id; repeals = false } ∷ []) >>> λ clauses. Ok (plain clauses)
 
 abbrev pub table_or : Result RuleTable RuleFault → Option Format → Result RuleTable RuleFault
 table_or other (Some f) = Ok f.table

@@ -10,7 +10,9 @@ use Rattle.ps_rules.specs.declared.table.Ruleset.{Ruleset}
 use Rattle.ps_rules.specs.declared.walk.Tally.{Tally}
 use Rattle.ps_rules.specs.declared.fault.RuleFault.{RuleFault}
 use Rattle.ps_rules.specs.declared.fault.RuleFault.TheVariants.{UnknownRule, Cycle, Contradiction}
+use Rattle.ps_rules.specs.declared.version.Version.{Version}
 use Rattle.ps_rules.specs.Clauses.{clause_of, bit_of}
+use Rattle.ps_rules.specs.Versions.{always_on}
 use Rattle.ps_rules.specs.Rules.{index_of}
 use Rattle.ps_mon.specs.Clauses.{has_clause}
 
@@ -77,7 +79,7 @@ texts sets inside t [] = Ok (left_on t)
 texts sets inside t (r ∷ rules) = by_clause sets inside t r (clause_of r.id) >>> λ u. texts sets inside u rules
 
 -- What the ruleset at an index leaves on, inside the rulesets at the indices `within`: a ruleset met inside itself is a
--- cycle. `deeper` has_clause an item for each list that may still be entered. At first these are as many as there are
+-- cycle. `deeper` has an item for each list that may still be entered. At first these are as many as there are
 -- rulesets; so where none is left each ruleset is open already, and the first case says no more than the test in the second.
 abbrev pub set_at : List Ruleset → List Ruleset → List ℕ → List ℕ → ℕ → Result ℕ RuleFault
 set_at [] sets within id index = Err (Cycle id)
@@ -87,6 +89,6 @@ set_at (d ∷ deeper) sets within id index = if is_open index within then Err (C
 unfoldable pub walk : List Ruleset → List Rule → Result ℕ RuleFault
 walk sets rules = texts sets (set_at sets sets []) nothing rules
 
--- the same with HP Percentage Mod, which is always on
-unfoldable pub clauses_of : List Ruleset → List Rule → Result ℕ RuleFault
-clauses_of sets rules = walk sets rules >>> λ clauses. Ok (bit_or clauses 64)
+-- the same with what is always on: HP Percentage Mod in version 1, and nothing in version 2
+unfoldable pub clauses_of : Version → List Ruleset → List Rule → Result ℕ RuleFault
+clauses_of version sets rules = walk sets rules >>> λ clauses. Ok (bit_or clauses (always_on version))

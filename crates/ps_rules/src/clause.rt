@@ -18,7 +18,9 @@ pub enum Clause {
     Evasion,
     /// No nickname twice in a team.
     Nickname,
-    /// The other side sees health in hundredths.
+    /// Both sides see species and level of all members at the start, and order their teams.
+    Preview,
+    /// Others see health in hundredths, and not in 48ths.
     Percentage,
 }
 
@@ -30,7 +32,7 @@ impl Clause {
         clause_of(id)
     }
 
-    /// The bit that stands for the clause in a set of clauses: 1 for the first, 64 for the last.
+    /// The bit that stands for the clause in a set of clauses: 1 for the first, 128 for the last.
     pub fn bit(self) -> u8
         ensures { result ≡ bit_of self }
     {
@@ -41,7 +43,8 @@ impl Clause {
             Clause::Ohko => 8,
             Clause::Evasion => 16,
             Clause::Nickname => 32,
-            Clause::Percentage => 64,
+            Clause::Preview => 64,
+            Clause::Percentage => 128,
         }
     }
 
@@ -56,6 +59,7 @@ impl Clause {
             Clause::Ohko => "OHKO Clause",
             Clause::Evasion => "Evasion Moves Clause",
             Clause::Nickname => "Nickname Clause",
+            Clause::Preview => "Team Preview",
             Clause::Percentage => "HP Percentage Mod",
         }
     }
@@ -89,6 +93,9 @@ fn clause_of(id: &str) -> Option<Clause>
     }
     if id == "nicknameclause" {
         return Some(Clause::Nickname);
+    }
+    if id == "teampreview" {
+        return Some(Clause::Preview);
     }
     if id == "hppercentagemod" {
         return Some(Clause::Percentage);

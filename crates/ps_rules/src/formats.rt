@@ -3,13 +3,14 @@ ghost use Rattle.std.specs.Prelude.{◌≡◌, ◌<◌, length, option_map, IfOk
 ghost use Rattle.serde_json.specs.View.{view};
 ghost use Rattle.ps_data.specs.FileFaults.{GivesFile};
 ghost use Rattle.ps_data.specs.Reading.{Gives};
-ghost use Rattle.ps_rules.specs.Reading.{said_in};
+ghost use Rattle.ps_rules.specs.Reading.{said_in, said_of};
 ghost use Rattle.ps_rules.specs.Resolve.{no_formats, format_index, format_of, plain, alone, resolved};
 ghost use Rattle.ps_rules.specs.Faults.{Finds};
 
 use crate::fault::{FormatFault, RuleFault};
 use crate::read::read_said;
 use crate::table::{Format, Rule, RuleTable, Said};
+use crate::version::{Version, read_version};
 use crate::walk::clauses_of;
 use ps_base::id::Id;
 use ps_base::list::List;
@@ -101,37 +102,53 @@ fn alone(alloc: Global, said: &Said, id: &Id) -> Result<RuleTable, RuleFault>
         id: id.copy(alloc)?,
         repeals: false,
     };
-    let clauses = clauses_of(alloc, &said.rulesets, &[rule])?;
+    let clauses = clauses_of(alloc, said.version, &said.rulesets, &[rule])?;
     Ok(plain(alloc, clauses))
 }
 
+/// The formats of a value, whose version is read first.
+#[tactic(auto, unfolding(crate::specs::Reading::said_of))]
+fn read_whole(alloc: Global, value: &Value, dex: &Dex) -> Result<Formats, Refusal>
+    ensures { Gives result (said_of dex.now (view value.now)) }
+{
+    let version = read_version(alloc, value)?;
+    Formats::read(alloc, version, value, dex)
+}
+
 impl Formats {
-    /// No ruleset and no format, as where a configuration names none. Takes no memory.
-    pub fn none(alloc: Global) -> Formats
-        ensures { result ≡ no_formats }
+    /// No ruleset and no format, as where a configuration of this version names none. Takes no memory.
+    pub fn none(alloc: Global, version: Version) -> Formats
+        ensures { result ≡ no_formats version }
     {
         Formats {
             said: Said {
+                version,
                 rulesets: Table::new(alloc),
                 formats: Table::new(alloc),
             },
         }
     }
 
-    /// The formats that a configuration's value says: an object with the keys `rulesets` and
-    /// `formats`, each of which may be missing. A fault has its path from the object on.
-    pub fn read(alloc: Global, value: &Value, dex: &Dex) -> Result<Formats, Refusal>
-        ensures { Gives result (said_in dex.now (view value.now)) }
+    /// The formats that the value of a configuration of this version says: an object with the keys
+    /// `rulesets` and `formats`, each of which may be missing. A fault has its path from the object on.
+    pub fn read(
+        alloc: Global,
+        version: Version,
+        value: &Value,
+        dex: &Dex,
+    ) -> Result<Formats, Refusal>
+        ensures { Gives result (said_in version dex.now (view value.now)) }
     {
-        let said = read_said(alloc, dex, value)?;
+        let said = read_said(alloc, version, dex, value)?;
         Ok(Formats { said })
     }
 
-    /// The same, where a fault has its path as a text.
+    /// The formats of a configuration's value under the version that it says at `version`, before all else. A fault has its
+    /// path as a text.
     pub fn from_value(alloc: Global, value: &Value, dex: &Dex) -> Result<Formats, FormatFault>
-        ensures { GivesFile result (said_in dex.now (view value.now)) }
+        ensures { GivesFile result (said_of dex.now (view value.now)) }
     {
-        match Formats::read(alloc, value, dex) {
+        match read_whole(alloc, value, dex) {
             Ok(formats) => Ok(formats),
             Err(refusal) => Err(reported(alloc, refusal)),
         }

@@ -9,6 +9,7 @@ mod marks;
 mod name;
 mod read;
 pub mod table;
+pub mod version;
 mod walk;
 
 pub use ps_data::fault::DataKind;

@@ -10,6 +10,7 @@ ghost use Rattle.ps_rules.specs.Walk.{clauses_of};
 
 use crate::fault::RuleFault;
 use crate::table::{Rule, Ruleset};
+use crate::version::Version;
 use crate::walk::clauses_of;
 use ps_base::id::to_id;
 use ps_base::list::List;
@@ -110,10 +111,15 @@ pub(crate) fn rulesets_at(alloc: Global, value: &Value) -> Result<Table<Ruleset>
     entry_rows_at(alloc, &RulesetForm, value, "rulesets")
 }
 
-fn or_kind(alloc: Global, sets: &Table<Ruleset>, rules: &[Rule]) -> Result<u8, Refusal>
-    ensures { Gives result (or_kind (clauses_of sets.now rules.now)) }
+fn or_kind(
+    alloc: Global,
+    version: Version,
+    sets: &Table<Ruleset>,
+    rules: &[Rule],
+) -> Result<u8, Refusal>
+    ensures { Gives result (or_kind (clauses_of version sets.now rules.now)) }
 {
-    match clauses_of(alloc, sets, rules) {
+    match clauses_of(alloc, version, sets, rules) {
         Ok(clauses) => Ok(clauses),
         Err(RuleFault::NoMemory) => Err(Refusal::NoMemory),
         Err(RuleFault::UnknownRule { id: _ }) => Err(refused(alloc, DataKind::Unknown)),
@@ -122,15 +128,16 @@ fn or_kind(alloc: Global, sets: &Table<Ruleset>, rules: &[Rule]) -> Result<u8, R
     }
 }
 
-/// The clauses that a format's rule list leaves on, or the kind of the first fault of its walk.
+/// The clauses that are on by a format's rule list, or the kind of the first fault of its walk.
 #[tactic(auto, unfolding(crate::specs::Reading::clauses_in))]
 pub(crate) fn read_clauses(
     alloc: Global,
+    version: Version,
     sets: &Table<Ruleset>,
     value: &Value,
 ) -> Result<u8, Refusal>
-    ensures { Gives result (clauses_in sets.now (view value.now)) }
+    ensures { Gives result (clauses_in version sets.now (view value.now)) }
 {
     let rules = rules(alloc, value)?;
-    or_kind(alloc, sets, &rules)
+    or_kind(alloc, version, sets, &rules)
 }

@@ -4,11 +4,13 @@ ghost use Rattle.serde_json.specs.View.{view};
 ghost use Rattle.ps_data.specs.OwnIds.{IsNew};
 ghost use Rattle.ps_data.specs.Reading.{Gives, GivesBy, optional};
 ghost use Rattle.ps_data.specs.Forms.{number_in};
+ghost use Rattle.ps_rules.specs.Versions.{always_on};
 ghost use Rattle.ps_rules.specs.Reading.{clauses_in, has_ban, is_known, ban_in, bans_in, two_levels_in, level_in, levels_of, levels_in, table_in, format_in, formats_in, said_in};
 
 use crate::list::{read_clauses, rulesets_at};
 use crate::name::{Named, read_name};
 use crate::table::{Format, RuleTable, Ruleset, Said};
+use crate::version::{Version, always_on};
 use ps_base::id::{Id, to_id};
 use ps_base::list::List;
 use ps_data::fault::{DataKind, Refusal, refused};
@@ -21,12 +23,17 @@ use ps_dex::dex::Dex;
 use serde_json::Value;
 use std::alloc::Global;
 
-fn clauses_at(alloc: Global, sets: &Table<Ruleset>, value: &Value) -> Result<u8, Refusal>
-    ensures { Gives result (optional (codes "rules") 64 (clauses_in sets.now) (view value.now)) }
+fn clauses_at(
+    alloc: Global,
+    version: Version,
+    sets: &Table<Ruleset>,
+    value: &Value,
+) -> Result<u8, Refusal>
+    ensures { Gives result (optional (codes "rules") (always_on version) (clauses_in version sets.now) (view value.now)) }
 {
     match value.get("rules") {
-        None => Ok(64),
-        Some(inside) => at_key(alloc, "rules", read_clauses(alloc, sets, inside)),
+        None => Ok(always_on(version)),
+        Some(inside) => at_key(alloc, "rules", read_clauses(alloc, version, sets, inside)),
     }
 }
 
@@ -154,13 +161,14 @@ fn levels_at(alloc: Global, value: &Value) -> Result<[u8; 2], Refusal>
 #[tactic(auto, unfolding(crate::specs::Reading::table_in))]
 fn table(
     alloc: Global,
+    version: Version,
     sets: &Table<Ruleset>,
     dex: &Dex,
     value: &Value,
 ) -> Result<RuleTable, Refusal>
-    ensures { Gives result (table_in sets.now dex.now (view value.now)) }
+    ensures { Gives result (table_in version sets.now dex.now (view value.now)) }
 {
-    let clauses = clauses_at(alloc, sets, value)?;
+    let clauses = clauses_at(alloc, version, sets, value)?;
     let bans = bans_at(alloc, dex, value)?;
     let min = count_at(alloc, value, "min", 1)?;
     let max = count_at(alloc, value, "max", 6)?;
@@ -179,12 +187,13 @@ fn table(
 #[tactic(auto, unfolding(crate::specs::Reading::format_in))]
 fn format(
     alloc: Global,
+    version: Version,
     sets: &Table<Ruleset>,
     dex: &Dex,
     before: &Table<Format>,
     value: &Value,
 ) -> Result<Format, Refusal>
-    ensures gives { Gives result (format_in sets.now dex.now before.now (view value.now)) }
+    ensures gives { Gives result (format_in version sets.now dex.now before.now (view value.now)) }
     ensures new { IfOk result (λ format. IsNew (λ f. f.id) format.id before.now) }
 {
     object(alloc, value)?;
@@ -193,20 +202,21 @@ fn format(
         "name",
         read_name(alloc, before, required(alloc, value, "name")?),
     )?;
-    let table = table(alloc, sets, dex, value)?;
+    let table = table(alloc, version, sets, dex, value)?;
     let Named { name, id } = named;
     Ok(Format { name, id, table })
 }
 
-/// The form of a format, over the rulesets and the dex.
+/// The form of a format under a version, over the rulesets and the dex.
 #[derive(Drop)]
 struct FormatForm<'a> {
+    version: Version,
     sets: &'a Table<Ruleset>,
     dex: &'a Dex,
 }
 
 impl RowForm<Format> for FormatForm<'_> {
-    ghost reading = { λ form before after. format_in form.sets.now form.dex.now before };
+    ghost reading = { λ form before after. format_in form.version form.sets.now form.dex.now before };
 
     fn read(
         &self,
@@ -215,44 +225,56 @@ impl RowForm<Format> for FormatForm<'_> {
         _after: &[Value],
         value: &Value,
     ) -> Result<Format, Refusal> {
-        format(alloc, self.sets, self.dex, before, value)
+        format(alloc, self.version, self.sets, self.dex, before, value)
     }
 }
 
 #[tactic(auto, unfolding(crate::specs::Reading::formats_in))]
 fn formats(
     alloc: Global,
+    version: Version,
     sets: &Table<Ruleset>,
     dex: &Dex,
     value: &Value,
 ) -> Result<Table<Format>, Refusal>
-    ensures { Gives result (formats_in sets.now dex.now (view value.now)) }
+    ensures { Gives result (formats_in version sets.now dex.now (view value.now)) }
 {
     let values = array(alloc, value)?;
-    rows_of(alloc, &FormatForm { sets, dex }, values)
+    let form = FormatForm { version, sets, dex };
+    rows_of(alloc, &form, values)
 }
 
 fn formats_at(
     alloc: Global,
+    version: Version,
     sets: &Table<Ruleset>,
     dex: &Dex,
     value: &Value,
 ) -> Result<Table<Format>, Refusal>
-    ensures { Gives result (optional (codes "formats") [] (formats_in sets.now dex.now) (view value.now)) }
+    ensures { Gives result (optional (codes "formats") [] (formats_in version sets.now dex.now) (view value.now)) }
 {
     match value.get("formats") {
         None => Ok(Table::new(alloc)),
-        Some(inside) => at_key(alloc, "formats", formats(alloc, sets, dex, inside)),
+        Some(inside) => at_key(alloc, "formats", formats(alloc, version, sets, dex, inside)),
     }
 }
 
-/// The rulesets and the formats of a configuration, or its first fault in these two keys.
+/// The rulesets and the formats of a configuration of a version, or its first fault in these two keys.
 #[tactic(auto, unfolding(crate::specs::Reading::said_in))]
-pub(crate) fn read_said(alloc: Global, dex: &Dex, value: &Value) -> Result<Said, Refusal>
-    ensures { Gives result (said_in dex.now (view value.now)) }
+pub(crate) fn read_said(
+    alloc: Global,
+    version: Version,
+    dex: &Dex,
+    value: &Value,
+) -> Result<Said, Refusal>
+    ensures { Gives result (said_in version dex.now (view value.now)) }
 {
     object(alloc, value)?;
     let rulesets = rulesets_at(alloc, value)?;
-    let formats = formats_at(alloc, &rulesets, dex, value)?;
-    Ok(Said { rulesets, formats })
+    let formats = formats_at(alloc, version, &rulesets, dex, value)?;
+    Ok(Said {
+        version,
+        rulesets,
+        formats,
+    })
 }

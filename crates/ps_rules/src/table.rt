@@ -1,6 +1,7 @@
 //! What a configuration says of rules.
 ghost use Rattle.std.specs.Prelude.{◌≡◌};
 
+use crate::version::Version;
 use ps_base::id::Id;
 use ps_base::list::List;
 use ps_base::text::Text;
@@ -72,6 +73,8 @@ impl HasId for Format {
 /// The rulesets and the formats of a configuration.
 #[derive(Debug, Drop)]
 pub struct Said {
+    /// The form of the configuration.
+    pub version: Version,
     /// The rulesets, in byte order of their keys.
     pub rulesets: Table<Ruleset>,
     /// The formats, in order.

@@ -8,6 +8,7 @@ use crate::clause::{Clause, has};
 use crate::fault::RuleFault;
 use crate::marks::{Mark, Marks};
 use crate::table::{Rule, Ruleset};
+use crate::version::{Version, always_on};
 use ps_base::id::Id;
 use ps_data::table::Table;
 use std::alloc::{AllocError, Global};
@@ -280,15 +281,16 @@ fn walk(alloc: Global, sets: &Table<Ruleset>, rules: &[Rule]) -> Result<u8, Rule
     }
 }
 
-/// The clauses that a rule list leaves on, with HP Percentage Mod, which is always on.
+/// The clauses that a rule list leaves on, with those that are always on.
 #[tactic(auto, unfolding(crate::specs::Walk::clauses_of))]
 pub(crate) fn clauses_of(
     alloc: Global,
+    version: Version,
     sets: &Table<Ruleset>,
     rules: &[Rule],
 ) -> Result<u8, RuleFault>
-    ensures { Finds result (clauses_of sets.now rules.now) }
+    ensures { Finds result (clauses_of version sets.now rules.now) }
 {
     let clauses = walk(alloc, sets, rules)?;
-    Ok(clauses | Clause::Percentage.bit())
+    Ok(clauses | always_on(version))
 }

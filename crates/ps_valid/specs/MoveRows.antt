@@ -1,4 +1,4 @@
--- The rules of one move of a set, in their order. A set has_clause its number from 1, and a move the id that the team has_clause.
+-- The rules of one move of a set, in their order. A set has its number from 1, and a move the id that the team has.
 use Rattle.std.specs.Prelude.{ℕ, pos, ◌==◌, ◌&&◌, Bool, true, false, not, List, [], ◌∷◌, ◌++◌, slice_get, Option, Some, None, Result, Ok, ⊤, int_lt}
 use Rattle.std.specs.List.{list_any}
 use Rattle.ps_base.specs.declared.team_rule.TeamRule.TheVariants.{UnknownMove, BannedMove, NotLearned, RepeatedMove, OhkoClause, EvasionClause}
@@ -43,7 +43,7 @@ raises_evasion other = false
 
 -- ---- the rows
 
--- the dex has_clause the move, by its id or by an alias
+-- the dex has the move, by its id or by an alias
 unfoldable pub unknown_move : Tables → ℕ → List ℕ → Result ℕ Verdict
 unknown_move dex set id = require_known set UnknownMove id (move_of id dex)
 
@@ -53,7 +53,7 @@ banned_move dex rules set id mv = keeps set BannedMove id (not (is_banned_move d
 unfoldable pub not_learned : Tables → ℕ → ℕ → List ℕ → ℕ → Result ⊤ Verdict
 not_learned dex set species id mv = keeps set NotLearned id (learns species mv dex)
 
--- no earlier move of the set is the same one, whatever id the team has_clause for it
+-- no earlier move of the set is the same one, whatever id the team has for it
 unfoldable pub repeated_move : ℕ → List ℕ → List ℕ → ℕ → Result ⊤ Verdict
 repeated_move set before id mv = keeps set RepeatedMove id (not (has_number mv before))
 

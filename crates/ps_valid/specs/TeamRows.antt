@@ -26,7 +26,7 @@ too_few rules count = keeps 0 TooFew (decimal count) (nat_le rules.min count)
 unfoldable pub too_many : RuleTable → ℕ → Result ⊤ Verdict
 too_many rules count = keeps 0 TooMany (decimal count) (nat_le count rules.max)
 
--- ---- each set by itself, from the first, which has_clause the number 1
+-- ---- each set by itself, from the first, which has the number 1
 
 abbrev pub each_member : Tables → RuleTable → List Member → List Set → Result (List Member) Verdict
 each_member dex rules before [] = Ok before
@@ -43,11 +43,11 @@ is_same None b = false
 is_same (Some a) None = false
 is_same (Some a) (Some b) = a == b
 
--- one of the sets has_clause the species
+-- one of the sets has the species
 abbrev pub has_species : Tables → Option ℕ → List Set → Bool
 has_species dex number sets = list_any (λ s. is_same (species_number dex s) number) sets
 
--- one of the sets has_clause the nickname; nicknames are compared as texts
+-- one of the sets has the nickname; nicknames are compared as texts
 abbrev pub has_nick : List ℕ → List Set → Bool
 has_nick nick sets = list_any (λ s. bytes_eq s.nick nick) sets
 

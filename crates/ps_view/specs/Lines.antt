@@ -7,7 +7,7 @@ use Rattle.ps_dex.specs.declared.item.Tables.{Tables}
 use Rattle.ps_view.specs.declared.names.Names.{Names}
 use Rattle.ps_view.specs.declared.role.Role.{Role}
 use Rattle.ps_view.specs.Roles.{has_role, reads_exactly}
-use Rattle.ps_view.specs.Rows.{about, player_line, team_size_line, tier_line, rule_line, switch_line, move_line, cant_line, damage_line, heal_line}
+use Rattle.ps_view.specs.Rows.{about, player_line, team_size_line, tier_line, rule_line, poke_line, switch_line, move_line, cant_line, damage_line, heal_line}
 use Rattle.ps_view.specs.Rows.{status_line, cure_line, boost_line, unboost_line, start_line, end_line, activate_line, prepare_line, transform_line, hit_count_line}
 use Rattle.ps_view.specs.Rows.{turn_line, forfeit_line, win_line}
 
@@ -20,6 +20,9 @@ row_of exact names dex events.GameType = codes "|gametype|singles"
 row_of exact names dex events.Gen = codes "|gen|1"
 row_of exact names dex events.Tier = tier_line names
 row_of exact names dex (events.Rule clause) = rule_line clause
+row_of exact names dex events.ClearPoke = codes "|clearpoke"
+row_of exact names dex (events.Poke side species level) = poke_line dex side species level
+row_of exact names dex events.TeamPreview = codes "|teampreview"
 row_of exact names dex events.Start = codes "|start"
 row_of exact names dex (events.Switch who species level health) = switch_line exact names dex who species level health
 row_of exact names dex (events.Move who mv target still from) = move_line names dex who mv target still from

@@ -1,7 +1,7 @@
 -- The parts that lines are made of.
 use Rattle.std.specs.Prelude.{ℕ, Bool, true, false, ◌==◌, ◌||◌, List, ◌++◌, codes, Option, Some, None, nat_lt, slice_get, if◌then◌else◌}
 use Rattle.std.specs.Fmt.{decimal}
-use Rattle.ps_calc.specs.Health.{hundredths_of}
+use Rattle.ps_calc.specs.Health.{hundredths_of, pixels_of}
 use Rattle.ps_event.specs.Numbers.{effect_mimic, effect_disable}
 use Rattle.ps_event.specs.declared.event.Who.{Who}
 use Rattle.ps_event.specs.declared.event.Health.{Health}
@@ -40,17 +40,26 @@ status_end status = if status == 0 then codes "" else codes " " ++ status_word s
 abbrev pub share_of : Health → ℕ
 share_of h = if nat_lt h.max h.hp then 100 else hundredths_of h.hp h.max
 
+-- the 48ths that others see; more than the greatest health would be all of it
+abbrev pub bar_of : Health → ℕ
+bar_of h = if nat_lt h.max h.hp then 48 else pixels_of h.hp h.max
+
+-- a share of the greatest health: in hundredths under HP Percentage Mod, else in 48ths
+abbrev pub shown_share : Bool → Health → List ℕ
+shown_share true h = decimal (share_of h) ++ codes "/100"
+shown_share false h = decimal (bar_of h) ++ codes "/48"
+
 -- what the member's own side sees of its health
 abbrev pub exact_condition : Health → List ℕ
 exact_condition h = if h.hp == 0 then codes "0 fnt" else decimal h.hp ++ codes "/" ++ decimal h.max ++ status_end h.status
 
--- what all others see of it
-abbrev pub public_condition : Health → List ℕ
-public_condition h = if h.hp == 0 then codes "0 fnt" else decimal (share_of h) ++ codes "/100" ++ status_end h.status
+-- what all others see of it, under HP Percentage Mod or without it
+abbrev pub public_condition : Bool → Health → List ℕ
+public_condition percent h = if h.hp == 0 then codes "0 fnt" else shown_share percent h ++ status_end h.status
 
-abbrev pub condition : Bool → Health → List ℕ
-condition true h = exact_condition h
-condition false h = public_condition h
+abbrev pub condition : Bool → Bool → Health → List ℕ
+condition true percent h = exact_condition h
+condition false percent h = public_condition percent h
 
 -- where a move is only prepared
 abbrev pub still_end : Bool → List ℕ

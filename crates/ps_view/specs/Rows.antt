@@ -35,11 +35,14 @@ tier_line names = codes "|tier|" ++ names.format
 abbrev pub rule_line : ℕ → List ℕ
 rule_line clause = codes "|rule|" ++ clause_word clause
 
+abbrev pub poke_line : Tables → Side → ℕ → ℕ → List ℕ
+poke_line dex side species level = codes "|poke|" ++ side_word side ++ codes "|" ++ details dex species level ++ codes "|"
+
 -- ---- the acts
 
 abbrev pub switch_line : Bool → Names → Tables → Who → ℕ → ℕ → Health → List ℕ
 switch_line exact names dex who species level health =
-    about_with (codes "switch") names who (details dex species level ++ codes "|" ++ condition exact health)
+    about_with (codes "switch") names who (details dex species level ++ codes "|" ++ condition exact names.percent health)
 
 abbrev pub move_line : Names → Tables → Who → ℕ → Who → Bool → Option ℕ → List ℕ
 move_line names dex who mv target still from =
@@ -49,10 +52,10 @@ abbrev pub cant_line : Names → Who → ℕ → List ℕ
 cant_line names who reason = about_with (codes "cant") names who (reason_word reason)
 
 abbrev pub damage_line : Bool → Names → Who → Health → ℕ → List ℕ
-damage_line exact names who health from = about_with (codes "-damage") names who (condition exact health ++ from_end from)
+damage_line exact names who health from = about_with (codes "-damage") names who (condition exact names.percent health ++ from_end from)
 
 abbrev pub heal_line : Bool → Names → Who → Health → List ℕ
-heal_line exact names who health = about_with (codes "-heal") names who (condition exact health)
+heal_line exact names who health = about_with (codes "-heal") names who (condition exact names.percent health)
 
 abbrev pub status_line : Names → Who → ℕ → List ℕ
 status_line names who status = about_with (codes "-status") names who (status_word status)

@@ -21,8 +21,9 @@ clause_word clause =
     if clause == 2 then codes "Freeze Clause Mod" else (
     if clause == 3 then codes "OHKO Clause" else (
     if clause == 4 then codes "Evasion Moves Clause" else (
-    if clause == 5 then codes "Nickname Clause" else
-    codes "HP Percentage Mod")))))
+    if clause == 5 then codes "Nickname Clause" else (
+    if clause == 6 then codes "Team Preview" else
+    codes "HP Percentage Mod"))))))
 
 -- the statuses, in their order; who is healthy has no word
 unfoldable pub status_word : ℕ → List ℕ

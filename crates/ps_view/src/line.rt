@@ -6,9 +6,9 @@ use crate::names::Names;
 use crate::role::{Role, has_role, reads_exactly};
 use crate::row::{
     about, activate_line, boost_line, cant_line, cure_line, damage_line, end_line, forfeit_line,
-    heal_line, hit_count_line, move_line, player_line, prepare_line, rule_line, start_line,
-    status_line, switch_line, team_size_line, tier_line, transform_line, turn_line, unboost_line,
-    win_line,
+    heal_line, hit_count_line, move_line, player_line, poke_line, prepare_line, rule_line,
+    start_line, status_line, switch_line, team_size_line, tier_line, transform_line, turn_line,
+    unboost_line, win_line,
 };
 use ps_base::text::Text;
 use ps_dex::dex::Dex;
@@ -33,6 +33,13 @@ fn row_of(
         Event::Gen => Text::copy_of(alloc, "|gen|1"),
         Event::Tier => tier_line(alloc, names),
         Event::Rule { clause } => rule_line(alloc, clause),
+        Event::ClearPoke => Text::copy_of(alloc, "|clearpoke"),
+        Event::Poke {
+            side,
+            species,
+            level,
+        } => poke_line(alloc, dex, side, species, level),
+        Event::TeamPreview => Text::copy_of(alloc, "|teampreview"),
         Event::Start => Text::copy_of(alloc, "|start"),
         Event::Switch {
             who,
@@ -91,8 +98,8 @@ fn is_shown(event: &Event, role: Role) -> bool
 }
 
 /// The line of an event for a role, without a newline. None exactly where the event's audience hasn't the role, or the
-/// event is a request, whose line its room makes when it asks. A member's health is exact for the player of its side, and
-/// in hundredths for all others.
+/// event is a request, whose line its room makes when it asks. A member's health is exact for the player of its side;
+/// all others read hundredths where HP Percentage Mod is on (`Names::percent`), else 48ths.
 ///
 /// A member past the team and a species past the dex have the empty text in their place, a move past the dex is Struggle,
 /// and a number past the list of its words stands for the last of them.

@@ -8,7 +8,7 @@ use ps_base::text::Text;
 use ps_event::event::Who;
 use ps_event::side::Side;
 
-/// What the lines of a battle name: its players, its members and its format.
+/// What the lines of a battle name: its players, its members and its format; and how they show health.
 #[derive(Debug, Drop)]
 pub struct Names {
     /// The players, that of the first side first.
@@ -17,6 +17,8 @@ pub struct Names {
     pub nicks: [List<Text>; 2],
     /// The name of the format.
     pub format: Text,
+    /// Whether others see health in hundredths, as under HP Percentage Mod, and not in 48ths.
+    pub percent: bool,
 }
 
 impl Names {

@@ -1,11 +1,11 @@
 //! The parts that lines are made of.
 ghost use Rattle.std.specs.Prelude.{◌≡◌, ◌<◌, IfOk};
-ghost use Rattle.ps_view.specs.Parts.{position, species_word, level_end, details, status_end, share_of, exact_condition, public_condition, condition, still_end, called_end, stages, names_move, named_end};
+ghost use Rattle.ps_view.specs.Parts.{position, species_word, level_end, details, status_end, share_of, bar_of, shown_share, exact_condition, public_condition, condition, still_end, called_end, stages, names_move, named_end};
 
 use crate::names::Names;
 use crate::word::{side_word, stat_word, status_word};
 use ps_base::text::Text;
-use ps_calc::health::hundredths;
+use ps_calc::health::{hundredths, pixels};
 use ps_dex::dex::Dex;
 use ps_event::event::{Health, Who};
 use ps_event::numbers::{EFFECT_DISABLE, EFFECT_MIMIC};
@@ -68,6 +68,31 @@ fn share_of(health: Health) -> u8
     hundredths(health.hp, health.max)
 }
 
+/// The 48ths that others see.
+fn bar_of(health: Health) -> u8
+    requires { 0 < health.hp }
+    ensures { result ≡ bar_of health }
+{
+    if health.hp > health.max {
+        return 48;
+    }
+    pixels(health.hp, health.max)
+}
+
+/// `N/100` under HP Percentage Mod, else `N/48`.
+fn shown_share(alloc: Global, percent: bool, health: Health) -> Result<Text, AllocError>
+    requires { 0 < health.hp }
+    ensures { IfOk result (λ t. t ≡ shown_share percent health) }
+{
+    if percent {
+        let share = share_of(health);
+        Ok(Text::from_string(format!(in alloc; "{share}/100")?))
+    } else {
+        let bar = bar_of(health);
+        Ok(Text::from_string(format!(in alloc; "{bar}/48")?))
+    }
+}
+
 fn exact_condition(alloc: Global, health: Health) -> Result<Text, AllocError>
     ensures { IfOk result (λ t. t ≡ exact_condition health) }
 {
@@ -79,25 +104,30 @@ fn exact_condition(alloc: Global, health: Health) -> Result<Text, AllocError>
     Ok(Text::from_string(format!(in alloc; "{hp}/{max}{status}")?))
 }
 
-fn public_condition(alloc: Global, health: Health) -> Result<Text, AllocError>
-    ensures { IfOk result (λ t. t ≡ public_condition health) }
+fn public_condition(alloc: Global, percent: bool, health: Health) -> Result<Text, AllocError>
+    ensures { IfOk result (λ t. t ≡ public_condition percent health) }
 {
     if health.hp == 0 {
         return Text::copy_of(alloc, "0 fnt");
     }
-    let share = share_of(health);
+    let share = shown_share(alloc, percent, health)?;
     let status = status_end(alloc, health.status)?;
-    Ok(Text::from_string(format!(in alloc; "{share}/100{status}")?))
+    Ok(Text::from_string(format!(in alloc; "{share}{status}")?))
 }
 
-/// `HP/MAX`, or in the public form `N/100`, and the status behind it; `0 fnt` at no health.
-pub(crate) fn condition(alloc: Global, exact: bool, health: Health) -> Result<Text, AllocError>
-    ensures { IfOk result (λ t. t ≡ condition exact health) }
+/// `HP/MAX`, or in the public form `N/100` or `N/48`, and the status behind it; `0 fnt` at no health.
+pub(crate) fn condition(
+    alloc: Global,
+    exact: bool,
+    percent: bool,
+    health: Health,
+) -> Result<Text, AllocError>
+    ensures { IfOk result (λ t. t ≡ condition exact percent health) }
 {
     if exact {
         exact_condition(alloc, health)
     } else {
-        public_condition(alloc, health)
+        public_condition(alloc, percent, health)
     }
 }
 

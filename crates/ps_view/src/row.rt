@@ -1,6 +1,6 @@
 //! The rows of the table of lines, in its order. Each is a line of SIM-PROTOCOL.md.
 ghost use Rattle.std.specs.Prelude.{◌≡◌, IfOk};
-ghost use Rattle.ps_view.specs.Rows.{about, about_with, player_line, team_size_line, tier_line, rule_line, switch_line, move_line, cant_line, damage_line, heal_line};
+ghost use Rattle.ps_view.specs.Rows.{about, about_with, player_line, team_size_line, tier_line, rule_line, poke_line, switch_line, move_line, cant_line, damage_line, heal_line};
 ghost use Rattle.ps_view.specs.Rows.{status_line, cure_line, boost_line, unboost_line, start_line, end_line, activate_line, prepare_line, transform_line, hit_count_line};
 ghost use Rattle.ps_view.specs.Rows.{turn_line, forfeit_line, win_line};
 
@@ -72,6 +72,21 @@ pub(crate) fn rule_line(alloc: Global, clause: u8) -> Result<Text, AllocError>
     Ok(Text::from_string(format!(in alloc; "|rule|{name}")?))
 }
 
+/// `|poke|p1|DETAILS|`
+pub(crate) fn poke_line(
+    alloc: Global,
+    dex: &Dex,
+    side: Side,
+    species: u16,
+    level: u8,
+) -> Result<Text, AllocError>
+    ensures { IfOk result (λ t. t ≡ poke_line dex.now side species level) }
+{
+    let word = side_word(side);
+    let details = details(alloc, dex, species, level)?;
+    Ok(Text::from_string(format!(in alloc; "|poke|{word}|{details}|")?))
+}
+
 // ---- the acts
 
 /// `|switch|POS|DETAILS|COND`
@@ -88,7 +103,7 @@ pub(crate) fn switch_line(
     ensures { IfOk result (λ t. t ≡ switch_line exact names.now dex.now who species level health) }
 {
     let details = details(alloc, dex, species, level)?;
-    let condition = condition(alloc, exact, health)?;
+    let condition = condition(alloc, exact, names.percent, health)?;
     let text = format!(in alloc; "{details}|{condition}")?;
     about_with(alloc, "switch", names, who, text.as_str())
 }
@@ -137,7 +152,7 @@ pub(crate) fn damage_line(
 ) -> Result<Text, AllocError>
     ensures { IfOk result (λ t. t ≡ damage_line exact names.now who health from) }
 {
-    let condition = condition(alloc, exact, health)?;
+    let condition = condition(alloc, exact, names.percent, health)?;
     let end = from_end(from);
     let text = format!(in alloc; "{condition}{end}")?;
     about_with(alloc, "-damage", names, who, text.as_str())
@@ -153,7 +168,7 @@ pub(crate) fn heal_line(
 ) -> Result<Text, AllocError>
     ensures { IfOk result (λ t. t ≡ heal_line exact names.now who health) }
 {
-    let condition = condition(alloc, exact, health)?;
+    let condition = condition(alloc, exact, names.percent, health)?;
     about_with(alloc, "-heal", names, who, condition.as_str())
 }
 

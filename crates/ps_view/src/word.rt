@@ -34,6 +34,7 @@ pub(crate) fn clause_word(clause: u8) -> &'static str
         3 => "OHKO Clause",
         4 => "Evasion Moves Clause",
         5 => "Nickname Clause",
+        6 => "Team Preview",
         _ => "HP Percentage Mod",
     }
 }

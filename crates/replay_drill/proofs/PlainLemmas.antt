@@ -28,15 +28,16 @@ use Rattle.ps_dex.specs.Aliases.{alias_item_in}
 use Rattle.ps_dex.specs.Tables.{tables_in, tables_of}
 use Rattle.ps_dex.proofs.Holds.{Holds, after, then, tested, needed, may_lack, all_cons, each_all, list_holds}
 use Rattle.ps_group.specs.Reading.{groups_in}
-use Rattle.ps_group.specs.Defaults.{default_groups}
 use Rattle.ps_rules.specs.declared.table.Ruleset.{Ruleset}
 use Rattle.ps_rules.specs.declared.table.Format.{Format}
 use Rattle.ps_rules.specs.declared.table.Said.{Said}
+use Rattle.ps_rules.specs.declared.version.Version.{Version}
+use Rattle.ps_rules.specs.Versions.{version_in}
 use Rattle.ps_rules.specs.Reading as reading
 use Rattle.rules_config.specs.declared.settings.Settings.{Settings}
 use Rattle.rules_config.specs.Rooms.{rooms_at}
 use Rattle.rules_config.specs.Users.{staff_at, users_in}
-use Rattle.rules_config.specs.Reading.{greatest_seed, nonce_in, seeds_in, config_in, config_of, HasFile}
+use Rattle.rules_config.specs.Reading.{greatest_seed, nonce_in, seeds_in, default_groups_of, config_in, config_of, HasFile}
 use Rattle.replay_drill.specs.Plain.{IsPlain, HasPlainNames, HasPlainFormats}
 
 -- ---- bytes
@@ -184,36 +185,37 @@ format_name_holds before d =
     tested IsFormatName Range (reading.is_name (chars text) (id_of text)) _ (λ e.
     tested IsFormatName Repeat (not (reading.has_format (id_of text) before)) _ (λ f. format_named text e)))
 
-format_holds : (sets : List Ruleset) (dex : Tables) (before : List Format) (d : Data) → Holds IsFormat (reading.format_in sets dex before d)
+format_holds : (version : Version) (sets : List Ruleset) (dex : Tables) (before : List Format) (d : Data) → Holds IsFormat (reading.format_in version sets dex before d)
 unfolding reading.format_in
-format_holds sets dex before d =
+format_holds version sets dex before d =
     then IsFormat (object_in d) _ (λ u.
     after IsFormatName IsFormat (required (codes "name") (reading.name_in before) d) _ (needed IsFormatName (codes "name") (reading.name_in before) d (format_name_holds before)) (λ named h.
-    then IsFormat (reading.table_in sets dex d) _ (λ table. h)))
+    then IsFormat (reading.table_in version sets dex d) _ (λ table. h)))
 
-formats_hold : (sets : List Ruleset) (dex : Tables) (d : Data) → Holds (All IsFormat) (reading.formats_in sets dex d)
+formats_hold : (version : Version) (sets : List Ruleset) (dex : Tables) (d : Data) → Holds (All IsFormat) (reading.formats_in version sets dex d)
 unfolding reading.formats_in
-formats_hold sets dex d = then (All IsFormat) (array_in d) _ (each_all IsFormat (λ before more. reading.format_in sets dex before) (λ before more. format_holds sets dex before))
+formats_hold version sets dex d = then (All IsFormat) (array_in d) _ (each_all IsFormat (λ before more. reading.format_in version sets dex before) (λ before more. format_holds version sets dex before))
 
-said_holds : (dex : Tables) (d : Data) → Holds IsSaid (reading.said_in dex d)
+said_holds : (version : Version) (dex : Tables) (d : Data) → Holds IsSaid (reading.said_in version dex d)
 unfolding reading.said_in
-said_holds dex d =
+said_holds version dex d =
     then IsSaid (object_in d) _ (λ u.
     then IsSaid (entries_at (codes "rulesets") reading.ruleset_in d) _ (λ sets.
-    after (All IsFormat) IsSaid (optional (codes "formats") [] (reading.formats_in sets dex) d) _ (may_lack (All IsFormat) (codes "formats") [] (reading.formats_in sets dex) d (All-nil IsFormat) (formats_hold sets dex)) (λ formats h. h)))
+    after (All IsFormat) IsSaid (optional (codes "formats") [] (reading.formats_in version sets dex) d) _ (may_lack (All IsFormat) (codes "formats") [] (reading.formats_in version sets dex) d (All-nil IsFormat) (formats_hold version sets dex)) (λ formats h. h)))
 
 config_holds : (dex : Tables) (d : Data) → Holds HasPlainFormats (config_in dex d)
 unfolding config_in
 config_holds dex d =
     then HasPlainFormats (object_in d) _ (λ u.
-    then HasPlainFormats (optional (codes "groups") default_groups groups_in d) _ (λ groups.
+    then HasPlainFormats (version_in d) _ (λ version.
+    then HasPlainFormats (optional (codes "groups") (default_groups_of version) groups_in d) _ (λ groups.
     then HasPlainFormats (staff_at groups d) _ (λ staff.
     then HasPlainFormats (rooms_at d) _ (λ rooms.
     then HasPlainFormats (optional (codes "users") [] (users_in groups) d) _ (λ users.
-    after IsSaid HasPlainFormats (reading.said_in dex d) _ (said_holds dex d) (λ formats h.
+    after IsSaid HasPlainFormats (reading.said_in version dex d) _ (said_holds version dex d) (λ formats h.
     then HasPlainFormats (optional (codes "nonce") (codes "0") nonce_in d) _ (λ nonce.
     then HasPlainFormats (optional (codes "seed") 0 (number_in 0 greatest_seed) d) _ (λ seed.
-    then HasPlainFormats (optional (codes "seeds") [] seeds_in d) _ (λ seeds. h)))))))))
+    then HasPlainFormats (optional (codes "seeds") [] seeds_in d) _ (λ seeds. h))))))))))
 
 file_holds : (dex : Tables) (bytes : List ℕ) → Holds HasPlainFormats (config_of dex bytes)
 unfolding config_of

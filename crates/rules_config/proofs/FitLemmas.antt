@@ -19,14 +19,14 @@ use Rattle.ps_dex.proofs.Holds.{Holds, after, then, inside, found, needed, may_l
 use Rattle.ps_group.specs.declared.group.Group.{Group}
 use Rattle.ps_group.specs.Ranks.{rank_of}
 use Rattle.ps_group.specs.Reading.{groups_in}
-use Rattle.ps_group.specs.Defaults.{default_groups}
+use Rattle.ps_rules.specs.Versions.{version_in}
 use Rattle.ps_rules.specs.Reading.{said_in}
 use Rattle.rules_config.specs.declared.settings.ChatRoom.{ChatRoom}
 use Rattle.rules_config.specs.declared.settings.Registered.{Registered}
 use Rattle.rules_config.specs.declared.settings.Settings.{Settings}
 use Rattle.rules_config.specs.Rooms.{lobby, room_in, rooms_at}
 use Rattle.rules_config.specs.Users.{rank_named, named_rank_in, default_staff_in, staff_or, staff_at, user_in, users_in}
-use Rattle.rules_config.specs.Reading.{greatest_seed, nonce_in, seeds_in, config_in, config_of, HasFile}
+use Rattle.rules_config.specs.Reading.{greatest_seed, nonce_in, seeds_in, default_groups_of, config_in, config_of, HasFile}
 use Rattle.rules_config.specs.Ranges.{AreFit}
 
 -- ---- lists of a length between two
@@ -105,15 +105,16 @@ all_fit : (dex : Tables) (d : Data) → Holds AreFit (config_in dex d)
 unfolding config_in
 all_fit dex d =
     then AreFit (object_in d) _ (λ u.
-    then AreFit (optional (codes "groups") default_groups groups_in d) _ (λ groups.
+    then AreFit (version_in d) _ (λ version.
+    then AreFit (optional (codes "groups") (default_groups_of version) groups_in d) _ (λ groups.
     after (IsRank groups) AreFit (staff_at groups d) _ (staff_holds groups d) (λ staff s.
     after (IsBetween {A = ChatRoom} 1 16) AreFit (rooms_at d) _ (rooms_between d) (λ rooms r.
     after (All (IsRanked groups)) AreFit (optional (codes "users") [] (users_in groups) d) _ (may_lack (All (IsRanked groups)) (codes "users") [] (users_in groups) d (All-nil (IsRanked groups)) (users_ranked groups)) (λ users h.
-    then AreFit (said_in dex d) _ (λ formats.
+    then AreFit (said_in version dex d) _ (λ formats.
     then AreFit (optional (codes "nonce") (codes "0") nonce_in d) _ (λ nonce.
     then AreFit (optional (codes "seed") 0 (number_in 0 greatest_seed) d) _ (λ seed.
     then AreFit (optional (codes "seeds") [] seeds_in d) _ (λ seeds.
-    record { staff = s; some_rooms = r.0; few_rooms = r.1; users = h })))))))))
+    record { staff = s; some_rooms = r.0; few_rooms = r.1; users = h }))))))))))
 
 bytes_fit : (dex : Tables) (bytes : List ℕ) → Holds AreFit (config_of dex bytes)
 unfolding config_of

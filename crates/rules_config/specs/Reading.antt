@@ -9,7 +9,11 @@ use Rattle.ps_data.specs.Forms.{json_in, object_in, text_in, array_in, number_in
 use Rattle.ps_data.specs.Lists.{each}
 use Rattle.ps_dex.specs.declared.item.Tables.{Tables}
 use Rattle.ps_group.specs.Reading.{groups_in}
-use Rattle.ps_group.specs.Defaults.{default_groups}
+use Rattle.ps_group.specs.declared.group.Group.{Group}
+use Rattle.ps_group.specs.Defaults.{default_groups, groups_with_bot}
+use Rattle.ps_rules.specs.declared.version.Version.{Version}
+use Rattle.ps_rules.specs.declared.version.Version.TheVariants.{First, Second}
+use Rattle.ps_rules.specs.Versions.{version_in}
 use Rattle.ps_rules.specs.Reading.{said_in}
 use Rattle.rules_config.specs.declared.settings.Settings.{Settings}
 use Rattle.rules_config.specs.Rooms.{rooms_at}
@@ -47,15 +51,22 @@ seeds_in d = do
 
 -- ---- the whole
 
--- the keys of a configuration in their order, each of which may be missing; `said_in` reads `rulesets` and `formats`
+-- the groups where a configuration of a version names none
+abbrev pub default_groups_of : Version → List Group
+default_groups_of First = default_groups
+default_groups_of Second = groups_with_bot
+
+-- The keys of a configuration in their order, each of which may be missing: `version` is tested before all others;
+-- `said_in` reads `rulesets` and `formats`.
 unfoldable pub config_in : Tables → Data → Result Settings Fault
 config_in dex d = do
   _ ← object_in d
-  groups ← optional (codes "groups") default_groups groups_in d
+  version ← version_in d
+  groups ← optional (codes "groups") (default_groups_of version) groups_in d
   staff ← staff_at groups d
   rooms ← rooms_at d
   users ← optional (codes "users") [] (users_in groups) d
-  formats ← said_in dex d
+  formats ← said_in version dex d
   nonce ← optional (codes "nonce") (codes "0") nonce_in d
   seed ← optional (codes "seed") 0 (number_in 0 greatest_seed) d
   seeds ← optional (codes "seeds") [] seeds_in d

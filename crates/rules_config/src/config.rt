@@ -15,6 +15,7 @@ use ps_data::table::Table;
 use ps_dex::dex::Dex;
 use ps_group::groups::Groups;
 use ps_rules::formats::Formats;
+use ps_rules::version::Version;
 use std::alloc::{AllocError, Global};
 use std::marker::Model;
 
@@ -47,11 +48,11 @@ fn standard_settings(alloc: Global) -> Result<Settings, AllocError>
     ensures { IfOk result (λ s. s ≡ standard) }
 {
     Ok(Settings {
-        groups: Groups::standard(alloc)?,
+        groups: Groups::with_bot(alloc)?,
         staff: 3,
         rooms: lobby_alone(alloc)?,
         users: Table::new(alloc),
-        formats: Formats::none(alloc),
+        formats: Formats::none(alloc, Version::Second),
         nonce: Text::copy_of(alloc, "0")?,
         seed: 0,
         seeds: List::from_vec(Vec::new(alloc)),
@@ -61,7 +62,7 @@ fn standard_settings(alloc: Global) -> Result<Settings, AllocError>
 impl Config {
     ghost use Rattle.rules_config.specs.Reading.{HasFile};
 
-    /// The configuration that the bytes of a file stand for: a JSON object with the keys `groups`,
+    /// The configuration that the bytes of a file stand for: a JSON object with the keys `version`, `groups`,
     /// `staff`, `rooms`, `users`, `rulesets`, `formats`, `nonce`, `seed` and `seeds`, each of which
     /// may be missing. Bans are looked up in the dex. `Fault` comes exactly where the file has no
     /// configuration, at its first fault.
@@ -74,8 +75,8 @@ impl Config {
         }
     }
 
-    /// The configuration where no file is named: the default of each key, as a file says that is an
-    /// object without keys.
+    /// The configuration where no file is named: the default of each key in version 2, as a file says that has the key
+    /// `version` alone.
     pub fn standard(alloc: Global) -> Result<Config, AllocError>
         ensures { IfOk result (λ c. c ≡ standard) }
     {

@@ -5,8 +5,7 @@ ghost use Rattle.serde_json.specs.View.{view};
 ghost use Rattle.ps_data.specs.Reading.{Gives, GivesBy, optional};
 ghost use Rattle.ps_data.specs.Forms.{number_in};
 ghost use Rattle.ps_group.specs.Reading.{groups_in};
-ghost use Rattle.ps_group.specs.Defaults.{default_groups};
-ghost use Rattle.rules_config.specs.Reading.{is_plain, are_plain, is_nonce, nonce_in, greatest_seed, seeds_in, config_in, config_of};
+ghost use Rattle.rules_config.specs.Reading.{is_plain, are_plain, is_nonce, nonce_in, greatest_seed, seeds_in, default_groups_of, config_in, config_of};
 
 use crate::room::rooms_at;
 use crate::settings::Settings;
@@ -20,14 +19,25 @@ use ps_data::lists::{NumberForm, items_of};
 use ps_dex::dex::Dex;
 use ps_group::groups::Groups;
 use ps_rules::formats::Formats;
+use ps_rules::version::{Version, read_version};
 use serde_json::Value;
-use std::alloc::Global;
+use std::alloc::{AllocError, Global};
 
-fn groups_at(alloc: Global, value: &Value) -> Result<Groups, Refusal>
-    ensures { Gives result (optional (codes "groups") default_groups groups_in (view value.now)) }
+/// The groups where a configuration of a version names none.
+fn default_groups(alloc: Global, version: Version) -> Result<Groups, AllocError>
+    ensures { IfOk result (λ g. g ≡ default_groups_of version) }
+{
+    match version {
+        Version::First => Groups::standard(alloc),
+        Version::Second => Groups::with_bot(alloc),
+    }
+}
+
+fn groups_at(alloc: Global, version: Version, value: &Value) -> Result<Groups, Refusal>
+    ensures { Gives result (optional (codes "groups") (default_groups_of version) groups_in (view value.now)) }
 {
     match value.get("groups") {
-        None => Ok(Groups::standard(alloc)?),
+        None => Ok(default_groups(alloc, version)?),
         Some(inside) => at_key(alloc, "groups", Groups::read(alloc, inside)),
     }
 }
@@ -97,17 +107,18 @@ fn seeds_at(alloc: Global, value: &Value) -> Result<List<u64>, Refusal>
     }
 }
 
-/// The keys of a configuration in their order.
+/// The keys of a configuration in their order, `version` before all others.
 #[tactic(auto, unfolding(crate::specs::Reading::config_in))]
 fn settings(alloc: Global, dex: &Dex, value: &Value) -> Result<Settings, Refusal>
     ensures { Gives result (config_in dex.now (view value.now)) }
 {
     object(alloc, value)?;
-    let groups = groups_at(alloc, value)?;
+    let version = read_version(alloc, value)?;
+    let groups = groups_at(alloc, version, value)?;
     let staff = staff_at(alloc, &groups, value)?;
     let rooms = rooms_at(alloc, value)?;
     let users = users_at(alloc, &groups, value)?;
-    let formats = Formats::read(alloc, value, dex)?;
+    let formats = Formats::read(alloc, version, value, dex)?;
     let nonce = nonce_at(alloc, value)?;
     let seed = seed_at(alloc, value)?;
     let seeds = seeds_at(alloc, value)?;

@@ -80,7 +80,7 @@ fn pair(kind: u8, moves: [u16; 2], speed: u16) -> BattleTeam
 }
 
 /// Sleep Clause Mod, Freeze Clause Mod and HP Percentage Mod.
-const CLAUSES: u8 = 70;
+const CLAUSES: u8 = 134;
 
 /// A battle of two members of one type, each with the same two moves, against two faster ones of the first type; None where the dex
 /// hasn't these moves.

@@ -1,12 +1,15 @@
 //! Turns of a battle, worked by hand.
-ghost use Rattle.std.specs.Prelude.{◌≡◌, ◌<◌, ℕ, []};
+ghost use Rattle.std.specs.Prelude.{◌≡◌, ◌<◌, ℕ, [], false, IsTrue};
 ghost use Rattle.ps_mon.specs.Facts.{AreFair, figures};
 ghost use Rattle.ps_mon.specs.Reading.{slot_of};
-ghost use Rattle.ps_mon.specs.Valid.{IsValid};
+ghost use Rattle.ps_mon.specs.Known.{AreKnown};
+ghost use Rattle.ps_mon.specs.Choices.{IsChoiceOf};
+ghost use Rattle.ps_mon.specs.Valid.{IsValid, is_over};
 ghost use Rattle.ps_mon.specs.Teams.{IsFresh, IsFreshMember, IsTeamKnown};
 
 use crate::arena::{ANN, BOB, dex_in, next};
-use ps_battle::{forfeit, open, phase};
+use ps_battle::{commit, forfeit, open, phase};
+use ps_choice::legality::legal;
 use ps_dex::dex::Dex;
 use ps_event::event::{Event, Events, Health, Who};
 use ps_event::side::Side;
@@ -49,7 +52,7 @@ fn first_turn(facts: Facts<'_>, foe: BattleTeam) -> Option<(Battle, Events)>
         return None;
     }
     let teams = [alone(TAUROS), foe];
-    let mut battle = open(&teams, 64, 0, &mut Events::new());
+    let mut battle = open(&teams, 128, 0, &mut Events::new());
     let out = next(&mut battle, facts, (Choice::Move(1), Choice::Move(1)))?;
     Some((battle, out))
 }
@@ -179,7 +182,7 @@ fn opened(out: &mut Events) -> Battle
     requires empty { out.old.items ≡ [] }
     ensures valid { IsValid result }
 {
-    open(&[alone(TAUROS), alone(SNORLAX)], 64, 0, out)
+    open(&[alone(TAUROS), alone(SNORLAX)], 128, 0, out)
 }
 
 fn sent_out(who: Who, species: u16, hp: u16) -> Event {
@@ -219,7 +222,7 @@ fn opening() -> [Event; 14] {
         Event::GameType,
         Event::Gen,
         Event::Tier,
-        Event::Rule { clause: 6 },
+        Event::Rule { clause: 7 },
         Event::Start,
         sent_out(ANN, 0, 353),
         sent_out(BOB, 1, 523),
@@ -251,5 +254,103 @@ fn a_battle_is_given_up(rt: HostRuntime) -> Result<(), Fail> {
     assert!(rt; give_up(&mut battle, 0, &mut out));
     assert_eq!(rt; out.as_slice(), ANN_GIVES_UP.as_slice());
     assert_eq!(rt; phase(&battle), Phase::Won(1));
+    Ok(())
+}
+
+/// What is told at the opening of a battle with Team Preview, behind the game and the format.
+const PREVIEW: [Event; 8] = [
+    Event::Rule { clause: 6 },
+    Event::Rule { clause: 7 },
+    Event::ClearPoke,
+    Event::Poke {
+        side: Side::P1,
+        species: 0,
+        level: 100,
+    },
+    Event::Poke {
+        side: Side::P2,
+        species: 1,
+        level: 100,
+    },
+    Event::TeamPreview,
+    Event::Request { side: Side::P1 },
+    Event::Request { side: Side::P2 },
+];
+
+fn previewed(out: &mut Events) -> Battle
+    requires empty { out.old.items ≡ [] }
+    ensures valid { IsValid result }
+    ensures known { (moves : ℕ) → 0 < moves → AreKnown moves result }
+{
+    open(&[alone(TAUROS), alone(SNORLAX)], 192, 7, out)
+}
+
+#[test]
+fn a_team_preview_is_opened(rt: HostRuntime) -> Result<(), Fail> {
+    let mut out = Events::new();
+    let battle = previewed(&mut out);
+    let behind_format = out.as_slice().get(7..).unwrap_or(&[]);
+    assert_eq!(rt; behind_format, PREVIEW.as_slice());
+    assert_eq!(rt; phase(&battle), Phase::Preview);
+    Ok(())
+}
+
+const AS_IT_STANDS: Choice = Choice::Team([1, 0, 0, 0, 0, 0]);
+
+/// Who is sent out, and what is asked.
+fn first_out() -> [Event; 6] {
+    [
+        Event::Start,
+        sent_out(ANN, 0, 353),
+        sent_out(BOB, 1, 523),
+        Event::Turn { turn: 1 },
+        Event::Request { side: Side::P1 },
+        Event::Request { side: Side::P2 },
+    ]
+}
+
+/// Whether a side can order its team so.
+fn can_order(battle: &Battle, side: u8, choice: Choice) -> bool
+    requires valid { IsValid battle.now }
+    requires side { side < 2 }
+    ensures legal { IsTrue result → IsChoiceOf battle.now side choice }
+    ensures going { IsTrue result → is_over battle.now.phase ≡ false }
+{
+    let Phase::Preview = battle.phase else {
+        return false;
+    };
+    legal(battle, side, choice).is_ok()
+}
+
+/// The battle after both teams were ordered, and the events of that.
+#[tactic(auto, unfolding(ps_mon::specs::Facts::figures))]
+fn ordered(facts: Facts<'_>) -> Option<(Battle, Events)>
+    requires fair { AreFair (figures facts) }
+{
+    if facts.moves.is_empty() {
+        return None;
+    }
+    let mut battle = previewed(&mut Events::new());
+    if !can_order(&battle, 0, AS_IT_STANDS) {
+        return None;
+    }
+    if !can_order(&battle, 1, AS_IT_STANDS) {
+        return None;
+    }
+    let mut out = Events::new();
+    commit(&mut battle, facts, AS_IT_STANDS, AS_IT_STANDS, &mut out);
+    Some((battle, out))
+}
+
+/// It draws no number.
+#[test]
+fn teams_are_ordered(rt: HostRuntime) -> Result<(), Fail> {
+    let dex = dex_in(&rt, rt.alloc(), ONE_MOVE_DEX);
+    let (battle, out) = ordered(dex.facts()).expect(&rt, "orders");
+    assert_eq!(rt; out.as_slice(), first_out().as_slice());
+    assert_eq!(rt;
+        (battle.phase, battle.turn, battle.rng),
+        (Phase::Turn, 1, 7)
+    );
     Ok(())
 }

@@ -2,7 +2,7 @@
 use ps_calc::chances::{accuracy_byte, crit_byte};
 use ps_calc::draws::Rng5;
 use ps_calc::formula::{Hit, damage};
-use ps_calc::health::hundredths;
+use ps_calc::health::{hundredths, pixels};
 use ps_calc::stages::staged;
 use ps_calc::stats::{dv, hp_dv, hp_stat, stat};
 use std::test::Fail;
@@ -120,6 +120,21 @@ fn hundredths_are_rounded_up(rt: HostRuntime) -> Result<(), Fail> {
             hundredths(382, 523)
         ),
         (100, 99, 1, 0, 74)
+    );
+    Ok(())
+}
+
+#[test]
+fn pixels_are_rounded_down(rt: HostRuntime) -> Result<(), Fail> {
+    assert_eq!(rt;
+        (
+            pixels(382, 523),
+            pixels(352, 353),
+            pixels(1, 703),
+            pixels(353, 353),
+            pixels(0, 353)
+        ),
+        (35, 47, 1, 48, 0)
     );
     Ok(())
 }

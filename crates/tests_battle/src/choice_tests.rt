@@ -2,8 +2,8 @@
 use crate::arena::{dex_in, small_dex};
 use crate::steps::{
     DISABLED, FALLEN, FALLEN_ON_THE_BENCH, FRESH, HELD, HELD_AND_FALLEN, MIMICKED,
-    MIMICKED_AND_SPENT, SPENT, SPENT_AND_DISABLED, Steps, TIED, TIRED, TRANSFORMED, TWICE_FALLEN,
-    USELESS, USELESS_AND_HELD, WAITING, WON, battle_after,
+    MIMICKED_AND_SPENT, PREVIEWED, SPENT, SPENT_AND_DISABLED, Steps, TIED, TIRED, TRANSFORMED,
+    TWICE_FALLEN, USELESS, USELESS_AND_HELD, WAITING, WON, battle_after,
 };
 use ps_choice::legality::legal;
 use ps_choice::resolution::resolve;
@@ -32,6 +32,9 @@ const WANTS: &[WantCase] = &[
     ("switch 0", Some(Wanted::Switch(0))),
     ("switch 2", Some(Wanted::Switch(2))),
     ("switch 9", Some(Wanted::Switch(9))),
+    ("team 1", Some(Wanted::Team("1"))),
+    ("team 0", Some(Wanted::Team("0"))),
+    ("team 654321", Some(Wanted::Team("654321"))),
     ("default", Some(Wanted::Default)),
 ];
 
@@ -49,6 +52,13 @@ const NEAR_MISSES: &[&str] = &[
     "switch x",
     "switch 2 ",
     "Switch 2",
+    "team",
+    "team ",
+    "team x",
+    "team 1x",
+    "team 12 ",
+    "team 1234567",
+    "Team 1",
     " default",
     "default ",
     "Default",
@@ -122,6 +132,8 @@ const POSITION_2: Answer = Answer::Is(Choice::Switch(2));
 
 const POSITION_3: Answer = Answer::Is(Choice::Switch(3));
 
+const AS_IT_STANDS: Answer = Answer::Is(Choice::Team([1, 2, 3, 0, 0, 0]));
+
 /// What a text of Ann, who has three members, comes to.
 fn told_of(dex: &Dex, steps: Steps, text: &str) -> Answer {
     let Some(wanted) = wanted_in(text) else {
@@ -181,6 +193,8 @@ const SWITCHES_OF_FRESH: Cases = &[
     ("switch 4", Answer::Not(NO_SUCH_MEMBER)),
     ("switch 1", Answer::Not(ALREADY_OUT)),
     ("switch 12", Answer::Nothing),
+    ("team 1", Answer::Not(WRONG_PHASE)),
+    ("team 0", Answer::Not(WRONG_PHASE)),
 ];
 
 /// Under a lock. What has another fault too is Locked first.
@@ -304,6 +318,28 @@ const OF_FALLEN: Cases = &[
     ("move 0", Answer::Not(WRONG_PHASE)),
     ("move xyz", Answer::Not(WRONG_PHASE)),
     ("move struggle", Answer::Not(WRONG_PHASE)),
+    ("team 2", Answer::Not(WRONG_PHASE)),
+];
+
+/// Digits name those that are to stand first, and the others follow in their order.
+const OF_PREVIEWED: Cases = &[
+    ("team 1", AS_IT_STANDS),
+    ("default", AS_IT_STANDS),
+    ("team 3", Answer::Is(Choice::Team([3, 1, 2, 0, 0, 0]))),
+    ("team 32", Answer::Is(Choice::Team([3, 2, 1, 0, 0, 0]))),
+    ("team 213", Answer::Is(Choice::Team([2, 1, 3, 0, 0, 0]))),
+    ("team 0", Answer::Not(NO_SUCH_MEMBER)),
+    ("team 4", Answer::Not(NO_SUCH_MEMBER)),
+    ("team 11", Answer::Not(NO_SUCH_MEMBER)),
+    ("team 120", Answer::Not(NO_SUCH_MEMBER)),
+    ("team 1231", Answer::Not(NO_SUCH_MEMBER)),
+    ("team 123456", Answer::Not(NO_SUCH_MEMBER)),
+    ("move 1", Answer::Not(WRONG_PHASE)),
+    ("move xyz", Answer::Not(WRONG_PHASE)),
+    ("move struggle", Answer::Not(WRONG_PHASE)),
+    ("switch 2", Answer::Not(WRONG_PHASE)),
+    ("switch 1", Answer::Not(WRONG_PHASE)),
+    ("jump", Answer::Nothing),
 ];
 
 /// A lock holds nobody there.
@@ -328,6 +364,8 @@ const OF_WAITING: Cases = &[
     ("switch 2", Answer::Not(NOT_YOUR_TURN)),
     ("switch 0", Answer::Not(NOT_YOUR_TURN)),
     ("default", Answer::Not(NOT_YOUR_TURN)),
+    ("team 1", Answer::Not(NOT_YOUR_TURN)),
+    ("team 0", Answer::Not(NOT_YOUR_TURN)),
     ("jump", Answer::Nothing),
 ];
 
@@ -335,13 +373,14 @@ const OF_NO_TURN: &[Table] = &[
     (FALLEN, OF_FALLEN),
     (HELD_AND_FALLEN, OF_HELD_AND_FALLEN),
     (TWICE_FALLEN, OF_TWICE_FALLEN),
+    (PREVIEWED, OF_PREVIEWED),
     (WAITING, OF_WAITING),
     (WON, OF_WAITING),
     (TIED, OF_WAITING),
 ];
 
 #[test]
-fn choices_where_a_member_has_fainted_or_nobody_is_asked(rt: HostRuntime) -> Result<(), Fail> {
+fn choices_of_other_phases(rt: HostRuntime) -> Result<(), Fail> {
     let dex = small_dex(&rt, rt.alloc());
     answers_hold(&rt, &dex, OF_NO_TURN);
     Ok(())
@@ -403,7 +442,25 @@ fn choices_by_alias(rt: HostRuntime) -> Result<(), Fail> {
 type LegalCase = (Steps, Choice, Option<ChoiceFault>);
 
 /// Choices without a fault, and each fault where no other holds.
-const SINGLE_FAULTS: [LegalCase; 16] = [
+const SINGLE_FAULTS: [LegalCase; 22] = [
+    (PREVIEWED, Choice::Team([3, 1, 2, 0, 0, 0]), None),
+    (
+        PREVIEWED,
+        Choice::Team([3, 1, 0, 0, 0, 0]),
+        Some(NO_SUCH_MEMBER),
+    ),
+    (
+        PREVIEWED,
+        Choice::Team([3, 1, 2, 4, 0, 0]),
+        Some(NO_SUCH_MEMBER),
+    ),
+    (
+        PREVIEWED,
+        Choice::Team([3, 1, 2, 0, 0, 1]),
+        Some(NO_SUCH_MEMBER),
+    ),
+    (PREVIEWED, Choice::Switch(2), Some(WRONG_PHASE)),
+    (FRESH, Choice::Team([3, 1, 2, 0, 0, 0]), Some(WRONG_PHASE)),
     (FRESH, Choice::Move(3), None),
     (FRESH, Choice::Switch(3), None),
     (HELD, Choice::Continue, None),

@@ -99,7 +99,7 @@ fn begin(count: u8) -> Battle
     ensures { IsSound result }
 {
     let teams = [team(TAUROS, count), team(SNORLAX, 1)];
-    open(&teams, 64, 0, &mut Events::new())
+    open(&teams, 128, 0, &mut Events::new())
 }
 
 /// Something that happens to Ann's side.
@@ -341,6 +341,14 @@ pub(crate) const HELD_AND_FALLEN: Steps = [Step::Hold, Step::Faint, ASKED_1, Ste
 pub(crate) const TWICE_FALLEN: Steps = [Step::Faint, Step::GoOut, Step::Faint, ASKED_1];
 
 pub(crate) const FALLEN_ON_THE_BENCH: Steps = [Step::Faint, Step::GoOut, Step::Stay, Step::Stay];
+
+/// Nobody is sent out yet.
+pub(crate) const PREVIEWED: Steps = [
+    Step::Enter(Phase::Preview),
+    Step::Stay,
+    Step::Stay,
+    Step::Stay,
+];
 
 pub(crate) const WAITING: Steps = [ASKED_2, Step::Stay, Step::Stay, Step::Stay];
 

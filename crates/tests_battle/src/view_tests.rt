@@ -36,8 +36,9 @@ type Case = (Event, &'static str);
 /// A number of an event, and the event's line.
 type NumberCase = (u8, &'static str);
 
-/// Health, the greatest health and the number of a status, and how its owner and all others read it.
-type HealthCase = (u16, u16, u8, &'static str, &'static str);
+/// Health, the greatest health and the number of a status, and how its owner reads it, and all others: in hundredths under
+/// HP Percentage Mod, and in 48ths without it.
+type HealthCase = (u16, u16, u8, &'static str, &'static str, &'static str);
 
 /// A number of an event, and its line with exact health and in hundredths.
 type SplitCase = (u8, &'static str, &'static str);
@@ -47,7 +48,7 @@ fn player(rt: &impl Abort, alloc: Global, name: &str) -> Name {
 }
 
 /// Ann with two members against Bob with one.
-fn names(rt: &impl Abort, alloc: Global) -> Names {
+fn names(rt: &impl Abort, alloc: Global, percent: bool) -> Names {
     let players = [player(rt, alloc, "Ann"), player(rt, alloc, "Bob")];
     let nicks = [
         nicks(rt, alloc, &["Tauros", "Bull"]),
@@ -57,6 +58,7 @@ fn names(rt: &impl Abort, alloc: Global) -> Names {
         players,
         nicks,
         format: text_of(rt, alloc, "[Gen 1] OU"),
+        percent,
     }
 }
 
@@ -139,7 +141,17 @@ const OPENING: &[Case] = &[
     (Event::Gen, "|gen|1"),
     (Event::Tier, "|tier|[Gen 1] OU"),
     (Event::Rule { clause: 0 }, "|rule|Species Clause"),
-    (Event::Rule { clause: 6 }, "|rule|HP Percentage Mod"),
+    (Event::Rule { clause: 7 }, "|rule|HP Percentage Mod"),
+    (Event::ClearPoke, "|clearpoke"),
+    (
+        Event::Poke {
+            side: Side::P1,
+            species: 0,
+            level: 50,
+        },
+        "|poke|p1|Tauros, L50|",
+    ),
+    (Event::TeamPreview, "|teampreview"),
     (Event::Start, "|start"),
 ];
 
@@ -287,12 +299,22 @@ const NAMED: &[Case] = &[
 
 const TABLES: [&[Case]; 5] = [OPENING, TURNS, MOVES, OTHERS, NAMED];
 
-fn new_stage(rt: &impl Abort, alloc: Global) -> Stage {
+fn make_stage(rt: &impl Abort, alloc: Global, percent: bool) -> Stage {
     let dex = small_dex(rt, alloc);
     Stage {
-        names: names(rt, alloc),
+        names: names(rt, alloc, percent),
         dex,
     }
+}
+
+/// With HP Percentage Mod.
+fn new_stage(rt: &impl Abort, alloc: Global) -> Stage {
+    make_stage(rt, alloc, true)
+}
+
+/// Without HP Percentage Mod.
+fn stage_in_pixels(rt: &impl Abort, alloc: Global) -> Stage {
+    make_stage(rt, alloc, false)
 }
 
 /// All members read the same line of what tells no health, and who is outside nothing.
@@ -370,7 +392,8 @@ const RULES: &[NumberCase] = &[
     (3, "|rule|OHKO Clause"),
     (4, "|rule|Evasion Moves Clause"),
     (5, "|rule|Nickname Clause"),
-    (6, "|rule|HP Percentage Mod"),
+    (6, "|rule|Team Preview"),
+    (7, "|rule|HP Percentage Mod"),
 ];
 
 const REASONS: &[NumberCase] = &[
@@ -591,6 +614,7 @@ const HEALTHS: &[HealthCase] = &[
         0,
         "|-heal|p2a: Snorlax|523/523",
         "|-heal|p2a: Snorlax|100/100",
+        "|-heal|p2a: Snorlax|48/48",
     ),
     (
         523,
@@ -598,6 +622,7 @@ const HEALTHS: &[HealthCase] = &[
         1,
         "|-heal|p2a: Snorlax|523/523 slp",
         "|-heal|p2a: Snorlax|100/100 slp",
+        "|-heal|p2a: Snorlax|48/48 slp",
     ),
     (
         382,
@@ -605,6 +630,7 @@ const HEALTHS: &[HealthCase] = &[
         0,
         "|-heal|p2a: Snorlax|382/523",
         "|-heal|p2a: Snorlax|74/100",
+        "|-heal|p2a: Snorlax|35/48",
     ),
     (
         403,
@@ -612,6 +638,7 @@ const HEALTHS: &[HealthCase] = &[
         5,
         "|-heal|p2a: Snorlax|403/523 tox",
         "|-heal|p2a: Snorlax|78/100 tox",
+        "|-heal|p2a: Snorlax|36/48 tox",
     ),
     (
         352,
@@ -619,6 +646,7 @@ const HEALTHS: &[HealthCase] = &[
         4,
         "|-heal|p2a: Snorlax|352/353 psn",
         "|-heal|p2a: Snorlax|99/100 psn",
+        "|-heal|p2a: Snorlax|47/48 psn",
     ),
     (
         1,
@@ -626,11 +654,13 @@ const HEALTHS: &[HealthCase] = &[
         2,
         "|-heal|p2a: Snorlax|1/703 par",
         "|-heal|p2a: Snorlax|1/100 par",
+        "|-heal|p2a: Snorlax|1/48 par",
     ),
     (
         0,
         353,
         0,
+        "|-heal|p2a: Snorlax|0 fnt",
         "|-heal|p2a: Snorlax|0 fnt",
         "|-heal|p2a: Snorlax|0 fnt",
     ),
@@ -638,6 +668,7 @@ const HEALTHS: &[HealthCase] = &[
         0,
         353,
         3,
+        "|-heal|p2a: Snorlax|0 fnt",
         "|-heal|p2a: Snorlax|0 fnt",
         "|-heal|p2a: Snorlax|0 fnt",
     ),
@@ -650,7 +681,8 @@ fn heals(hp: u16, max: u16, status: u8) -> Event {
 
 /// What is split is read exactly by the player of its side, of whatever rank, and by nobody else.
 fn health_holds(rt: &impl Abort, alloc: Global, stage: &Stage, case: &HealthCase) {
-    let (hp, max, status, exact, public) = case;
+    let (hp, max, status, exact, percent, pixels) = case;
+    let public = if stage.names.percent { percent } else { pixels };
     let event = heals(*hp, *max, *status);
     let own = [PLAYER_2, PLAYER_2_AND_STAFF];
     shows_each(rt, alloc, stage, &own, &(event, *exact));
@@ -658,11 +690,22 @@ fn health_holds(rt: &impl Abort, alloc: Global, stage: &Stage, case: &HealthCase
     shows_each(rt, alloc, stage, &others, &(event, *public));
 }
 
+fn healths_hold(rt: &impl Abort, alloc: Global, stage: &Stage) {
+    for case in HEALTHS {
+        health_holds(rt, alloc, stage, case);
+    }
+}
+
 #[test]
 fn health_is_read_exactly_by_its_side(rt: HostRuntime) -> Result<(), Fail> {
     let stage = new_stage(&rt, rt.alloc());
-    for case in HEALTHS {
-        health_holds(&rt, rt.alloc(), &stage, case);
-    }
+    healths_hold(&rt, rt.alloc(), &stage);
+    Ok(())
+}
+
+#[test]
+fn health_is_read_in_48ths_without_the_clause(rt: HostRuntime) -> Result<(), Fail> {
+    let stage = stage_in_pixels(&rt, rt.alloc());
+    healths_hold(&rt, rt.alloc(), &stage);
     Ok(())
 }

@@ -12,6 +12,21 @@ use std::process::Abort;
 /// Configurations, and what is told of each.
 type Cases = &'static [(&'static str, &'static str)];
 
+/// `version`, which is tested before all other keys.
+const VERSIONS: Cases = &[
+    (r#"{"version":0}"#, "version Range"),
+    (r#"{"version":3,"groups":5}"#, "version Range"),
+    (r#"{"version":-1}"#, "version Range"),
+    (r#"{"version":18446744073709551615}"#, "version Range"),
+    (r#"{"version":2.0}"#, "version Shape"),
+    (r#"{"version":"2"}"#, "version Shape"),
+    (r#"{"version":null,"groups":5}"#, "version Shape"),
+    (r#"{"version":1}"#, "6 3 1 0 0 0 0 0"),
+    (r#"{"version":2}"#, "7 3 1 0 0 0 0 0"),
+    (r#"{"version":2,"groups":5}"#, "groups Shape"),
+    (r#"{"version":2,"staff":"*"}"#, "7 4 1 0 0 0 0 0"),
+];
+
 /// Whole files, `staff` and the order of the keys.
 const FILES: Cases = &[
     ("", " Json"),
@@ -193,7 +208,7 @@ fn told_cases(rt: &impl Abort, alloc: Global, dex: &Dex, cases: Cases) {
 #[test]
 fn configurations(rt: HostRuntime) {
     let dex = Dex::empty(rt.alloc());
-    for cases in &[FILES, ROOMS, USERS, LATER_KEYS, GOOD] {
+    for cases in &[VERSIONS, FILES, ROOMS, USERS, LATER_KEYS, GOOD] {
         told_cases(&rt, rt.alloc(), &dex, cases);
     }
 }
@@ -242,7 +257,7 @@ fn has_format(rt: &impl Abort, alloc: Global, config: &Config, name: &str) -> bo
 }
 
 fn standard_holds(rt: &impl Abort, alloc: Global, config: &Config) {
-    made::assert_told(rt, summary(alloc, config), "6 3 1 0 0 0 0 0");
+    made::assert_told(rt, summary(alloc, config), "7 3 1 0 0 0 0 0");
     made::assert_told(rt, rooms_of(alloc, config), "lobby Lobby");
     assert!(rt; staff_can_note(config));
     assert!(rt; has_format(rt, alloc, config, "Species Clause"));

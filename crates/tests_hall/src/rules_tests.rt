@@ -23,7 +23,8 @@ const DEX: &str = r#"{
 /// The walk of rule lists.
 const WALKS: Cases = &[
     ("{}", "ou", "UnknownRule ou"),
-    ("{}", "speciesclause", "65 0 1 6 1 100 true"),
+    ("{}", "speciesclause", "129 0 1 6 1 100 true"),
+    ("{}", "teampreview", "192 0 1 6 1 100 true"),
     (r#"{"rulesets":{"a":["a"]}}"#, "a", "Cycle a"),
     (
         r#"{"rulesets":{"a":["b","zzz"],"b":["c"],"c":["b"]}}"#,
@@ -33,12 +34,12 @@ const WALKS: Cases = &[
     (
         r#"{"rulesets":{"a":["!sleepclausemod","speciesclause"],"b":["sleepclausemod","a"]}}"#,
         "b",
-        "67 0 1 6 1 100 true",
+        "131 0 1 6 1 100 true",
     ),
     (
         r#"{"rulesets":{"b":["sleepclausemod","speciesclause"],"c":["b","! Species Clause"]}}"#,
         "c",
-        "66 0 1 6 1 100 true",
+        "130 0 1 6 1 100 true",
     ),
     (
         r#"{"rulesets":{"a":["!sleepclausemod","SLEEP clause mod"]}}"#,
@@ -54,18 +55,49 @@ const WALKS: Cases = &[
     (
         r#"{"rulesets":{"a":["!hppercentagemod"]}}"#,
         "a",
-        "64 0 1 6 1 100 true",
+        "128 0 1 6 1 100 true",
     ),
     (
         r#"{"formats":[{"name":"[Gen 1] OU","rules":["speciesclause"]}]}"#,
         "gen1ou",
-        "65 0 1 6 1 100 true",
+        "129 0 1 6 1 100 true",
     ),
     (
         r#"{"formats":[{"name":"x","bans":["tau","Tauros","tackle"],"min":6,"max":1,"levels":[100,1],"rated":false}]}"#,
         "x",
-        "64 3 6 1 100 1 false",
+        "128 3 6 1 100 1 false",
     ),
+];
+
+/// HP Percentage Mod in version 2: on only where a rule list leaves it on.
+const SECOND_VERSION: Cases = &[
+    (r#"{"version":2}"#, "speciesclause", "1 0 1 6 1 100 true"),
+    (
+        r#"{"version":2}"#,
+        "hppercentagemod",
+        "128 0 1 6 1 100 true",
+    ),
+    (
+        r#"{"version":2,"formats":[{"name":"x"}]}"#,
+        "x",
+        "0 0 1 6 1 100 true",
+    ),
+    (
+        r#"{"version":2,"formats":[{"name":"x","rules":["HP Percentage Mod","Sleep Clause Mod"]}]}"#,
+        "x",
+        "130 0 1 6 1 100 true",
+    ),
+    (
+        r#"{"version":2,"rulesets":{"a":["hppercentagemod"],"b":["a","!hppercentagemod"]}}"#,
+        "b",
+        "0 0 1 6 1 100 true",
+    ),
+    (
+        r#"{"version":2,"rulesets":{"a":["hppercentagemod","!hppercentagemod"]}}"#,
+        "a",
+        "Contradiction hppercentagemod",
+    ),
+    (r#"{"version":3,"rulesets":5}"#, "", "version Range"),
 ];
 
 /// Faulty rulesets and rule lists.
@@ -231,7 +263,7 @@ fn answer_cases(rt: &impl Abort, alloc: Global, dex: &Dex, cases: Cases) {
 #[test]
 fn rules_and_formats(rt: HostRuntime) {
     let dex = made::dex(&rt, rt.alloc(), DEX);
-    for cases in &[WALKS, RULESETS, FORMATS] {
+    for cases in &[WALKS, SECOND_VERSION, RULESETS, FORMATS] {
         answer_cases(&rt, rt.alloc(), &dex, cases);
     }
 }

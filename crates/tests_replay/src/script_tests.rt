@@ -38,6 +38,22 @@ const STAFF: Cases = &[
     ),
 ];
 
+/// Without a configuration bob may be a bot.
+const BOT: Cases = &[
+    (
+        "G * bob\n",
+        ">2 lobby|/announce hi\n",
+        '1',
+        "1< >lobby\n1. Announcement by *Bob: hi\n",
+    ),
+    (
+        "G * bob\n",
+        ">2 lobby|/modnote x\n",
+        '2',
+        "2< >lobby\n2. |error|[NotAllowed]\n",
+    ),
+];
+
 const PLACES: Cases = &[
     ("", ">1 hello\n", '1', "1< |popup|[NoBar]\n"),
     ("", ">1 |/jump\n", '1', "1< |popup|[UnknownCommand]\n"),
@@ -111,6 +127,11 @@ fn check(rt: &impl Abort, alloc: Global, cases: Cases) -> Result<(), Fail> {
 #[test]
 fn staff_and_mutes(rt: HostRuntime) -> Result<(), Fail> {
     check(&rt, rt.alloc(), STAFF)
+}
+
+#[test]
+fn bots(rt: HostRuntime) -> Result<(), Fail> {
+    check(&rt, rt.alloc(), BOT)
 }
 
 #[test]

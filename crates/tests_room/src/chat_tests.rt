@@ -19,11 +19,11 @@ use std::alloc::Global;
 use std::process::Abort;
 use std::sync::Arc;
 
-/// The connections from 1 on: a name, and a rank of the standard groups. Eve's is past them.
+/// The connections from 1 on: a name, and a rank of the groups of the standard configuration. Eve's is past them.
 const WHO: [(&str, u8); 7] = [
-    ("Zed", 5),
+    ("Zed", 6),
     ("Ann", 3),
-    ("Bob", 5),
+    ("Bob", 6),
     ("Cy", 2),
     ("Dee", 0),
     ("Eve", 200),
@@ -75,7 +75,7 @@ const TALK: Cases = &[
     ),
 ];
 
-/// Mutes and warnings: a mute holds for 420 seconds.
+/// Mutes and warnings: a mute of the moment 100 holds up to 519.
 const MUTES: Cases = &[
     (
         1,
@@ -196,7 +196,7 @@ pub(crate) fn command(rt: &impl Abort, alloc: Global, text: &str) -> Command {
 }
 
 pub(crate) fn badge_of(rt: &impl Abort, alloc: Global, conn: u32) -> Badge {
-    let (name, rank) = WHO.get(conn as usize).copied().unwrap_or(("Zed", 5));
+    let (name, rank) = WHO.get(conn as usize).copied().unwrap_or(("Zed", 6));
     Badge {
         name: Name::new(alloc, name).expect(rt, "memory"),
         rank,

@@ -6,4 +6,8 @@ mod chat_tests;
 #[cfg(test)]
 mod plain_tests;
 #[cfg(test)]
+mod preview_tests;
+#[cfg(test)]
 mod room_tests;
+#[cfg(test)]
+mod second_version_tests;

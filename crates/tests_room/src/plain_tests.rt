@@ -25,6 +25,7 @@ use ps_lines::command::Command;
 use ps_room::entry::Entry;
 use ps_room::line::{kind_line, title_line, users_line};
 use ps_room::room::Room;
+use ps_rules::clause::Clause;
 use ps_rules::table::Format;
 use ps_splitlog::cursor::Cursor;
 use ps_splitlog::stored::sees;
@@ -81,13 +82,11 @@ fn name_of_format(rt: &impl Abort, alloc: Global, format: Option<&Format>) -> Te
     }
 }
 
-/// The clauses that are on, each by its bit; there are seven.
-fn clauses_of_format(format: Option<&Format>) -> u8
-    ensures { result < 128 }
-{
+/// The clauses that are on, each by its bit.
+fn clauses_of_format(format: Option<&Format>) -> u8 {
     match format {
         None => 0,
-        Some(format) => format.table.clauses & 127,
+        Some(format) => format.table.clauses,
     }
 }
 
@@ -120,6 +119,7 @@ fn opened_battle(
         players,
         nicks: [first, second],
         format: name,
+        percent: Clause::Percentage.is_in(clauses),
     };
     let cast = Cast::new(names, dex);
     RoomBattle::open(number, cast, &fighters, clauses, seed, out)

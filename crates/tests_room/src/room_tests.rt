@@ -44,7 +44,13 @@ fn rules(rt: &impl Abort, alloc: Global, config: &Config) -> RuleTable {
     resolve(alloc, config.formats(), &format(rt, alloc)).expect(rt, "rules")
 }
 
-fn legal(rt: &impl Abort, alloc: Global, dex: &Dex, config: &Config, text: &str) -> Legal {
+pub(crate) fn legal(
+    rt: &impl Abort,
+    alloc: Global,
+    dex: &Dex,
+    config: &Config,
+    text: &str,
+) -> Legal {
     let team = read_team(alloc, text).expect(rt, "a team");
     let rules = rules(rt, alloc, config);
     check_team(alloc, dex, &rules, &team).expect(rt, "a legal team")
@@ -78,15 +84,9 @@ fn teams(rt: &impl Abort, alloc: Global, dex: &Dex, config: &Config, is_tired: b
     [first, second]
 }
 
-pub(crate) fn start(
-    rt: &impl Abort,
-    alloc: Global,
-    dex: &Dex,
-    config: &Config,
-    is_tired: bool,
-) -> Start {
+/// A battle of these two teams of Ann and Bob.
+pub(crate) fn start_of(rt: &impl Abort, alloc: Global, teams: [Legal; 2]) -> Start {
     let players = players(rt, alloc);
-    let teams = teams(rt, alloc, dex, config, is_tired);
     Start {
         number: 1,
         format: format(rt, alloc),
@@ -96,18 +96,38 @@ pub(crate) fn start(
     }
 }
 
+pub(crate) fn start(
+    rt: &impl Abort,
+    alloc: Global,
+    dex: &Dex,
+    config: &Config,
+    is_tired: bool,
+) -> Start {
+    let teams = teams(rt, alloc, dex, config, is_tired);
+    start_of(rt, alloc, teams)
+}
+
 pub(crate) fn dex(rt: &impl Abort, alloc: Global) -> Dex {
     Dex::read(alloc, SMALL_DEX.as_bytes()).expect(rt, "a dex")
 }
 
-pub(crate) fn config(rt: &impl Abort, alloc: Global, dex: &Dex) -> Config {
-    Config::read(alloc, SMALL_CONFIG.as_bytes(), dex).expect(rt, "a configuration")
+/// The configuration of a text.
+pub(crate) fn config_of(rt: &impl Abort, alloc: Global, dex: &Dex, text: &str) -> Config {
+    Config::read(alloc, text.as_bytes(), dex).expect(rt, "a configuration")
 }
 
-fn opening(rt: &impl Abort, alloc: Global, is_tired: bool) -> Opening {
-    let dex = dex(rt, alloc);
-    let config = config(rt, alloc, &dex);
-    let start = start(rt, alloc, &dex, &config, is_tired);
+pub(crate) fn config(rt: &impl Abort, alloc: Global, dex: &Dex) -> Config {
+    config_of(rt, alloc, dex, SMALL_CONFIG)
+}
+
+/// How the room of a battle opens.
+pub(crate) fn opening_of(
+    rt: &impl Abort,
+    alloc: Global,
+    dex: Dex,
+    config: Config,
+    start: Start,
+) -> Opening {
     let config = Arc::new(alloc, config).expect(rt, "memory");
     let dex = Arc::new(alloc, dex).expect(rt, "memory");
     let id = text(rt, alloc, "battle-gen1ou-1");
@@ -115,19 +135,30 @@ fn opening(rt: &impl Abort, alloc: Global, is_tired: bool) -> Opening {
     Opening::new(RoomNo(16), id, title, config, dex, Some(start))
 }
 
-/// The room of Ann's Tauros and Bob's Snorlax.
-pub(crate) fn opened(rt: &impl Abort, alloc: Global, is_tired: bool) -> Room {
-    let opening = opening(rt, alloc, is_tired);
+fn opening(rt: &impl Abort, alloc: Global, is_tired: bool) -> Opening {
+    let dex = dex(rt, alloc);
+    let config = config(rt, alloc, &dex);
+    let start = start(rt, alloc, &dex, &config, is_tired);
+    opening_of(rt, alloc, dex, config, start)
+}
+
+/// The room that opens so.
+pub(crate) fn room_of(rt: &impl Abort, alloc: Global, opening: Opening) -> Room {
     let fit = Room::fit(&opening);
     assert!(rt; fit);
     Room::new(alloc, opening).expect(rt, "memory")
+}
+
+/// The room of Ann's Tauros and Bob's Snorlax.
+pub(crate) fn opened(rt: &impl Abort, alloc: Global, is_tired: bool) -> Room {
+    room_of(rt, alloc, opening(rt, alloc, is_tired))
 }
 
 /// A connection and its text. 1 is Ann, 2 is Bob, and 3 is Cy, who plays no side.
 pub(crate) type Texts = &'static [(u32, &'static str)];
 
 /// The texts of a case, in parts.
-type Parts = &'static [Texts];
+pub(crate) type Parts = &'static [Texts];
 
 fn enter_each(rt: &impl Abort, alloc: Global, room: &mut Room, texts: Texts) {
     for (conn, text) in texts {
@@ -135,25 +166,25 @@ fn enter_each(rt: &impl Abort, alloc: Global, room: &mut Room, texts: Texts) {
     }
 }
 
-fn enter_all(rt: &impl Abort, alloc: Global, room: &mut Room, texts: Parts) {
+pub(crate) fn enter_all(rt: &impl Abort, alloc: Global, room: &mut Room, texts: Parts) {
     for part in texts {
         enter_each(rt, alloc, room, part);
     }
 }
 
-fn push_lines(rt: &impl Abort, message: &Msg, out: &mut String) {
+pub(crate) fn push_lines(rt: &impl Abort, message: &Msg, out: &mut String) {
     for line in message.lines.as_slice() {
         push(rt, out, line.as_str());
     }
 }
 
-fn messages(rt: &impl Abort, alloc: Global, room: &Room, conn: u32) -> Vec<Msg> {
+pub(crate) fn messages(rt: &impl Abort, alloc: Global, room: &Room, conn: u32) -> Vec<Msg> {
     room.pull(alloc, &mut Cursor::new(ConnNo(conn)))
         .expect(rt, "memory")
 }
 
 /// The last message to a connection, a line each.
-fn last_sent(rt: &impl Abort, alloc: Global, room: &Room, conn: u32) -> String {
+pub(crate) fn last_sent(rt: &impl Abort, alloc: Global, room: &Room, conn: u32) -> String {
     let mut out = String::new(alloc);
     let messages = messages(rt, alloc, room, conn);
     match messages.last() {
@@ -173,9 +204,9 @@ fn sent_after(rt: &impl Abort, alloc: Global, is_tired: bool, texts: Parts, conn
 }
 
 /// The lines of a message, in parts.
-type Lines = &'static [&'static str];
+pub(crate) type Lines = &'static [&'static str];
 
-fn joined(rt: &impl Abort, alloc: Global, parts: Lines) -> String {
+pub(crate) fn joined(rt: &impl Abort, alloc: Global, parts: Lines) -> String {
     let mut text = String::new(alloc);
     for part in parts {
         text.push_str(part).expect(rt, "memory");
@@ -202,13 +233,13 @@ fn hold(rt: &impl Abort, alloc: Global, is_tired: bool, cases: Cases) {
 }
 
 /// The joins of both players.
-const BOTH: Texts = &[(1, "/join b"), (2, "/join b")];
+pub(crate) const BOTH: Texts = &[(1, "/join b"), (2, "/join b")];
 
 /// Those of both players and of Cy.
 const ALL: Texts = &[(1, "/join b"), (2, "/join b"), (3, "/join b")];
 
 /// The round that Bob completes.
-const ROUND: Texts = &[(1, "/choose move 1|1"), (2, "/choose move rest|1")];
+pub(crate) const ROUND: Texts = &[(1, "/choose move 1|1"), (2, "/choose move rest|1")];
 
 /// How the message to who joins begins.
 const INIT: &str = "|init|battle
@@ -245,7 +276,7 @@ const OUT_TO_CY: &str = "|switch|p1a: Tauros|Tauros|100/100
 ";
 
 /// The requests of turn 1.
-const REQUEST_OF_ANN: &str =
+pub(crate) const REQUEST_OF_ANN: &str =
     r#"|request|{"active":[{"moves":[{"disabled":false,"id":"bodyslam","maxpp":24,"move":"Body Slam","pp":24},{"disabled":false,"id":"hyperbeam","maxpp":8,"move":"Hyper Beam","pp":8},{"disabled":false,"id":"blizzard","maxpp":8,"move":"Blizzard","pp":8},{"disabled":false,"id":"earthquake","maxpp":16,"move":"Earthquake","pp":16}]}],"rqid":1,"side":{"id":"p1","name":"Ann","pokemon":[{"active":true,"condition":"353/353","details":"Tauros","ident":"p1: Tauros","moves":["bodyslam","hyperbeam","blizzard","earthquake"],"stats":{"atk":298,"def":288,"spa":238,"spd":238,"spe":318}}]}}
 "#;
 
@@ -274,7 +305,7 @@ const ROUND_TO_BOB: &str = "|move|p1a: Tauros|Body Slam|p2a: Snorlax
 ";
 
 /// The requests of turn 2.
-const SECOND_OF_ANN: &str =
+pub(crate) const SECOND_OF_ANN: &str =
     r#"|request|{"active":[{"moves":[{"disabled":false,"id":"bodyslam","maxpp":24,"move":"Body Slam","pp":23},{"disabled":false,"id":"hyperbeam","maxpp":8,"move":"Hyper Beam","pp":8},{"disabled":false,"id":"blizzard","maxpp":8,"move":"Blizzard","pp":8},{"disabled":false,"id":"earthquake","maxpp":16,"move":"Earthquake","pp":16}]}],"rqid":2,"side":{"id":"p1","name":"Ann","pokemon":[{"active":true,"condition":"353/353","details":"Tauros","ident":"p1: Tauros","moves":["bodyslam","hyperbeam","blizzard","earthquake"],"stats":{"atk":298,"def":288,"spa":238,"spd":238,"spe":318}}]}}
 "#;
 

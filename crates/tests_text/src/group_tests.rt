@@ -268,6 +268,18 @@ const DEFAULT_CASES: &[PermissionCase] = &[
     (2, None, false, Perm::Modchat, true),
 ];
 
+/// What those of version 2 let: the bot may announce, and nothing else.
+const BOT_CASES: &[PermissionCase] = &[
+    (4, None, false, Perm::Announce, true),
+    (4, None, false, Perm::Modnote, false),
+    (4, Some(6), false, Perm::Warn, false),
+    (4, None, false, Perm::Modchat, false),
+    (3, None, false, Perm::Announce, false),
+    (5, None, false, Perm::Announce, false),
+    (3, Some(4), false, Perm::Mute, true),
+    (2, None, false, Perm::Announce, true),
+];
+
 /// What the two groups let.
 const TWO_GROUPS_CASES: &[PermissionCase] = &[
     (0, Some(0), true, Perm::Warn, false),
@@ -325,6 +337,20 @@ fn what_ranks_may_by_default(rt: HostRuntime) {
     symbols_hold(&rt, &groups);
     reach_holds(&rt, &groups);
     permissions_hold(&rt, &groups, DEFAULT_CASES);
+    end_groups(groups);
+}
+
+fn with_bot(rt: &impl Abort, alloc: Global) -> Groups {
+    Groups::with_bot(alloc).expect(rt, "memory")
+}
+
+#[test]
+fn what_a_bot_may(rt: HostRuntime) {
+    let groups = with_bot(&rt, rt.alloc());
+    assert_eq!(rt; groups.count(), 7);
+    assert_eq!(rt; groups.rank_of('*'), Some(4));
+    assert_eq!(rt; groups.rank_of(DEFAULT_STAFF), Some(3));
+    permissions_hold(&rt, &groups, BOT_CASES);
     end_groups(groups);
 }
 

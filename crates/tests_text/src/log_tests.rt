@@ -74,6 +74,7 @@ fn names(rt: &impl Abort, alloc: Global) -> Names {
         players,
         nicks,
         format: text(rt, alloc, "[Gen 1] OU"),
+        percent: true,
     }
 }
 

@@ -1,5 +1,5 @@
 use Rattle.std.proofs.Common.{◌≡◌, length, rules}
-use Rattle.ps_mon.proofs.OpeningLemmas.{open-side, open-active, open-standing, open-known}
+use Rattle.ps_mon.proofs.OpeningLemmas.{open-side, open-active, open-standing, open-stand, open-known}
 use Rattle.ps_mon.proofs.opening.open_side.Goals as goal
 
 pub returns-clause-side : goal.returns-clause-side
@@ -14,6 +14,9 @@ returns-clause-some c =
 
 pub returns-clause-active : goal.returns-clause-active
 returns-clause-active c = open-active c.args.team.now c.requires
+
+pub returns-clause-stand : goal.returns-clause-stand
+returns-clause-stand c = open-stand c.args.team.now c.requires
 
 pub returns-clause-known : goal.returns-clause-known
 returns-clause-known c = λ moves known. open-known moves c.args.team.now known

@@ -4,4 +4,4 @@ use Rattle.rules_config.proofs.StandardFile.{standard_file}
 use Rattle.rules_config.proofs.config.Config.standard.Goals as goal
 
 pub invariant_of-result : goal.invariant_of-result
-invariant_of-result c = rw c.in_ok-settings.ensures (codes "{}", no_tables, standard_file)
+invariant_of-result c = rw c.in_ok-settings.ensures (codes "{\"version\":2}", no_tables, standard_file)
