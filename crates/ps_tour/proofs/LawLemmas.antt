@@ -36,10 +36,10 @@ shuffled_all x (suc place) entered within =
 
 -- ---- who is still in
 
-abbrev still_in : Round → List ℕ
+abbrev pub still_in : Round → List ℕ
 still_in r = r.through ++ r.playing
 
-first_in : (n seed : ℕ) → 2 ≤ n → IsPermutation (entrants n) (still_in (first_round n seed))
+pub first_in : (n seed : ℕ) → 2 ≤ n → IsPermutation (entrants n) (still_in (first_round n seed))
 first_in n seed some =
     rw (take-append-drop (size n - n) (order n seed)) (shuffled_all seed (n - 1) (entrants n) (omega (arith, length-entrants n, some)))
 
@@ -65,7 +65,7 @@ one_leaves through rest p q winner one =
       ]
     ]
 
-win_in : (winner : ℕ) (through playing : List ℕ) → IsOneOf winner (first_pair playing) → IsPermutation (through ++ playing) (loser_of winner (first_pair playing) ++ still_in (after_win winner (record { through = through; playing = playing })))
+pub win_in : (winner : ℕ) (through playing : List ℕ) → IsOneOf winner (first_pair playing) → IsPermutation (through ++ playing) (loser_of winner (first_pair playing) ++ still_in (after_win winner (record { through = through; playing = playing })))
 win_in winner through [] one = absurd one
 win_in winner through (p ∷ []) one = absurd one
 win_in winner through (p ∷ q ∷ rest) one = rw (going_in (through ++ winner ∷ []) rest) (one_leaves through rest p q winner one)
@@ -97,7 +97,7 @@ left r (winner ∷ winners) is won =
 
 -- ---- the champion is alone
 
-alone_with : (through playing : List ℕ) (c : ℕ) → IsRound (record { through = through; playing = playing }) → champion_with through playing ≡ Some c → through ++ playing ≡ c ∷ []
+pub alone_with : (through playing : List ℕ) (c : ℕ) → IsRound (record { through = through; playing = playing }) → champion_with through playing ≡ Some c → through ++ playing ≡ c ∷ []
 alone_with [] [] c is e = absurd (none-some c e)
 alone_with (d ∷ []) [] c is e = ap (λ (x : ℕ). x ∷ []) (same_Some d c e)
 alone_with (d ∷ f ∷ rest) [] c is e = absurd (omega (arith, is.alone refl))

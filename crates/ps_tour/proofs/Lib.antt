@@ -1,3 +1,3 @@
 pub mod LawLemmas
 mod OrderLemmas
-mod RoundLemmas
+pub mod RoundLemmas

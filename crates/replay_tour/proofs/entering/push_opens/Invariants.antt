@@ -1,0 +1,7 @@
+use Rattle.std.proofs.Common.{◌≡◌, ◌++◌}
+use Rattle.replay_script.specs.declared.item.Item.TheVariants as lines
+use Rattle.replay_tour.specs.Entrants.{each_line}
+use Rattle.replay_tour.proofs.entering.push_opens.Given as goal
+
+abbrev pub invariant-loop-i : goal.invariant-loop-i
+invariant-loop-i l = l.items.items ≡ l.fn.items.items ++ each_line lines.Open l.i

@@ -1,0 +1,4 @@
+pub mod Entrants
+pub mod Matches
+pub mod Results
+pub mod Tours
