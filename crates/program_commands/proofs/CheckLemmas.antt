@@ -12,7 +12,7 @@ use Rattle.ps_dex.specs.declared.item.Tables.{Tables}
 use Rattle.ps_rules.specs.declared.table.RuleTable.{RuleTable}
 use Rattle.ps_valid.specs.TeamRows.{legal_in}
 use Rattle.program_commands.specs.declared.status.Status.{Status}
-use Rattle.program_commands.specs.declared.status.Status.TheVariants.{Done, Usage, FileMissing, FileFault, FileLong, BadDex, BadConfig, BadScript, ScriptLong, ReadFault, WriteFault, BadTeam, NoMemory, DoorFault, UnknownFormat, BadPack, BadExport, NoExport}
+use Rattle.program_commands.specs.declared.status.Status.TheVariants.{Done, Usage, FileMissing, FileFault, FileLong, BadDex, BadConfig, BadScript, ScriptLong, ReadFault, WriteFault, BadTeam, NoMemory, DoorFault, UnknownFormat, BadPack, NoTour, BadExport, NoExport}
 use Rattle.program_commands.specs.Words.{Checked}
 use Rattle.program_commands.specs.Steps.{IsFaultOf, dex_in, config_in}
 use Rattle.program_commands.specs.Setups.{IsSettled, Then, EndsIfKnown}
@@ -38,6 +38,7 @@ Harmless (BadTeam set rule subject) = ⊥
 Harmless DoorFault = ⊥
 Harmless (UnknownFormat id) = ⊥
 Harmless (BadPack at kind) = ⊥
+Harmless NoTour = ⊥
 Harmless (BadExport line) = ⊥
 Harmless (NoExport set) = ⊥
 
@@ -58,7 +59,7 @@ only_step named r next status f (inl fault) h = absurd (no_fault named fault)
 only_step named r next status f (inr done) (inl fault) = fault_harmless named status fault
 only_step named r next status f (inr done) (inr h) = only_then r next status f done h
 
-not_broken : (dex : Tables) (rules : RuleTable) (text : List ℕ) (set : ℕ) (rule : TeamRule) (subject : List ℕ) → IsLegal dex rules text → IsBroken dex rules text set rule subject → ⊥
+pub not_broken : (dex : Tables) (rules : RuleTable) (text : List ℕ) (set : ℕ) (rule : TeamRule) (subject : List ℕ) → IsLegal dex rules text → IsBroken dex rules text set rule subject → ⊥
 not_broken dex rules text set rule subject legal broken =
     let same : legal.team ≡ broken.team = one_team (chars text) legal.team broken.team legal.packed broken.packed in
     let kept : legal_in dex rules broken.team ≡ Ok legal.legal = subst (λ (t : List Set). legal_in dex rules t ≡ Ok legal.legal) same legal.keeps in
@@ -70,7 +71,7 @@ pub no_pack_fault : (text : List ℕ) (at : ℕ) (kind : PackKind) (team : List 
 no_pack_fault text at kind team utf8 packed (inl none) = none.0 utf8
 no_pack_fault text at kind team utf8 packed (inr none) = none.1.1 team packed
 
-not_unpacked : (dex : Tables) (rules : RuleTable) (text : List ℕ) (at : ℕ) (kind : PackKind) → IsLegal dex rules text → IsUnpacked text at kind → ⊥
+pub not_unpacked : (dex : Tables) (rules : RuleTable) (text : List ℕ) (at : ℕ) (kind : PackKind) → IsLegal dex rules text → IsUnpacked text at kind → ⊥
 not_unpacked dex rules text at kind legal unpacked = no_pack_fault text at kind legal.team legal.utf8 legal.packed unpacked
 
 only_text : (dex : Tables) (rules : RuleTable) (text : List ℕ) (status : Status) → IsLegal dex rules text → TextEnds dex rules text status → Harmless status
@@ -78,6 +79,7 @@ only_text dex rules text Done legal h = tt
 only_text dex rules text WriteFault legal h = tt
 only_text dex rules text (BadTeam set rule subject) legal h = absurd (not_broken dex rules text set rule subject legal h)
 only_text dex rules text (BadPack at kind) legal h = absurd (not_unpacked dex rules text at kind legal h)
+only_text dex rules text NoTour legal h = absurd h
 only_text dex rules text (BadExport line) legal h = absurd h
 only_text dex rules text (NoExport set) legal h = absurd h
 only_text dex rules text (FileFault name) legal h = tt
@@ -118,6 +120,7 @@ harmless_settles one old new write_fault (BadTeam set rule subject) cause wrote 
 harmless_settles one old new write_fault DoorFault cause wrote files sink h = absurd h
 harmless_settles one old new write_fault (UnknownFormat id) cause wrote files sink h = absurd h
 harmless_settles one old new write_fault (BadPack at kind) cause wrote files sink h = absurd h
+harmless_settles one old new write_fault NoTour cause wrote files sink h = absurd h
 harmless_settles one old new write_fault (BadExport line) cause wrote files sink h = absurd h
 harmless_settles one old new write_fault (NoExport set) cause wrote files sink h = absurd h
 

@@ -1,3 +1,5 @@
 pub mod SetupLemmas
 pub mod CheckLemmas
 pub mod ConvertLemmas
+pub mod FieldLemmas
+pub mod SeedLemmas

@@ -20,7 +20,7 @@ one_value contents None step x y s k = let e = s nowhere in let f = k nowhere in
 one_value None (Some name) step x y s k = absurd k
 one_value (Some lookup) (Some name) step x y s k = cc
 
-one_dex : (contents : Option (List ℕ → Option (List ℕ))) (o : Options) (dex : Tables) → Stands contents o.dex (λ lookup. dex_in lookup o.dex) dex → (f : AreGood contents o) → dex ≡ f.dex
+pub one_dex : (contents : Option (List ℕ → Option (List ℕ))) (o : Options) (dex : Tables) → Stands contents o.dex (λ lookup. dex_in lookup o.dex) dex → (f : AreGood contents o) → dex ≡ f.dex
 one_dex contents o dex s f = one_value contents o.dex (λ (lookup : List ℕ → Option (List ℕ)). dex_in lookup o.dex) dex f.dex s f.dex_is
 
 -- the configuration of the words, over this dex

@@ -5,3 +5,4 @@ pub mod Setups
 pub mod Checks
 pub mod Conversions
 pub mod Ends
+pub mod Fields

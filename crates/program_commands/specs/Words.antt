@@ -1,12 +1,15 @@
 -- The words of a command.
-use Rattle.std.specs.Prelude.{ℕ, ◌+◌, Bool, false, not, ◌&&◌, nat_le, ◌≤◌, List, [], ◌∷◌, codes, Option, Some, None, Result, Ok, Err, ◌==◌, if◌then◌else◌}
+use Rattle.std.specs.Prelude.{ℕ, ◌+◌, ◌^◌, Bool, false, not, ◌&&◌, nat_le, nat_lt, ◌≤◌, List, [], ◌∷◌, codes, Option, Some, None, Result, Ok, Err, ◌==◌, if◌then◌else◌}
 use Rattle.std.specs.Option.{option_copied}
 use Rattle.std.specs.Str.{bytes_eq}
+use Rattle.std.specs.Str.Parse.{digits_value}
+use Rattle.std.specs.Fmt.{decimal}
 use Rattle.ps_base.specs.Numbers.{number_in}
 use Rattle.program_commands.specs.declared.words.CheckWords.{CheckWords}
 use Rattle.program_commands.specs.declared.words.DrillWords.{DrillWords}
 use Rattle.program_commands.specs.declared.words.OptionWords.{OptionWords}
 use Rattle.program_commands.specs.declared.words.ServeWords.{ServeWords}
+use Rattle.program_commands.specs.declared.words.TourWords.{TourWords}
 use Rattle.program_commands.specs.declared.words.Command.{Command}
 use Rattle.program_commands.specs.declared.words.Command.TheVariants as commands
 
@@ -27,6 +30,12 @@ pub record Drilled : Type 0 where
   pub steps : ℕ
   pub options : Options
 
+-- what a tournament is asked for: so many users, whose order this seed draws, with these files
+pub record Toured : Type 0 where
+  pub users : ℕ
+  pub seed : ℕ
+  pub options : Options
+
 -- what a server is asked for: so many connections at an address, with these files
 pub record Serves : Type 0 where
   pub address : List ℕ
@@ -40,6 +49,7 @@ pub data Asked : Type 0 where
   Checks : Checked → Asked
   Exports : List ℕ → Asked
   Imports : List ℕ → Asked
+  Tours : Toured → Asked
 
 -- a word that names something: it isn't empty and doesn't begin with `-`
 abbrev pub is_name : List ℕ → Bool
@@ -159,6 +169,44 @@ imports (Err at) = Err at
 abbrev pub import_in : List (List ℕ) → Result Asked ℕ
 import_in words = imports (last_name 1 words)
 
+-- ---- tour
+
+abbrev pub most_users : ℕ
+most_users = 16
+
+abbrev pub within_users : Option ℕ → Option ℕ
+within_users None = None
+within_users (Some n) = if nat_le 2 n && nat_le n most_users then Some n else None
+
+-- the number of users, 2 to 16, as its one decimal text
+abbrev pub users_in : List ℕ → Option ℕ
+users_in word = within_users (number_in word)
+
+-- the seed, a number of 64 bits, as its one decimal text
+unfoldable pub seed_in : List ℕ → Option ℕ
+seed_in word = if bytes_eq word (decimal (digits_value 10 word)) && nat_lt (digits_value 10 word) (2 ^ 64) then Some (digits_value 10 word) else None
+
+abbrev pub tours : ℕ → ℕ → Result Options ℕ → Result Asked ℕ
+tours users seed (Ok options) = Ok (Tours (record { users = users; seed = seed; options = options }))
+tours users seed (Err at) = Err at
+
+abbrev pub tours_with : ℕ → Option ℕ → List (List ℕ) → Result Asked ℕ
+tours_with users None words = Err 2
+tours_with users (Some seed) words = tours users seed (options_in 3 words)
+
+abbrev pub seeded_in : ℕ → List (List ℕ) → Result Asked ℕ
+seeded_in users [] = Err 2
+seeded_in users (number ∷ words) = tours_with users (seed_in number) words
+
+abbrev pub tours_of : Option ℕ → List (List ℕ) → Result Asked ℕ
+tours_of None words = Err 1
+tours_of (Some users) words = seeded_in users words
+
+-- behind `tour`: the number of users, and then the seed
+abbrev pub tour_in : List (List ℕ) → Result Asked ℕ
+tour_in [] = Err 1
+tour_in (number ∷ words) = tours_of (users_in number) words
+
 -- ---- serve
 
 abbrev pub most_count : ℕ
@@ -206,7 +254,8 @@ words_in (word ∷ words) =
     else (if bytes_eq word (codes "check") then check_in words
     else (if bytes_eq word (codes "export") then export_in words
     else (if bytes_eq word (codes "import") then import_in words
-    else Err 0))))
+    else (if bytes_eq word (codes "tour") then tour_in words
+    else Err 0)))))
 
 -- ---- what holds where the words ask for one of these
 
@@ -216,6 +265,7 @@ IfReplay (Ok (Drills words)) holds = Unit {0}
 IfReplay (Ok (Checks words)) holds = Unit {0}
 IfReplay (Ok (Exports name)) holds = Unit {0}
 IfReplay (Ok (Imports name)) holds = Unit {0}
+IfReplay (Ok (Tours words)) holds = Unit {0}
 IfReplay (Err at) holds = Unit {0}
 
 abbrev pub IfDrill : Result Asked ℕ → (Drilled → Type 0) → Type 0
@@ -224,6 +274,7 @@ IfDrill (Ok (Drills words)) holds = holds words
 IfDrill (Ok (Checks words)) holds = Unit {0}
 IfDrill (Ok (Exports name)) holds = Unit {0}
 IfDrill (Ok (Imports name)) holds = Unit {0}
+IfDrill (Ok (Tours words)) holds = Unit {0}
 IfDrill (Err at) holds = Unit {0}
 
 abbrev pub IfCheck : Result Asked ℕ → (Checked → Type 0) → Type 0
@@ -232,6 +283,7 @@ IfCheck (Ok (Drills words)) holds = Unit {0}
 IfCheck (Ok (Checks words)) holds = holds words
 IfCheck (Ok (Exports name)) holds = Unit {0}
 IfCheck (Ok (Imports name)) holds = Unit {0}
+IfCheck (Ok (Tours words)) holds = Unit {0}
 IfCheck (Err at) holds = Unit {0}
 
 abbrev pub IfExport : Result Asked ℕ → (List ℕ → Type 0) → Type 0
@@ -240,6 +292,7 @@ IfExport (Ok (Drills words)) holds = Unit {0}
 IfExport (Ok (Checks words)) holds = Unit {0}
 IfExport (Ok (Exports name)) holds = holds name
 IfExport (Ok (Imports name)) holds = Unit {0}
+IfExport (Ok (Tours words)) holds = Unit {0}
 IfExport (Err at) holds = Unit {0}
 
 abbrev pub IfImport : Result Asked ℕ → (List ℕ → Type 0) → Type 0
@@ -248,7 +301,17 @@ IfImport (Ok (Drills words)) holds = Unit {0}
 IfImport (Ok (Checks words)) holds = Unit {0}
 IfImport (Ok (Exports name)) holds = Unit {0}
 IfImport (Ok (Imports name)) holds = holds name
+IfImport (Ok (Tours words)) holds = Unit {0}
 IfImport (Err at) holds = Unit {0}
+
+abbrev pub IfTour : Result Asked ℕ → (Toured → Type 0) → Type 0
+IfTour (Ok (Replays options)) holds = Unit {0}
+IfTour (Ok (Drills words)) holds = Unit {0}
+IfTour (Ok (Checks words)) holds = Unit {0}
+IfTour (Ok (Exports name)) holds = Unit {0}
+IfTour (Ok (Imports name)) holds = Unit {0}
+IfTour (Ok (Tours words)) holds = holds words
+IfTour (Err at) holds = Unit {0}
 
 -- ---- for the code: what was read, as contracts see it
 
@@ -257,6 +320,9 @@ options_of o = record { dex = option_copied o.dex; config = option_copied o.conf
 
 abbrev pub drilled_of : DrillWords → Drilled
 drilled_of w = record { steps = w.steps; options = options_of w.options }
+
+abbrev pub toured_of : TourWords → Toured
+toured_of w = record { users = w.users; seed = w.seed; options = options_of w.options }
 
 abbrev pub checked_of : CheckWords → Checked
 checked_of w = record { format = w.format.now; team = w.team.now; dex = option_copied w.dex; config = option_copied w.config }
@@ -270,14 +336,19 @@ asked_of (commands.Drill words) = Drills (drilled_of words)
 asked_of (commands.Check words) = Checks (checked_of words)
 asked_of (commands.Export name) = Exports name.now
 asked_of (commands.Import name) = Imports name.now
+asked_of (commands.Tour words) = Tours (toured_of words)
 
--- a drill has at most 4,000 steps
+abbrev pub AreUsers : ℕ → Type 0
+AreUsers n = (2 ≤ n) × (n ≤ most_users)
+
+-- a drill has at most 4,000 steps, and a tournament 2 to 16 users
 abbrev pub HasFewSteps : Command → Type 0
 HasFewSteps (commands.Replay options) = Unit {0}
 HasFewSteps (commands.Drill words) = words.steps ≤ most_steps
 HasFewSteps (commands.Check words) = Unit {0}
 HasFewSteps (commands.Export name) = Unit {0}
 HasFewSteps (commands.Import name) = Unit {0}
+HasFewSteps (commands.Tour words) = AreUsers words.users
 
 -- a server takes 1 to 1,024 connections
 abbrev pub IsCount : ℕ → Type 0

@@ -6,6 +6,7 @@ pub mod check;
 pub mod config;
 pub mod convert;
 pub mod dex;
+pub mod field;
 pub mod file;
 pub mod status;
 pub mod words;

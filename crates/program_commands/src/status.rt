@@ -80,6 +80,9 @@ pub enum Status {
         at: u32,
         kind: PackKind,
     },
+    /// There is nobody to play a tournament: the dex has no species, or the configuration has no format, or the team of the first
+    /// species breaks a rule of the first format.
+    NoTour,
     /// The file is no export text: its first line that can't stand in one, counted from 1, or one more than it has lines where
     /// all of them can. A file that isn't UTF-8 is reported at 0.
     BadExport {
@@ -114,6 +117,7 @@ impl Status {
             Status::DoorFault => 14,
             Status::UnknownFormat { .. } => 15,
             Status::BadPack { .. } => 16,
+            Status::NoTour => 18,
             Status::BadExport { .. } => 21,
             Status::NoExport { .. } => 22,
         }
@@ -141,6 +145,7 @@ impl fmt::Display for Status {
             Status::DoorFault => write!(f, "DoorFault"),
             Status::UnknownFormat { id } => write!(f, "UnknownFormat id={id}"),
             Status::BadPack { at, kind } => write!(f, "BadPack at={at} kind={kind:?}"),
+            Status::NoTour => write!(f, "NoTour"),
             Status::BadExport { line } => write!(f, "BadExport line={line}"),
             Status::NoExport { set } => write!(f, "NoExport set={set}"),
         }

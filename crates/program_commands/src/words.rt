@@ -1,12 +1,16 @@
 //! The words of a command.
 ghost use Rattle.std.specs.Prelude.{◌≡◌, ◌<◌, ◌≤◌, IfOk, IfSome, Ok, Err, map, string_bytes, MatchResult};
 ghost use Rattle.std.specs.Option.{option_copied};
-ghost use Rattle.program_commands.specs.Words.{is_name, last_name, last_option, dex_first, config_first, options_in, replay_in, steps_in, drill_in, checks, team_in, check_in, export_in, import_in, words_in, count_in, counted_in, serve_in, serve_words_in, options_of, asked_of, serves_of, HasFewSteps, IsCount};
+ghost use Rattle.program_commands.specs.Words.{is_name, last_name, last_option, dex_first, config_first, options_in, replay_in, steps_in, drill_in, checks, team_in, check_in, export_in, import_in, users_in, seed_in, tours_with, seeded_in, tour_in, words_in, count_in, counted_in, serve_in, serve_words_in, options_of, asked_of, serves_of, HasFewSteps, AreUsers, IsCount};
 
+use itoa::Buffer;
 use ps_base::decimal::read_u32;
 
 /// The most steps of a drill.
 pub const MOST_STEPS: u32 = 4_000;
+
+/// The most users of a tournament.
+pub const MOST_USERS: u32 = 16;
 
 /// The most connections of a run of `serve`.
 pub const MOST_COUNT: u32 = 1_024;
@@ -25,6 +29,17 @@ pub struct OptionWords<'a> {
 pub struct DrillWords<'a> {
     /// How many steps, 1 to 4,000.
     pub steps: u32,
+    /// The files that options name.
+    pub options: OptionWords<'a>,
+}
+
+/// What `tour` is asked for.
+#[derive(Clone, Copy, Debug)]
+pub struct TourWords<'a> {
+    /// How many users, 2 to 16.
+    pub users: u8,
+    /// What draws their order.
+    pub seed: u64,
     /// The files that options name.
     pub options: OptionWords<'a>,
 }
@@ -66,6 +81,8 @@ pub enum Command<'a> {
     Export(&'a str),
     /// To write the packed text of the team whose export text is in the file of this name.
     Import(&'a str),
+    /// To play a tournament.
+    Tour(TourWords<'a>),
 }
 
 fn is_name(word: &str) -> bool
@@ -296,10 +313,86 @@ fn import_in(words: &[String]) -> Result<Command<'_>, u32>
     }
 }
 
-/// Reads the words of a command: `replay`, `drill N` or `check FORMAT TEAMFILE`, and then `--dex NAME` and `--config NAME`,
-/// each at most once, in either order; or `export FILE` or `import FILE`, and nothing more. N is 1 to 4,000, without a sign or
-/// leading zeros; a name, format or file is a word that isn't empty and doesn't begin with `-`. The error is the index of the
-/// first word that can't stand, counted from 0, or how many there are where one is missing.
+// How many users a word says.
+fn users_in(word: &str) -> Option<u8>
+    ensures value { result ≡ users_in word.now }
+    ensures few { IfSome result AreUsers }
+{
+    match read_u32(word.as_bytes()) {
+        None => None,
+        Some(users) => {
+            if users >= 2 && users <= MOST_USERS {
+                return Some(users as u8);
+            }
+            None
+        }
+    }
+}
+
+// The seed that a word says: it is the number's one decimal text where the number is printed so again.
+
+fn seed_in(word: &str) -> Option<u64>
+    ensures { result ≡ seed_in word.now }
+{
+    match word.parse::<u64>() {
+        Err(_) => None,
+        Ok(seed) => {
+            let mut buffer = Buffer::new();
+            if buffer.format(seed) == word {
+                return Some(seed);
+            }
+            None
+        }
+    }
+}
+
+fn tours_with(users: u8, seed: Option<u64>, words: &[String]) -> Result<Command<'_>, u32>
+    requires { AreUsers users }
+    ensures read { MatchResult result (λ c. tours_with users seed (map string_bytes words.now) ≡ Ok (asked_of c)) (λ n. tours_with users seed (map string_bytes words.now) ≡ Err n) }
+    ensures few { IfOk result HasFewSteps }
+{
+    match seed {
+        None => Err(2),
+        Some(seed) => match options_in(3, words) {
+            Err(at) => Err(at),
+            Ok(options) => Ok(Command::Tour(TourWords {
+                users,
+                seed,
+                options,
+            })),
+        },
+    }
+}
+
+fn seeded_in(users: u8, words: &[String]) -> Result<Command<'_>, u32>
+    requires { AreUsers users }
+    ensures read { MatchResult result (λ c. seeded_in users (map string_bytes words.now) ≡ Ok (asked_of c)) (λ n. seeded_in users (map string_bytes words.now) ≡ Err n) }
+    ensures few { IfOk result HasFewSteps }
+{
+    match words {
+        [] => Err(2),
+        [number, rest @ ..] => tours_with(users, seed_in(number.as_str()), rest),
+    }
+}
+
+fn tour_in(words: &[String]) -> Result<Command<'_>, u32>
+    ensures read { MatchResult result (λ c. tour_in (map string_bytes words.now) ≡ Ok (asked_of c)) (λ n. tour_in (map string_bytes words.now) ≡ Err n) }
+    ensures few { IfOk result HasFewSteps }
+{
+    match words {
+        [] => Err(1),
+        [number, rest @ ..] => match users_in(number.as_str()) {
+            None => Err(1),
+            Some(users) => seeded_in(users, rest),
+        },
+    }
+}
+
+/// Reads the words of a command: `replay`, `drill N`, `tour N SEED` or `check FORMAT TEAMFILE`, and then `--dex NAME` and `--config NAME`,
+/// each at most once, in either order; or `export FILE` or `import FILE`, and nothing more. N is 1 to 4,000 for a drill and 2
+/// to 16 for a tournament, whose SEED is a number of 64 bits, both without a sign or leading zeros; a name, format or file is a
+/// word that isn't empty and doesn't begin with `-`. The error is the index of the first word that can't stand, counted from 0,
+/// or how many there are where one is missing.
 pub fn read_words(words: &[String]) -> Result<Command<'_>, u32>
     ensures read { MatchResult result (λ c. words_in (map string_bytes words.now) ≡ Ok (asked_of c)) (λ n. words_in (map string_bytes words.now) ≡ Err n) }
     ensures few { IfOk result HasFewSteps }
@@ -321,6 +414,9 @@ pub fn read_words(words: &[String]) -> Result<Command<'_>, u32>
             }
             if word.as_str() == "import" {
                 return import_in(rest);
+            }
+            if word.as_str() == "tour" {
+                return tour_in(rest);
             }
             Err(0)
         }

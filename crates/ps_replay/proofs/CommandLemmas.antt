@@ -3,13 +3,14 @@ use Rattle.std.proofs.Common.{◌≡◌, ℕ, List, [], Option, Some, None, Resu
 use Rattle.std.specs.Io.KnownBytes.{Keeps}
 use Rattle.replay_script.specs.Limits.{ReadsFew}
 use Rattle.program_commands.specs.declared.status.Status.{Status}
-use Rattle.program_commands.specs.declared.status.Status.TheVariants.{Done, Usage, FileMissing, FileFault, FileLong, BadDex, BadConfig, BadScript, ScriptLong, ReadFault, WriteFault, BadTeam, NoMemory, DoorFault, UnknownFormat, BadPack, BadExport, NoExport}
-use Rattle.program_commands.specs.Words.{Asked, Replays, Drills, Checks, Exports, Imports, Options, Drilled, Checked}
+use Rattle.program_commands.specs.declared.status.Status.TheVariants.{Done, Usage, FileMissing, FileFault, FileLong, BadDex, BadConfig, BadScript, ScriptLong, ReadFault, WriteFault, BadTeam, NoMemory, DoorFault, UnknownFormat, BadPack, NoTour, BadExport, NoExport}
+use Rattle.program_commands.specs.Words.{Asked, Replays, Drills, Checks, Exports, Imports, Tours, Options, Drilled, Checked, Toured}
 use Rattle.program_commands.specs.Setups.{usage_reported, HasSetup, EndsIfKnown}
 use Rattle.program_commands.specs.Checks.{CheckEnds, IsNamed, CheckCause, WritesLegal, SettlesCheck}
 use Rattle.program_commands.specs.Conversions.{HasExport, MakesExport, MakesPacked, ExportCause, ImportCause, WritesConversion, SettlesConversion}
 use Rattle.ps_replay.specs.Outcomes.{KeepsInput}
 use Rattle.ps_replay.specs.Drills.{DrillEnds, DrillCause, WritesSummary, WritesDrill, SettlesDrill}
+use Rattle.ps_replay.specs.Tours.{IsTour, TourEnds, TourCause, WritesTour, SettlesTour}
 use Rattle.ps_replay.specs.Commands.{Met, IsReplay, IsRun, FilesFailed, OutputFailed}
 
 -- ---- an input that wasn't touched
@@ -31,6 +32,7 @@ keeps_input left left_after NoMemory same = tt
 keeps_input left left_after DoorFault same = same
 keeps_input left left_after (UnknownFormat id) same = same
 keeps_input left left_after (BadPack at kind) same = same
+keeps_input left left_after NoTour same = same
 keeps_input left left_after (BadExport line) same = same
 keeps_input left left_after (NoExport set) same = same
 
@@ -64,6 +66,7 @@ no_usage P NoMemory none p = refl
 no_usage P DoorFault none p = refl
 no_usage P (UnknownFormat id) none p = refl
 no_usage P (BadPack at kind) none p = refl
+no_usage P NoTour none p = refl
 no_usage P (BadExport line) none p = refl
 no_usage P (NoExport set) none p = refl
 
@@ -93,6 +96,10 @@ of_drill asked words m status is same ended caused told wrote failed settled = r
   drill_cause = caused;
   drill_untouched = same;
   drill_summary = told;
+  tour_ends = tt;
+  tour_cause = tt;
+  tour_untouched = tt;
+  tour_played = tt;
   prefix = wrote;
   bounded = few_read m.left m.left_after same;
   read_fault = λ read. absurd (subst (DrillCause words.options m.counts m.counts_after) read caused);
@@ -102,6 +109,7 @@ of_drill asked words m status is same ended caused told wrote failed settled = r
   complete_export = tt;
   complete_import = tt;
   complete_drill = settled;
+  complete_tour = tt;
 })
 
 pub of_check : (asked : Result Asked ℕ) (words : Checked) (m : Met) (status : Status) → asked ≡ Ok (Checks words) → m.left_after ≡ m.left → EndsIfKnown m.contents (λ lookup. CheckEnds lookup words) status → CheckCause (IsNamed words) m.counts m.counts_after status → WritesLegal m.written m.written_after status → (status ≡ WriteFault → OutputFailed m) → SettlesCheck m.contents (FilesFailed m) (OutputFailed m) words status → IsRun asked m status
@@ -128,6 +136,10 @@ of_check asked words m status is same ended caused wrote failed settled = rw is 
   drill_cause = tt;
   drill_untouched = tt;
   drill_summary = tt;
+  tour_ends = tt;
+  tour_cause = tt;
+  tour_untouched = tt;
+  tour_played = tt;
   prefix = wrote;
   bounded = few_read m.left m.left_after same;
   read_fault = λ read. absurd (subst (CheckCause (IsNamed words) m.counts m.counts_after) read caused);
@@ -137,6 +149,7 @@ of_check asked words m status is same ended caused wrote failed settled = rw is 
   complete_export = tt;
   complete_import = tt;
   complete_drill = tt;
+  complete_tour = tt;
 })
 
 pub of_export : (asked : Result Asked ℕ) (name : List ℕ) (m : Met) (status : Status) → asked ≡ Ok (Exports name) → m.left_after ≡ m.left → ExportCause m.contents name m.counts m.counts_after status → WritesConversion m.contents name MakesExport m.written m.written_after status → (status ≡ WriteFault → OutputFailed m) → SettlesConversion m.contents HasExport (FilesFailed m) (OutputFailed m) name status → IsRun asked m status
@@ -163,6 +176,10 @@ of_export asked name m status is same caused wrote failed settled = rw is (recor
   drill_cause = tt;
   drill_untouched = tt;
   drill_summary = tt;
+  tour_ends = tt;
+  tour_cause = tt;
+  tour_untouched = tt;
+  tour_played = tt;
   prefix = wrote;
   bounded = few_read m.left m.left_after same;
   read_fault = λ read. absurd (subst (ExportCause m.contents name m.counts m.counts_after) read caused);
@@ -172,6 +189,7 @@ of_export asked name m status is same caused wrote failed settled = rw is (recor
   complete_export = settled;
   complete_import = tt;
   complete_drill = tt;
+  complete_tour = tt;
 })
 
 pub of_import : (asked : Result Asked ℕ) (name : List ℕ) (m : Met) (status : Status) → asked ≡ Ok (Imports name) → m.left_after ≡ m.left → ImportCause m.contents name m.counts m.counts_after status → WritesConversion m.contents name MakesPacked m.written m.written_after status → (status ≡ WriteFault → OutputFailed m) → SettlesConversion m.contents MakesPacked (FilesFailed m) (OutputFailed m) name status → IsRun asked m status
@@ -198,6 +216,10 @@ of_import asked name m status is same caused wrote failed settled = rw is (recor
   drill_cause = tt;
   drill_untouched = tt;
   drill_summary = tt;
+  tour_ends = tt;
+  tour_cause = tt;
+  tour_untouched = tt;
+  tour_played = tt;
   prefix = wrote;
   bounded = few_read m.left m.left_after same;
   read_fault = λ read. absurd (subst (ImportCause m.contents name m.counts m.counts_after) read caused);
@@ -207,6 +229,47 @@ of_import asked name m status is same caused wrote failed settled = rw is (recor
   complete_export = tt;
   complete_import = settled;
   complete_drill = tt;
+  complete_tour = tt;
+})
+
+pub of_tour : (asked : Result Asked ℕ) (words : Toured) (m : Met) (status : Status) → asked ≡ Ok (Tours words) → m.left_after ≡ m.left → EndsIfKnown m.contents (λ lookup. TourEnds lookup words.options) status → TourCause words.options m.counts m.counts_after status → (status ≡ Done → HasSetup m.contents words.options (IsTour words m.written m.written_after)) → WritesTour m.contents words m.written m.written_after status → (status ≡ WriteFault → OutputFailed m) → SettlesTour m.contents (FilesFailed m) (OutputFailed m) words.options status → IsRun asked m status
+of_tour asked words m status is same ended caused told wrote failed settled = rw is (record {
+  usage = no_usage (TourCause words.options m.counts m.counts_after) status (λ word wrong. wrong) caused;
+  cause = tt;
+  input = keeps_input m.left m.left_after status same;
+  whole = tt;
+  transcript = tt;
+  one_entry = tt;
+  histories = tt;
+  two_worlds = tt;
+  check_ends = tt;
+  check_cause = tt;
+  check_untouched = tt;
+  check_summary = tt;
+  export_cause = tt;
+  export_untouched = tt;
+  export_written = tt;
+  import_cause = tt;
+  import_untouched = tt;
+  import_written = tt;
+  drill_ends = tt;
+  drill_cause = tt;
+  drill_untouched = tt;
+  drill_summary = tt;
+  tour_ends = ended;
+  tour_cause = caused;
+  tour_untouched = same;
+  tour_played = told;
+  prefix = wrote;
+  bounded = few_read m.left m.left_after same;
+  read_fault = λ read. absurd (subst (TourCause words.options m.counts m.counts_after) read caused);
+  write_fault = failed;
+  complete = tt;
+  complete_check = tt;
+  complete_export = tt;
+  complete_import = tt;
+  complete_drill = tt;
+  complete_tour = settled;
 })
 
 pub of_replay : (asked : Result Asked ℕ) (options : Options) (m : Met) (status : Status) → asked ≡ Ok (Replays options) → IsReplay options m status → IsRun asked m status
@@ -233,6 +296,10 @@ of_replay asked options m status is run = rw is (record {
   drill_cause = tt;
   drill_untouched = tt;
   drill_summary = tt;
+  tour_ends = tt;
+  tour_cause = tt;
+  tour_untouched = tt;
+  tour_played = tt;
   prefix = run.prefix;
   bounded = run.bounded;
   read_fault = run.read_fault;
@@ -242,6 +309,7 @@ of_replay asked options m status is run = rw is (record {
   complete_export = tt;
   complete_import = tt;
   complete_drill = tt;
+  complete_tour = tt;
 })
 
 pub of_usage : (asked : Result Asked ℕ) (m : Met) (word : ℕ) → asked ≡ Err word → m.left_after ≡ m.left → m.written_after ≡ m.written → IsRun asked m (Usage word)
@@ -268,6 +336,10 @@ of_usage asked m word is same unwritten = rw is (record {
   drill_cause = tt;
   drill_untouched = tt;
   drill_summary = tt;
+  tour_ends = tt;
+  tour_cause = tt;
+  tour_untouched = tt;
+  tour_played = tt;
   prefix = subst (λ (o : Option (List ℕ)). Keeps m.written o) (sym unwritten) (keeps m.written);
   bounded = few_read m.left m.left_after same;
   read_fault = λ wrong. cc;
@@ -277,4 +349,5 @@ of_usage asked m word is same unwritten = rw is (record {
   complete_export = tt;
   complete_import = tt;
   complete_drill = tt;
+  complete_tour = tt;
 })

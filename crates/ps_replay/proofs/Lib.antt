@@ -2,6 +2,9 @@ pub mod FlowLemmas
 pub mod InputLemmas
 pub mod OutcomeLemmas
 pub mod SymbolLemmas
+pub mod TourLemmas
+pub mod MatchLemmas
+pub mod TourEnds
 pub mod RunLemmas
 pub mod CommandLemmas
 pub mod ReplayLemmas

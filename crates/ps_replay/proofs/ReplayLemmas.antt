@@ -6,7 +6,7 @@ use Rattle.ps_dex.specs.declared.item.Tables.{Tables}
 use Rattle.rules_config.specs.declared.settings.Settings.{Settings}
 use Rattle.replay_script.specs.Limits.{ReadsFew}
 use Rattle.program_commands.specs.declared.status.Status.{Status}
-use Rattle.program_commands.specs.declared.status.Status.TheVariants.{Done, Usage, FileMissing, FileFault, FileLong, BadDex, BadConfig, BadScript, ScriptLong, ReadFault, WriteFault, BadTeam, NoMemory, DoorFault, UnknownFormat, BadPack, BadExport, NoExport}
+use Rattle.program_commands.specs.declared.status.Status.TheVariants.{Done, Usage, FileMissing, FileFault, FileLong, BadDex, BadConfig, BadScript, ScriptLong, ReadFault, WriteFault, BadTeam, NoMemory, DoorFault, UnknownFormat, BadPack, NoTour, BadExport, NoExport}
 use Rattle.program_commands.specs.Words.{Options}
 use Rattle.program_commands.specs.Steps.{dex_in, config_in}
 use Rattle.program_commands.specs.Setups.{Stands, IsSetUp, IsStopOf, Stops, IsOption, StepCause, Ended}
@@ -51,6 +51,7 @@ step_cause contents o left named old new (BadTeam set rule subject) option stops
 step_cause contents o left named old new DoorFault option stops stepped = absurd stepped
 step_cause contents o left named old new (UnknownFormat id) option stops stepped = absurd stepped
 step_cause contents o left named old new (BadPack at kind) option stops stepped = absurd stepped
+step_cause contents o left named old new NoTour option stops stepped = absurd stepped
 step_cause contents o left named old new (BadExport line) option stops stepped = absurd stepped
 step_cause contents o left named old new (NoExport set) option stops stepped = absurd stepped
 
@@ -71,6 +72,7 @@ step_prefix contents o left written written_after named old new (BadTeam set rul
 step_prefix contents o left written written_after named old new DoorFault kept stepped = kept
 step_prefix contents o left written written_after named old new (UnknownFormat id) kept stepped = kept
 step_prefix contents o left written written_after named old new (BadPack at kind) kept stepped = kept
+step_prefix contents o left written written_after named old new NoTour kept stepped = kept
 step_prefix contents o left written written_after named old new (BadExport line) kept stepped = kept
 step_prefix contents o left written written_after named old new (NoExport set) kept stepped = kept
 
@@ -126,6 +128,7 @@ input_keeps left left_after (BadTeam set rule subject) of = absurd of
 input_keeps left left_after DoorFault of = absurd of
 input_keeps left left_after (UnknownFormat id) of = absurd of
 input_keeps left left_after (BadPack at kind) of = absurd of
+input_keeps left left_after NoTour of = absurd of
 input_keeps left left_after (BadExport line) of = absurd of
 input_keeps left left_after (NoExport set) of = absurd of
 
@@ -147,6 +150,7 @@ input_prefix contents o left written written_after config dex (BadTeam set rule 
 input_prefix contents o left written written_after config dex DoorFault s of wrote = absurd of
 input_prefix contents o left written written_after config dex (UnknownFormat id) s of wrote = absurd of
 input_prefix contents o left written written_after config dex (BadPack at kind) s of wrote = absurd of
+input_prefix contents o left written written_after config dex NoTour s of wrote = absurd of
 input_prefix contents o left written written_after config dex (BadExport line) s of wrote = absurd of
 input_prefix contents o left written written_after config dex (NoExport set) s of wrote = absurd of
 

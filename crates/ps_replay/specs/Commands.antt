@@ -7,12 +7,13 @@ use Rattle.ps_outside.specs.Files.{FileCounts}
 use Rattle.replay_script.specs.Limits.{ReadsFew}
 use Rattle.program_commands.specs.declared.status.Status.{Status}
 use Rattle.program_commands.specs.declared.status.Status.TheVariants.{Done, ReadFault, WriteFault}
-use Rattle.program_commands.specs.Words.{Asked, Options, IfReplay, IfDrill, IfCheck, IfExport, IfImport}
+use Rattle.program_commands.specs.Words.{Asked, Options, IfReplay, IfDrill, IfCheck, IfExport, IfImport, IfTour}
 use Rattle.program_commands.specs.Setups.{usage_in, usage_reported, HasSetup, EndsIfKnown}
 use Rattle.program_commands.specs.Checks.{legal_line, CheckEnds, IsNamed, CheckCause, SettlesCheck}
 use Rattle.program_commands.specs.Conversions.{HasExport, MakesPacked, ExportCause, ImportCause, WritesExport, WritesPacked, SettlesConversion}
 use Rattle.ps_replay.specs.Outcomes.{KeepsInput, IsTranscript, HasOneEntryEachText, HasHistories, HasEqualWorlds, WritesPrefix, ReplayCause, Settles}
 use Rattle.ps_replay.specs.Drills.{DrillEnds, DrillCause, WritesSummary, SettlesDrill}
+use Rattle.ps_replay.specs.Tours.{IsTour, TourEnds, TourCause, SettlesTour}
 use Rattle.ps_replay.specs.Writes.{Writes}
 
 -- What a run met: the files by their names, their counts before and after it, what was left of the input and written to the output,
@@ -81,6 +82,10 @@ pub record IsRun (asked : Result Asked ℕ) (m : Met) (status : Status) : Type 0
   pub drill_untouched : IfDrill asked (λ _. m.left_after ≡ m.left)
   pub drill_summary : IfDrill asked (λ words.
       status ≡ Done → HasSetup m.contents words.options (λ config dex. WritesSummary config dex words.steps m.written m.written_after))
+  pub tour_ends : IfTour asked (λ words. EndsIfKnown m.contents (λ lookup. TourEnds lookup words.options) status)
+  pub tour_cause : IfTour asked (λ words. TourCause words.options m.counts m.counts_after status)
+  pub tour_untouched : IfTour asked (λ _. m.left_after ≡ m.left)
+  pub tour_played : IfTour asked (λ words. status ≡ Done → HasSetup m.contents words.options (IsTour words m.written m.written_after))
   pub prefix : Writes asked m.contents m.left m.written m.written_after status
   pub bounded : ReadsFew m.left m.left_after
   pub read_fault : status ≡ ReadFault → InputFailed m
@@ -90,3 +95,4 @@ pub record IsRun (asked : Result Asked ℕ) (m : Met) (status : Status) : Type 0
   pub complete_export : IfExport asked (λ name. SettlesConversion m.contents HasExport (FilesFailed m) (OutputFailed m) name status)
   pub complete_import : IfImport asked (λ name. SettlesConversion m.contents MakesPacked (FilesFailed m) (OutputFailed m) name status)
   pub complete_drill : IfDrill asked (λ words. SettlesDrill m.contents (FilesFailed m) (OutputFailed m) words.options status)
+  pub complete_tour : IfTour asked (λ words. SettlesTour m.contents (FilesFailed m) (OutputFailed m) words.options status)

@@ -1,9 +1,11 @@
-//! Replays a recorded script of connections, runs drills, and does all else that the words of the program ask for.
+//! Replays a recorded script of connections, runs drills, plays tournaments, and does all else that the words of the program ask for.
 #![tactic(auto)]
 
 mod drill;
+mod matches;
 pub mod replay;
 pub mod run;
 mod setup;
 mod summary;
 pub mod symbols;
+mod tour;

@@ -6,12 +6,14 @@ ghost use Rattle.ps_outside.specs.Sinks.{AppendsFront};
 ghost use Rattle.std.specs.Arc.{arc_value};
 ghost use Rattle.replay_state.specs.Setup.{setup_of};
 ghost use Rattle.replay_state.specs.Transcript.{output};
-ghost use Rattle.replay_state.specs.Tables.{fresh, item_text, item_after, text_from};
+ghost use Rattle.replay_state.specs.Entries.{end_at};
+ghost use Rattle.replay_state.specs.Tables.{state_in, fresh, item_text, item_after, desk_after, text_from};
 ghost use Rattle.ps_replay.specs.Flow.{MovesFront};
 
 use ps_dex::dex::Dex;
 use ps_outside::Failed;
 use ps_outside::sink::{self, Sink};
+use ps_room::outcome::Ending;
 use replay_script::item::Item;
 use replay_state::ranks::ranks_of;
 use replay_state::table::Table;
@@ -32,8 +34,8 @@ pub enum ReplayEnd {
     NoMemory,
 }
 
-// Writes what waits. Where the sink fails a front of it was written.
-fn flush<K: Sink>(pending: &mut String, out: &mut K) -> Result<(), Failed>
+/// Writes what waits. Where the sink fails a front of it was written.
+pub(crate) fn flush<K: Sink>(pending: &mut String, out: &mut K) -> Result<(), Failed>
     ensures ok { OnOk result (MovesFront (K.written out.old) (K.written out.new) (string_bytes pending.old) (string_bytes pending.new)) }
     ensures empty { OnOk result (string_bytes pending.new ≡ []) }
     ensures err { OnErr result (AppendsFront (K.written out.old) (K.written out.new) (string_bytes pending.old)) }
@@ -60,36 +62,38 @@ fn flush_full<K: Sink>(pending: &mut String, out: &mut K) -> Result<(), Failed>
     flush(pending, out)
 }
 
-// Replays a line: what it prints waits, and is written where it is much.
-fn replay_item<K: Sink>(
+/// Replays a line: what it prints waits, and is written where it is much. Gives the end of the battle that it ended.
+pub(crate) fn replay_item<K: Sink>(
     alloc: Global,
     table: &mut Table,
     item: &Item,
     pending: &mut Transcript,
     out: &mut K,
-) -> Result<(), ReplayEnd>
+) -> Result<Option<Ending>, ReplayEnd>
     ensures state { OnOk result (table.new ≡ item_after table.old item.now) }
     ensures wrote { OnOk result (MovesFront (K.written out.old) (K.written out.new) (string_bytes pending.old.text ++ item_text table.old item.now) (string_bytes pending.new.text)) }
     ensures err { OnErr result (AppendsFront (K.written out.old) (K.written out.new) (string_bytes pending.old.text ++ item_text table.old item.now)) }
     ensures later { K.faults out.old ≤ K.faults out.new }
     ensures fault { result ≡ Err ReplayEnd.WriteFault → Rose (K.faults out.old) (K.faults out.new) }
+    ensures ended { IfOk result (λ end. end ≡ end_at (state_in table.old) item.now) }
 {
     match table.play(alloc, item, pending) {
         Err(_) => Err(ReplayEnd::NoMemory),
-        Ok(()) => match flush_full(&mut pending.text, out) {
+        Ok(end) => match flush_full(&mut pending.text, out) {
             Err(_) => Err(ReplayEnd::WriteFault),
-            Ok(()) => Ok(()),
+            Ok(()) => Ok(end),
         },
     }
 }
 
-// Replays the lines from a state on.
-fn replay_from<K: Sink>(
+/// Replays the lines from a state on.
+pub(crate) fn replay_from<K: Sink>(
     alloc: Global,
     table: &mut Table,
     items: &[Item],
     out: &mut K,
 ) -> Result<(), ReplayEnd>
+    ensures state { OnOk result (table.new ≡ desk_after table.old items.now) }
     ensures wrote { OnOk result (Appends (K.written out.old) (K.written out.new) (text_from table.old items.now)) }
     ensures err { OnErr result (AppendsFront (K.written out.old) (K.written out.new) (text_from table.old items.now)) }
     ensures later { K.faults out.old ≤ K.faults out.new }
@@ -99,7 +103,7 @@ fn replay_from<K: Sink>(
     for item in items {
         match replay_item(alloc, table, item, &mut pending, out) {
             Err(end) => return Err(end),
-            Ok(()) => {}
+            Ok(_) => {}
         }
     }
     match flush(&mut pending.text, out) {

@@ -6,13 +6,14 @@ ghost use Rattle.ps_outside.specs.Causes.{Rose};
 ghost use Rattle.replay_script.specs.Scripts.{IsScript};
 ghost use Rattle.replay_script.specs.Limits.{long_of, ReadsFew};
 ghost use Rattle.replay_script.specs.declared.item.Item.{Item};
-ghost use Rattle.program_commands.specs.Words.{words_in, options_of, IfReplay, IfDrill, IfCheck, IfExport, IfImport};
+ghost use Rattle.program_commands.specs.Words.{words_in, options_of, IfReplay, IfDrill, IfCheck, IfExport, IfImport, IfTour};
 ghost use Rattle.program_commands.specs.Steps.{dex_in};
 ghost use Rattle.program_commands.specs.Setups.{usage_of, usage_reported, HasSetup, Stands, EndsIfKnown};
 ghost use Rattle.program_commands.specs.Checks.{legal_line, CheckEnds, IsNamed, CheckCause, SettlesCheck};
 ghost use Rattle.program_commands.specs.Conversions.{HasExport, MakesPacked, ExportCause, ImportCause, WritesExport, WritesPacked, SettlesConversion};
 ghost use Rattle.ps_replay.specs.Outcomes.{symbols_of, IsOfInput, KeepsInput, IsTranscript, HasOneEntryEachText, HasHistories, HasEqualWorlds, IsReplayed, WritesOfInput, ReplayCause, InputCause, Settles, SettlesInput};
 ghost use Rattle.ps_replay.specs.Drills.{DrillEnds, DrillCause, WritesSummary, SettlesDrill};
+ghost use Rattle.ps_replay.specs.Tours.{IsTour, TourEnds, TourCause, SettlesTour};
 ghost use Rattle.ps_replay.specs.Writes.{Writes};
 ghost use Rattle.ps_replay.specs.Commands.{IsReplay, IsRun};
 
@@ -20,6 +21,7 @@ use crate::drill::drill;
 use crate::replay::{ReplayEnd, replay};
 use crate::setup::{shared_config, shared_dex};
 use crate::symbols::symbols_of;
+use crate::tour::tour;
 use program_commands::check::check;
 use program_commands::convert::{export, import};
 use program_commands::status::Status;
@@ -206,6 +208,7 @@ fn run_words<F: Files, S: Source, K: Sink>(
         Ok(Command::Check(words)) => check(alloc, words, files, out),
         Ok(Command::Export(name)) => export(alloc, name, files, out),
         Ok(Command::Import(name)) => import(alloc, name, files, out),
+        Ok(Command::Tour(words)) => tour(alloc, words, files, out),
     }
 }
 
@@ -214,7 +217,9 @@ fn run_words<F: Files, S: Source, K: Sink>(
 /// configuration, if the words name them, and the file of a packed team, and writes `legal` where the team keeps the
 /// rules of the format. `drill` reads the dex file and the configuration, if the words name them, makes a script, runs it,
 /// and writes six lines that tell what came of it. `export` reads the file of a packed team, and writes its export text; `import`
-/// reads the file of an export text, and writes the packed text and a newline. All but `replay` leave the input alone.
+/// reads the file of an export text, and writes the packed text and a newline. `tour` reads the dex file and the configuration,
+/// if the words name them, plays a tournament, and writes its transcript and who beat whom. All but `replay` leave the input
+/// alone.
 pub fn run<F: Files, S: Source, K: Sink>(
     alloc: Global,
     words: &[String],
@@ -273,7 +278,22 @@ pub fn run<F: Files, S: Source, K: Sink>(
     // At Done of a drill its summary was written: the numbers and the digest of its script and of the transcript of that script.
     ensures drill_summary { IfDrill (words_in (map string_bytes words.now)) (λ asked. result ≡ Status.Done → HasSetup (F.contents files.old) asked.options (λ config dex. WritesSummary config dex asked.steps (K.written out.old) (K.written out.new))) }
 
-    // At every other status nothing was written, but for a front of the output at WriteFault, and at NoMemory of a replay.
+    // A tournament ends as the first of the dex and the configuration that ends in a status, or in NoTour exactly where there is no
+    // species, no format, or no team that is legal in the first one, and else in Done, unless the sink or memory fails. The input
+    // isn't touched.
+    ensures tour_ends { IfTour (words_in (map string_bytes words.now)) (λ asked.
+        EndsIfKnown (F.contents files.old) (λ lookup. TourEnds lookup asked.options) result) }
+    ensures tour_cause { IfTour (words_in (map string_bytes words.now)) (λ asked.
+        TourCause asked.options (F.counts files.old) (F.counts files.new) result) }
+    ensures tour_untouched { IfTour (words_in (map string_bytes words.now)) (λ _. S.left input.new ≡ S.left input.old) }
+
+    // At Done of a tournament the transcript of its script was written, and who beat whom; each user but the champion was beaten
+    // exactly once; and a connection's block is the same for every script whose world there is the same to it.
+    ensures tour_played { IfTour (words_in (map string_bytes words.now)) (λ asked.
+        result ≡ Status.Done → HasSetup (F.contents files.old) asked.options (IsTour asked (K.written out.old) (K.written out.new))) }
+
+    // At every other status nothing was written, but for a front of the output at WriteFault, and at NoMemory of a replay and of a
+    // tournament.
     ensures prefix { Writes (words_in (map string_bytes words.now)) (F.contents files.old) (S.left input.old) (K.written out.old) (K.written out.new) result }
     ensures bounded { ReadsFew (S.left input.old) (S.left input.new) }
 
@@ -289,6 +309,9 @@ pub fn run<F: Files, S: Source, K: Sink>(
         SettlesConversion (F.contents files.old) MakesPacked (Rose (F.counts files.old).faults (F.counts files.new).faults)
         (Rose (K.faults out.old) (K.faults out.new)) name result) }
     ensures complete_drill { IfDrill (words_in (map string_bytes words.now)) (λ asked. SettlesDrill (F.contents files.old) (Rose (F.counts files.old).faults (F.counts files.new).faults) (Rose (K.faults out.old) (K.faults out.new)) asked.options result) }
+    ensures complete_tour { IfTour (words_in (map string_bytes words.now)) (λ asked.
+        SettlesTour (F.contents files.old) (Rose (F.counts files.old).faults (F.counts files.new).faults)
+        (Rose (K.faults out.old) (K.faults out.new)) asked.options result) }
 {
     run_words(alloc, words, files, input, out)
 }

@@ -44,6 +44,9 @@ Usage:
   psd drill N [--dex NAME] [--config NAME]
       makes a script of N steps, 1 to 4000, runs it, and prints six lines that say
       what came of it: the same on every machine, as long as the files are
+  psd tour N SEED [--dex NAME] [--config NAME]
+      plays a tournament of N users, 2 to 16, in an order that the seed draws, and
+      prints the transcript of its battles, who beat whom, and the champion
   psd --help
       prints this help
   psd --version

@@ -1,4 +1,4 @@
-//! The battle of a drill.
+//! The battle of a drill, and those of a tournament.
 ghost use Rattle.std.specs.Prelude.{◌≡◌, ◌++◌, ◌∷◌, IfOk, OnOk, length, map, take, string_bytes};
 ghost use Rattle.std.specs.Str.{chars};
 ghost use Rattle.std.specs.List.{join_with_byte};
@@ -13,9 +13,9 @@ use ps_rules::table::Format;
 use rules_config::config::Config;
 use std::alloc::{AllocError, Global};
 
-/// The format of a drill's battle, and the team that both sides play.
+/// The format of a drill's battle, or of those of a tournament, and the team that both sides play.
 #[derive(Debug, Drop)]
-pub(crate) struct Fight {
+pub struct Fight {
     /// The format's id.
     pub format: Id,
     /// The packed text of the team.
@@ -114,7 +114,7 @@ fn fight_in(
 
 impl Fight {
     /// The first format with the first species. `None` exactly where there is no format or no species.
-    pub(crate) fn of(alloc: Global, config: &Config, dex: &Dex) -> Result<Option<Fight>, AllocError>
+    pub fn of(alloc: Global, config: &Config, dex: &Dex) -> Result<Option<Fight>, AllocError>
         ensures { IfOk result (λ f. f ≡ fight_of config.now dex.now) }
     {
         fight_in(

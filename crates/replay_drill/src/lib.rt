@@ -3,7 +3,7 @@
 #![tactic(auto)]
 
 pub mod counter;
-mod fight;
+pub mod fight;
 mod lines;
 pub mod mark;
 pub mod script;

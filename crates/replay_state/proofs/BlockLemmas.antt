@@ -128,23 +128,36 @@ grows r (Open conn) = omega (arith, open_sessions (state_of r) conn)
 grows r (Send conn text) = omega (arith, sent_sessions (state_of r) conn text)
 grows r (Close conn) = omega (arith, closed_sessions (state_of r) conn)
 
-block_lines : (conn : ℕ) (place : Place) (s : Seen) (r : Run) (ls : List (List ℕ)) (is : List Item) → AreItems s ls is → length s.opened ≡ length r.sessions → IsTame (length r.sessions) r.world
+-- the entries of each of these lines are of connections that have opened with it
+abbrev pub AreOwn : Run → List Item → Type 0
+AreOwn r [] = Unit {0}
+AreOwn r (i ∷ is) = AreUpTo (length (line_in r i).sessions) (entries_in (line_in r i).happenings) × AreOwn (run_after r i) is
+
+block_lines : (conn : ℕ) (place : Place) (r : Run) (is : List Item) → AreOwn r is → IsTame (length r.sessions) r.world
     → world_view conn place (run_past r is).world ≡ world_view conn place r.world ++ block conn place (filter_map message_in (signs_in r is))
-block_lines conn place s r [] [] a e t = sym (append-nil (world_view conn place r.world))
-block_lines conn place s r [] (i ∷ is) a e t = absurd a
-block_lines conn place s r (line ∷ ls) [] a e t = absurd a
-block_lines conn place s r (line ∷ ls) (i ∷ is) a e t =
+block_lines conn place r [] own t = sym (append-nil (world_view conn place r.world))
+block_lines conn place r (i ∷ is) own t =
     let n = length (line_in r i).sessions in
     let xs = (line_in r i).happenings in
     let begun : IsTame n r.world = tame_more (length r.sessions) n r.world (grows r i) t in
-    let by : AreUpTo n (entries_in xs) = line_up_to s r i a.1 e in
     let later = filter_map message_in (signs_in (run_after r i) is) in
-    block_lines conn place (next s i) (run_after r i) ls is a.2 (count_next s r i e) (tame_past n r.world (entries_in xs) begun by)
-    ∙ ap (λ (ms : List (List (List ℕ))). ms ++ block conn place later) (block_past conn n place r.world xs begun by)
+    block_lines conn place (run_after r i) is own.1 (tame_past n r.world (entries_in xs) begun own.0)
+    ∙ ap (λ (ms : List (List (List ℕ))). ms ++ block conn place later) (block_past conn n place r.world xs begun own.0)
     ∙ append_assoc (world_view conn place r.world) (block conn place (messages_from n r.world xs)) (block conn place later)
     ∙ ap (λ (ms : List (List (List ℕ))). world_view conn place r.world ++ ms) (sym (ap (block conn place) (filter_map-append message_in (signs_from n r.world xs) (signs_in (run_after r i) is)) ∙ flat_map-append (picked conn place) (messages_from n r.world xs) later))
 
 -- a connection's messages from a place are its view there
+pub blocks_of_own : (s : Setup) (items : List Item) → AreOwn (run_opening s) items → (conn : ℕ) (place : Place) → block conn place (messages s items) ≡ world_view conn place (world_of s items)
+blocks_of_own s items own conn place =
+    sym (block_lines conn place (run_opening s) items own (tame_opening s) ∙ ap (λ (ms : List (List (List ℕ))). ms ++ block conn place (messages s items)) (view_opening conn place s))
+
+-- ---- scripts
+
+own_lines : (s : Seen) (r : Run) (ls : List (List ℕ)) (is : List Item) → AreItems s ls is → length s.opened ≡ length r.sessions → AreOwn r is
+own_lines s r [] [] a e = tt
+own_lines s r [] (i ∷ is) a e = absurd a
+own_lines s r (line ∷ ls) [] a e = absurd a
+own_lines s r (line ∷ ls) (i ∷ is) a e = (line_up_to s r i a.1 e, own_lines (next s i) (run_after r i) ls is a.2 (count_next s r i e))
+
 pub blocks_of : (s : Setup) (symbols bytes : List ℕ) (items : List Item) → IsScript symbols bytes items → (conn : ℕ) (place : Place) → block conn place (messages s items) ≡ world_view conn place (world_of s items)
-blocks_of s symbols bytes items script conn place =
-    sym (block_lines conn place (start symbols) (run_opening s) (lines_in bytes) items script refl (tame_opening s) ∙ ap (λ (ms : List (List (List ℕ))). ms ++ block conn place (messages s items)) (view_opening conn place s))
+blocks_of s symbols bytes items script = blocks_of_own s items (own_lines (start symbols) (run_opening s) (lines_in bytes) items script refl)

@@ -13,9 +13,9 @@ use Rattle.replay_state.specs.Nows.{now_of}
 use Rattle.replay_state.specs.Houses.{House, now_in, house_after, house_of}
 use Rattle.replay_state.specs.Entries.{Run, Line, run_opening, run_after, line_in, entry_in, entries_in, worlds_after, happenings_from, entries}
 use Rattle.replay_state.specs.Counts.{is_refused, one_if, refused_from, refused}
-use Rattle.replay_state.specs.Tables.{Desk, fresh, no_counts, one_more, happenings_counts, item_counts, counts_from}
+use Rattle.replay_state.specs.Tables.{Desk, desk_of, fresh, no_counts, one_more, happenings_counts, item_counts, counts_from}
 use Rattle.replay_state.proofs.HistoryLemmas.{house_more}
-use Rattle.replay_state.proofs.TextLemmas.{now_is, line_is, desk_of, desk_past, fresh_is}
+use Rattle.replay_state.proofs.TextLemmas.{now_is, line_is, desk_past, fresh_is}
 use Rattle.replay_state.proofs.LoggedLemmas.{refused_same}
 
 abbrev counts : ℕ → ℕ → Counts

@@ -6,6 +6,7 @@ use Rattle.std.proofs.lemmas.Option.{slice_get-map}
 use Rattle.ps_base.specs.declared.badge.Badge.{Badge}
 use Rattle.ps_hall.specs.Lookups.{badge_of}
 use Rattle.ps_room.specs.declared.entry.Entry.{Entry}
+use Rattle.ps_room.specs.declared.outcome.Ending.{Ending}
 use Rattle.ps_room.specs.declared.outcome.RoomOut.{RoomOut}
 use Rattle.ps_room.proofs.BlankLemmas.{blank, blank_out}
 use Rattle.replay_script.specs.declared.item.Item.{Item}
@@ -17,7 +18,7 @@ use Rattle.replay_state.specs.declared.place.Happening.TheVariants as happening
 use Rattle.ps_room.specs.Openings.{first_battle}
 use Rattle.ps_room.specs.Logs.{ended_in}
 use Rattle.replay_state.specs.Nows.{Standing, Now, room_at, record_at}
-use Rattle.replay_state.specs.Entries.{quit_in, room_quits, named_quits, quits, hall_entry, ended, report_of, out_at, reports, entry_happenings, text_entry, text_session, session_of, is_open, idle, sent_by, sent, closed, line_at, State, Line}
+use Rattle.replay_state.specs.Entries.{quit_in, room_quits, named_quits, quits, hall_entry, ended, report_of, out_at, reports, entry_happenings, text_entry, text_session, session_of, is_open, end_by, end_sent, end_at, idle, sent_by, sent, closed, line_at, State, Line}
 use Rattle.replay_state.specs.Counts.{is_refused, out_refuses}
 use Rattle.ps_lines.specs.declared.command.HallCmd.TheVariants as hall_commands
 
@@ -95,3 +96,22 @@ line_same s (Group symbol id) = refl
 line_same s (Open conn) = refl
 line_same s (Send conn text) = sent_same s conn text
 line_same s (Close conn) = closed_same s conn
+
+-- ---- the end of a battle
+
+end_by_same : (n : Now) (o : Option Placed) → end_by (blank_now n) o ≡ end_by n o
+end_by_same n None = refl
+end_by_same n (Some (Hall e)) = refl
+end_by_same n (Some (Room number e)) = ap ended_in (record_out number n e)
+
+end_sent_same : (s : State) (conn : ℕ) (text : List ℕ) (o : Option Session) → end_sent (blank_state s) conn text o ≡ end_sent s conn text o
+end_sent_same s conn text None = refl
+end_sent_same s conn text (Some session) = end_by_same s.now (text_entry s.moment s.now conn text session)
+
+pub end_same : (s : State) (i : Item) → end_at (blank_state s) i ≡ end_at s i
+end_same s Nothing = refl
+end_same s (Moment n) = refl
+end_same s (Group symbol id) = refl
+end_same s (Open conn) = refl
+end_same s (Send conn text) = ap (λ (end : Option Ending). cond (is_open conn s.now) end None) (end_sent_same s conn text (session_of conn s.sessions))
+end_same s (Close conn) = refl

@@ -1,5 +1,5 @@
 -- Whose the entries of a line are.
-use Rattle.std.proofs.Common.{◌≡◌, ℕ, List, [], ◌∷◌, length, None, IfSome, refl, sym, subst, arith}
+use Rattle.std.proofs.Common.{◌≡◌, ℕ, List, [], ◌∷◌, ◌+◌, length, None, IfSome, refl, sym, subst, arith}
 use Rattle.ps_session.specs.Sessions.{Record as Session}
 use Rattle.ps_room.proofs.SilenceLemmas.{IsUpTo}
 use Rattle.replay_script.specs.declared.item.Item.{Item}
@@ -40,6 +40,16 @@ by_up_to : (n conn : ℕ) (ps : List Placed) → IsUpTo n conn → AllOf (IsBy c
 by_up_to n conn [] up by = tt
 by_up_to n conn (p ∷ ps) up by = (subst (IsUpTo n) (sym by.0) up, by_up_to n conn ps up by.1)
 
+-- a line that opens the next connection, and a text of one of those that have opened
+
+pub open_up_to : (r : Run) (conn : ℕ) → conn ≡ length r.sessions + 1 → AreUpTo (length (line_in r (Open conn)).sessions) (entries_in (line_in r (Open conn)).happenings)
+open_up_to r conn number = let more = open_sessions (state_of r) conn in ((omega (arith, number), omega (arith, number, more)), tt)
+
+pub send_up_to : (r : Run) (conn : ℕ) (text : List ℕ) → IsUpTo (length r.sessions) conn → AreUpTo (length (line_in r (Send conn text)).sessions) (entries_in (line_in r (Send conn text)).happenings)
+send_up_to r conn text up =
+    let same = sent_sessions (state_of r) conn text in
+    by_up_to (length (line_in r (Send conn text)).sessions) conn (entries_in (line_in r (Send conn text)).happenings) (up.0, omega (arith, up.1, same)) (sent_by_one (state_of r) conn text)
+
 -- the entries of a line in order are of connections that have opened with it
 pub line_up_to : (s : Seen) (r : Run) (i : Item) → fault_of s i ≡ None → length s.opened ≡ length r.sessions → AreUpTo (length (line_in r i).sessions) (entries_in (line_in r i).happenings)
 line_up_to s r Nothing a e = tt
@@ -47,12 +57,10 @@ line_up_to s r (Moment n) a e = tt
 line_up_to s r (Group symbol id) a e = tt
 line_up_to s r (Open conn) a e =
     let number = opens_next s conn a in
-    let more = open_sessions (state_of r) conn in
-    ((omega (arith, number), omega (arith, number, more, e)), tt)
+    open_up_to r conn (omega (arith, number, e))
 line_up_to s r (Send conn text) a e =
     let within = sends_open s conn text a in
-    let same = sent_sessions (state_of r) conn text in
-    by_up_to (length (line_in r (Send conn text)).sessions) conn (entries_in (line_in r (Send conn text)).happenings) (within.0, omega (arith, within.1, e, same)) (sent_by_one (state_of r) conn text)
+    send_up_to r conn text (within.0, omega (arith, within.1, e))
 line_up_to s r (Close conn) a e =
     let within = closes_open s conn a in
     let same = closed_sessions (state_of r) conn in

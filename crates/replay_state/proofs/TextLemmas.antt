@@ -1,5 +1,5 @@
 -- What is printed of lines is what their messages print.
-use Rattle.std.proofs.Common.{◌≡◌, ◌-◌, ℕ, zero, suc, Bool, true, false, cond, List, [], ◌∷◌, ◌++◌, map, length, Option, Some, None, refl, sym, ap, ◌∙◌}
+use Rattle.std.proofs.Common.{◌≡◌, ◌-◌, ℕ, zero, suc, Bool, true, false, cond, List, [], ◌∷◌, ◌++◌, map, length, Option, Some, None, refl, sym, ap, ◌∙◌, append_assoc}
 use Rattle.std.specs.Prelude.{slice_get, nat_lt}
 use Rattle.std.specs.Option.{option_map_or, option_map}
 use Rattle.std.specs.List.{flat_map}
@@ -21,11 +21,11 @@ use Rattle.replay_state.specs.Setup.{Setup, chat_openings}
 use Rattle.replay_state.specs.Worlds.{Place, World, place_of, hall_in, record_of, story_at, world_after, world_message, room_message, room_id, no_story}
 use Rattle.replay_state.specs.Nows.{Standing, Now, standing_of, now_of, room_at, record_at}
 use Rattle.replay_state.specs.Houses.{House, standing, now_in, seen_at, house_after, id_of, house_id, next_message, seen_message, house_message, house_opening, house_of}
-use Rattle.replay_state.specs.Entries.{Run, Line, state_of, run_opening, run_after, line_in, line_at, entries_in, worlds_after, moment_after}
+use Rattle.replay_state.specs.Entries.{Run, Line, state_of, run_opening, run_after, run_past, line_in, line_at, end_at, entries_in, worlds_after, moment_after}
 use Rattle.replay_state.specs.Transcript.{Message, told, over, message_if, messages_to, signs_from, signs_in, print, print_sign, printed, with_id, output}
-use Rattle.replay_state.specs.Tables.{Desk, state_in, fresh, printed_for, entry_text, happenings_text, happenings_after, line_text, line_after, item_after, text_from}
+use Rattle.replay_state.specs.Tables.{Desk, state_in, desk_of, fresh, printed_for, entry_text, happenings_text, happenings_after, item_text, line_text, line_after, item_after, text_from, desk_after}
 use Rattle.replay_state.proofs.HistoryLemmas.{house_more}
-use Rattle.replay_state.proofs.LoggedLemmas.{blank_standing, blank_now, line_same}
+use Rattle.replay_state.proofs.LoggedLemmas.{blank_standing, blank_now, line_same, end_same}
 use Rattle.ps_base.specs.Lists.{each_to}
 
 -- ---- a room as it is, in its story
@@ -120,14 +120,15 @@ standings_in (s ∷ ss) = ap (λ (x : Standing). x ∷ map standing (map seen_of
 pub now_is : (w : World) → now_in (house_of w) ≡ blank_now (now_of w)
 now_is w i = record { hall = hall_in w; chats = standings_in w.chats i; battles = standings_in w.battles i; numbers = w.numbers }
 
--- what the code has of a run
-abbrev pub desk_of : Run → Desk
-desk_of r = record { moment = r.moment; house = house_of r.world; sessions = r.sessions }
-
 pub line_is : (r : Run) (i : Item) → line_at (state_in (desk_of r)) i ≡ line_in r i
 line_is r i =
     ap (λ (n : Now). line_at (record { moment = r.moment; now = n; sessions = r.sessions }) i) (now_is r.world)
     ∙ line_same (state_of r) i
+
+pub end_is : (r : Run) (i : Item) → end_at (state_in (desk_of r)) i ≡ end_at (state_of r) i
+end_is r i =
+    ap (λ (n : Now). end_at (record { moment = r.moment; now = n; sessions = r.sessions }) i) (now_is r.world)
+    ∙ end_same (state_of r) i
 
 -- ---- what is printed at lines
 
@@ -143,6 +144,18 @@ text_is r (i ∷ is) =
     ∙ ap (λ (x : List ℕ). x ++ text_from (item_after (desk_of r) i) is) (signs_text (length (line_in r i).sessions) r.world (line_in r i).happenings)
     ∙ ap (λ (x : List ℕ). flat_map print_sign (signs_from (length (line_in r i).sessions) r.world (line_in r i).happenings) ++ x) (ap (λ (d : Desk). text_from d is) (desk_past r i) ∙ text_is (run_after r i) is)
     ∙ sym (flat_map-append print_sign (signs_from (length (line_in r i).sessions) r.world (line_in r i).happenings) (signs_in (run_after r i) is))
+
+-- what lines leave
+pub desk_past_all : (r : Run) (is : List Item) → desk_after (desk_of r) is ≡ desk_of (run_past r is)
+desk_past_all r [] = refl
+desk_past_all r (i ∷ is) = ap (λ (d : Desk). desk_after d is) (desk_past r i) ∙ desk_past_all (run_after r i) is
+
+-- lines behind others
+pub text_behind : (d : Desk) (is js : List Item) → text_from d (is ++ js) ≡ text_from d is ++ text_from (desk_after d is) js
+text_behind d [] js = refl
+text_behind d (i ∷ is) js =
+    ap (λ (x : List ℕ). item_text d i ++ x) (text_behind (item_after d i) is js)
+    ∙ sym (append_assoc (item_text d i) (text_from (item_after d i) is) (text_from (desk_after (item_after d i) is) js))
 
 opened_stories : (os : List Opening) → map seen_of (map no_story os) ≡ map seen_opened os
 opened_stories [] = refl

@@ -190,12 +190,33 @@ line_at s (Open conn) = record { happenings = opening s.moment conn ∷ []; sess
 line_at s (Send conn text) = sent s conn text
 line_at s (Close conn) = closed s conn
 
+-- ---- the end of a battle
+
+-- that which an entry brings about
+abbrev pub end_by : Now → Option Placed → Option Ending
+end_by n None = None
+end_by n (Some (Hall e)) = None
+end_by n (Some (Room number e)) = ending_at (record_at number n) e
+
+abbrev pub end_sent : State → ℕ → List ℕ → Option Session → Option Ending
+end_sent s conn text None = None
+end_sent s conn text (Some session) = end_by s.now (text_entry s.moment s.now conn text session)
+
+-- that which a line brings about, whose entry's end is reported right behind it
+abbrev pub end_at : State → Item → Option Ending
+end_at s (Send conn text) = if is_open conn s.now then end_sent s conn text (session_of conn s.sessions) else None
+end_at s Nothing = None
+end_at s (Moment n) = None
+end_at s (Group symbol id) = None
+end_at s (Open conn) = None
+end_at s (Close conn) = None
+
+-- ---- scripts
+
 -- the moment after a line
 abbrev pub moment_after : ℕ → Item → ℕ
 moment_after moment (Moment n) = n
 moment_after moment other = moment
-
--- ---- scripts
 
 -- what the lines before a line leave, with the whole history of each place
 pub record Run : Type 0 where

@@ -8,8 +8,8 @@ use Rattle.replay_state.specs.declared.place.Happening.TheVariants.{Entry, Ended
 use Rattle.replay_state.specs.declared.transcript.Counts.{Counts}
 use Rattle.replay_state.specs.Setup.{Setup}
 use Rattle.ps_session.specs.Sessions.{Record as Session}
-use Rattle.replay_state.specs.Houses.{House, now_in, house_opening, house_after, house_message, house_id}
-use Rattle.replay_state.specs.Entries.{State, Line, line_at, moment_after}
+use Rattle.replay_state.specs.Houses.{House, now_in, house_of, house_opening, house_after, house_message, house_id}
+use Rattle.replay_state.specs.Entries.{State, Line, line_at, moment_after, Run}
 use Rattle.replay_state.specs.Counts.{is_refused, one_if}
 use Rattle.replay_state.specs.Transcript.{printed, with_id, over_line}
 use Rattle.ps_base.specs.Lists.{each_to}
@@ -23,6 +23,10 @@ pub record Desk : Type 0 where
 -- what decides what a line brings about
 abbrev pub state_in : Desk → State
 state_in d = record { moment = d.moment; now = now_in d.house; sessions = d.sessions }
+
+-- what the code has of a run
+abbrev pub desk_of : Run → Desk
+desk_of r = record { moment = r.moment; house = house_of r.world; sessions = r.sessions }
 
 -- before the first line
 abbrev pub fresh : Setup → Desk
@@ -88,6 +92,11 @@ item_after d i = line_after d i (line_at (state_in d) i)
 abbrev pub text_from : Desk → List Item → List ℕ
 text_from d [] = []
 text_from d (i ∷ is) = item_text d i ++ text_from (item_after d i) is
+
+-- what these lines leave
+abbrev pub desk_after : Desk → List Item → Desk
+desk_after d [] = d
+desk_after d (i ∷ is) = desk_after (item_after d i) is
 
 -- ---- counts
 

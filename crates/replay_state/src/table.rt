@@ -6,8 +6,9 @@ ghost use Rattle.ps_session.specs.Routes.{no_room, after_no_room};
 ghost use Rattle.replay_state.specs.declared.place.Placed.TheVariants as placed;
 ghost use Rattle.replay_state.specs.declared.place.Happening.TheVariants as happening;
 ghost use Rattle.replay_state.specs.Houses.{now_in};
+ghost use Rattle.replay_state.specs.Nows.{record_at};
 ghost use Rattle.ps_session.specs.Sessions.{begun};
-ghost use Rattle.replay_state.specs.Entries.{quits, ended, badged, report_of, entry_happenings, entry_in_room, entry_in_hall, text_entry, text_session, order_entry, order_session, sent_by, session_of, opening, IsCounted};
+ghost use Rattle.replay_state.specs.Entries.{quits, ended, badged, report_of, entry_happenings, entry_in_room, entry_in_hall, text_entry, text_session, order_entry, order_session, sent_by, session_of, opening, ending_at, end_by, end_sent, IsCounted};
 ghost use Rattle.replay_state.specs.Tables.{happenings_text, happenings_after, happenings_counts};
 
 use crate::place::Placed;
@@ -182,7 +183,7 @@ fn push_report(
     }
 }
 
-// An entry of a room, and the report of the battle that it ended.
+// An entry of a room, and the report of the battle that it ended, whose end is given.
 fn push_in_room(
     alloc: Global,
     places: &mut Places,
@@ -191,13 +192,15 @@ fn push_in_room(
     no: u32,
     entry: &Entry,
     out: &mut Transcript,
-) -> Result<(), AllocError>
+) -> Result<Option<Ending>, AllocError>
     ensures state { OnOk result (places.new ≡ happenings_after places.old (entry_happenings moment (now_in places.old) entry.now.conn (Some (placed.Room no entry.now)))) }
     ensures text { OnOk result (string_bytes out.new.text ≡ string_bytes out.old.text ++ happenings_text count places.old (entry_happenings moment (now_in places.old) entry.now.conn (Some (placed.Room no entry.now)))) }
     ensures counts { OnOk result (out.new.counts ≡ happenings_counts places.old (entry_happenings moment (now_in places.old) entry.now.conn (Some (placed.Room no entry.now))) out.old.counts) }
+    ensures ended { IfOk result (λ end. end ≡ ending_at (record_at no (now_in places.old)) entry.now) }
 {
     let end = places.push_room(alloc, count, RoomNo(no), entry, out)?;
-    push_report(alloc, places, moment, count, entry.conn, end, out)
+    push_report(alloc, places, moment, count, entry.conn, end, out)?;
+    Ok(end)
 }
 
 // An entry of the hall.
@@ -229,14 +232,18 @@ fn push_to_room(
     no: u32,
     cmd: Command,
     out: &mut Transcript,
-) -> Result<(), AllocError>
+) -> Result<Option<Ending>, AllocError>
     ensures state { OnOk result (places.new ≡ happenings_after places.old (entry_happenings moment (now_in places.old) conn (entry_in_room moment conn no cmd session.old.badge))) }
     ensures session { OnOk result (session.new ≡ session.old) }
     ensures text { OnOk result (string_bytes out.new.text ≡ string_bytes out.old.text ++ happenings_text count places.old (entry_happenings moment (now_in places.old) conn (entry_in_room moment conn no cmd session.old.badge))) }
     ensures counts { OnOk result (out.new.counts ≡ happenings_counts places.old (entry_happenings moment (now_in places.old) conn (entry_in_room moment conn no cmd session.old.badge)) out.old.counts) }
+    ensures ended { IfOk result (λ end. end ≡ end_by (now_in places.old) (entry_in_room moment conn no cmd session.old.badge)) }
 {
     match session.take_badge() {
-        None => push_ended(alloc, places, moment, count, conn, out),
+        None => {
+            push_ended(alloc, places, moment, count, conn, out)?;
+            Ok(None)
+        }
         Some(badge) => {
             let entry = Entry {
                 conn,
@@ -244,9 +251,9 @@ fn push_to_room(
                 moment,
                 cmd,
             };
-            push_in_room(alloc, places, moment, count, no, &entry, out)?;
+            let end = push_in_room(alloc, places, moment, count, no, &entry, out)?;
             session.named(entry.badge);
-            Ok(())
+            Ok(end)
         }
     }
 }
@@ -260,20 +267,24 @@ fn push_to_none(
     count: u32,
     conn: ConnNo,
     out: &mut Transcript,
-) -> Result<(), AllocError>
+) -> Result<Option<Ending>, AllocError>
     requires { is_some session.old.last ≡ true }
     ensures state { OnOk result (places.new ≡ happenings_after places.old (entry_happenings moment (now_in places.old) conn (entry_in_hall moment conn (no_room session.old)))) }
     ensures session { session.new ≡ after_no_room session.old }
     ensures text { OnOk result (string_bytes out.new.text ≡ string_bytes out.old.text ++ happenings_text count places.old (entry_happenings moment (now_in places.old) conn (entry_in_hall moment conn (no_room session.old)))) }
     ensures counts { OnOk result (out.new.counts ≡ happenings_counts places.old (entry_happenings moment (now_in places.old) conn (entry_in_hall moment conn (no_room session.old))) out.old.counts) }
+    ensures ended { IfOk result (λ end. end ≡ end_by (now_in places.old) (entry_in_hall moment conn (no_room session.old))) }
 {
     match session.no_room() {
         Some(Order::Hall(cmd)) => {
             let entry = HallEntry { conn, moment, cmd };
             push_in_hall(alloc, places, moment, count, &entry, out)?;
-            Ok(())
+            Ok(None)
         }
-        _ => push_ended(alloc, places, moment, count, conn, out),
+        _ => {
+            push_ended(alloc, places, moment, count, conn, out)?;
+            Ok(None)
+        }
     }
 }
 
@@ -287,19 +298,20 @@ fn push_order(
     conn: ConnNo,
     order: Order,
     out: &mut Transcript,
-) -> Result<(), AllocError>
+) -> Result<Option<Ending>, AllocError>
     requires { IsCounted order session.old }
     ensures state { OnOk result (places.new ≡ happenings_after places.old (entry_happenings moment (now_in places.old) conn (order_entry moment (now_in places.old) conn (Ok order) session.old))) }
     ensures session { OnOk result (session.new ≡ order_session moment (now_in places.old) conn (Ok order) session.old) }
     ensures text { OnOk result (string_bytes out.new.text ≡ string_bytes out.old.text ++ happenings_text count places.old (entry_happenings moment (now_in places.old) conn (order_entry moment (now_in places.old) conn (Ok order) session.old))) }
     ensures counts { OnOk result (out.new.counts ≡ happenings_counts places.old (entry_happenings moment (now_in places.old) conn (order_entry moment (now_in places.old) conn (Ok order) session.old)) out.old.counts) }
+    ensures ended { IfOk result (λ end. end ≡ end_by (now_in places.old) (order_entry moment (now_in places.old) conn (Ok order) session.old)) }
 {
     match order {
         Order::Hall(cmd) => {
             let entry = HallEntry { conn, moment, cmd };
             let badge = push_in_hall(alloc, places, moment, count, &entry, out)?;
             set_badge(session, badge);
-            Ok(())
+            Ok(None)
         }
         Order::Room { id, cmd } => match places.number(id.as_str()) {
             None => push_to_none(alloc, places, session, moment, count, conn, out),
@@ -319,16 +331,23 @@ fn push_text(
     conn: ConnNo,
     text: &str,
     out: &mut Transcript,
-) -> Result<(), AllocError>
+) -> Result<Option<Ending>, AllocError>
     ensures state { OnOk result (places.new ≡ happenings_after places.old (entry_happenings moment (now_in places.old) conn (text_entry moment (now_in places.old) conn text.now session.old))) }
     ensures session { OnOk result (session.new ≡ text_session moment (now_in places.old) conn text.now session.old) }
     ensures text { OnOk result (string_bytes out.new.text ≡ string_bytes out.old.text ++ happenings_text count places.old (entry_happenings moment (now_in places.old) conn (text_entry moment (now_in places.old) conn text.now session.old))) }
     ensures counts { OnOk result (out.new.counts ≡ happenings_counts places.old (entry_happenings moment (now_in places.old) conn (text_entry moment (now_in places.old) conn text.now session.old)) out.old.counts) }
+    ensures ended { IfOk result (λ end. end ≡ end_by (now_in places.old) (text_entry moment (now_in places.old) conn text.now session.old)) }
 {
     match session.take(alloc, text.as_bytes()) {
         Err(TakeFault::NoMemory) => Err(AllocError),
-        Err(TakeFault::BadText) => push_ended(alloc, places, moment, count, conn, out),
-        Err(TakeFault::Limit { .. }) => push_ended(alloc, places, moment, count, conn, out),
+        Err(TakeFault::BadText) => {
+            push_ended(alloc, places, moment, count, conn, out)?;
+            Ok(None)
+        }
+        Err(TakeFault::Limit { .. }) => {
+            push_ended(alloc, places, moment, count, conn, out)?;
+            Ok(None)
+        }
         Ok(order) => push_order(alloc, places, session, moment, count, conn, order, out),
     }
 }
@@ -349,16 +368,17 @@ fn push_sent(
     conn: ConnNo,
     text: &str,
     out: &mut Transcript,
-) -> Result<(), AllocError>
+) -> Result<Option<Ending>, AllocError>
     requires { count ≡ length sessions.old }
     ensures state { OnOk result (places.new ≡ happenings_after places.old (sent_by (record { moment = moment; now = now_in places.old; sessions = sessions.old }) conn text.now (session_of conn sessions.old)).happenings) }
     ensures sessions { OnOk result (sessions.new ≡ (sent_by (record { moment = moment; now = now_in places.old; sessions = sessions.old }) conn text.now (session_of conn sessions.old)).sessions) }
     ensures text { OnOk result (string_bytes out.new.text ≡ string_bytes out.old.text ++ happenings_text count places.old (sent_by (record { moment = moment; now = now_in places.old; sessions = sessions.old }) conn text.now (session_of conn sessions.old)).happenings) }
     ensures counts { OnOk result (out.new.counts ≡ happenings_counts places.old (sent_by (record { moment = moment; now = now_in places.old; sessions = sessions.old }) conn text.now (session_of conn sessions.old)).happenings out.old.counts) }
+    ensures ended { IfOk result (λ end. end ≡ end_sent (record { moment = moment; now = now_in places.old; sessions = sessions.old }) conn text.now (session_of conn sessions.old)) }
 {
     let place = index_of_conn(conn);
     if place >= sessions.len() {
-        return Ok(());
+        return Ok(None);
     }
     push_text(
         alloc,
@@ -402,8 +422,8 @@ fn push_opened(
 }
 
 impl Table {
-    ghost use Rattle.replay_state.specs.Entries.{moment_after};
-    ghost use Rattle.replay_state.specs.Tables.{fresh, item_text, item_after, item_counts};
+    ghost use Rattle.replay_state.specs.Entries.{moment_after, end_at};
+    ghost use Rattle.replay_state.specs.Tables.{state_in, fresh, item_text, item_after, item_counts};
 
     /// Before the first line, with the ranks that the script gives.
     pub fn new(
@@ -421,23 +441,25 @@ impl Table {
         })
     }
 
-    /// Prints what a line prints, counts its entries, and goes on to the state after it.
+    /// Prints what a line prints, counts its entries, and goes on to the state after it. Gives the end of the battle that its
+    /// entry ended.
     pub fn play(
         &mut self,
         alloc: Global,
         item: &Item,
         out: &mut Transcript,
-    ) -> Result<(), AllocError>
+    ) -> Result<Option<Ending>, AllocError>
         ensures state { OnOk result (self.new ≡ item_after self.old item.now) }
         ensures text { OnOk result (string_bytes out.new.text ≡ string_bytes out.old.text ++ item_text self.old item.now) }
         ensures counts { OnOk result (out.new.counts ≡ item_counts self.old item.now out.old.counts) }
+        ensures ended { IfOk result (λ end. end ≡ end_at (state_in self.old) item.now) }
     {
         match item {
-            Item::Nothing => Ok(()),
-            Item::Group(_, _) => Ok(()),
+            Item::Nothing => Ok(None),
+            Item::Group(_, _) => Ok(None),
             Item::Moment(moment) => {
                 self.moment = *moment;
-                Ok(())
+                Ok(None)
             }
             Item::Open(conn) => {
                 push_opened(
@@ -447,11 +469,12 @@ impl Table {
                     self.moment,
                     *conn,
                     out,
-                )
+                )?;
+                Ok(None)
             }
             Item::Send(conn, text) => {
                 if !self.places.is_open(*conn) {
-                    return Ok(());
+                    return Ok(None);
                 }
                 let count = self.sessions.len() as u32;
                 push_sent(
@@ -467,10 +490,11 @@ impl Table {
             }
             Item::Close(conn) => {
                 if !self.places.is_open(*conn) {
-                    return Ok(());
+                    return Ok(None);
                 }
                 let count = self.sessions.len() as u32;
-                push_quits(alloc, &mut self.places, self.moment, count, *conn, out)
+                push_quits(alloc, &mut self.places, self.moment, count, *conn, out)?;
+                Ok(None)
             }
         }
     }

@@ -4,7 +4,7 @@ use Rattle.ps_outside.specs.Causes.{Rose}
 use Rattle.ps_outside.specs.Counts.{one_more}
 use Rattle.ps_outside.specs.Files.{FileCounts}
 use Rattle.program_commands.specs.declared.status.Status.{Status}
-use Rattle.program_commands.specs.declared.status.Status.TheVariants.{Done, Usage, FileMissing, FileFault, FileLong, BadDex, BadConfig, BadScript, ScriptLong, ReadFault, WriteFault, BadTeam, NoMemory, DoorFault, UnknownFormat, BadPack, BadExport, NoExport}
+use Rattle.program_commands.specs.declared.status.Status.TheVariants.{Done, Usage, FileMissing, FileFault, FileLong, BadDex, BadConfig, BadScript, ScriptLong, ReadFault, WriteFault, BadTeam, NoMemory, DoorFault, UnknownFormat, BadPack, NoTour, BadExport, NoExport}
 use Rattle.program_commands.specs.Words.{Options, Serves}
 use Rattle.program_commands.specs.Setups.{HasSetup, IsGood, Stops, IsOption, AreGood, IsSettled}
 
@@ -37,6 +37,7 @@ ServeCause contents o old new WriteFault = ⊥
 ServeCause contents o old new (BadTeam set rule subject) = ⊥
 ServeCause contents o old new (UnknownFormat id) = ⊥
 ServeCause contents o old new (BadPack at kind) = ⊥
+ServeCause contents o old new NoTour = ⊥
 ServeCause contents o old new (BadExport line) = ⊥
 ServeCause contents o old new (NoExport set) = ⊥
 
@@ -75,5 +76,6 @@ IsOfDoor WriteFault = ⊥
 IsOfDoor (BadTeam set rule subject) = ⊥
 IsOfDoor (UnknownFormat id) = ⊥
 IsOfDoor (BadPack at kind) = ⊥
+IsOfDoor NoTour = ⊥
 IsOfDoor (BadExport line) = ⊥
 IsOfDoor (NoExport set) = ⊥

@@ -1,17 +1,6 @@
 //! Whole drills. Their numbers and digests were made by another program, too.
-use crate::runs::replayed_by;
-use std::alloc::{AllocError, Global};
-use std::str;
+use crate::runs::told_by;
 use std::test::Fail;
-use test_data::{SMALL_CONFIG, SMALL_DEX};
-
-/// How a command with the files `dex` and `config` ends, and what it writes, while a script waits in the input.
-fn told_by(alloc: Global, words: &[&str]) -> Result<String, AllocError> {
-    let script = String::from_str(alloc, "+1\n")?;
-    let (status, bytes) = replayed_by(alloc, words, SMALL_DEX, SMALL_CONFIG, script)?;
-    let text = str::from_utf8(&bytes).unwrap_or("?");
-    format!(in alloc; "{status}\n{text}")
-}
 
 const ONE_STEP: &str = "Done
 lines 27

@@ -1,4 +1,4 @@
-//! Tests of whole runs: replays, checks, drills, exports and imports, from their words to what is written and the line of their
+//! Tests of whole runs: replays, checks, drills, tournaments, exports and imports, from their words to what is written and the line of their
 //! status. It has tests alone, and no crate stands on it.
 #![tactic(auto)]
 
@@ -16,5 +16,7 @@ mod runs;
 mod script_tests;
 #[cfg(test)]
 mod status_tests;
+#[cfg(test)]
+mod tour_tests;
 #[cfg(test)]
 mod world_tests;

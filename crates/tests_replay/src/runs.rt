@@ -7,6 +7,7 @@ use ps_outside::sink::{MemSink, Sink};
 use ps_outside::source::{MemSource, Source, SureSource};
 use ps_replay::run::run;
 use std::alloc::{AllocError, Global};
+use test_data::{SMALL_CONFIG, SMALL_DEX};
 
 /// How a run ends, and nothing of what else it promises: a test compares what was written with a text, and the proofs of
 /// its functions stay small.
@@ -77,6 +78,14 @@ pub(crate) fn replayed_by(
     let mut sink = MemSink::new(alloc, Vec::new(alloc));
     let status = end_of(alloc, &words, &mut files, &mut source, &mut sink);
     Ok((told(alloc, &status)?, sink.bytes().to_vec(alloc)?))
+}
+
+/// How a command with the files `dex` and `config` ends, and what it writes, while a script waits in the input.
+pub(crate) fn told_by(alloc: Global, words: &[&str]) -> Result<String, AllocError> {
+    let script = String::from_str(alloc, "+1\n")?;
+    let (status, bytes) = replayed_by(alloc, words, SMALL_DEX, SMALL_CONFIG, script)?;
+    let text = std::str::from_utf8(&bytes).unwrap_or("?");
+    format!(in alloc; "{status}\n{text}")
 }
 
 /// The lines of a connection, by the digit that they begin with.

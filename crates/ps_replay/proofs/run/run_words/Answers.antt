@@ -1,6 +1,6 @@
 use Rattle.std.proofs.Common.{◌≡◌, map, string_bytes, Ok, refl}
-use Rattle.program_commands.specs.Words.{Replays, Drills, Checks, Exports, Imports, words_in, options_of, drilled_of, checked_of}
-use Rattle.ps_replay.proofs.CommandLemmas.{of_usage, of_replay, of_drill, of_check, of_export, of_import}
+use Rattle.program_commands.specs.Words.{Replays, Drills, Checks, Exports, Imports, Tours, words_in, options_of, drilled_of, checked_of, toured_of}
+use Rattle.ps_replay.proofs.CommandLemmas.{of_usage, of_replay, of_drill, of_check, of_export, of_import, of_tour}
 use Rattle.ps_replay.proofs.run.run_words.Goals as goal
 
 pub returns-in-Err : goal.returns-in-Err
@@ -30,3 +30,8 @@ pub returns-in-Ok-Import : goal.returns-in-Ok-Import
 returns-in-Ok-Import g c =
     let is : words_in (map string_bytes c.args.words.now) ≡ Ok (Imports c.in-Ok-Import.name.now) = rw c.in-Ok-Import.field-0-is at c.in-Ok-Import.ensures.read in
     of_import _ c.in-Ok-Import.name.now _ c.import.result is refl c.import.ensures.cause c.import.ensures.wrote c.import.ensures.write_fault c.import.ensures.settles
+
+pub returns-in-Ok-Tour : goal.returns-in-Ok-Tour
+returns-in-Ok-Tour g c =
+    let is : words_in (map string_bytes c.args.words.now) ≡ Ok (Tours (toured_of c.in-Ok-Tour.words)) = rw c.in-Ok-Tour.field-0-is at c.in-Ok-Tour.ensures.read in
+    of_tour _ (toured_of c.in-Ok-Tour.words) _ c.tour.result is refl c.tour.ensures.ends c.tour.ensures.cause c.tour.ensures.played c.tour.ensures.wrote c.tour.ensures.write_fault c.tour.ensures.settles
