@@ -444,7 +444,7 @@ async function readEveryLine({ ann }) {
     return [unknown.join(), ...[...log.children].map((line) => line.textContent)];
   }, [...first, ...lines]);
   await ann.run(() => rooms.get("battle-test-1").close());
-  assert.equal(unknown, "init,gametype,gen,start,upkeep");
+  assert.equal(unknown, "init,gametype,gen,clearpoke,teampreview,start,upkeep");
   assert(log.length >= lines.length - 7 && !/undefined|NaN/.test(log.join()), log.join("\n"));
 }
 
