@@ -1,0 +1,4 @@
+pub mod Keepers
+pub mod Order
+pub mod Results
+pub mod Standings

@@ -1,0 +1,201 @@
+//! A keeper over a database.
+ghost use Rattle.std.specs.Prelude.{◌≡◌, ◌≤◌, None, length, IfOk};
+ghost use Rattle.ps_keep.specs.Keepers.{no_counts, IsLoadEnd};
+
+use crate::keeper::{KeepEnd, Keeper};
+use crate::note::Note;
+use crate::table::{self, Loaded, TableEnd};
+use crate::tally::Tally;
+use sqlite::{Connection, File, FileStore, MemStore};
+use std::alloc::Global;
+use std::marker::Model;
+use std::{fs, slice};
+
+// Where a database is.
+#[derive(Drop)]
+enum Shelf<'a> {
+    // In the file of the host with this name.
+    File {
+        host: &'a HostRuntime,
+        name: &'a str,
+    },
+    // In memory: it is gone with the keeper.
+    Memory,
+}
+
+// An open database.
+#[derive(Drop)]
+enum Opened {
+    File(Connection<FileStore<File>>),
+    Memory(Connection<MemStore>),
+}
+
+// Opens the database of a file. Where there is no file it is made, or none is given.
+fn open_file(host: &HostRuntime, name: &str, make: bool) -> Result<Option<Opened>, TableEnd> {
+    let Ok(is_there) = fs::exists(host, name) else {
+        return Err(TableEnd::Failed);
+    };
+    if !is_there && !make {
+        return Ok(None);
+    }
+    let conn = Connection::open(host, name)?;
+    Ok(Some(Opened::File(conn)))
+}
+
+fn open(alloc: Global, shelf: &Shelf<'_>, make: bool) -> Result<Option<Opened>, TableEnd> {
+    match shelf {
+        Shelf::File { host, name } => open_file(host, name, make),
+        Shelf::Memory => {
+            let conn = Connection::open_in_memory(alloc)?;
+            Ok(Some(Opened::Memory(conn)))
+        }
+    }
+}
+
+// A database, which is opened at the first call that needs it, and then held.
+#[derive(Drop)]
+struct Book<'a> {
+    shelf: Shelf<'a>,
+    opened: Option<Opened>,
+}
+
+impl Book<'_> {
+    // Where it isn't open it is opened.
+    fn hold(&mut self, alloc: Global, make: bool) -> Result<(), TableEnd> {
+        if self.opened.is_none() {
+            self.opened = open(alloc, &self.shelf, make)?;
+        }
+        Ok(())
+    }
+
+    fn load(&mut self, alloc: Global, most: u32) -> Result<Loaded, TableEnd> {
+        self.hold(alloc, false)?;
+        match &mut self.opened {
+            Some(Opened::File(conn)) => table::load(alloc, conn, most),
+            Some(Opened::Memory(conn)) => table::load(alloc, conn, most),
+            None => Ok(Loaded::Notes(Vec::new(alloc))),
+        }
+    }
+
+    // The log of a file is copied into it, so that the file alone has all notes, and others may open it. Where that fails they
+    // are in the file and its log.
+    fn finish(&mut self) {
+        match self.opened.take() {
+            Some(Opened::File(conn)) => {
+                let _ = conn.close();
+            }
+            other => self.opened = other,
+        }
+    }
+
+    fn append(&mut self, alloc: Global, notes: &[Note]) -> Result<(), TableEnd> {
+        self.hold(alloc, true)?;
+        let end = match &mut self.opened {
+            Some(Opened::File(conn)) => table::append(alloc, conn, notes),
+            Some(Opened::Memory(conn)) => table::append(alloc, conn, notes),
+            None => Err(TableEnd::Failed),
+        };
+        self.finish();
+        end
+    }
+}
+
+// What a load answers, of which this was found.
+fn load_end(found: Result<Loaded, TableEnd>, most: u32) -> Result<Vec<Note>, KeepEnd>
+    ensures few { IfOk result (λ v. length v.items ≤ most) }
+    ensures end { IsLoadEnd None most result }
+{
+    match found {
+        Ok(Loaded::Notes(notes)) => {
+            if notes.len() > most as usize {
+                return Err(KeepEnd::Failed);
+            }
+            Ok(notes)
+        }
+        Ok(Loaded::TooMany(count)) => {
+            if count > most {
+                return Err(KeepEnd::TooMany { count });
+            }
+            Err(KeepEnd::Failed)
+        }
+        Err(TableEnd::Failed) => Err(KeepEnd::Failed),
+        Err(TableEnd::NoMemory) => Err(KeepEnd::NoMemory),
+    }
+}
+
+/// A keeper over a database, which `sqlite3` opens too: its one table, `notes`, has a row for each note. The database is opened
+/// at the first call that needs it, and no other process may open it until notes were committed or the keeper is gone. A
+/// statement that is refused, other than for want of memory, is a fault. What a database contains is known to no clause.
+#[derive(Drop)]
+pub struct SqlKeeper<'a> {
+    book: Book<'a>,
+    tally: Tally,
+}
+
+impl<'a> Model for SqlKeeper<'a> {
+    ghost use Rattle.ps_keep.specs.Keepers.{KeepCounts};
+
+    ghost Value = { KeepCounts };
+
+    ghost view = { λ k. k.tally };
+}
+
+impl<'a> SqlKeeper<'a> {
+    /// A keeper over the database in the file of this name, which isn't opened yet. Takes no memory.
+    pub fn in_file(host: &'a HostRuntime, name: &'a str) -> SqlKeeper<'a>
+        ensures { result ≡ no_counts }
+    {
+        SqlKeeper {
+            book: Book {
+                shelf: Shelf::File { host, name },
+                opened: None,
+            },
+            tally: Tally::new(),
+        }
+    }
+
+    /// A keeper over a database in memory, with no notes. Takes no memory.
+    pub fn in_memory() -> SqlKeeper<'a>
+        ensures { result ≡ no_counts }
+    {
+        SqlKeeper {
+            book: Book {
+                shelf: Shelf::Memory,
+                opened: None,
+            },
+            tally: Tally::new(),
+        }
+    }
+}
+
+impl Keeper for SqlKeeper<'_> {
+    ghost notes = { λ _. None };
+
+    ghost counts = { λ k. k };
+
+    /// Where there is no database there are no notes, and none is made.
+    fn load(&mut self, alloc: Global, most: u32) -> Result<Vec<Note>, KeepEnd> {
+        let answer = load_end(self.book.load(alloc, most), most);
+        self.tally.count_load(&answer);
+        answer
+    }
+
+    fn note(&mut self, alloc: Global, note: &Note) -> Result<(), KeepEnd> {
+        self.note_all(alloc, slice::from_ref(note))
+    }
+
+    /// All of the notes are noted or none, in one transaction, and they are committed at `Ok`. For no notes nothing is opened.
+    fn note_all(&mut self, alloc: Global, more: &[Note]) -> Result<(), KeepEnd> {
+        if more.is_empty() {
+            return Ok(());
+        }
+        match self.book.append(alloc, more) {
+            Ok(()) => Ok(()),
+            Err(TableEnd::Failed) => {
+                self.tally.count_fault();
+                Err(KeepEnd::Failed)
+            }
+            Err(TableEnd::NoMemory) => Err(KeepEnd::NoMemory),
+        }
+    }
+}
