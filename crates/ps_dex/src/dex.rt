@@ -263,6 +263,13 @@ impl Dex {
         self.tables.species.as_slice()
     }
 
+    /// The aliases, in byte order of their keys.
+    pub fn aliases(&self) -> &[AliasItem]
+        ensures { result.now ≡ self.now.aliases }
+    {
+        self.tables.aliases.as_slice()
+    }
+
     /// The number of the species with an id, or of the one that an alias with it stands for. An alias
     /// with the id of a species or a move is never used.
     pub fn species(&self, id: &Id) -> Option<u16>

@@ -76,6 +76,13 @@ impl Groups {
         })
     }
 
+    /// The groups, highest first.
+    pub fn list(&self) -> &[Group]
+        ensures { result.now ≡ self.now }
+    {
+        self.list.as_slice()
+    }
+
     /// The number of groups, 1 to 16.
     pub fn count(&self) -> u8
         ensures count { result ≡ length self.now }

@@ -5,7 +5,7 @@ ghost use Rattle.std.specs.Arc.{arc_value};
 ghost use Rattle.rules_start.specs.Fits.{IsFit};
 ghost use Rattle.ps_users.specs.Seats.{is_seat};
 ghost use Rattle.ps_hall.specs.Records.{opened};
-ghost use Rattle.ps_hall.specs.Lookups.{badge_of};
+ghost use Rattle.ps_hall.specs.Lookups.{badge_of, game_in};
 ghost use Rattle.ps_hall.specs.States.{record_of};
 ghost use Rattle.ps_hall.specs.KeptIndices.{AreReady};
 ghost use Rattle.ps_hall.specs.Refusals.{refusal};
@@ -16,6 +16,7 @@ use crate::account::accounts_of;
 use crate::cursor::Cursor;
 use crate::enter::enter;
 use crate::entry::HallEntry;
+use crate::game::Game;
 use crate::games::Games;
 use crate::log::{past, push_pulled};
 use crate::notice::Notice;
@@ -141,6 +142,13 @@ impl Hall {
         ensures { option_copied result ≡ badge_of self.now.state conn }
     {
         self.state.users.badge(conn)
+    }
+
+    /// The battle with a number, if it started and wasn't reported. Takes no memory.
+    pub fn game(&self, number: u32) -> Option<&Game>
+        ensures { option_copied result ≡ game_in self.now.state number }
+    {
+        self.state.games.find(number)
     }
 
     /// Why a command is refused; `None` where it is allowed.

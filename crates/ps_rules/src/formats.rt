@@ -9,7 +9,7 @@ ghost use Rattle.ps_rules.specs.Faults.{Finds};
 
 use crate::fault::{FormatFault, RuleFault};
 use crate::read::read_said;
-use crate::table::{Format, Rule, RuleTable, Said};
+use crate::table::{Format, Rule, RuleTable, Ruleset, Said};
 use crate::version::{Version, read_version};
 use crate::walk::clauses_of;
 use ps_base::id::Id;
@@ -152,6 +152,13 @@ impl Formats {
             Ok(formats) => Ok(formats),
             Err(refusal) => Err(reported(alloc, refusal)),
         }
+    }
+
+    /// The rulesets, in byte order of their keys.
+    pub fn rulesets(&self) -> &[Ruleset]
+        ensures { result.now ≡ self.now.rulesets }
+    {
+        self.said.rulesets.as_slice()
     }
 
     /// The formats, in the configuration's order.
