@@ -38,7 +38,7 @@ AreFine conn own places r (i ∷ is) = IsFine conn own places r i × AreFine con
 
 -- ---- from records that are alike they are good
 
-good_choices : (places : Hidden) (fo go : Option Fight) (one two : Choice) → AreMaybeAlike places fo go → AreFineChoices places fo one two → AreMaybeGood places fo one two
+pub good_choices : (places : Hidden) (fo go : Option Fight) (one two : Choice) → AreMaybeAlike places fo go → AreFineChoices places fo one two → AreMaybeGood places fo one two
 good_choices places None go one two w h = tt
 good_choices places (Some f) None one two w h = absurd w
 good_choices places (Some f) (Some g) one two w h =

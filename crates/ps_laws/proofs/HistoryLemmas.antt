@@ -132,7 +132,7 @@ view_is conn ids own r (e ∷ es) h users =
     ∙ ap (λ (x : Record). items_view conn (own_part own r) (items_of conn ids r e) ++ items_view conn x (low_from conn ids (after r e) es)) (sym s.after)
     ∙ sym (items_view_more conn (own_part own r) (items_of conn ids r e) (low_from conn ids (after r e) es))
 
-unshown_split : (places : Hidden) (o : Option Round) (rs : List Round) → AreUnshown places (option_to_list o ++ rs) → AreUnshown places (option_to_list o) × AreUnshown places rs
+pub unshown_split : (places : Hidden) (o : Option Round) (rs : List Round) → AreUnshown places (option_to_list o ++ rs) → AreUnshown places (option_to_list o) × AreUnshown places rs
 unshown_split places None rs h = (tt, h)
 unshown_split places (Some r) rs h = ((h.0, tt), h.1)
 

@@ -37,3 +37,8 @@ pub mod HallStarts
 pub mod MissingLemmas
 pub mod UndoneLemmas
 pub mod UserLists
+pub mod NoteLemmas
+pub mod WishLemmas
+pub mod LockLemmas
+pub mod SwapLemmas
+pub mod FirstLemmas

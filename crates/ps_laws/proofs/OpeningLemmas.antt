@@ -46,7 +46,7 @@ owns_opened : (ids : List (List ℕ)) (config : Settings) (dex : Tables) (bo : O
 owns_opened ids config dex None = tt
 owns_opened ids config dex (Some st) = λ s. refl
 
-waits_opened : (config : Settings) (dex : Tables) (bo : Option Start) → WaitsIn (option_map (fight_with config dex) bo)
+pub waits_opened : (config : Settings) (dex : Tables) (bo : Option Start) → WaitsIn (option_map (fight_with config dex) bo)
 unfolding opened_bout
 waits_opened config dex None = tt
 waits_opened config dex (Some st) = record { first = tt; second = tt }
@@ -160,10 +160,10 @@ nick_is : (config : Settings) (st : Start) (side : Side) (k : ℕ) → nick_of (
 nick_is config st P1 k = ap (λ (ns : List (List ℕ)). unwrap_or (slice_get ns k) []) (nicks_at st.teams 0)
 nick_is config st P2 k = ap (λ (ns : List (List ℕ)). unwrap_or (slice_get ns k) []) (nicks_at st.teams 1)
 
-format_same : (config : Settings) (one two : Start) → one.format ≡ two.format → format_in config one ≡ format_in config two
+pub format_same : (config : Settings) (one two : Start) → one.format ≡ two.format → format_in config one ≡ format_in config two
 format_same config one two e = ap (λ (f : List ℕ). format_in config (record one { format = f })) e
 
-names_alike : (preview : Bool) (places : Hidden) (config : Settings) (one two : Start) → AreStartsSame preview places one two → AreNamesAlike places (names_of config one) (names_of config two)
+pub names_alike : (preview : Bool) (places : Hidden) (config : Settings) (one two : Start) → AreStartsSame preview places one two → AreNamesAlike places (names_of config one) (names_of config two)
 names_alike preview places config one two w = record {
   players = w.players;
   format = ap name_of_format (format_same config one two w.format);
@@ -174,12 +174,12 @@ names_alike preview places config one two w = record {
 -- ---- the battle
 
 -- two openings of battles that are alike, and name no hidden member
-record AreOpeningsAlike (places : Hidden) (one two : Outcome) : Type 0 where
-  bout : AreBoutsAlike places one.bout two.bout
-  told : one.told ≡ two.told
-  names : NamesNoHidden places one.told
+pub record AreOpeningsAlike (places : Hidden) (one two : Outcome) : Type 0 where
+  pub bout : AreBoutsAlike places one.bout two.bout
+  pub told : one.told ≡ two.told
+  pub names : NamesNoHidden places one.told
 
-course_alike : (own : ℕ → Bool) (rs : List Round) (other : Hidden) (config : Settings) (dex : Tables) (one two : Start) → IsFit one config dex → IsFit two config dex →
+pub course_alike : (own : ℕ → Bool) (rs : List Round) (other : Hidden) (config : Settings) (dex : Tables) (one two : Start) → IsFit one config dex → IsFit two config dex →
     AreStartsSame (is_previewed config (Some one)) (both (is_previewed config (Some one)) own (Some one) rs other) one two → AreOpeningsAlike (both (is_previewed config (Some one)) own (Some one) rs other) (bout_with config one) (bout_with config two)
 unfolding opened_bout
 course_alike own rs other config dex one two fit fit_too w =
@@ -209,7 +209,7 @@ fights_alike preview own rs other config dex one two w o = record {
 
 -- ---- the record
 
-events_openly : (places : Hidden) (told : List Event) → NamesNoHidden places told → All (IsLoggedOpenly places) (logged_events told)
+pub events_openly : (places : Hidden) (told : List Event) → NamesNoHidden places told → All (IsLoggedOpenly places) (logged_events told)
 events_openly places told named = subst (All (IsLoggedOpenly places)) (append-nil (logged_events told)) (logged_openly places told [] named)
 
 -- what an opening of a room makes of its battle

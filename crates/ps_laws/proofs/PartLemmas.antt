@@ -25,6 +25,7 @@ use Rattle.ps_chat.specs.Lines.{Line}
 use Rattle.ps_room.specs.Records.{Record, cast_in}
 use Rattle.ps_room.specs.Roles.{side_of_member}
 use Rattle.ps_room.specs.Rooms.{sender_of, refusal_by_battle, or_else, verdict, events_by, lines_by, battle_after, chat_lines, request_for, joined, joined_if, is_join, told, told_by, after, after_by, applied, message, role, role_in, joiner_of}
+pub use Rattle.ps_laws.specs.Secrets.{is_choose}
 use Rattle.ps_laws.specs.Alike.{if_own, own_bout, own_fight, own_part}
 
 -- ---- sides
@@ -95,10 +96,6 @@ unfolding verdict
 verdict_free own r e free = ap (or_else _) (refusal_free own r.battle (sender_of r e) e.cmd free)
 
 -- ---- what is told and made of it, but for choices
-
-abbrev pub is_choose : Command → Bool
-is_choose (Choose choice rqid) = true
-is_choose other = false
 
 pub if_none : (own : Bool) → if_own own None ≡ None
 if_none true = refl

@@ -1,5 +1,5 @@
 -- Two stories of a room that are the same to a connection give it equal views.
-use Rattle.std.proofs.Common.{◌≡◌, ℕ, Bool, false, List, Option, Some, None, refl, ap, ◌∙◌, sym, subst}
+use Rattle.std.proofs.Common.{◌≡◌, ℕ, Bool, List, Option, Some, None, refl, ap, ◌∙◌, sym, subst}
 use Rattle.std.specs.Prelude.{is_some, IfSome, option_map}
 use Rattle.std.specs.List.{list_any}
 use Rattle.ps_dex.specs.declared.item.Tables.{Tables}

@@ -81,7 +81,7 @@ none_hidden places (r ∷ rs) members slots = (
   none_hidden places rs members slots,
 )
 
-both_with : (preview : Bool) (own : ℕ → Bool) (bo : Option Start) (rs : List Round) (other : Hidden) → AreUnshown (record {
+pub both_with : (preview : Bool) (own : ℕ → Bool) (bo : Option Start) (rs : List Round) (other : Hidden) → AreUnshown (record {
   member = λ s k. (hidden_with preview own bo rs).member s k && other.member s k;
   slot = λ s k j. (hidden_with preview own bo rs).slot s k j && other.slot s k j;
   move = (hidden_with preview own bo rs).move;

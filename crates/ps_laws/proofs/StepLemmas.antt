@@ -76,7 +76,7 @@ made r f o = record r { logged = r.logged ++ logged_of o.told (requests f.cast o
 unfoldable pub said : ℕ → Role → Fight → Outcome → List (List ℕ)
 said conn role f o = shown_events (Some f.cast) role o.told ++ seen_texts conn role (requests f.cast o.bout o.told)
 
-after_choice : (r : Record) (e : Entry) (choice : List ℕ) (rqid : Option ℕ) (f : Fight) → e.cmd ≡ Choose choice rqid → verdict r e ≡ None → r.battle ≡ Some f → after r e ≡ made r f (outcome_in f.cast.dex f.bout (side_of_member f.cast (sender_of r e)) (Choose choice rqid))
+pub after_choice : (r : Record) (e : Entry) (choice : List ℕ) (rqid : Option ℕ) (f : Fight) → e.cmd ≡ Choose choice rqid → verdict r e ≡ None → r.battle ≡ Some f → after r e ≡ made r f (outcome_in f.cast.dex f.bout (side_of_member f.cast (sender_of r e)) (Choose choice rqid))
 unfolding lines made
 after_choice r e choice rqid f is v b = after_allowed r e v ∙ rw (is, b) refl
 

@@ -1,5 +1,5 @@
 -- What a command or a round makes of two battles that are alike: they stay alike, and the same is told of both, which names no hidden member.
-use Rattle.std.proofs.Common.{◌≡◌, ℕ, zero, suc, ◌<◌, Bool, true, false, List, [], Option, Some, None, Result, Ok, Err, refl, ap, subst, arith}
+use Rattle.std.proofs.Common.{◌≡◌, ℕ, zero, suc, ◌<◌, Bool, true, false, List, [], Option, Some, None, Result, Ok, Err, refl, ap, subst}
 use Rattle.std.proofs.lemmas.List.Elements.{All-nil, All-cons}
 use Rattle.std.specs.List.{All}
 use Rattle.ps_base.specs.declared.why.Why.{Why}
@@ -7,7 +7,6 @@ use Rattle.ps_lines.specs.declared.command.Command.{Command}
 use Rattle.ps_lines.specs.declared.command.Command.TheVariants.{Choose, Undo, Forfeit}
 use Rattle.ps_event.specs.declared.event.Event.TheVariants as events
 use Rattle.ps_mon.specs.declared.choice.Choice.{Choice}
-use Rattle.ps_mon.specs.declared.record.Battle.{Battle}
 use Rattle.ps_mon.specs.Choices.{IsChoiceOf}
 use Rattle.ps_mon.specs.Facts.{Figures}
 use Rattle.ps_mon.specs.Reading.{side_of}
@@ -15,7 +14,6 @@ use Rattle.ps_dex.specs.declared.item.Tables.{Tables}
 use Rattle.ps_dex.specs.Figures.{figures_of}
 use Rattle.ps_hits.specs.Courses.{Course, untold}
 use Rattle.ps_hits.specs.Told.{side_name}
-use Rattle.ps_battle.specs.Openings.{give_up}
 use Rattle.ps_battle.specs.Turns.{turn}
 use Rattle.battle_rounds.specs.declared.bout.Bout.{Bout}
 use Rattle.battle_rounds.specs.Bouts.{with_waiting}
@@ -24,7 +22,6 @@ use Rattle.battle_rounds.specs.Rounds.{Outcome, in_round, next_round, undone, ga
 use Rattle.battle_rounds.specs.Fights.{Fight, still, outcome_in}
 use Rattle.ps_chat.specs.declared.present.Present.{Present}
 use Rattle.battle_secrecy.specs.Places.{Hidden}
-use Rattle.battle_secrecy.specs.Alike.{AreBattlesAlike}
 use Rattle.battle_secrecy.specs.Laws.{forms, IsChoiceUnhidden, fronts, AreToldAlike}
 use Rattle.battle_secrecy.specs.Showing.{NamesNoHidden, ShowsNoHidden, whos}
 use Rattle.battle_secrecy.proofs.OpeningLemmas.{give_up_alike}
@@ -50,7 +47,7 @@ with_outcome places f g o p w outcomes = record { number = w.number; names = w.n
 
 -- ---- what waits
 
-waits_alike : (places : Hidden) (a b : Bout) (s : ℕ) (choice : Option Choice) → AreBoutsAlike places a b → AreBoutsAlike places (with_waiting s choice a) (with_waiting s choice b)
+pub waits_alike : (places : Hidden) (a b : Bout) (s : ℕ) (choice : Option Choice) → AreBoutsAlike places a b → AreBoutsAlike places (with_waiting s choice a) (with_waiting s choice b)
 waits_alike places a b zero choice w = record { battle = w.battle; round = w.round; first = refl; second = w.second }
 waits_alike places a b (suc s) choice w = record { battle = w.battle; round = w.round; first = w.first; second = refl }
 
@@ -81,7 +78,7 @@ waiting_fight_alike own places (Some f) (Some g) me choice rqid plain plays w =
 
 -- ---- commands that aren't choices
 
-names_none : (places : Hidden) → NamesNoHidden places []
+pub names_none : (places : Hidden) → NamesNoHidden places []
 names_none places = All-nil (λ e. All (IsShown places) (whos e))
 
 still_alike : (places : Hidden) (a b : Bout) → AreBoutsAlike places a b → AreOutcomesAlike places (still a) (still b)

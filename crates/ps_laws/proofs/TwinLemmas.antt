@@ -50,7 +50,7 @@ verdict_same : (own : ℕ → Bool) (places : Hidden) (r : Record) (go : Option 
 unfolding verdict
 verdict_same own places r go e plain plays w = ap (or_else _) (refusal_same own places r.battle go (sender_of r e) e.cmd plain plays w)
 
-room_role_same : (conn : ℕ) (places : Hidden) (r : Record) (go : Option Fight) → AreMaybeAlike places r.battle go → role conn r ≡ role conn (with_fight r go)
+pub room_role_same : (conn : ℕ) (places : Hidden) (r : Record) (go : Option Fight) → AreMaybeAlike places r.battle go → role conn r ≡ role conn (with_fight r go)
 unfolding role_in
 room_role_same conn places r go w = role_same places r.battle go (member conn (presents_of r)) w
 
@@ -121,7 +121,7 @@ paired_alike conn own places r go (commit first second) plain asks good w = reco
 }
 
 -- the second of two alike records is the first with its own battle
-second_is : (places : Hidden) (one two : Record) → AreAlike places one two → with_fight one two.battle ≡ two
+pub second_is : (places : Hidden) (one two : Record) → AreAlike places one two → with_fight one two.battle ≡ two
 second_is places one two w =
     let make : ChatOpening → ChatRecord → List Logged → Record = λ opening chat logged. record { opening = opening; chat = chat; logged = logged; battle = two.battle } in
     ap (λ (x : ChatOpening). make x one.chat one.logged) w.opening

@@ -139,7 +139,7 @@ with_choice_alike own places r go e choice rqid plain plays w = record {
 
 -- ---- a round
 
-round_logged : (places : Hidden) (f g : Fight) (o p : Outcome) → AreOutcomesAlike places o p → logged_of o.told (requests f.cast o.bout o.told) ≡ logged_of p.told (requests g.cast p.bout p.told)
+pub round_logged : (places : Hidden) (f g : Fight) (o p : Outcome) → AreOutcomesAlike places o p → logged_of o.told (requests f.cast o.bout o.told) ≡ logged_of p.told (requests g.cast p.bout p.told)
 round_logged places f g o p w =
     ap (λ (told : List Event). logged_events told ++ logged_lines (requests f.cast o.bout o.told)) w.told
     ∙ ap (λ (more : List Logged). logged_events p.told ++ more) (requests_unlogged f.cast o.bout o.told ∙ sym (requests_unlogged g.cast p.bout p.told))

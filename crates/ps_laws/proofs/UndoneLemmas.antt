@@ -37,7 +37,7 @@ use Rattle.ps_laws.proofs.OtherLemmas.{undo_after, chat_undo_after}
 
 -- ---- openings are the same as themselves
 
-slot_self : (hides : Bool) (x : MoveSlot) → IsSlotSame hides x x
+pub slot_self : (hides : Bool) (x : MoveSlot) → IsSlotSame hides x x
 slot_self true x = tt
 slot_self false x = refl
 
@@ -45,15 +45,15 @@ kind_self : (preview : Bool) (m : Member) → IsKindSame preview m m
 kind_self true m = record { species = refl; level = refl; types = refl; base_speed = refl }
 kind_self false m = tt
 
-member_self : (preview hidden : Bool) (hides : ℕ → Bool) (m : Member) → IsMemberSame preview hidden hides m m
+pub member_self : (preview hidden : Bool) (hides : ℕ → Bool) (m : Member) → IsMemberSame preview hidden hides m m
 member_self preview true hides m = kind_self preview m
 member_self preview false hides m = record { front = refl; long = refl; slots = λ j. slot_self (hides j) (slot_of m j) }
 
-nick_self : (hidden : Bool) (x : List ℕ) → IsNickSame hidden x x
+pub nick_self : (hidden : Bool) (x : List ℕ) → IsNickSame hidden x x
 nick_self true x = tt
 nick_self false x = refl
 
-battle_self : (preview : Bool) (places : Hidden) (bo : Option Start) → AreBattlesSame preview places bo bo
+pub battle_self : (preview : Bool) (places : Hidden) (bo : Option Start) → AreBattlesSame preview places bo bo
 battle_self preview places None = tt
 battle_self preview places (Some st) = record {
   number = refl;

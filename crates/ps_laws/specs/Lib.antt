@@ -7,3 +7,5 @@ pub mod Alike
 pub mod HallStories
 pub mod HallLow
 pub mod HallSame
+pub mod Secrets
+pub mod HallSecrets

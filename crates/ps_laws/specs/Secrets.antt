@@ -1,0 +1,170 @@
+-- What may differ in a room that a connection isn't told: worlds with it and without it, or with something else in its place, give the
+-- connection equal views. Each premise is of the world.
+use Rattle.std.specs.Prelude.{◌≡◌, ◌≢◌, ℕ, ◌<◌, Bool, true, false, ◌||◌, List, [], ◌∷◌, ◌++◌, Option, Some, None, slice_set}
+use Rattle.std.specs.List.{list_any}
+use Rattle.ps_base.specs.Ids.{id_of}
+use Rattle.ps_lines.specs.declared.command.Command.{Command}
+use Rattle.ps_lines.specs.declared.command.Command.TheVariants.{Modnote, Choose, Undo}
+use Rattle.ps_mon.specs.declared.team.BattleTeam.{BattleTeam}
+use Rattle.ps_mon.specs.declared.team.Member.{Member}
+use Rattle.ps_mon.specs.declared.team.MoveSlot.{MoveSlot}
+use Rattle.ps_mon.specs.Reading.{slot_of}
+use Rattle.ps_dex.specs.declared.item.Tables.{Tables}
+use Rattle.ps_dex.specs.Lookups.{move_of}
+use Rattle.ps_choice.specs.Wants.{Want, Named, want_in}
+use Rattle.ps_valid.specs.declared.legal.Legal.{Legal}
+use Rattle.rules_start.specs.declared.start.Start.{Start}
+use Rattle.rules_start.specs.Fits.{legal_of}
+use Rattle.battle_rounds.specs.Fights.{Fight}
+use Rattle.ps_chat.specs.declared.present.Present.{Present}
+use Rattle.ps_room.specs.declared.entry.Entry.{Entry}
+use Rattle.ps_room.specs.Openings.{Opening, IsFitOpening}
+use Rattle.ps_room.specs.Records.{Record, opened}
+use Rattle.ps_room.specs.Roles.{side_of_member}
+use Rattle.ps_room.specs.Rooms.{sender_of, after, run_record}
+use Rattle.ps_room.specs.Stories.{story, view_of}
+use Rattle.ps_room.specs.Unseen.{sees_notes}
+use Rattle.ps_laws.specs.Users.{users}
+use Rattle.ps_laws.specs.Rounds.{Round, round_of, rounds}
+use Rattle.ps_laws.specs.Hidden.{member_in, is_told, is_previewed, hidden}
+use Rattle.ps_laws.specs.Low.{is_own}
+use Rattle.ps_laws.specs.Same.{AreKindsEqual}
+
+-- ---- a member of the other side that was never sent out
+
+-- a battle's start with another team of a side
+abbrev pub with_team : Start → ℕ → Legal → Start
+with_team st s l = record st { teams = slice_set st.teams s l }
+
+-- a team with another member at a place
+abbrev pub member_put : BattleTeam → ℕ → Member → BattleTeam
+member_put t k m = record t { members = slice_set t.members k m }
+
+-- a battle's start with another member at a place of a side's team, and with another nickname
+abbrev pub with_member : Start → ℕ → ℕ → Member → List ℕ → Start
+with_member st s k m nick =
+    let l = legal_of st.teams s in
+    with_team st s (record { team = member_put l.team k m; nicks = slice_set l.nicks k nick })
+
+-- a room of a battle
+abbrev pub with_start : Opening → Start → Opening
+with_start o st = record o { battle = Some st }
+
+-- A member that is hidden to the connection, since its side is no own one and it was never sent out, may as well be any other one that the
+-- battle can start with, of any nickname; under Team Preview any of its species and level.
+abbrev pub MembersMayDiffer : ℕ → Type 0
+MembersMayDiffer conn = (o : Opening) (st : Start) (h : List Entry) (s k : ℕ) (m : Member) (nick : List ℕ)
+    → IsFitOpening (with_start o st) → IsFitOpening (with_start o (with_member st s k m nick))
+    → s < 2 → (hidden conn (story (with_start o st) h)).member s k ≡ true
+    → (is_previewed o.config (Some st) ≡ true → AreKindsEqual (member_in st s k) m)
+    → view_of conn (story (with_start o st) h) ≡ view_of conn (story (with_start o (with_member st s k m nick)) h)
+
+-- ---- a slot of the other side that was never shown
+
+-- a battle's start with another move, and its PP, in a slot of a member
+abbrev pub with_slot : Start → ℕ → ℕ → ℕ → MoveSlot → Start
+with_slot st s k j slot =
+    let l = legal_of st.teams s in
+    let m = member_in st s k in
+    with_team st s (record l { team = member_put l.team k (record m { slots = slice_set m.slots j slot }) })
+
+-- the move that a player asks for by its name, if there is one of that name
+abbrev pub named_in : Tables → Option Want → Option ℕ
+named_in dex (Some (Named name)) = move_of (id_of name) dex
+named_in dex other = None
+
+-- a command of a side's player asks by name for neither of two moves
+abbrev pub NamesNeither : ℕ → ℕ → ℕ → Option Fight → Option Present → Command → Type 0
+NamesNeither s one two (Some f) me (Choose choice rqid) =
+    side_of_member f.cast me ≡ Some s → (mv : ℕ) → named_in f.cast.dex (want_in choice) ≡ Some mv → (one ≢ mv) × (two ≢ mv)
+NamesNeither s one two fo me cmd = Unit {0}
+
+-- and so do all commands of a history, from a record on
+abbrev pub AllNameNeither : ℕ → ℕ → ℕ → Record → List Entry → Type 0
+AllNameNeither s one two r [] = Unit {0}
+AllNameNeither s one two r (e ∷ es) = NamesNeither s one two r.battle (sender_of r e) e.cmd × AllNameNeither s one two (after r e) es
+
+-- A slot that is hidden to the connection, since its side is no own one and no round showed it, may as well have any other move, of
+-- any PP, that the battle can start with and that its member neither used nor had named or copied. Its player never asks by name
+-- for one of both moves, also in vain: a choice by name of a move that the member hasn't is refused, and would be allowed.
+abbrev pub SlotsMayDiffer : ℕ → Type 0
+SlotsMayDiffer conn = (o : Opening) (st : Start) (h : List Entry) (s k j : ℕ) (slot : MoveSlot)
+    → IsFitOpening (with_start o st) → IsFitOpening (with_start o (with_slot st s k j slot))
+    → s < 2 → k < (legal_of st.teams s).team.count → (hidden conn (story (with_start o st) h)).slot s k j ≡ true
+    → list_any (is_told (with_slot st s k j slot) s k j) (rounds (story (with_start o st) h)) ≡ false
+    → AllNameNeither s (slot_of (member_in st s k) j).mv slot.mv (opened (with_start o st)) h
+    → view_of conn (story (with_start o st) h) ≡ view_of conn (story (with_start o (with_slot st s k j slot)) h)
+
+-- ---- who chose first
+
+abbrev pub is_choose : Command → Bool
+is_choose (Choose choice rqid) = true
+is_choose other = false
+
+abbrev pub is_undo : Command → Bool
+is_undo Undo = true
+is_undo other = false
+
+-- no choices, and none that is taken back
+abbrev pub AreNoChoices : List Entry → Type 0
+AreNoChoices [] = Unit {0}
+AreNoChoices (e ∷ es) = ((is_choose e.cmd || is_undo e.cmd) ≡ false) × AreNoChoices es
+
+-- Two choices complete the same round, whichever of them comes first; between them nobody chooses.
+pub record IsEitherFirst (r : Record) (one : Entry) (middle : List Entry) (two : Entry) (round : Round) : Type 0 where
+  pub first : is_choose one.cmd ≡ true
+  pub second : is_choose two.cmd ≡ true
+  pub between : AreNoChoices middle
+  pub waits : round_of r one ≡ None
+  pub waits_too : round_of r two ≡ None
+  pub completes : round_of (run_record (after r one) middle) two ≡ Some round
+  pub completes_too : round_of (run_record (after r two) middle) one ≡ Some round
+
+-- To a player of one side it may be either that comes first, of two that stand next to each other. (Who plays both sides
+-- knows.)
+abbrev pub OrderMayDiffer : ℕ → Type 0
+OrderMayDiffer conn = (o : Opening) (before : List Entry) (one two : Entry) (later : List Entry) (round : Round)
+    → IsFitOpening o
+    → IsEitherFirst (run_record (opened o) before) one [] two round
+    → is_own conn (users conn (story o (before ++ one ∷ two ∷ later))) (run_record (opened o) before) two ≡ false
+    → view_of conn (story o (before ++ one ∷ two ∷ later)) ≡ view_of conn (story o (before ++ two ∷ one ∷ later))
+
+-- neither is of the connection or one of its users, where they stand
+pub record AreForeign (conn : ℕ) (ids : List (List ℕ)) (r : Record) (one : Entry) (middle : List Entry) (two : Entry) : Type 0 where
+  pub first : is_own conn ids r one ≡ false
+  pub second : is_own conn ids r two ≡ false
+  pub first_late : is_own conn ids (run_record (after r two) middle) one ≡ false
+  pub second_late : is_own conn ids (run_record (after r one) middle) two ≡ false
+
+-- To who looks on it may be either that comes first, also where others do something between them.
+abbrev pub OrderIsUnseen : ℕ → Type 0
+OrderIsUnseen conn = (o : Opening) (before : List Entry) (one : Entry) (middle : List Entry) (two : Entry) (later : List Entry)
+    (round : Round) → IsFitOpening o → IsEitherFirst (run_record (opened o) before) one middle two round
+    → AreForeign conn (users conn (story o (before ++ one ∷ (middle ++ two ∷ later)))) (run_record (opened o) before) one middle two
+    → view_of conn (story o (before ++ one ∷ (middle ++ two ∷ later))) ≡ view_of conn (story o (before ++ two ∷ (middle ++ one ∷ later)))
+
+-- ---- staff notes
+
+abbrev pub is_note : Command → Bool
+is_note (Modnote text) = true
+is_note other = false
+
+-- a staff note, allowed or not, where it stands: it is neither of the connection nor of one of its users, and the connection sees no
+-- staff notes
+pub record IsUnseenNote (conn : ℕ) (ids : List (List ℕ)) (r : Record) (e : Entry) : Type 0 where
+  pub note : is_note e.cmd ≡ true
+  pub other : is_own conn ids r e ≡ false
+  pub unseen : sees_notes conn r ≡ false
+
+-- In every room such a note may as well be missing.
+abbrev pub NotesMayBeMissing : ℕ → Type 0
+NotesMayBeMissing conn = (o : Opening) (before : List Entry) (e : Entry) (later : List Entry) → IsFitOpening o
+    → IsUnseenNote conn (users conn (story o (before ++ e ∷ later))) (run_record (opened o) before) e
+    → view_of conn (story o (before ++ e ∷ later)) ≡ view_of conn (story o (before ++ later))
+
+-- And another one may stand in its place.
+abbrev pub NotesMayDiffer : ℕ → Type 0
+NotesMayDiffer conn = (o : Opening) (before : List Entry) (e f : Entry) (later : List Entry) → IsFitOpening o
+    → IsUnseenNote conn (users conn (story o (before ++ e ∷ later))) (run_record (opened o) before) e
+    → IsUnseenNote conn (users conn (story o (before ++ f ∷ later))) (run_record (opened o) before) f
+    → view_of conn (story o (before ++ e ∷ later)) ≡ view_of conn (story o (before ++ f ∷ later))
