@@ -40,12 +40,12 @@ free_choice (Choose choice rqid) e = absurd cc
 free_choice Undo e = absurd cc
 free_choice other e = refl
 
-free_choose : (cmd : Command) → is_choice cmd ≡ false → is_choose cmd ≡ false
+pub free_choose : (cmd : Command) → is_choice cmd ≡ false → is_choose cmd ≡ false
 free_choose (Choose choice rqid) e = absurd cc
 free_choose Undo e = refl
 free_choose other e = refl
 
-choose_in : (cmd : Command) → is_choose cmd ≡ true → (choice : List ℕ) × (rqid : Option ℕ) × (cmd ≡ Choose choice rqid)
+pub choose_in : (cmd : Command) → is_choose cmd ≡ true → (choice : List ℕ) × (rqid : Option ℕ) × (cmd ≡ Choose choice rqid)
 choose_in (Choose choice rqid) e = (choice, rqid, refl)
 choose_in other e = absurd cc
 
@@ -76,7 +76,7 @@ free_items conn ids own r s e free same =
 pub part_user : (own : ℕ → Bool) (r s : Record) (e : Entry) → own_part own r ≡ own_part own s → user_of r e ≡ user_of s e
 part_user own r s e same = ap (λ (x : Record). user_of x e) same
 
-part_own : (conn : ℕ) (ids : List (List ℕ)) (own : ℕ → Bool) (r s : Record) (e : Entry) → own_part own r ≡ own_part own s → is_own conn ids r e ≡ is_own conn ids s e
+pub part_own : (conn : ℕ) (ids : List (List ℕ)) (own : ℕ → Bool) (r s : Record) (e : Entry) → own_part own r ≡ own_part own s → is_own conn ids r e ≡ is_own conn ids s e
 part_own conn ids own r s e same = ap (λ (x : Record). is_own conn ids x e) same
 
 -- ---- a choice that waits
@@ -90,7 +90,7 @@ fight_waits own None me choice rqid none = refl
 fight_waits own (Some f) me choice rqid none = ap (λ (b : Bout). Some (record f { bout = b })) (waiting_other own f (side_of_member f.cast me) choice rqid (side_below f.cast me) (λ s side. none s))
 
 -- what an allowed choice comes to in a battle
-does_in : (r : Record) (e : Entry) (choice : List ℕ) (rqid : Option ℕ) (f : Fight) → e.cmd ≡ Choose choice rqid → verdict r e ≡ None → r.battle ≡ Some f → Waits f (side_of_member f.cast (sender_of r e)) choice rqid ⊎ Completes f (side_of_member f.cast (sender_of r e)) choice rqid
+pub does_in : (r : Record) (e : Entry) (choice : List ℕ) (rqid : Option ℕ) (f : Fight) → e.cmd ≡ Choose choice rqid → verdict r e ≡ None → r.battle ≡ Some f → Waits f (side_of_member f.cast (sender_of r e)) choice rqid ⊎ Completes f (side_of_member f.cast (sender_of r e)) choice rqid
 does_in r e choice rqid f is v b =
     let allowed : refusal_by_battle (Some f) (sender_of r e) (Choose choice rqid) ≡ None =
     ap (λ (fo : Option Fight). refusal_by_battle fo (sender_of r e) (Choose choice rqid)) (sym b) ∙ ap (refusal_by_battle r.battle (sender_of r e)) (sym is) ∙ battle_allows r e v in
@@ -163,7 +163,7 @@ pub low_more : (conn : ℕ) (ids : List (List ℕ)) (r : Record) (es fs : List E
 low_more conn ids r [] fs = refl
 low_more conn ids r (e ∷ es) fs = ap (λ (is : List Item). items_of conn ids r e ++ is) (low_more conn ids (after r e) es fs) ∙ sym (append_assoc (items_of conn ids r e) (low_from conn ids (after r e) es) (low_from conn ids (run_record r (e ∷ es)) fs))
 
-abbrev user_if : ℕ → Record → Entry → List (List ℕ)
+abbrev pub user_if : ℕ → Record → Entry → List (List ℕ)
 user_if conn r e = cond (e.conn == conn) (user_of r e ∷ []) []
 
 pub users_more : (conn : ℕ) (r : Record) (es fs : List Entry) → users_from conn r (es ++ fs) ≡ users_from conn r es ++ users_from conn (run_record r es) fs
@@ -188,7 +188,7 @@ free_same conn ids r s (e ∷ es) free same =
     }
 
 -- what an entry of another has: no item, or its round
-other_items : (conn : ℕ) (ids : List (List ℕ)) (r : Record) (e : Entry) → is_choose e.cmd ≡ true → is_own conn ids r e ≡ false → items_of conn ids r e ≡ commit_of (round_of r e)
+pub other_items : (conn : ℕ) (ids : List (List ℕ)) (r : Record) (e : Entry) → is_choose e.cmd ≡ true → is_own conn ids r e ≡ false → items_of conn ids r e ≡ commit_of (round_of r e)
 other_items conn ids r e chooses other =
     let c = choose_in e.cmd chooses in
     ap (λ (own : Bool). cond own (items_of_own r e) (items_of_others conn r e (verdict r e))) other ∙ by_verdict c.0 c.1 (verdict r e) c.2 refl where
@@ -196,10 +196,10 @@ other_items conn ids r e chooses other =
   by_verdict choice rqid (Some why) is v = sym (ap (λ (x : Option Why). commit_of (round_if_allowed x r e)) v)
   by_verdict choice rqid None is v = ap (items_of_allowed conn r e) is
 
-away : (conn : ℕ) (ids : List (List ℕ)) (r : Record) (e : Entry) → is_own conn ids r e ≡ false → (e.conn == conn) ≡ false
+pub away : (conn : ℕ) (ids : List (List ℕ)) (r : Record) (e : Entry) → is_own conn ids r e ≡ false → (e.conn == conn) ≡ false
 away conn ids r e other = (or_parts (e.conn == conn) (is_user ids (user_of r e)) other).0
 
-no_user : (conn : ℕ) (r : Record) (e : Entry) → (e.conn == conn) ≡ false → user_if conn r e ≡ []
+pub no_user : (conn : ℕ) (r : Record) (e : Entry) → (e.conn == conn) ≡ false → user_if conn r e ≡ []
 no_user conn r e out = ap (λ (b : Bool). cond b (user_of r e ∷ []) []) out
 
 -- ---- the law, from stories that differ in what follows a record

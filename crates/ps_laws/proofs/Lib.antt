@@ -42,3 +42,4 @@ pub mod WishLemmas
 pub mod LockLemmas
 pub mod SwapLemmas
 pub mod FirstLemmas
+pub mod UnplayedLemmas

@@ -55,7 +55,7 @@ nothing conn own r e kept silent = record { after = sym kept; view = ap sent (sy
 
 -- ---- a choice
 
-fight_waiting_other : (own : ℕ → Bool) (f : Fight) (me : Option Present) (choice : List ℕ) (rqid : Option ℕ) → PlaysOther own (Some f) me → own_fight own (waiting_fight (Some f) me choice rqid) ≡ own_fight own (Some f)
+pub fight_waiting_other : (own : ℕ → Bool) (f : Fight) (me : Option Present) (choice : List ℕ) (rqid : Option ℕ) → PlaysOther own (Some f) me → own_fight own (waiting_fight (Some f) me choice rqid) ≡ own_fight own (Some f)
 fight_waiting_other own f me choice rqid other = ap (λ (b : Bout). Some (record f { bout = b })) (waiting_other own f (side_of_member f.cast me) choice rqid (side_below f.cast me) other)
 
 fine_seen_in : (own : ℕ → Bool) (places : Hidden) (fo : Option Fight) (f : Fight) (one two : Choice) → fo ≡ Some f → IsFineRound places f one two → AreFineChoices places (own_fight own fo) one two
@@ -99,7 +99,7 @@ request_unseen : (c : Cast) (role : Role) (side : Side) → event_text c role (e
 unfolding line_of
 request_unseen c role side = rw (no_request role c.names (events.Request side) (has_role (audiences.Side side) role)) refl
 
-undone_other : (own : ℕ → Bool) (s : ℕ) (b : Bout) → s < 2 → own s ≡ false → own_bout own (with_waiting s None b) ≡ own_bout own b
+pub undone_other : (own : ℕ → Bool) (s : ℕ) (b : Bout) → s < 2 → own s ≡ false → own_bout own (with_waiting s None b) ≡ own_bout own b
 undone_other own zero b lt other = rw other refl
 undone_other own (suc zero) b lt other = rw other refl
 undone_other own (suc (suc s)) b lt other = absurd (omega arith)

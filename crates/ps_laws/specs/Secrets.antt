@@ -1,6 +1,6 @@
 -- What may differ in a room that a connection isn't told: worlds with it and without it, or with something else in its place, give the
 -- connection equal views. Each premise is of the world.
-use Rattle.std.specs.Prelude.{◌≡◌, ◌≢◌, ℕ, ◌<◌, Bool, true, false, ◌||◌, List, [], ◌∷◌, ◌++◌, Option, Some, None, slice_set}
+use Rattle.std.specs.Prelude.{◌≡◌, ◌≢◌, ℕ, ◌<◌, Bool, true, false, ◌||◌, List, [], ◌∷◌, ◌++◌, Option, Some, None, is_some, slice_set}
 use Rattle.std.specs.List.{list_any}
 use Rattle.ps_base.specs.Ids.{id_of}
 use Rattle.ps_lines.specs.declared.command.Command.{Command}
@@ -15,13 +15,14 @@ use Rattle.ps_choice.specs.Wants.{Want, Named, want_in}
 use Rattle.ps_valid.specs.declared.legal.Legal.{Legal}
 use Rattle.rules_start.specs.declared.start.Start.{Start}
 use Rattle.rules_start.specs.Fits.{legal_of}
+use Rattle.battle_rounds.specs.Bouts.{waiting}
 use Rattle.battle_rounds.specs.Fights.{Fight}
 use Rattle.ps_chat.specs.declared.present.Present.{Present}
 use Rattle.ps_room.specs.declared.entry.Entry.{Entry}
 use Rattle.ps_room.specs.Openings.{Opening, IsFitOpening}
 use Rattle.ps_room.specs.Records.{Record, opened}
 use Rattle.ps_room.specs.Roles.{side_of_member}
-use Rattle.ps_room.specs.Rooms.{sender_of, after, run_record}
+use Rattle.ps_room.specs.Rooms.{sender_of, verdict, after, run_record}
 use Rattle.ps_room.specs.Stories.{story, view_of}
 use Rattle.ps_room.specs.Unseen.{sees_notes}
 use Rattle.ps_laws.specs.Users.{users}
@@ -95,11 +96,52 @@ SlotsMayDiffer conn = (o : Opening) (st : Start) (h : List Entry) (s k j : ℕ) 
     → AllNameNeither s (slot_of (member_in st s k) j).mv slot.mv (opened (with_start o st)) h
     → view_of conn (story (with_start o st) h) ≡ view_of conn (story (with_start o (with_slot st s k j slot)) h)
 
--- ---- who chose first
+-- ---- a choice that no round has
 
 abbrev pub is_choose : Command → Bool
 is_choose (Choose choice rqid) = true
 is_choose other = false
+
+-- the side that a member plays
+abbrev pub side_in : Option Fight → Option Present → Option ℕ
+side_in None me = None
+side_in (Some f) me = side_of_member f.cast me
+
+-- whether a choice of a side waits
+abbrev pub waits_in : Option Fight → ℕ → Bool
+waits_in None s = false
+waits_in (Some f) s = is_some (waiting f.bout s)
+
+-- As long as a choice of the side waits, no entry of a history completes a round: it is taken back, or somebody gives up, or the
+-- history ends.
+abbrev pub IsNeverPlayed : ℕ → Record → List Entry → Type 0
+IsNeverPlayed s r [] = Unit {0}
+IsNeverPlayed s r (e ∷ es) = waits_in r.battle s ≡ true → (round_of r e ≡ None) × IsNeverPlayed s (after r e) es
+
+-- An allowed choice of a side's player, where it stands: it is neither of the connection nor of one of its users, and completes no
+-- round, neither at once nor later.
+pub record IsUnplayed (conn : ℕ) (ids : List (List ℕ)) (r : Record) (s : ℕ) (e : Entry) (later : List Entry) : Type 0 where
+  pub chooses : is_choose e.cmd ≡ true
+  pub other : is_own conn ids r e ≡ false
+  pub side : side_in r.battle (sender_of r e) ≡ Some s
+  pub allowed : verdict r e ≡ None
+  pub waits : round_of r e ≡ None
+  pub never : IsNeverPlayed s (after r e) later
+
+-- Such a choice may as well be missing.
+abbrev pub ChoicesMayBeMissing : ℕ → Type 0
+ChoicesMayBeMissing conn = (o : Opening) (before : List Entry) (s : ℕ) (e : Entry) (later : List Entry) → IsFitOpening o
+    → IsUnplayed conn (users conn (story o (before ++ e ∷ later))) (run_record (opened o) before) s e later
+    → view_of conn (story o (before ++ e ∷ later)) ≡ view_of conn (story o (before ++ later))
+
+-- And its player may choose anything else in its place that completes no round at once.
+abbrev pub ChoicesMayDiffer : ℕ → Type 0
+ChoicesMayDiffer conn = (o : Opening) (before : List Entry) (s : ℕ) (e f : Entry) (later : List Entry) → IsFitOpening o
+    → IsUnplayed conn (users conn (story o (before ++ e ∷ later))) (run_record (opened o) before) s e later
+    → f.conn ≡ e.conn → is_choose f.cmd ≡ true → round_of (run_record (opened o) before) f ≡ None
+    → view_of conn (story o (before ++ e ∷ later)) ≡ view_of conn (story o (before ++ f ∷ later))
+
+-- ---- who chose first
 
 abbrev pub is_undo : Command → Bool
 is_undo Undo = true

@@ -1,6 +1,6 @@
 //! What may differ that a connection isn't told: each law says it of two worlds, as equality of what the
 //! connection is sent over them. Its premises are of the world alone.
-ghost use Rattle.ps_laws.specs.Secrets.{MembersMayDiffer, SlotsMayDiffer, OrderMayDiffer, OrderIsUnseen, NotesMayBeMissing, NotesMayDiffer};
+ghost use Rattle.ps_laws.specs.Secrets.{MembersMayDiffer, SlotsMayDiffer, ChoicesMayBeMissing, ChoicesMayDiffer, OrderMayDiffer, OrderIsUnseen, NotesMayBeMissing, NotesMayDiffer};
 ghost use Rattle.ps_laws.specs.HallSecrets.{WhispersMayBeMissing, WhispersMayDiffer};
 
 use ps_base::number::ConnNo;
@@ -17,6 +17,14 @@ pub fn law_member(conn: ConnNo)
 /// also in vain. The promise is the statement; the call does nothing.
 pub fn law_slot(conn: ConnNo)
     ensures { SlotsMayDiffer conn }
+{}
+
+/// A choice of the other side that no round has, since it is taken back, or somebody gives up, or the history
+/// ends, may as well be missing, or be any other choice that completes no round at once. The promise is the
+/// statement; the call does nothing.
+pub fn law_choice(conn: ConnNo)
+    ensures missing { ChoicesMayBeMissing conn }
+    ensures other { ChoicesMayDiffer conn }
 {}
 
 /// Who of the two players chose first: to a player of one side it may be either of two choices that stand next to
