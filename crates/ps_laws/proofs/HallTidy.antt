@@ -42,10 +42,10 @@ pub record Ends : Type 0 where
 abbrev ends_asked : Asked → Ends
 ends_asked a = record { by = a.by; to = a.to }
 
-abbrev ends_label : Label → Ends
+abbrev pub ends_label : Label → Ends
 ends_label z = record { by = id_of z.name; to = z.with_id }
 
-abbrev ends_are : List ℕ → List ℕ → Ends → Bool
+abbrev pub ends_are : List ℕ → List ℕ → Ends → Bool
 ends_are by to e = bytes_eq e.by by && bytes_eq e.to to
 
 -- no two by the same
@@ -84,7 +84,7 @@ turned_by : (a b : List ℕ) (c d : Bool) → bytes_eq a b ≡ c → bytes_eq b 
 turned_by a b c true left right none = let wrong : false ≡ true = sym none ∙ sym left ∙ (bytes_eq-Decides a b).1 (sym ((bytes_eq-Decides b a).0 right)) in absurd cc
 turned_by a b c false left right none = refl
 
-any_put : (p : Ends → Bool) (es : List Ends) (e : Ends) → list_any p es ≡ false → p e ≡ false → list_any p (es ++ e ∷ []) ≡ false
+pub any_put : (p : Ends → Bool) (es : List Ends) (e : Ends) → list_any p es ≡ false → p e ≡ false → list_any p (es ++ e ∷ []) ≡ false
 any_put p [] e none out = rw out refl
 any_put p (x ∷ es) e none out = let parts = or_parts (p x) (list_any p es) none in rw parts.0 (any_put p es e parts.1 out)
 
@@ -96,7 +96,7 @@ once_put (x ∷ es) e once none =
 
 -- ---- the first is all
 
-abbrev without_ends : List ℕ → List ℕ → List Ends → List Ends
+abbrev pub without_ends : List ℕ → List ℕ → List Ends → List Ends
 without_ends by to [] = []
 without_ends by to (e ∷ es) = cond (ends_are by to e) es (e ∷ without_ends by to es)
 
@@ -127,7 +127,7 @@ without_at : (by to : List ℕ) (z : Label) (zs : List Label) (b : Bool) → map
 without_at by to z zs true more = refl
 without_at by to z zs false more = ap (λ (es : List Ends). ends_label z ∷ es) more
 
-ends_without : (by to : List ℕ) (zs : List Label) → map ends_label (without_label by to zs) ≡ without_ends by to (map ends_label zs)
+pub ends_without : (by to : List ℕ) (zs : List Label) → map ends_label (without_label by to zs) ≡ without_ends by to (map ends_label zs)
 ends_without by to [] = refl
 ends_without by to (z ∷ zs) = without_at by to z zs (label_is by to z) (ends_without by to zs)
 
@@ -201,7 +201,7 @@ none_found : (p : Asked → Bool) (asked : List Asked) → is_some (find p asked
 none_found p [] none = refl
 none_found p (a ∷ asked) none = found_at p a asked (p a) (none_found p asked) none
 
-when_not : (b : Bool) (reason : HallWhy) (more : Option HallWhy) → when b reason more ≡ None → (b ≡ false) × (more ≡ None)
+pub when_not : (b : Bool) (reason : HallWhy) (more : Option HallWhy) → when b reason more ≡ None → (b ≡ false) × (more ≡ None)
 when_not true reason more none = absurd cc
 when_not false reason more none = (refl, none)
 
@@ -265,7 +265,7 @@ run_tidy h (e ∷ es) t = run_tidy (after h e) es (tidy_after h e t)
 
 -- ---- a challenge has its team
 
-is_there : {X Y : Type 0} (f : X → Y) (o : Option X) → is_some (option_map f o) ≡ is_some o
+pub is_there : {X Y : Type 0} (f : X → Y) (o : Option X) → is_some (option_map f o) ≡ is_some o
 is_there f None = refl
 is_there f (Some x) = refl
 

@@ -34,6 +34,8 @@ pub mod HallOtherRows
 pub mod HallCovers
 pub mod HallHistoryLemmas
 pub mod HallStarts
+pub mod HallMatches
+pub mod HallRatings
 pub mod MissingLemmas
 pub mod UndoneLemmas
 pub mod UserLists

@@ -1,8 +1,11 @@
 -- When two stories of the hall are the same to a connection.
-use Rattle.std.specs.Prelude.{◌≡◌, ℕ, true, List, [], ◌∷◌, ◌++◌, None, is_some}
-use Rattle.ps_lines.specs.declared.command.HallCmd.TheVariants.{Accept}
+use Rattle.std.specs.Prelude.{◌≡◌, ℕ, true, List, [], ◌∷◌, ◌++◌, Some, None, is_some}
+use Rattle.ps_base.specs.Ids.{id_of}
+use Rattle.ps_base.specs.declared.badge.Badge.{Badge}
+use Rattle.ps_lines.specs.declared.command.HallCmd.TheVariants.{Accept, Search}
 use Rattle.ps_hall.specs.declared.entry.HallEntry.{HallEntry}
 use Rattle.ps_hall.specs.Records.{Record}
+use Rattle.ps_hall.specs.Lookups.{badge_of, opponent}
 use Rattle.ps_hall.specs.Halls.{verdict, after, out_of, run_record}
 use Rattle.ps_laws.specs.HallStories.{HallOpening, HallStory, hall_story, hall_opened, hall_view_of}
 use Rattle.ps_laws.specs.HallLow.{hall_users, hall_items_of, hall_low_from, hall_low}
@@ -33,3 +36,11 @@ HallUnshownMayBeMissing conn = (o : HallOpening) (before : List HallEntry) (e : 
 abbrev pub HallAcceptsStart : Type 0
 HallAcceptsStart = (o : HallOpening) (before : List HallEntry) (e : HallEntry) (user : List ℕ) → e.cmd ≡ Accept user
     → verdict (run_record (hall_opened o) before) e ≡ None → is_some (out_of (run_record (hall_opened o) before) e).start ≡ true
+
+-- An allowed Search starts a battle exactly where it is matched, whatever the history is before it.
+abbrev pub HallMatchesStart : Type 0
+HallMatchesStart = (o : HallOpening) (before : List HallEntry) (e : HallEntry) (format : List ℕ) (badge : Badge)
+    → e.cmd ≡ Search format → badge_of (run_record (hall_opened o) before) e.conn ≡ Some badge
+    → verdict (run_record (hall_opened o) before) e ≡ None
+    → is_some (out_of (run_record (hall_opened o) before) e).start
+      ≡ is_some (opponent (run_record (hall_opened o) before) (id_of badge.name) format)

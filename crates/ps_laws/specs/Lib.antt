@@ -9,3 +9,4 @@ pub mod HallLow
 pub mod HallSame
 pub mod Secrets
 pub mod HallSecrets
+pub mod HallRatings

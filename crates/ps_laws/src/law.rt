@@ -2,7 +2,8 @@
 ghost use Rattle.std.specs.Prelude.{◌≡◌};
 ghost use Rattle.ps_room.specs.Stories.{Story, view_of};
 ghost use Rattle.ps_laws.specs.Same.{AreSame, UnshownMayBeMissing, IdleMayBeMissing, UndoneLeavesNothing};
-ghost use Rattle.ps_laws.specs.HallSame.{HallViewsAreEqual, HallUnshownMayBeMissing, HallAcceptsStart};
+ghost use Rattle.ps_laws.specs.HallSame.{HallViewsAreEqual, HallUnshownMayBeMissing, HallAcceptsStart, HallMatchesStart};
+ghost use Rattle.ps_laws.specs.HallRatings.{HallRatingsAreResults};
 
 use ps_base::number::ConnNo;
 
@@ -20,10 +21,14 @@ pub fn law_room(conn: ConnNo)
 
 /// *Two worlds* of the hall: two stories that are the same to a connection give it equal views, message by
 /// message. And such worlds there are: an entry that isn't shown to the connection, and changes nothing of
-/// what is shown later, may as well be missing. An allowed Accept starts a battle. The promise is the
-/// statement; the call does nothing.
+/// what is shown later, may as well be missing. An allowed Accept starts a battle, and an allowed Search exactly
+/// where it is matched. The ladder of each format is the fold over all won reports of its rated battles, and its
+/// ratings sum to 1000 times the number of those who were rated. The promise is the statement; the call does
+/// nothing.
 pub fn law_hall(conn: ConnNo)
     ensures equal { HallViewsAreEqual conn }
     ensures met { HallUnshownMayBeMissing conn }
     ensures starts { HallAcceptsStart }
+    ensures matches { HallMatchesStart }
+    ensures ratings { HallRatingsAreResults }
 {}

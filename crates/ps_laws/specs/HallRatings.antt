@@ -1,0 +1,44 @@
+-- The ratings of the hall: the ladder of a format is made of the reports of its battles.
+use Rattle.std.specs.Prelude.{◌≡◌, ℕ, Bool, true, List, [], ◌∷◌, ◌++◌, if◌then◌else◌, Option, Some, None}
+use Rattle.std.specs.Str.{bytes_eq}
+use Rattle.ps_base.specs.declared.hall_why.HallWhy.{HallWhy}
+use Rattle.ps_lines.specs.declared.command.HallCmd.{HallCmd}
+use Rattle.ps_lines.specs.declared.command.HallCmd.TheVariants.{Report}
+use Rattle.ps_ladder.specs.Ratings.{Won, standing_of, ratings_of, IsBalanced}
+use Rattle.ps_hall.specs.declared.entry.HallEntry.{HallEntry}
+use Rattle.ps_hall.specs.declared.game.Game.{Game}
+use Rattle.ps_hall.specs.Records.{Record}
+use Rattle.ps_hall.specs.Lookups.{game_in, ladder_of}
+use Rattle.ps_hall.specs.Steps.{winner_of, loser_of}
+use Rattle.ps_hall.specs.Halls.{verdict, after, run_record}
+use Rattle.ps_laws.specs.HallStories.{HallOpening, hall_opened}
+
+-- the result of a battle in a format, if it is one of it, was rated and somebody won
+abbrev pub won_by : List ℕ → Game → Bool → Option ℕ → List Won
+won_by format g true (Some s) = if bytes_eq g.format format then record { winner = winner_of g s; loser = loser_of g s } ∷ [] else []
+won_by format g rated winner = []
+
+abbrev pub won_in : List ℕ → Option ℕ → Option Game → List Won
+won_in format winner None = []
+won_in format winner (Some g) = won_by format g g.rated winner
+
+abbrev pub won_at : List ℕ → Option HallWhy → Record → HallCmd → List Won
+won_at format None h (Report number winner) = won_in format winner (game_in h number)
+won_at format why h cmd = []
+
+-- the results of a format that the allowed reports of a history have, from a record on, the oldest first
+abbrev pub results_from : List ℕ → Record → List HallEntry → List Won
+results_from format h [] = []
+results_from format h (e ∷ es) = won_at format (verdict h e) h e.cmd ++ results_from format (after h e) es
+
+-- what the ladder of a format is after these results
+pub record IsLadder (h : Record) (format : List ℕ) (results : List Won) : Type 0 where
+  -- the fold over all of them: none is left out
+  pub fold : ladder_of h format ≡ standing_of results
+  -- and its ratings sum to 1000 times the number of those who were rated
+  pub sum : IsBalanced (ratings_of results)
+
+-- After every history, whatever it is, the ladder of each format is made of all its results.
+abbrev pub HallRatingsAreResults : Type 0
+HallRatingsAreResults = (o : HallOpening) (es : List HallEntry) (format : List ℕ)
+    → IsLadder (run_record (hall_opened o) es) format (results_from format (hall_opened o) es)
