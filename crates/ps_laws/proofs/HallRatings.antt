@@ -38,10 +38,11 @@ use Rattle.ps_hall.specs.Starts.{start_if, start_of_match, start_of_search, star
 use Rattle.ps_hall.specs.Steps.{winner_of, loser_of, standing_with, with_settled, settled_by, without_game, reported, forgotten, with_search, with_accept, after_team, after_named, after_by, applied}
 use Rattle.ps_hall.specs.Halls.{verdict, after, run_record}
 use Rattle.ps_hall.proofs.ApplyLemmas.{few_search, few_accept, when_more}
-use Rattle.ps_laws.specs.HallStories.{HallOpening, hall_opened}
-use Rattle.ps_laws.specs.HallRatings.{won_by, won_in, won_at, results_from, HallRatingsAreResults}
+use Rattle.ps_laws.specs.HallStories.{HallOpening, HallStory, hall_opened}
+use Rattle.ps_laws.specs.HallRatings.{won_by, won_in, won_at, results_from, HallRatingsAreResults, IsHallWhole}
 use Rattle.ps_laws.proofs.HallListLemmas.{find_passes}
 use Rattle.ps_laws.proofs.HallEffects.{challenger}
+use Rattle.ps_laws.proofs.HallMatches.{hall_matches_start}
 
 -- ---- the books of the hall
 
@@ -324,3 +325,10 @@ pub hall_ratings_are_results : HallRatingsAreResults
 hall_ratings_are_results o es format =
     let b = run_book (hall_opened o) es (λ format. []) (first_book o) in
     record { fold = b.ladder format; sum = balanced_of (results_from format (hall_opened o) es) (b.two format) }
+
+-- no battle of a match is lost in a history, and no result
+pub hall_whole : (s : HallStory) → IsHallWhole s
+hall_whole s = record {
+  matches = λ before e later format badge is searches named none. hall_matches_start s.opening before e format badge searches named none;
+  ladders = hall_ratings_are_results s.opening s.history;
+}

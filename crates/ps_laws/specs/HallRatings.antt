@@ -1,17 +1,19 @@
 -- The ratings of the hall: the ladder of a format is made of the reports of its battles.
-use Rattle.std.specs.Prelude.{◌≡◌, ℕ, Bool, true, List, [], ◌∷◌, ◌++◌, if◌then◌else◌, Option, Some, None}
+use Rattle.std.specs.Prelude.{◌≡◌, ℕ, Bool, true, List, [], ◌∷◌, ◌++◌, if◌then◌else◌, Option, Some, None, is_some}
 use Rattle.std.specs.Str.{bytes_eq}
+use Rattle.ps_base.specs.Ids.{id_of}
+use Rattle.ps_base.specs.declared.badge.Badge.{Badge}
 use Rattle.ps_base.specs.declared.hall_why.HallWhy.{HallWhy}
 use Rattle.ps_lines.specs.declared.command.HallCmd.{HallCmd}
-use Rattle.ps_lines.specs.declared.command.HallCmd.TheVariants.{Report}
+use Rattle.ps_lines.specs.declared.command.HallCmd.TheVariants.{Report, Search}
 use Rattle.ps_ladder.specs.Ratings.{Won, standing_of, ratings_of, IsBalanced}
 use Rattle.ps_hall.specs.declared.entry.HallEntry.{HallEntry}
 use Rattle.ps_hall.specs.declared.game.Game.{Game}
 use Rattle.ps_hall.specs.Records.{Record}
-use Rattle.ps_hall.specs.Lookups.{game_in, ladder_of}
+use Rattle.ps_hall.specs.Lookups.{game_in, ladder_of, badge_of, opponent}
 use Rattle.ps_hall.specs.Steps.{winner_of, loser_of}
-use Rattle.ps_hall.specs.Halls.{verdict, after, run_record}
-use Rattle.ps_laws.specs.HallStories.{HallOpening, hall_opened}
+use Rattle.ps_hall.specs.Halls.{verdict, after, out_of, run_record}
+use Rattle.ps_laws.specs.HallStories.{HallOpening, HallStory, hall_opened}
 
 -- the result of a battle in a format, if it is one of it, was rated and somebody won
 abbrev pub won_by : List ℕ → Game → Bool → Option ℕ → List Won
@@ -42,3 +44,20 @@ pub record IsLadder (h : Record) (format : List ℕ) (results : List Won) : Type
 abbrev pub HallRatingsAreResults : Type 0
 HallRatingsAreResults = (o : HallOpening) (es : List HallEntry) (format : List ℕ)
     → IsLadder (run_record (hall_opened o) es) format (results_from format (hall_opened o) es)
+
+-- ---- of one history
+
+-- each allowed search that was matched started its battle
+abbrev pub HasMatches : HallStory → Type 0
+HasMatches s = (before : List HallEntry) (e : HallEntry) (later : List HallEntry) (format : List ℕ) (badge : Badge)
+    → s.history ≡ before ++ e ∷ later → e.cmd ≡ Search format
+    → badge_of (run_record (hall_opened s.opening) before) e.conn ≡ Some badge
+    → verdict (run_record (hall_opened s.opening) before) e ≡ None
+    → is_some (out_of (run_record (hall_opened s.opening) before) e).start
+      ≡ is_some (opponent (run_record (hall_opened s.opening) before) (id_of badge.name) format)
+
+-- No battle of a match is lost, and no result: of the hall of a run, or of a session.
+pub record IsHallWhole (s : HallStory) : Type 0 where
+  pub matches : HasMatches s
+  pub ladders : (format : List ℕ)
+      → IsLadder (run_record (hall_opened s.opening) s.history) format (results_from format (hall_opened s.opening) s.history)
