@@ -26,13 +26,13 @@ use Rattle.ps_ladder.specs.declared.searches.Search.{Search as Waiting}
 use Rattle.ps_hall.specs.declared.entry.HallEntry.{HallEntry}
 use Rattle.ps_hall.specs.declared.game.Game.{Game}
 use Rattle.ps_hall.specs.Records.{Record}
-use Rattle.ps_hall.specs.Lookups.{badge_of, opponent, challenge_from}
+use Rattle.ps_hall.specs.Lookups.{badge_of, opponent, challenge_from, game_in}
 use Rattle.ps_hall.specs.Refusals.{refusal}
 use Rattle.ps_hall.specs.Starts.{with_game}
-use Rattle.ps_hall.specs.Steps.{with_accept}
+use Rattle.ps_hall.specs.Steps.{with_accept, reported as report_of}
 use Rattle.ps_hall.specs.Halls.{after, after_by, out_by}
 use Rattle.ps_hall.proofs.StepLemmas.{applied_users}
-use Rattle.ps_laws.specs.HallLow.{HallItem, whole, named, searched, search_cancelled, started, challenged, challenge_cancelled, rejected, is_user, is_own_entry, id_taken, ids_taken}
+use Rattle.ps_laws.specs.HallLow.{HallItem, whole, named, searched, search_cancelled, started, challenged, challenge_cancelled, rejected, is_user, is_own_entry, id_taken, ids_taken, reported}
 use Rattle.ps_laws.proofs.HallEffects.{battle_of, searched_by, accepted_by}
 use Rattle.ps_laws.proofs.HallOwnLemmas.{IsMine}
 use Rattle.ps_laws.proofs.HallItems.{no_team, accepted_of, shown_after, whole_after, item_after, item_users, item_taken, users_by, badge_by}
@@ -103,6 +103,10 @@ whole_users : (l : Record) (e : HallEntry) (own : Bool) → (whole_after own l e
 whole_users l e true = users_after_entry l e
 whole_users l e false = shown_users l e e.cmd refl
 
+report_users : (l : Record) (number : ℕ) (winner : Option ℕ) (o : Option Game) → (report_of l number winner o).users ≡ l.users
+report_users l number winner None = refl
+report_users l number winner (Some g) = refl
+
 pub users_after_item : (conn : ℕ) (ids : List (List ℕ)) (l : Record) (i : HallItem) → (item_after conn ids l i).users ≡ item_users l.users i
 users_after_item conn ids l (whole e) = whole_users l e (is_own_entry conn ids l e)
 users_after_item conn ids l (named other name) = refl
@@ -112,6 +116,7 @@ users_after_item conn ids l (started one two format) = refl
 users_after_item conn ids l (challenged name user format) = refl
 users_after_item conn ids l (challenge_cancelled me user format) = refl
 users_after_item conn ids l (rejected me user format) = refl
+users_after_item conn ids l (reported number winner) = report_users l number winner (game_in l number)
 
 -- ---- all of these are users
 

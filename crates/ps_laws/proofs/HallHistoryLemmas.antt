@@ -4,23 +4,26 @@ use Rattle.std.proofs.lemmas.Bool.{or_parts, eqb-true}
 use Rattle.ps_base.specs.declared.badge.Badge.{Badge}
 use Rattle.ps_base.specs.declared.hall_why.HallWhy.{HallWhy}
 use Rattle.ps_base.specs.Messages.{sent}
+use Rattle.ps_lines.specs.declared.command.HallCmd.{HallCmd}
+use Rattle.ps_lines.specs.declared.command.HallCmd.TheVariants.{Report}
+use Rattle.ps_users.specs.Refusals.{refusal as refusal_of_user}
 use Rattle.ps_users.specs.Records.{Record as Users}
 use Rattle.ps_users.specs.Seats.{badge_in}
 use Rattle.ps_hall.specs.declared.entry.HallEntry.{HallEntry}
 use Rattle.ps_hall.specs.Records.{Record}
 use Rattle.ps_hall.specs.Lookups.{badge_of}
-use Rattle.ps_hall.specs.Steps.{applied}
+use Rattle.ps_hall.specs.Steps.{applied, after_report}
 use Rattle.ps_hall.specs.Lines.{refused_line}
 use Rattle.ps_hall.specs.Told.{told}
 use Rattle.ps_hall.specs.Halls.{verdict, after, after_by, notices_by, message_of, view, run_record}
 use Rattle.ps_laws.specs.HallStories.{HallOpening, HallStory, hall_opened, hall_story, hall_view_of}
-use Rattle.ps_laws.specs.HallLow.{HallItem, whole, is_sender_user, is_own_entry, items_of_own, items_of_others, hall_items_of, hall_low_from, hall_low, ids_taken, hall_users_from, hall_users}
+use Rattle.ps_laws.specs.HallLow.{HallItem, whole, is_sender_user, is_own_entry, items_of_own, items_of_others, hall_items_of, hall_low_from, hall_low, ids_taken, hall_users_from, hall_users, reported, own_allowed, id_taken}
 use Rattle.ps_laws.specs.HallSame.{HallViewsAreEqual, IsUnshown, HallUnshownMayBeMissing}
 use Rattle.ps_laws.proofs.HallTellLemmas.{notice_other}
 use Rattle.ps_laws.proofs.HallAlike.{Parts, parts_of, join, AreNear, AreAlike, alike_self}
 use Rattle.ps_laws.proofs.HallEffects.{same_parts}
 use Rattle.ps_laws.proofs.HallOwnLemmas.{IsMine, alike_by, own_judged, own_done, own_told}
-use Rattle.ps_laws.proofs.HallItems.{item_after, item_message, item_taken, item_users, whole_after, whole_message, IsWalked, after_allowed, message_allowed, none_taken}
+use Rattle.ps_laws.proofs.HallItems.{item_after, item_message, item_taken, item_users, whole_after, whole_message, IsWalked, after_allowed, message_allowed, none_taken, badge_by}
 use Rattle.ps_laws.proofs.HallTidy.{IsTidy, tidy_after, tidy_first, run_tidy}
 use Rattle.ps_laws.proofs.HallOtherRows.{allowed_walked}
 use Rattle.ps_laws.proofs.HallCovers.{IsCovered, covered_after, covered_first, users_after_entry, users_after_item, taken_is, users_front, users_rest}
@@ -31,6 +34,10 @@ use Rattle.ps_laws.proofs.UserLists.{AreUsers, users_self}
 sender_mine : (ids : List (List ℕ)) (badge : Option Badge) → is_sender_user ids badge ≡ true → IsMine ids badge
 sender_mine ids None is = tt
 sender_mine ids (Some b) is = is
+
+no_ids : (b : Bool) (xs : List (List ℕ)) → xs ≡ [] → cond b xs [] ≡ []
+no_ids true xs none = none
+no_ids false xs none = refl
 
 module _ (conn : ℕ) (ids : List (List ℕ)) (h : Record) (covered : IsCovered conn ids h.users) where
   own_mine : (e : HallEntry) (b : Bool) → (e.conn == conn) ≡ b → (b || is_sender_user ids (badge_of h e.conn)) ≡ true → IsMine ids (badge_of h e.conn)
@@ -66,10 +73,39 @@ module _ (conn : ℕ) (ids : List (List ℕ)) (h : Record) (covered : IsCovered 
           taken = taken_is conn h e;
         }
 
-    own_walked : (e : HallEntry) → is_own_entry conn ids h e ≡ true → IsWalked conn ids h e l (whole e ∷ [])
+    report_taken : (e : HallEntry) (number : ℕ) (winner : Option ℕ) → e.cmd ≡ Report number winner → ids_taken conn h e ≡ []
+    report_taken e number winner is = taken_is conn h e ∙ ap (λ (cmd : HallCmd). cond (e.conn == conn) (id_taken (badge_by (refusal_of_user h.users e.conn cmd) h.users cmd)) []) is ∙ no_ids (e.conn == conn) (id_taken (badge_by (refusal_of_user h.users e.conn (Report number winner)) h.users (Report number winner))) refl
+
+    -- an own Report that is allowed
+    own_report : (e : HallEntry) (number : ℕ) (winner : Option ℕ) → e.cmd ≡ Report number winner → IsMine ids (badge_of h e.conn) → verdict h e ≡ None → verdict l e ≡ None → IsWalked conn ids h e l (reported number winner ∷ [])
+    unfolding applied told
+    own_report e number winner is mine left right =
+        let g = applied h e.conn e.cmd in
+        let m = after_report l number winner in
+        let same : applied l e.conn e.cmd ≡ m = ap (applied l e.conn) is in
+        let w : AreAlike ids g m = subst (AreAlike ids g) same (own_done ids h p n e.conn e.cmd mine left right) in
+        record {
+          alike = alike_by ids (after h e) g m m (after_allowed h e left) refl w;
+          told =
+              message_allowed conn h e left
+              ∙ sym (own_told ids h p n conn covered.online g (parts_of m) w.near e.conn e.cmd mine)
+              ∙ sym (ap (λ (x : Record). message_of conn (told l x e.conn e.cmd)) w.open_parts)
+              ∙ ap (λ (cmd : HallCmd). message_of conn (told l m e.conn cmd)) is;
+          taken = report_taken e number winner is;
+        }
+
+    own_allowed_walked : (e : HallEntry) (cmd : HallCmd) → e.cmd ≡ cmd → is_own_entry conn ids h e ≡ true → IsMine ids (badge_of h e.conn) → verdict h e ≡ None → verdict l e ≡ None → IsWalked conn ids h e l (own_allowed e cmd)
+    own_allowed_walked e (Report number winner) is own mine left right = own_report e number winner is mine left right
+    own_allowed_walked e cmd is own mine left right = own_by e None own mine left right
+
+    own_judged_walked : (e : HallEntry) (v : Option HallWhy) → is_own_entry conn ids h e ≡ true → IsMine ids (badge_of h e.conn) → verdict h e ≡ v → verdict l e ≡ v → IsWalked conn ids h e l (items_of_own e v)
+    own_judged_walked e (Some why) own mine left right = own_by e (Some why) own mine left right
+    own_judged_walked e None own mine left right = own_allowed_walked e e.cmd refl own mine left right
+
+    own_walked : (e : HallEntry) → is_own_entry conn ids h e ≡ true → IsWalked conn ids h e l (items_of_own e (verdict h e))
     own_walked e own =
         let mine = own_mine e (e.conn == conn) refl own in
-        own_by e (verdict h e) own mine refl (own_judged ids h p n e.conn e.cmd mine)
+        own_judged_walked e (verdict h e) own mine refl (own_judged ids h p n e.conn e.cmd mine)
 
     refused_walked : (e : HallEntry) (why : HallWhy) → (e.conn == conn) ≡ false → verdict h e ≡ Some why → IsWalked conn ids h e l []
     refused_walked e why apart is = record {
@@ -83,7 +119,7 @@ module _ (conn : ℕ) (ids : List (List ℕ)) (h : Record) (covered : IsCovered 
     others_walked e (Some why) tidy apart out is = refused_walked e why apart is
     others_walked e None tidy apart out is = allowed_walked conn ids h p n tidy covered.online e.conn e.moment apart e.cmd out is
 
-    walked_by : (e : HallEntry) (own : Bool) → IsTidy h → is_own_entry conn ids h e ≡ own → IsWalked conn ids h e l (cond own (items_of_own e) (items_of_others ids h e (verdict h e)))
+    walked_by : (e : HallEntry) (own : Bool) → IsTidy h → is_own_entry conn ids h e ≡ own → IsWalked conn ids h e l (cond own (items_of_own e (verdict h e)) (items_of_others ids h e (verdict h e)))
     walked_by e true tidy own = own_walked e own
     walked_by e false tidy own =
         let parts = or_parts (e.conn == conn) (is_sender_user ids (badge_of h e.conn)) own in

@@ -11,12 +11,12 @@ use Rattle.ps_users.specs.Refusals.{refusal as refusal_of_user}
 use Rattle.ps_users.specs.Steps.{after as users_after, granted, with_name}
 use Rattle.ps_hall.specs.declared.entry.HallEntry.{HallEntry}
 use Rattle.ps_hall.specs.Records.{Record}
-use Rattle.ps_hall.specs.Lookups.{badge_of, opponent}
-use Rattle.ps_hall.specs.Steps.{after_cancel_search, after_cancel_challenge, after_reject, applied}
+use Rattle.ps_hall.specs.Lookups.{badge_of, opponent, game_in}
+use Rattle.ps_hall.specs.Steps.{after_cancel_search, after_cancel_challenge, after_reject, applied, after_report}
 use Rattle.ps_hall.specs.Lines.{challenge_line}
-use Rattle.ps_hall.specs.Told.{told, told_matched, to_user}
+use Rattle.ps_hall.specs.Told.{told, told_matched, to_user, told_of_report}
 use Rattle.ps_hall.specs.Halls.{verdict, after, after_by, notices_by, message, message_of}
-use Rattle.ps_laws.specs.HallLow.{HallItem, whole, named, searched, search_cancelled, started, challenged, challenge_cancelled, rejected, is_own_entry, id_taken, ids_taken}
+use Rattle.ps_laws.specs.HallLow.{HallItem, whole, named, searched, search_cancelled, started, challenged, challenge_cancelled, rejected, is_own_entry, id_taken, ids_taken, reported}
 use Rattle.ps_laws.proofs.HallAlike.{AreAlike}
 use Rattle.ps_laws.proofs.HallEffects.{with_battle, searched_after, challenged_after, accepted_after}
 
@@ -52,6 +52,7 @@ item_after conn ids l (started one two format) = with_battle l format false two 
 item_after conn ids l (challenged name user format) = challenged_after l name user format no_team
 item_after conn ids l (challenge_cancelled me user format) = after_cancel_challenge l me
 item_after conn ids l (rejected me user format) = after_reject l me user
+item_after conn ids l (reported number winner) = after_report l number winner
 
 -- ---- what it tells
 
@@ -79,6 +80,7 @@ item_message conn ids l (started one two format) = []
 item_message conn ids l (challenged name user format) = challenges_told conn l (challenged_after l name user format no_team) user
 item_message conn ids l (challenge_cancelled me user format) = challenges_told conn l (after_cancel_challenge l me) user
 item_message conn ids l (rejected me user format) = challenges_told conn l (after_reject l me user) user
+item_message conn ids l (reported number winner) = message_of conn (told_of_report l.users.online (after_report l number winner) winner (game_in l number))
 
 -- ---- the id that it gives the connection
 

@@ -21,11 +21,11 @@ use Rattle.ps_hall.specs.Records.{Record}
 use Rattle.ps_hall.specs.Lookups.{badge_of, is_online, challenge_from, game_in, kept_team}
 use Rattle.ps_hall.specs.Refusals.{or_else, of_text, of_accept, refusal_of_cancel_challenge, refusal_of_reject, refusal_of_accept, refusal_of_pm, refusal_of_report, refusal_of_named, refusal_by, refusal}
 use Rattle.ps_hall.specs.Starts.{start_if, start_of_accept}
-use Rattle.ps_hall.specs.Steps.{with_users, with_accept, after_named, after_by, applied}
+use Rattle.ps_hall.specs.Steps.{with_users, with_accept, after_named, after_by, applied, after_report}
 use Rattle.ps_hall.specs.Lines.{challenge_line, search_line}
 use Rattle.ps_hall.specs.Told.{told, told_by, told_of_name, told_of_named, told_both, told_whisper, told_of_cancel_challenge, to_user, notice, accept_lines}
 use Rattle.ps_hall.specs.Halls.{after, message, message_of}
-use Rattle.ps_laws.specs.HallLow.{whole, challenged, challenge_cancelled, rejected, is_sender_user, is_user, is_own_entry, items_of_named, items_of_name, items_of_start}
+use Rattle.ps_laws.specs.HallLow.{whole, challenged, challenge_cancelled, rejected, is_sender_user, is_user, is_own_entry, items_of_named, items_of_name, items_of_start, reported}
 use Rattle.ps_laws.specs.HallLow.{items_of_cancel_challenge, items_of_reject, items_by, items_of_allowed}
 use Rattle.ps_laws.proofs.HallTellLemmas.{told_same, told_none, notice_other}
 use Rattle.ps_laws.proofs.HallAlike.{Parts, parts_of, join, AreNear, AreAlike, alike_chain, alike_turned, line_same}
@@ -33,7 +33,7 @@ use Rattle.ps_laws.proofs.HallEffects.{with_battle, same_parts, cancel_search_al
 use Rattle.ps_laws.proofs.HallEffects.{search_alike, accepted_alike, battle_alike, searched_after, challenged_after, accepted_by, accepted_after}
 use Rattle.ps_laws.proofs.HallLegal.{search_is, challenge_is, accept_is, accept_legal}
 use Rattle.ps_laws.proofs.HallOwnLemmas.{alike_by, quit_alike_at, report_alike, quit_told_at}
-use Rattle.ps_laws.proofs.HallItems.{no_team, named_after, item_after, shown_after, shown_message, accepted_of, whole_after, whole_message, challenges_told, search_told, IsGiven}
+use Rattle.ps_laws.proofs.HallItems.{no_team, named_after, item_after, shown_after, shown_message, accepted_of, whole_after, whole_message, challenges_told, search_told, IsGiven, item_message}
 use Rattle.ps_laws.proofs.HallItems.{IsWalked, after_allowed, message_allowed, none_taken}
 use Rattle.ps_laws.proofs.HallOtherLemmas.{team_unseen, block_unseen, unblock_unseen, challenge_unseen, answer_unseen}
 use Rattle.ps_laws.proofs.HallTidy.{IsTidy, cancel_unseen}
@@ -103,13 +103,12 @@ module _ (conn : ℕ) (ids : List (List ℕ)) (h : Record) (p : Parts) (n : AreN
       (told_alike Quit (applied h sender Quit) (applied l sender Quit) w
       (quit_told_at ids h p n conn online (applied h sender Quit) (parts_of (applied l sender Quit)) w.near sender))
 
-  report_row : (number : ℕ) (winner : Option ℕ) → is_own_entry conn ids h (entry (Report number winner)) ≡ false → refusal h sender (Report number winner) ≡ None
-      → IsWalked conn ids h (entry (Report number winner)) l (whole (entry (Report number winner)) ∷ [])
-  unfolding refusal refusal_of_report applied told
-  report_row number winner own none =
+  report_row : (number : ℕ) (winner : Option ℕ) → refusal h sender (Report number winner) ≡ None → IsWalked conn ids h (entry (Report number winner)) l (reported number winner ∷ [])
+  unfolding applied told
+  report_row number winner none =
       let w = report_alike ids h p n number winner (game_in h number) in
-      whole_row (Report number winner) own none none refl refl w
-      (told_alike (Report number winner) (applied h sender (Report number winner)) (applied l sender (Report number winner)) w refl)
+      given (Report number winner) (applied h sender (Report number winner)) (after_report l number winner) (item_message conn ids l (reported number winner)) [] none refl w
+      (sym (told_alike (Report number winner) (applied h sender (Report number winner)) (after_report l number winner) w refl)) refl
 
   name_told : (groups : List Group) (o : Option Badge) → message_of conn (told_of_name groups sender o) ≡ []
   name_told groups None = refl
@@ -424,7 +423,7 @@ module _ (conn : ℕ) (ids : List (List ℕ)) (h : Record) (p : Parts) (n : AreN
     by_badge Quit named_so own none = quit_row own
     by_badge (Bad reason) named_so own none = absurd cc
     by_badge (Name name assertion) named_so own none = name_row name assertion none
-    by_badge (Report number winner) named_so own none = report_row number winner own none
+    by_badge (Report number winner) named_so own none = report_row number winner none
     by_badge (Team pack) named_so own none = named_row (Team pack) named_so own refl refl refl refl (λ g. refl) (λ g. refl) none (team_row pack)
     by_badge (Search format) named_so own none = named_row (Search format) named_so own refl refl refl refl (λ g. refl) (λ g. refl) none (search_row format)
     by_badge CancelSearch named_so own none = named_row CancelSearch named_so own refl refl refl refl (λ g. refl) (λ g. refl) none cancel_search_row
@@ -448,7 +447,7 @@ module _ (conn : ℕ) (ids : List (List ℕ)) (h : Record) (p : Parts) (n : AreN
   by_none Quit nameless own none = quit_row own
   by_none (Bad reason) nameless own none = absurd cc
   by_none (Name name assertion) nameless own none = name_row name assertion none
-  by_none (Report number winner) nameless own none = report_row number winner own none
+  by_none (Report number winner) nameless own none = report_row number winner none
   by_none other nameless own none = absurd (none_by other nameless none)
 
   by_any : (badge : Option Badge) (cmd : HallCmd) → badge_of h sender ≡ badge → is_sender_user ids badge ≡ false → is_own_entry conn ids h (entry cmd) ≡ false → refusal h sender cmd ≡ None

@@ -63,6 +63,8 @@ pub data HallItem : Type 0 where
   challenge_cancelled : List ℕ → List ℕ → List ℕ → HallItem
   -- the id of who was challenged, the id of who had challenged, and the format
   rejected : List ℕ → List ℕ → List ℕ → HallItem
+  -- the number of a battle that ended, and the player who won it, if one did; not who told of it, nor when
+  reported : ℕ → Option ℕ → HallItem
 
 abbrev pub is_sender_user : List (List ℕ) → Option Badge → Bool
 is_sender_user ids None = false
@@ -74,9 +76,18 @@ is_own_entry conn ids h e = e.conn == conn || is_sender_user ids (badge_of h e.c
 
 -- ---- the table, row by row
 
--- an entry of the connection, or of a connection that has a name of one of its users: the entry whole
-abbrev pub items_of_own : HallEntry → List HallItem
-items_of_own e = whole e ∷ []
+-- an allowed Report, of whomever: the battle, and who won it
+abbrev pub items_of_report : ℕ → Option ℕ → List HallItem
+items_of_report number winner = reported number winner ∷ []
+
+abbrev pub own_allowed : HallEntry → HallCmd → List HallItem
+own_allowed e (Report number winner) = items_of_report number winner
+own_allowed e other = whole e ∷ []
+
+-- an entry of the connection, or of a connection that has a name of one of its users: the entry whole, but for an allowed Report
+abbrev pub items_of_own : HallEntry → Option HallWhy → List HallItem
+items_of_own e (Some why) = whole e ∷ []
+items_of_own e None = own_allowed e e.cmd
 
 -- of others, refused: none
 abbrev pub items_of_refused : List HallItem
@@ -101,10 +112,6 @@ items_of_open e = whole e ∷ []
 -- of others, Quit: the entry whole
 abbrev pub items_of_quit : HallEntry → List HallItem
 items_of_quit e = whole e ∷ []
-
--- of others, an allowed Report: the entry whole
-abbrev pub items_of_report : HallEntry → List HallItem
-items_of_report e = whole e ∷ []
 
 -- of others, an allowed Name: the connection and the name that is read of its text, without the assertion. Where no name is read
 -- it isn't allowed.
@@ -183,7 +190,7 @@ items_of_allowed ids h e Open = items_of_open e
 items_of_allowed ids h e Quit = items_of_quit e
 items_of_allowed ids h e (Bad reason) = items_of_bad
 items_of_allowed ids h e (Name text assertion) = items_of_name e.conn (read_of text)
-items_of_allowed ids h e (Report number winner) = items_of_report e
+items_of_allowed ids h e (Report number winner) = items_of_report number winner
 items_of_allowed ids h e other = items_by ids h e (badge_of h e.conn) other
 
 abbrev pub items_of_others : List (List ℕ) → Record → HallEntry → Option HallWhy → List HallItem
@@ -192,7 +199,7 @@ items_of_others ids h e None = items_of_allowed ids h e e.cmd
 
 -- the items of an entry, to a connection with these users
 abbrev pub hall_items_of : ℕ → List (List ℕ) → Record → HallEntry → List HallItem
-hall_items_of conn ids h e = if is_own_entry conn ids h e then items_of_own e else items_of_others ids h e (verdict h e)
+hall_items_of conn ids h e = if is_own_entry conn ids h e then items_of_own e (verdict h e) else items_of_others ids h e (verdict h e)
 
 -- ---- the low history
 
