@@ -192,9 +192,9 @@ pub other_items : (conn : ℕ) (ids : List (List ℕ)) (r : Record) (e : Entry) 
 other_items conn ids r e chooses other =
     let c = choose_in e.cmd chooses in
     ap (λ (own : Bool). cond own (items_of_own r e) (items_of_others conn r e (verdict r e))) other ∙ by_verdict c.0 c.1 (verdict r e) c.2 refl where
-  by_verdict : (choice : List ℕ) (rqid : Option ℕ) (v : Option Why) → e.cmd ≡ Choose choice rqid → verdict r e ≡ v → items_of_others conn r e v ≡ commit_of (round_of r e)
-  by_verdict choice rqid (Some why) is v = sym (ap (λ (x : Option Why). commit_of (round_if_allowed x r e)) v)
-  by_verdict choice rqid None is v = ap (items_of_allowed conn r e) is
+      by_verdict : (choice : List ℕ) (rqid : Option ℕ) (v : Option Why) → e.cmd ≡ Choose choice rqid → verdict r e ≡ v → items_of_others conn r e v ≡ commit_of (round_of r e)
+      by_verdict choice rqid (Some why) is v = sym (ap (λ (x : Option Why). commit_of (round_if_allowed x r e)) v)
+      by_verdict choice rqid None is v = ap (items_of_allowed conn r e) is
 
 pub away : (conn : ℕ) (ids : List (List ℕ)) (r : Record) (e : Entry) → is_own conn ids r e ≡ false → (e.conn == conn) ≡ false
 away conn ids r e other = (or_parts (e.conn == conn) (is_user ids (user_of r e)) other).0

@@ -19,7 +19,7 @@ use Rattle.ps_hall.specs.declared.entry.HallEntry.{HallEntry}
 use Rattle.ps_hall.specs.declared.kept.KeptTeam.{KeptTeam}
 use Rattle.ps_hall.specs.Records.{Record}
 use Rattle.ps_hall.specs.Lookups.{badge_of, is_online, challenge_from, game_in, kept_team}
-use Rattle.ps_hall.specs.Refusals.{or_else, of_text, of_accept, refusal_of_cancel_challenge, refusal_of_reject, refusal_of_accept, refusal_of_pm, refusal_of_report, refusal_of_named, refusal_by, refusal}
+use Rattle.ps_hall.specs.Refusals.{or_else, of_text, of_accept, refusal_of_cancel_challenge, refusal_of_reject, refusal_of_accept, refusal_of_pm, refusal_of_named, refusal_by, refusal}
 use Rattle.ps_hall.specs.Starts.{start_if, start_of_accept}
 use Rattle.ps_hall.specs.Steps.{with_users, with_accept, after_named, after_by, applied, after_report}
 use Rattle.ps_hall.specs.Lines.{challenge_line, search_line}

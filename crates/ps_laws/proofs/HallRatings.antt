@@ -145,9 +145,9 @@ ladder_put : (ladders : ById Standing) (at : List ℕ) (s : Standing) (format : 
 ladder_put ladders at s format =
     ap (λ (o : Option Standing). unwrap_or o (standing_of [])) (get-insert nat_list_cmp_total ladders at s format ∙ ap (λ (b : Bool). cond b (Some s) (get ladders format)) (is_eq-slice_cmp format at))
     ∙ either (bytes_eq format at) where
-  either : (b : Bool) → unwrap_or (cond b (Some s) (get ladders format)) (standing_of []) ≡ cond b s (ladder_in ladders format)
-  either true = refl
-  either false = refl
+      either : (b : Bool) → unwrap_or (cond b (Some s) (get ladders format)) (standing_of []) ≡ cond b s (ladder_in ladders format)
+      either true = refl
+      either false = refl
 
 all_filter : (test : Game → Bool) (g : Game) (gs : List Game) (b : Bool) → AllApart (g ∷ gs) → AllApart (filter test gs) → AllApart (cond b (g ∷ filter test gs) (filter test gs))
 all_filter test g gs true all more = (all.0, more)
@@ -214,18 +214,20 @@ settled_book h g number s results found lt b =
       apart = apart_filter (λ x. not (has_number number x)) h.games b.apart;
       two = λ format. All-append IsOfTwo (results format) (won_by format g true (Some s)) (b.two format) (two_by format (bytes_eq g.format format) apart);
     } where
-  by_format : (format : List ℕ) (x y : Bool) → bytes_eq format g.format ≡ x → bytes_eq g.format format ≡ y → standing_with (ladder_in h.ladders g.format) (winner_of g s) (loser_of g s) ≡ standing_of (results g.format ++ record { winner = winner_of g s; loser = loser_of g s } ∷ [])
-      → cond x (standing_with (ladder_in h.ladders g.format) (winner_of g s) (loser_of g s)) (ladder_in h.ladders format) ≡ standing_of (results format ++ cond y (record { winner = winner_of g s; loser = loser_of g s } ∷ []) [])
-  by_format format true true is is_too here = here ∙ ap (λ (f : List ℕ). standing_of (results f ++ record { winner = winner_of g s; loser = loser_of g s } ∷ [])) ((bytes_eq-Decides g.format format).0 is_too)
-  by_format format true false is is_too here = absurd (let wrong : true ≡ false = sym is ∙ turned_apart g.format format (bytes_eq format g.format) is_too refl in cc)
-  by_format format false true is is_too here = absurd (let wrong : true ≡ false = sym is_too ∙ turned_apart format g.format (bytes_eq g.format format) is refl in cc)
-  by_format format false false is is_too here = b.ladder format ∙ ap standing_of (sym (append-nil (results format)))
-  count_by : (format : List ℕ) (y : Bool) → length (without_game h.games number) < length h.games → length (results format) + length h.games ≤ h.started → length (results format ++ cond y (record { winner = winner_of g s; loser = loser_of g s } ∷ []) []) + length (without_game h.games number) ≤ h.started
-  count_by format true less few = let one = length_push (results format) (record { winner = winner_of g s; loser = loser_of g s }) in omega (arith, less, few, one)
-  count_by format false less few = subst (λ (rs : List Won). length rs + length (without_game h.games number) ≤ h.started) (sym (append-nil (results format))) (omega (arith, less, few))
-  two_by : (format : List ℕ) (y : Bool) → bytes_eq (winner_of g s) (loser_of g s) ≡ false → All IsOfTwo (cond y (record { winner = winner_of g s; loser = loser_of g s } ∷ []) [])
-  two_by format true apart = All-cons IsOfTwo (record { winner = winner_of g s; loser = loser_of g s }) [] apart (All-nil IsOfTwo)
-  two_by format false apart = All-nil IsOfTwo
+      by_format : (format : List ℕ) (x y : Bool) → bytes_eq format g.format ≡ x → bytes_eq g.format format ≡ y → standing_with (ladder_in h.ladders g.format) (winner_of g s) (loser_of g s) ≡ standing_of (results g.format ++ record { winner = winner_of g s; loser = loser_of g s } ∷ [])
+          → cond x (standing_with (ladder_in h.ladders g.format) (winner_of g s) (loser_of g s)) (ladder_in h.ladders format) ≡ standing_of (results format ++ cond y (record { winner = winner_of g s; loser = loser_of g s } ∷ []) [])
+      by_format format true true is is_too here = here ∙ ap (λ (f : List ℕ). standing_of (results f ++ record { winner = winner_of g s; loser = loser_of g s } ∷ [])) ((bytes_eq-Decides g.format format).0 is_too)
+      by_format format true false is is_too here = absurd (let wrong : true ≡ false = sym is ∙ turned_apart g.format format (bytes_eq format g.format) is_too refl in cc)
+      by_format format false true is is_too here = absurd (let wrong : true ≡ false = sym is_too ∙ turned_apart format g.format (bytes_eq g.format format) is refl in cc)
+      by_format format false false is is_too here = b.ladder format ∙ ap standing_of (sym (append-nil (results format)))
+
+      count_by : (format : List ℕ) (y : Bool) → length (without_game h.games number) < length h.games → length (results format) + length h.games ≤ h.started → length (results format ++ cond y (record { winner = winner_of g s; loser = loser_of g s } ∷ []) []) + length (without_game h.games number) ≤ h.started
+      count_by format true less few = let one = length_push (results format) (record { winner = winner_of g s; loser = loser_of g s }) in omega (arith, less, few, one)
+      count_by format false less few = subst (λ (rs : List Won). length rs + length (without_game h.games number) ≤ h.started) (sym (append-nil (results format))) (omega (arith, less, few))
+
+      two_by : (format : List ℕ) (y : Bool) → bytes_eq (winner_of g s) (loser_of g s) ≡ false → All IsOfTwo (cond y (record { winner = winner_of g s; loser = loser_of g s } ∷ []) [])
+      two_by format true apart = All-cons IsOfTwo (record { winner = winner_of g s; loser = loser_of g s }) [] apart (All-nil IsOfTwo)
+      two_by format false apart = All-nil IsOfTwo
 
 -- no result
 unsettled_book : (h : Record) (number : ℕ) (results : List ℕ → List Won) → IsKept h results → IsBook h.ladders (without_game h.games number) h.started (λ format. results format ++ [])

@@ -215,12 +215,12 @@ result_twin P f g s (Ok c) lt w may can shown =
     let ready = is_ready a 0 && is_ready a 1 in
     let same : (is_ready b 0 && is_ready b 1) ≡ ready = sym (ap₂ (λ (x y : Bool). x && y) (ready_same P a b 0 bouts) (ready_same P a b 1 bouts)) in
     completed_by_ready P f g a b ready refl same fights shown (λ is. subst (λ (x : Battle). AreChoices x (choice_or_pass a.first) (choice_or_pass a.second)) (sym (waiting_battle s (Some c) f.bout)) (round_choices f.bout s c lt may (can c refl) is)) where
-  completed_by_ready : (P : Hidden) (f g : Fight) (a b : Bout) (ready : Bool) → (is_ready a 0 && is_ready a 1) ≡ ready → (is_ready b 0 && is_ready b 1) ≡ ready → AreFightsAlike P (record f { bout = a }) (record g { bout = b })
-      → AreUnshown P (option_to_list (completed_if (is_ready a 0 && is_ready a 1) (figures_of f.cast.dex) a)) → ((is_ready a 0 && is_ready a 1) ≡ true → AreChoices a.battle (choice_or_pass a.first) (choice_or_pass a.second))
-      → IsRoundTwin P (completed (figures_of f.cast.dex) a) (completed (figures_of g.cast.dex) b) (completed_if (is_ready a 0 && is_ready a 1) (figures_of f.cast.dex) a) (completed_if (is_ready b 0 && is_ready b 1) (figures_of g.cast.dex) b)
-  completed_by_ready P f g a b ready is is_too w shown choices =
-      rw (is, is_too) (completed_twin P (record f { bout = a }) (record g { bout = b }) ready is is_too w
-      (λ yes. record { choices = choices (is ∙ yes); unshown = (subst (λ (x : Bool). AreUnshown P (option_to_list (completed_if x (figures_of f.cast.dex) a))) (is ∙ yes) shown).0 }))
+      completed_by_ready : (P : Hidden) (f g : Fight) (a b : Bout) (ready : Bool) → (is_ready a 0 && is_ready a 1) ≡ ready → (is_ready b 0 && is_ready b 1) ≡ ready → AreFightsAlike P (record f { bout = a }) (record g { bout = b })
+          → AreUnshown P (option_to_list (completed_if (is_ready a 0 && is_ready a 1) (figures_of f.cast.dex) a)) → ((is_ready a 0 && is_ready a 1) ≡ true → AreChoices a.battle (choice_or_pass a.first) (choice_or_pass a.second))
+          → IsRoundTwin P (completed (figures_of f.cast.dex) a) (completed (figures_of g.cast.dex) b) (completed_if (is_ready a 0 && is_ready a 1) (figures_of f.cast.dex) a) (completed_if (is_ready b 0 && is_ready b 1) (figures_of g.cast.dex) b)
+      completed_by_ready P f g a b ready is is_too w shown choices =
+          rw (is, is_too) (completed_twin P (record f { bout = a }) (record g { bout = b }) ready is is_too w
+          (λ yes. record { choices = choices (is ∙ yes); unshown = (subst (λ (x : Bool). AreUnshown P (option_to_list (completed_if x (figures_of f.cast.dex) a))) (is ∙ yes) shown).0 }))
 
 -- the same text of a side
 side_twin : (P : Hidden) (f g : Fight) (s : ℕ) (choice : List ℕ) (rqid : Option ℕ) → s < 2 → chosen f.bout s f.cast.dex choice rqid ≡ chosen g.bout s g.cast.dex choice rqid → AreFightsAlike P f g → MayWait f.bout

@@ -370,13 +370,13 @@ undone_kept r e s None lt is v b side = absurd cc
 undone_kept r e s (Some f) lt is v b side =
     let done = undo_after r e f s is v b side in (
       ap (own_part (hide s)) done
-      ∙ ap (λ (x : Bout). record r { battle = Some (record f { bout = x }) }) (undone_other (hide s) s f.bout lt (hidden_is s))
-      ∙ ap (λ (fo : Option Fight). record r { battle = own_fight (hide s) fo }) (sym b),
+          ∙ ap (λ (x : Bout). record r { battle = Some (record f { bout = x }) }) (undone_other (hide s) s f.bout lt (hidden_is s))
+          ∙ ap (λ (fo : Option Fight). record r { battle = own_fight (hide s) fo }) (sym b),
       ap (λ (x : Record). waits_in x.battle s) done ∙ cleared s f.bout,
     ) where
-  cleared : (s : ℕ) (b : Bout) → is_some (waiting (with_waiting s None b) s) ≡ false
-  cleared zero b = refl
-  cleared (suc s) b = refl
+      cleared : (s : ℕ) (b : Bout) → is_some (waiting (with_waiting s None b) s) ≡ false
+      cleared zero b = refl
+      cleared (suc s) b = refl
 
 undo_part : (r : Record) (e : Entry) (s : ℕ) (v : Option Why) → s < 2 → e.cmd ≡ Undo → verdict r e ≡ v → side_in r.battle (sender_of r e) ≡ Some s → own_part (hide s) (after r e) ≡ own_part (hide s) r
 undo_part r e s (Some why) lt is v side = ap (own_part (hide s)) (after_refused r e why v)

@@ -54,7 +54,7 @@ HasMatches s = (before : List HallEntry) (e : HallEntry) (later : List HallEntry
     → badge_of (run_record (hall_opened s.opening) before) e.conn ≡ Some badge
     → verdict (run_record (hall_opened s.opening) before) e ≡ None
     → is_some (out_of (run_record (hall_opened s.opening) before) e).start
-      ≡ is_some (opponent (run_record (hall_opened s.opening) before) (id_of badge.name) format)
+    ≡ is_some (opponent (run_record (hall_opened s.opening) before) (id_of badge.name) format)
 
 -- No battle of a match is lost, and no result: of the hall of a run, or of a session.
 pub record IsHallWhole (s : HallStory) : Type 0 where

@@ -43,4 +43,4 @@ HallMatchesStart = (o : HallOpening) (before : List HallEntry) (e : HallEntry) (
     → e.cmd ≡ Search format → badge_of (run_record (hall_opened o) before) e.conn ≡ Some badge
     → verdict (run_record (hall_opened o) before) e ≡ None
     → is_some (out_of (run_record (hall_opened o) before) e).start
-      ≡ is_some (opponent (run_record (hall_opened o) before) (id_of badge.name) format)
+    ≡ is_some (opponent (run_record (hall_opened o) before) (id_of badge.name) format)
