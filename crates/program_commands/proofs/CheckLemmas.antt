@@ -12,7 +12,7 @@ use Rattle.ps_dex.specs.declared.item.Tables.{Tables}
 use Rattle.ps_rules.specs.declared.table.RuleTable.{RuleTable}
 use Rattle.ps_valid.specs.TeamRows.{legal_in}
 use Rattle.program_commands.specs.declared.status.Status.{Status}
-use Rattle.program_commands.specs.declared.status.Status.TheVariants.{Done, Usage, FileMissing, FileFault, FileLong, BadDex, BadConfig, BadScript, ScriptLong, ReadFault, WriteFault, BadTeam, NoMemory, DoorFault, UnknownFormat, BadPack, NoTour, BadExport, NoExport}
+use Rattle.program_commands.specs.declared.status.Status.TheVariants.{Done, Usage, FileMissing, FileFault, FileLong, BadDex, BadConfig, BadScript, ScriptLong, ReadFault, WriteFault, BadTeam, NoMemory, DoorFault, UnknownFormat, BadPack, NoTour, KeepFault, KeepFull, BadExport, NoExport}
 use Rattle.program_commands.specs.Words.{Checked}
 use Rattle.program_commands.specs.Steps.{IsFaultOf, dex_in, config_in}
 use Rattle.program_commands.specs.Setups.{IsSettled, Then, EndsIfKnown}
@@ -39,6 +39,8 @@ Harmless DoorFault = ⊥
 Harmless (UnknownFormat id) = ⊥
 Harmless (BadPack at kind) = ⊥
 Harmless NoTour = ⊥
+Harmless KeepFault = ⊥
+Harmless (KeepFull count) = ⊥
 Harmless (BadExport line) = ⊥
 Harmless (NoExport set) = ⊥
 
@@ -80,6 +82,8 @@ only_text dex rules text WriteFault legal h = tt
 only_text dex rules text (BadTeam set rule subject) legal h = absurd (not_broken dex rules text set rule subject legal h)
 only_text dex rules text (BadPack at kind) legal h = absurd (not_unpacked dex rules text at kind legal h)
 only_text dex rules text NoTour legal h = absurd h
+only_text dex rules text KeepFault legal h = absurd h
+only_text dex rules text (KeepFull count) legal h = absurd h
 only_text dex rules text (BadExport line) legal h = absurd h
 only_text dex rules text (NoExport set) legal h = absurd h
 only_text dex rules text (FileFault name) legal h = tt
@@ -121,6 +125,8 @@ harmless_settles one old new write_fault DoorFault cause wrote files sink h = ab
 harmless_settles one old new write_fault (UnknownFormat id) cause wrote files sink h = absurd h
 harmless_settles one old new write_fault (BadPack at kind) cause wrote files sink h = absurd h
 harmless_settles one old new write_fault NoTour cause wrote files sink h = absurd h
+harmless_settles one old new write_fault KeepFault cause wrote files sink h = absurd h
+harmless_settles one old new write_fault (KeepFull count) cause wrote files sink h = absurd h
 harmless_settles one old new write_fault (BadExport line) cause wrote files sink h = absurd h
 harmless_settles one old new write_fault (NoExport set) cause wrote files sink h = absurd h
 

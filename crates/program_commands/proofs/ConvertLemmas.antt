@@ -11,7 +11,7 @@ use Rattle.ps_packed.specs.Packed.{IsTeam}
 use Rattle.ps_packed.proofs.Unique.{one_team}
 use Rattle.ps_export.specs.Written.{export_text, first_unwritable}
 use Rattle.program_commands.specs.declared.status.Status.{Status}
-use Rattle.program_commands.specs.declared.status.Status.TheVariants.{Done, Usage, FileMissing, FileFault, FileLong, BadDex, BadConfig, BadScript, ScriptLong, ReadFault, WriteFault, BadTeam, NoMemory, DoorFault, UnknownFormat, BadPack, NoTour, BadExport, NoExport}
+use Rattle.program_commands.specs.declared.status.Status.TheVariants.{Done, Usage, FileMissing, FileFault, FileLong, BadDex, BadConfig, BadScript, ScriptLong, ReadFault, WriteFault, BadTeam, NoMemory, DoorFault, UnknownFormat, BadPack, NoTour, KeepFault, KeepFull, BadExport, NoExport}
 use Rattle.program_commands.specs.Setups.{IsSettled}
 use Rattle.program_commands.specs.Checks.{most_team}
 use Rattle.program_commands.specs.Conversions.{HasExport, MakesExport, IsWhyNone, HasNoExport, StopsExport, MakesPacked, StopsImport, OfFile, ConversionCause, SettlesConversion, IsExportOf}
@@ -58,6 +58,8 @@ export_apart bytes made DoorFault has stops = stops
 export_apart bytes made (UnknownFormat id) has stops = stops
 export_apart bytes made (BadPack at kind) has stops = no_pack_fault (strip_last 10 bytes) at kind has.team has.utf8 has.packed stops
 export_apart bytes made NoTour has stops = stops
+export_apart bytes made KeepFault has stops = stops
+export_apart bytes made (KeepFull count) has stops = stops
 export_apart bytes made (BadExport line) has stops = stops
 export_apart bytes made (NoExport set) has stops = has_export bytes made set has stops
 
@@ -81,6 +83,8 @@ import_apart bytes made DoorFault has stops = stops
 import_apart bytes made (UnknownFormat id) has stops = stops
 import_apart bytes made (BadPack at kind) has stops = stops
 import_apart bytes made NoTour has stops = stops
+import_apart bytes made KeepFault has stops = stops
+import_apart bytes made (KeepFull count) has stops = stops
 import_apart bytes made (NoExport set) has stops = stops
 
 -- ---- completeness
@@ -117,6 +121,8 @@ made_settles lookup name bytes made makes stops old new write_fault DoorFault ap
 made_settles lookup name bytes made makes stops old new write_fault (UnknownFormat id) apart file is cause wrote files sink = absurd cause
 made_settles lookup name bytes made makes stops old new write_fault (BadPack at kind) apart file is cause wrote files sink = absurd (no_stop lookup name bytes made makes stops (BadPack at kind) apart file is cause)
 made_settles lookup name bytes made makes stops old new write_fault NoTour apart file is cause wrote files sink = absurd cause
+made_settles lookup name bytes made makes stops old new write_fault KeepFault apart file is cause wrote files sink = absurd cause
+made_settles lookup name bytes made makes stops old new write_fault (KeepFull count) apart file is cause wrote files sink = absurd cause
 made_settles lookup name bytes made makes stops old new write_fault (BadExport line) apart file is cause wrote files sink = absurd (no_stop lookup name bytes made makes stops (BadExport line) apart file is cause)
 made_settles lookup name bytes made makes stops old new write_fault (NoExport set) apart file is cause wrote files sink = absurd (no_stop lookup name bytes made makes stops (NoExport set) apart file is cause)
 

@@ -22,7 +22,7 @@ use Rattle.rules_config.specs.declared.settings.Settings.{Settings}
 use Rattle.ps_valid.specs.declared.legal.Legal.{Legal}
 use Rattle.ps_valid.specs.TeamRows.{legal_in}
 use Rattle.program_commands.specs.declared.status.Status.{Status}
-use Rattle.program_commands.specs.declared.status.Status.TheVariants.{Done, Usage, FileMissing, FileFault, FileLong, BadDex, BadConfig, BadScript, ScriptLong, ReadFault, WriteFault, BadTeam, NoMemory, DoorFault, UnknownFormat, BadPack, NoTour, BadExport, NoExport}
+use Rattle.program_commands.specs.declared.status.Status.TheVariants.{Done, Usage, FileMissing, FileFault, FileLong, BadDex, BadConfig, BadScript, ScriptLong, ReadFault, WriteFault, BadTeam, NoMemory, DoorFault, UnknownFormat, BadPack, NoTour, KeepFault, KeepFull, BadExport, NoExport}
 use Rattle.program_commands.specs.Words.{Checked}
 use Rattle.program_commands.specs.Steps.{IsFaultOf, within, from_file, dex_in, config_in}
 use Rattle.program_commands.specs.Setups.{Then, IsSettled}
@@ -75,6 +75,8 @@ TextEnds dex rules text WriteFault = IsLegal dex rules text
 TextEnds dex rules text (BadTeam set rule subject) = IsBroken dex rules text set rule subject
 TextEnds dex rules text (BadPack at kind) = IsUnpacked text at kind
 TextEnds dex rules text NoTour = ⊥
+TextEnds dex rules text KeepFault = ⊥
+TextEnds dex rules text (KeepFull count) = ⊥
 TextEnds dex rules text (BadExport line) = ⊥
 TextEnds dex rules text (NoExport set) = ⊥
 TextEnds dex rules text (Usage word) = ⊥
@@ -129,6 +131,8 @@ CheckCause named old new DoorFault = ⊥
 CheckCause named old new (UnknownFormat id) = Unit {0}
 CheckCause named old new (BadPack at kind) = Unit {0}
 CheckCause named old new NoTour = ⊥
+CheckCause named old new KeepFault = ⊥
+CheckCause named old new (KeepFull count) = ⊥
 CheckCause named old new (BadExport line) = ⊥
 CheckCause named old new (NoExport set) = ⊥
 
@@ -157,6 +161,8 @@ WritesLegal old new DoorFault = Keeps old new
 WritesLegal old new (UnknownFormat id) = Keeps old new
 WritesLegal old new (BadPack at kind) = Keeps old new
 WritesLegal old new NoTour = Keeps old new
+WritesLegal old new KeepFault = Keeps old new
+WritesLegal old new (KeepFull count) = Keeps old new
 WritesLegal old new (BadExport line) = Keeps old new
 WritesLegal old new (NoExport set) = Keeps old new
 

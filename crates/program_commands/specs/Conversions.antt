@@ -13,7 +13,7 @@ use Rattle.ps_packed.specs.Canon.{canon}
 use Rattle.ps_export.specs.Export.{IsExport, IsRefused}
 use Rattle.ps_export.specs.Written.{export_text, first_unwritable}
 use Rattle.program_commands.specs.declared.status.Status.{Status}
-use Rattle.program_commands.specs.declared.status.Status.TheVariants.{Done, Usage, FileMissing, FileFault, FileLong, BadDex, BadConfig, BadScript, ScriptLong, ReadFault, WriteFault, BadTeam, NoMemory, DoorFault, UnknownFormat, BadPack, NoTour, BadExport, NoExport}
+use Rattle.program_commands.specs.declared.status.Status.TheVariants.{Done, Usage, FileMissing, FileFault, FileLong, BadDex, BadConfig, BadScript, ScriptLong, ReadFault, WriteFault, BadTeam, NoMemory, DoorFault, UnknownFormat, BadPack, NoTour, KeepFault, KeepFull, BadExport, NoExport}
 use Rattle.program_commands.specs.Setups.{IsSettled}
 use Rattle.program_commands.specs.Checks.{most_team, IsUnpacked}
 
@@ -93,6 +93,8 @@ ConversionCause contents name stops old new DoorFault = ⊥
 ConversionCause contents name stops old new (UnknownFormat id) = ⊥
 ConversionCause contents name stops old new (BadPack at kind) = OfFile contents name (λ bytes. stops bytes (BadPack at kind))
 ConversionCause contents name stops old new NoTour = ⊥
+ConversionCause contents name stops old new KeepFault = ⊥
+ConversionCause contents name stops old new (KeepFull count) = ⊥
 ConversionCause contents name stops old new (BadExport line) = OfFile contents name (λ bytes. stops bytes (BadExport line))
 ConversionCause contents name stops old new (NoExport set) = OfFile contents name (λ bytes. stops bytes (NoExport set))
 
@@ -135,6 +137,8 @@ WritesConversion contents name makes old new DoorFault = Keeps old new
 WritesConversion contents name makes old new (UnknownFormat id) = Keeps old new
 WritesConversion contents name makes old new (BadPack at kind) = Keeps old new
 WritesConversion contents name makes old new NoTour = Keeps old new
+WritesConversion contents name makes old new KeepFault = Keeps old new
+WritesConversion contents name makes old new (KeepFull count) = Keeps old new
 WritesConversion contents name makes old new (BadExport line) = Keeps old new
 WritesConversion contents name makes old new (NoExport set) = Keeps old new
 

@@ -5,7 +5,7 @@ use Rattle.ps_packed.specs.declared.fault.PackFault.TheVariants as pack_faults
 use Rattle.ps_valid.specs.declared.verdict.Verdict.{Verdict}
 use Rattle.ps_valid.specs.declared.legal.Legal.{Legal}
 use Rattle.program_commands.specs.declared.status.Status.{Status}
-use Rattle.program_commands.specs.declared.status.Status.TheVariants.{Done, Usage, FileMissing, FileFault, FileLong, BadDex, BadConfig, BadScript, ScriptLong, ReadFault, WriteFault, BadTeam, NoMemory, DoorFault, UnknownFormat, BadPack, NoTour, BadExport, NoExport}
+use Rattle.program_commands.specs.declared.status.Status.TheVariants.{Done, Usage, FileMissing, FileFault, FileLong, BadDex, BadConfig, BadScript, ScriptLong, ReadFault, WriteFault, BadTeam, NoMemory, DoorFault, UnknownFormat, BadPack, NoTour, KeepFault, KeepFull, BadExport, NoExport}
 use Rattle.program_commands.specs.Checks.{IsUnpacked}
 
 -- the statuses by which the lookup of a format ends a check
@@ -27,6 +27,8 @@ FormatCause (BadTeam set rule subject) = ⊥
 FormatCause DoorFault = ⊥
 FormatCause (BadPack at kind) = ⊥
 FormatCause NoTour = ⊥
+FormatCause KeepFault = ⊥
+FormatCause (KeepFull count) = ⊥
 FormatCause (BadExport line) = ⊥
 FormatCause (NoExport set) = ⊥
 
@@ -37,6 +39,8 @@ IsOfText WriteFault = Unit {0}
 IsOfText (BadTeam set rule subject) = Unit {0}
 IsOfText (BadPack at kind) = Unit {0}
 IsOfText NoTour = ⊥
+IsOfText KeepFault = ⊥
+IsOfText (KeepFull count) = ⊥
 IsOfText (BadExport line) = ⊥
 IsOfText (NoExport set) = ⊥
 IsOfText NoMemory = Unit {0}
@@ -65,6 +69,8 @@ RulesEnd found (BadTeam set rule subject) = found ≡ Err (record { set = set; r
 RulesEnd found NoMemory = Unit {0}
 RulesEnd found (BadPack at kind) = ⊥
 RulesEnd found NoTour = ⊥
+RulesEnd found KeepFault = ⊥
+RulesEnd found (KeepFull count) = ⊥
 RulesEnd found (BadExport line) = ⊥
 RulesEnd found (NoExport set) = ⊥
 RulesEnd found (Usage word) = ⊥

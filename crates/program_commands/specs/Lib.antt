@@ -1,4 +1,5 @@
 pub mod Words
+pub mod KeptWords
 pub mod Statuses
 pub mod Steps
 pub mod Setups

@@ -8,7 +8,7 @@ use Rattle.ps_outside.specs.declared.files.FileEnd.TheVariants as file_ends
 use Rattle.ps_dex.specs.declared.item.Tables.{Tables}
 use Rattle.rules_config.specs.declared.settings.Settings.{Settings}
 use Rattle.program_commands.specs.declared.status.Status.{Status}
-use Rattle.program_commands.specs.declared.status.Status.TheVariants.{Done, Usage, FileMissing, FileFault, FileLong, BadDex, BadConfig, BadScript, ScriptLong, ReadFault, WriteFault, BadTeam, NoMemory, DoorFault, UnknownFormat, BadPack, NoTour, BadExport, NoExport}
+use Rattle.program_commands.specs.declared.status.Status.TheVariants.{Done, Usage, FileMissing, FileFault, FileLong, BadDex, BadConfig, BadScript, ScriptLong, ReadFault, WriteFault, BadTeam, NoMemory, DoorFault, UnknownFormat, BadPack, NoTour, KeepFault, KeepFull, BadExport, NoExport}
 use Rattle.program_commands.specs.Words.{Options, words_in, serve_words_in}
 use Rattle.program_commands.specs.Steps.{IsFaultOf, dex_in, config_in}
 
@@ -45,6 +45,8 @@ usage_reported DoorFault = None
 usage_reported (UnknownFormat id) = None
 usage_reported (BadPack at kind) = None
 usage_reported NoTour = None
+usage_reported KeepFault = None
+usage_reported (KeepFull count) = None
 usage_reported (BadExport line) = None
 usage_reported (NoExport set) = None
 
@@ -115,6 +117,8 @@ IsSettled DoorFault = ⊥
 IsSettled (UnknownFormat id) = ⊥
 IsSettled (BadPack at kind) = ⊥
 IsSettled NoTour = ⊥
+IsSettled KeepFault = ⊥
+IsSettled (KeepFull count) = ⊥
 IsSettled (BadExport line) = ⊥
 IsSettled (NoExport set) = ⊥
 
@@ -159,6 +163,8 @@ NoFile name limit contents old new DoorFault = ⊥
 NoFile name limit contents old new (UnknownFormat id) = ⊥
 NoFile name limit contents old new (BadPack at kind) = ⊥
 NoFile name limit contents old new NoTour = ⊥
+NoFile name limit contents old new KeepFault = ⊥
+NoFile name limit contents old new (KeepFull count) = ⊥
 NoFile name limit contents old new (BadExport line) = ⊥
 NoFile name limit contents old new (NoExport set) = ⊥
 
@@ -181,6 +187,8 @@ StepCause named old new DoorFault = ⊥
 StepCause named old new (UnknownFormat id) = ⊥
 StepCause named old new (BadPack at kind) = ⊥
 StepCause named old new NoTour = ⊥
+StepCause named old new KeepFault = ⊥
+StepCause named old new (KeepFull count) = ⊥
 StepCause named old new (BadExport line) = ⊥
 StepCause named old new (NoExport set) = ⊥
 

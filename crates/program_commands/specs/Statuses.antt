@@ -1,7 +1,7 @@
 -- The numbers of the statuses.
 use Rattle.std.specs.Prelude.{ℕ}
 use Rattle.program_commands.specs.declared.status.Status.{Status}
-use Rattle.program_commands.specs.declared.status.Status.TheVariants.{Done, Usage, FileMissing, FileFault, FileLong, BadDex, BadConfig, BadScript, ScriptLong, ReadFault, WriteFault, BadTeam, NoMemory, DoorFault, UnknownFormat, BadPack, NoTour, BadExport, NoExport}
+use Rattle.program_commands.specs.declared.status.Status.TheVariants.{Done, Usage, FileMissing, FileFault, FileLong, BadDex, BadConfig, BadScript, ScriptLong, ReadFault, WriteFault, BadTeam, NoMemory, DoorFault, UnknownFormat, BadPack, NoTour, KeepFault, KeepFull, BadExport, NoExport}
 
 abbrev pub number_of : Status → ℕ
 number_of Done = 0
@@ -21,5 +21,7 @@ number_of DoorFault = 14
 number_of (UnknownFormat id) = 15
 number_of (BadPack at kind) = 16
 number_of NoTour = 18
+number_of KeepFault = 19
+number_of (KeepFull count) = 20
 number_of (BadExport line) = 21
 number_of (NoExport set) = 22

@@ -8,5 +8,6 @@ pub mod convert;
 pub mod dex;
 pub mod field;
 pub mod file;
+pub mod kept_words;
 pub mod status;
 pub mod words;

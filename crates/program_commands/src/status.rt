@@ -83,6 +83,13 @@ pub enum Status {
     /// There is nobody to play a tournament: the dex has no species, or the configuration has no format, or the team of the first
     /// species breaks a rule of the first format.
     NoTour,
+    /// The keeper failed: what keeps the notes refused a call.
+    KeepFault,
+    /// More than 65,536 notes would be kept: how many, those of this run included where the notes that are kept alone aren't
+    /// so many. Nothing was noted.
+    KeepFull {
+        count: u32,
+    },
     /// The file is no export text: its first line that can't stand in one, counted from 1, or one more than it has lines where
     /// all of them can. A file that isn't UTF-8 is reported at 0.
     BadExport {
@@ -118,6 +125,8 @@ impl Status {
             Status::UnknownFormat { .. } => 15,
             Status::BadPack { .. } => 16,
             Status::NoTour => 18,
+            Status::KeepFault => 19,
+            Status::KeepFull { .. } => 20,
             Status::BadExport { .. } => 21,
             Status::NoExport { .. } => 22,
         }
@@ -146,6 +155,8 @@ impl fmt::Display for Status {
             Status::UnknownFormat { id } => write!(f, "UnknownFormat id={id}"),
             Status::BadPack { at, kind } => write!(f, "BadPack at={at} kind={kind:?}"),
             Status::NoTour => write!(f, "NoTour"),
+            Status::KeepFault => write!(f, "KeepFault"),
+            Status::KeepFull { count } => write!(f, "KeepFull count={count}"),
             Status::BadExport { line } => write!(f, "BadExport line={line}"),
             Status::NoExport { set } => write!(f, "NoExport set={set}"),
         }

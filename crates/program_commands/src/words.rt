@@ -85,7 +85,7 @@ pub enum Command<'a> {
     Tour(TourWords<'a>),
 }
 
-fn is_name(word: &str) -> bool
+pub(crate) fn is_name(word: &str) -> bool
     ensures { result ≡ is_name word.now }
 {
     match word.as_bytes() {
@@ -95,7 +95,7 @@ fn is_name(word: &str) -> bool
 }
 
 // A name and nothing more.
-fn last_name(at: u32, words: &[String]) -> Result<&str, u32>
+pub(crate) fn last_name(at: u32, words: &[String]) -> Result<&str, u32>
     requires { at < 100 }
     ensures { MatchResult result (λ name. last_name at (map string_bytes words.now) ≡ Ok name.now) (λ n. last_name at (map string_bytes words.now) ≡ Err n) }
 {

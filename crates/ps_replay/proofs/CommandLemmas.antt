@@ -3,7 +3,7 @@ use Rattle.std.proofs.Common.{◌≡◌, ℕ, List, [], Option, Some, None, Resu
 use Rattle.std.specs.Io.KnownBytes.{Keeps}
 use Rattle.replay_script.specs.Limits.{ReadsFew}
 use Rattle.program_commands.specs.declared.status.Status.{Status}
-use Rattle.program_commands.specs.declared.status.Status.TheVariants.{Done, Usage, FileMissing, FileFault, FileLong, BadDex, BadConfig, BadScript, ScriptLong, ReadFault, WriteFault, BadTeam, NoMemory, DoorFault, UnknownFormat, BadPack, NoTour, BadExport, NoExport}
+use Rattle.program_commands.specs.declared.status.Status.TheVariants.{Done, Usage, FileMissing, FileFault, FileLong, BadDex, BadConfig, BadScript, ScriptLong, ReadFault, WriteFault, BadTeam, NoMemory, DoorFault, UnknownFormat, BadPack, NoTour, KeepFault, KeepFull, BadExport, NoExport}
 use Rattle.program_commands.specs.Words.{Asked, Replays, Drills, Checks, Exports, Imports, Tours, Options, Drilled, Checked, Toured}
 use Rattle.program_commands.specs.Setups.{usage_reported, HasSetup, EndsIfKnown}
 use Rattle.program_commands.specs.Checks.{CheckEnds, IsNamed, CheckCause, WritesLegal, SettlesCheck}
@@ -33,6 +33,8 @@ keeps_input left left_after DoorFault same = same
 keeps_input left left_after (UnknownFormat id) same = same
 keeps_input left left_after (BadPack at kind) same = same
 keeps_input left left_after NoTour same = same
+keeps_input left left_after KeepFault same = tt
+keeps_input left left_after (KeepFull count) same = tt
 keeps_input left left_after (BadExport line) same = same
 keeps_input left left_after (NoExport set) same = same
 
@@ -67,6 +69,8 @@ no_usage P DoorFault none p = refl
 no_usage P (UnknownFormat id) none p = refl
 no_usage P (BadPack at kind) none p = refl
 no_usage P NoTour none p = refl
+no_usage P KeepFault none p = refl
+no_usage P (KeepFull count) none p = refl
 no_usage P (BadExport line) none p = refl
 no_usage P (NoExport set) none p = refl
 

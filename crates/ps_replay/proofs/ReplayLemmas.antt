@@ -6,7 +6,7 @@ use Rattle.ps_dex.specs.declared.item.Tables.{Tables}
 use Rattle.rules_config.specs.declared.settings.Settings.{Settings}
 use Rattle.replay_script.specs.Limits.{ReadsFew}
 use Rattle.program_commands.specs.declared.status.Status.{Status}
-use Rattle.program_commands.specs.declared.status.Status.TheVariants.{Done, Usage, FileMissing, FileFault, FileLong, BadDex, BadConfig, BadScript, ScriptLong, ReadFault, WriteFault, BadTeam, NoMemory, DoorFault, UnknownFormat, BadPack, NoTour, BadExport, NoExport}
+use Rattle.program_commands.specs.declared.status.Status.TheVariants.{Done, Usage, FileMissing, FileFault, FileLong, BadDex, BadConfig, BadScript, ScriptLong, ReadFault, WriteFault, BadTeam, NoMemory, DoorFault, UnknownFormat, BadPack, NoTour, KeepFault, KeepFull, BadExport, NoExport}
 use Rattle.program_commands.specs.Words.{Options}
 use Rattle.program_commands.specs.Steps.{dex_in, config_in}
 use Rattle.program_commands.specs.Setups.{Stands, IsSetUp, IsStopOf, Stops, IsOption, StepCause, Ended}
@@ -52,6 +52,8 @@ step_cause contents o left named old new DoorFault option stops stepped = absurd
 step_cause contents o left named old new (UnknownFormat id) option stops stepped = absurd stepped
 step_cause contents o left named old new (BadPack at kind) option stops stepped = absurd stepped
 step_cause contents o left named old new NoTour option stops stepped = absurd stepped
+step_cause contents o left named old new KeepFault option stops stepped = absurd stepped
+step_cause contents o left named old new (KeepFull count) option stops stepped = absurd stepped
 step_cause contents o left named old new (BadExport line) option stops stepped = absurd stepped
 step_cause contents o left named old new (NoExport set) option stops stepped = absurd stepped
 
@@ -73,6 +75,8 @@ step_prefix contents o left written written_after named old new DoorFault kept s
 step_prefix contents o left written written_after named old new (UnknownFormat id) kept stepped = kept
 step_prefix contents o left written written_after named old new (BadPack at kind) kept stepped = kept
 step_prefix contents o left written written_after named old new NoTour kept stepped = kept
+step_prefix contents o left written written_after named old new KeepFault kept stepped = kept
+step_prefix contents o left written written_after named old new (KeepFull count) kept stepped = kept
 step_prefix contents o left written written_after named old new (BadExport line) kept stepped = kept
 step_prefix contents o left written written_after named old new (NoExport set) kept stepped = kept
 
@@ -129,6 +133,8 @@ input_keeps left left_after DoorFault of = absurd of
 input_keeps left left_after (UnknownFormat id) of = absurd of
 input_keeps left left_after (BadPack at kind) of = absurd of
 input_keeps left left_after NoTour of = absurd of
+input_keeps left left_after KeepFault of = absurd of
+input_keeps left left_after (KeepFull count) of = absurd of
 input_keeps left left_after (BadExport line) of = absurd of
 input_keeps left left_after (NoExport set) of = absurd of
 
@@ -151,6 +157,8 @@ input_prefix contents o left written written_after config dex DoorFault s of wro
 input_prefix contents o left written written_after config dex (UnknownFormat id) s of wrote = absurd of
 input_prefix contents o left written written_after config dex (BadPack at kind) s of wrote = absurd of
 input_prefix contents o left written written_after config dex NoTour s of wrote = absurd of
+input_prefix contents o left written written_after config dex KeepFault s of wrote = absurd of
+input_prefix contents o left written written_after config dex (KeepFull count) s of wrote = absurd of
 input_prefix contents o left written written_after config dex (BadExport line) s of wrote = absurd of
 input_prefix contents o left written written_after config dex (NoExport set) s of wrote = absurd of
 

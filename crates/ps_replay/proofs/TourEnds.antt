@@ -16,7 +16,7 @@ use Rattle.replay_tour.specs.Entrants.{entering}
 use Rattle.replay_tour.specs.Tours.{Tour, begun}
 use Rattle.replay_tour.specs.Results.{result_text}
 use Rattle.program_commands.specs.declared.status.Status.{Status}
-use Rattle.program_commands.specs.declared.status.Status.TheVariants.{Done, Usage, FileMissing, FileFault, FileLong, BadDex, BadConfig, BadScript, ScriptLong, ReadFault, WriteFault, BadTeam, NoMemory, DoorFault, UnknownFormat, BadPack, NoTour, BadExport, NoExport}
+use Rattle.program_commands.specs.declared.status.Status.TheVariants.{Done, Usage, FileMissing, FileFault, FileLong, BadDex, BadConfig, BadScript, ScriptLong, ReadFault, WriteFault, BadTeam, NoMemory, DoorFault, UnknownFormat, BadPack, NoTour, KeepFault, KeepFull, BadExport, NoExport}
 use Rattle.program_commands.specs.Words.{Options, Toured}
 use Rattle.program_commands.specs.Setups.{IsSetUp, IsSettled}
 use Rattle.program_commands.specs.Fields.{HasField, HasNoField, LacksField}
@@ -116,5 +116,7 @@ run_settles contents options words config dex old new file_fault write_fault (Ba
 run_settles contents options words config dex old new file_fault write_fault DoorFault set plays wrote = absurd plays
 run_settles contents options words config dex old new file_fault write_fault (UnknownFormat id) set plays wrote = absurd plays
 run_settles contents options words config dex old new file_fault write_fault (BadPack at kind) set plays wrote = absurd plays
+run_settles contents options words config dex old new file_fault write_fault KeepFault set plays wrote = absurd plays
+run_settles contents options words config dex old new file_fault write_fault (KeepFull count) set plays wrote = absurd plays
 run_settles contents options words config dex old new file_fault write_fault (BadExport line) set plays wrote = absurd plays
 run_settles contents options words config dex old new file_fault write_fault (NoExport set_no) set plays wrote = absurd plays

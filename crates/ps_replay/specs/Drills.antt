@@ -19,7 +19,7 @@ use Rattle.replay_state.specs.Transcript.{output}
 use Rattle.replay_drill.specs.Drills.{drill_text}
 use Rattle.replay_drill.specs.Messages.{messages_in}
 use Rattle.program_commands.specs.declared.status.Status.{Status}
-use Rattle.program_commands.specs.declared.status.Status.TheVariants.{Done, Usage, FileMissing, FileFault, FileLong, BadDex, BadConfig, BadScript, ScriptLong, ReadFault, WriteFault, BadTeam, NoMemory, DoorFault, UnknownFormat, BadPack, NoTour, BadExport, NoExport}
+use Rattle.program_commands.specs.declared.status.Status.TheVariants.{Done, Usage, FileMissing, FileFault, FileLong, BadDex, BadConfig, BadScript, ScriptLong, ReadFault, WriteFault, BadTeam, NoMemory, DoorFault, UnknownFormat, BadPack, NoTour, KeepFault, KeepFull, BadExport, NoExport}
 use Rattle.program_commands.specs.Words.{Options, Drilled}
 use Rattle.program_commands.specs.Steps.{IsFaultOf, dex_in, config_in}
 use Rattle.program_commands.specs.Setups.{HasSetup, IsOption, AreGood, IsSettled, Then}
@@ -89,6 +89,8 @@ WritesDrill contents words old new DoorFault = Keeps old new
 WritesDrill contents words old new (UnknownFormat id) = Keeps old new
 WritesDrill contents words old new (BadPack at kind) = Keeps old new
 WritesDrill contents words old new NoTour = Keeps old new
+WritesDrill contents words old new KeepFault = Keeps old new
+WritesDrill contents words old new (KeepFull count) = Keeps old new
 WritesDrill contents words old new (BadExport line) = Keeps old new
 WritesDrill contents words old new (NoExport set) = Keeps old new
 
@@ -113,6 +115,8 @@ RunEnds DoorFault = ⊥
 RunEnds (UnknownFormat id) = ⊥
 RunEnds (BadPack at kind) = ⊥
 RunEnds NoTour = ⊥
+RunEnds KeepFault = ⊥
+RunEnds (KeepFull count) = ⊥
 RunEnds (BadExport line) = ⊥
 RunEnds (NoExport set) = ⊥
 
@@ -146,6 +150,8 @@ DrillCause options old new DoorFault = ⊥
 DrillCause options old new (UnknownFormat id) = ⊥
 DrillCause options old new (BadPack at kind) = ⊥
 DrillCause options old new NoTour = ⊥
+DrillCause options old new KeepFault = ⊥
+DrillCause options old new (KeepFull count) = ⊥
 DrillCause options old new (BadExport line) = ⊥
 DrillCause options old new (NoExport set) = ⊥
 
@@ -173,6 +179,8 @@ IsOfRun DoorFault = ⊥
 IsOfRun (UnknownFormat id) = ⊥
 IsOfRun (BadPack at kind) = ⊥
 IsOfRun NoTour = ⊥
+IsOfRun KeepFault = ⊥
+IsOfRun (KeepFull count) = ⊥
 IsOfRun (BadExport line) = ⊥
 IsOfRun (NoExport set) = ⊥
 

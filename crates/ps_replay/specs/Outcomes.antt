@@ -19,7 +19,7 @@ use Rattle.replay_state.specs.Transcript.{messages, output, block}
 use Rattle.replay_state.specs.OneEntry.{HasOneEntryEach, AreHistories}
 use Rattle.replay_state.specs.TwoWorlds.{HasEqualBlocks}
 use Rattle.program_commands.specs.declared.status.Status.{Status}
-use Rattle.program_commands.specs.declared.status.Status.TheVariants.{Done, Usage, FileMissing, FileFault, FileLong, BadDex, BadConfig, BadScript, ScriptLong, ReadFault, WriteFault, BadTeam, NoMemory, DoorFault, UnknownFormat, BadPack, NoTour, BadExport, NoExport}
+use Rattle.program_commands.specs.declared.status.Status.TheVariants.{Done, Usage, FileMissing, FileFault, FileLong, BadDex, BadConfig, BadScript, ScriptLong, ReadFault, WriteFault, BadTeam, NoMemory, DoorFault, UnknownFormat, BadPack, NoTour, KeepFault, KeepFull, BadExport, NoExport}
 use Rattle.program_commands.specs.Words.{Options}
 use Rattle.program_commands.specs.Setups.{HasSetup, IsGood, Stops, IsOption, IsSettled, AreGood}
 
@@ -60,6 +60,8 @@ KeepsInput old new DoorFault = new ≡ old
 KeepsInput old new (UnknownFormat id) = new ≡ old
 KeepsInput old new (BadPack at kind) = new ≡ old
 KeepsInput old new NoTour = new ≡ old
+KeepsInput old new KeepFault = Unit {0}
+KeepsInput old new (KeepFull count) = Unit {0}
 KeepsInput old new (BadExport line) = new ≡ old
 KeepsInput old new (NoExport set) = new ≡ old
 
@@ -122,6 +124,8 @@ WritesPrefix contents o left old new DoorFault = Keeps old new
 WritesPrefix contents o left old new (UnknownFormat id) = Keeps old new
 WritesPrefix contents o left old new (BadPack at kind) = Keeps old new
 WritesPrefix contents o left old new NoTour = Keeps old new
+WritesPrefix contents o left old new KeepFault = Keeps old new
+WritesPrefix contents o left old new (KeepFull count) = Keeps old new
 WritesPrefix contents o left old new (BadExport line) = Keeps old new
 WritesPrefix contents o left old new (NoExport set) = Keeps old new
 
@@ -146,6 +150,8 @@ ReplayCause contents o left old new DoorFault = ⊥
 ReplayCause contents o left old new (UnknownFormat id) = ⊥
 ReplayCause contents o left old new (BadPack at kind) = ⊥
 ReplayCause contents o left old new NoTour = ⊥
+ReplayCause contents o left old new KeepFault = ⊥
+ReplayCause contents o left old new (KeepFull count) = ⊥
 ReplayCause contents o left old new (BadExport line) = ⊥
 ReplayCause contents o left old new (NoExport set) = ⊥
 
@@ -181,6 +187,8 @@ IsOfInput DoorFault = ⊥
 IsOfInput (UnknownFormat id) = ⊥
 IsOfInput (BadPack at kind) = ⊥
 IsOfInput NoTour = ⊥
+IsOfInput KeepFault = ⊥
+IsOfInput (KeepFull count) = ⊥
 IsOfInput (BadExport line) = ⊥
 IsOfInput (NoExport set) = ⊥
 
@@ -203,6 +211,8 @@ InputCause groups left DoorFault = Unit {0}
 InputCause groups left (UnknownFormat id) = Unit {0}
 InputCause groups left (BadPack at kind) = Unit {0}
 InputCause groups left NoTour = Unit {0}
+InputCause groups left KeepFault = Unit {0}
+InputCause groups left (KeepFull count) = Unit {0}
 InputCause groups left (BadExport line) = Unit {0}
 InputCause groups left (NoExport set) = Unit {0}
 

@@ -19,7 +19,7 @@ use Rattle.replay_tour.specs.Entrants.{entering}
 use Rattle.replay_tour.specs.Tours.{Tour, begun, next_line, past}
 use Rattle.replay_tour.specs.Results.{result_text, IsDecidedTour}
 use Rattle.program_commands.specs.declared.status.Status.{Status}
-use Rattle.program_commands.specs.declared.status.Status.TheVariants.{Done, Usage, FileMissing, FileFault, FileLong, BadDex, BadConfig, BadScript, ScriptLong, ReadFault, WriteFault, BadTeam, NoMemory, DoorFault, UnknownFormat, BadPack, NoTour, BadExport, NoExport}
+use Rattle.program_commands.specs.declared.status.Status.TheVariants.{Done, Usage, FileMissing, FileFault, FileLong, BadDex, BadConfig, BadScript, ScriptLong, ReadFault, WriteFault, BadTeam, NoMemory, DoorFault, UnknownFormat, BadPack, NoTour, KeepFault, KeepFull, BadExport, NoExport}
 use Rattle.program_commands.specs.Words.{Options, Toured}
 use Rattle.program_commands.specs.Steps.{IsFaultOf, dex_in, config_in}
 use Rattle.program_commands.specs.Setups.{HasSetup, IsOption, AreGood, IsSettled, Then}
@@ -115,6 +115,8 @@ WritesTour contents words old new DoorFault = Keeps old new
 WritesTour contents words old new (UnknownFormat id) = Keeps old new
 WritesTour contents words old new (BadPack at kind) = Keeps old new
 WritesTour contents words old new NoTour = Keeps old new
+WritesTour contents words old new KeepFault = Keeps old new
+WritesTour contents words old new (KeepFull count) = Keeps old new
 WritesTour contents words old new (BadExport line) = Keeps old new
 WritesTour contents words old new (NoExport set) = Keeps old new
 
@@ -139,6 +141,8 @@ FieldEnds dex config NoMemory = ⊥
 FieldEnds dex config DoorFault = ⊥
 FieldEnds dex config (UnknownFormat id) = ⊥
 FieldEnds dex config (BadPack at kind) = ⊥
+FieldEnds dex config KeepFault = ⊥
+FieldEnds dex config (KeepFull count) = ⊥
 FieldEnds dex config (BadExport line) = ⊥
 FieldEnds dex config (NoExport set) = ⊥
 
@@ -169,6 +173,8 @@ TourCause options old new DoorFault = ⊥
 TourCause options old new (UnknownFormat id) = ⊥
 TourCause options old new (BadPack at kind) = ⊥
 TourCause options old new NoTour = Unit {0}
+TourCause options old new KeepFault = ⊥
+TourCause options old new (KeepFull count) = ⊥
 TourCause options old new (BadExport line) = ⊥
 TourCause options old new (NoExport set) = ⊥
 
@@ -214,5 +220,7 @@ PlaysTour words old new config dex (BadTeam set rule subject) = ⊥
 PlaysTour words old new config dex DoorFault = ⊥
 PlaysTour words old new config dex (UnknownFormat id) = ⊥
 PlaysTour words old new config dex (BadPack at kind) = ⊥
+PlaysTour words old new config dex KeepFault = ⊥
+PlaysTour words old new config dex (KeepFull count) = ⊥
 PlaysTour words old new config dex (BadExport line) = ⊥
 PlaysTour words old new config dex (NoExport set) = ⊥

@@ -2,7 +2,7 @@
 use Rattle.std.proofs.Common.{◌≡◌, ℕ, List, Option, Result, Ok}
 use Rattle.ps_outside.specs.Files.{FileCounts}
 use Rattle.program_commands.specs.declared.status.Status.{Status}
-use Rattle.program_commands.specs.declared.status.Status.TheVariants.{Done, Usage, FileMissing, FileFault, FileLong, BadDex, BadConfig, BadScript, ScriptLong, ReadFault, WriteFault, BadTeam, NoMemory, DoorFault, UnknownFormat, BadPack, NoTour, BadExport, NoExport}
+use Rattle.program_commands.specs.declared.status.Status.TheVariants.{Done, Usage, FileMissing, FileFault, FileLong, BadDex, BadConfig, BadScript, ScriptLong, ReadFault, WriteFault, BadTeam, NoMemory, DoorFault, UnknownFormat, BadPack, NoTour, KeepFault, KeepFull, BadExport, NoExport}
 use Rattle.program_commands.specs.Words.{Options, Serves}
 use Rattle.program_commands.specs.Setups.{HasSetup, IsGood}
 use Rattle.server_accept.specs.Servers.{IfServe, ServeCause, IsOfDoor}
@@ -26,6 +26,8 @@ door_cause contents o old new (BadTeam set rule subject) setup of = absurd of
 door_cause contents o old new (UnknownFormat id) setup of = absurd of
 door_cause contents o old new (BadPack at kind) setup of = absurd of
 door_cause contents o old new NoTour setup of = absurd of
+door_cause contents o old new KeepFault setup of = absurd of
+door_cause contents o old new (KeepFull count) setup of = absurd of
 door_cause contents o old new (BadExport line) setup of = absurd of
 door_cause contents o old new (NoExport set) setup of = absurd of
 

@@ -4,7 +4,7 @@ use Rattle.ps_outside.specs.Causes.{Rose}
 use Rattle.ps_outside.specs.Counts.{one_more}
 use Rattle.ps_outside.specs.Files.{FileCounts}
 use Rattle.program_commands.specs.declared.status.Status.{Status}
-use Rattle.program_commands.specs.declared.status.Status.TheVariants.{Done, Usage, FileMissing, FileFault, FileLong, BadDex, BadConfig, BadScript, ScriptLong, ReadFault, WriteFault, BadTeam, NoMemory, DoorFault, UnknownFormat, BadPack, NoTour, BadExport, NoExport}
+use Rattle.program_commands.specs.declared.status.Status.TheVariants.{Done, Usage, FileMissing, FileFault, FileLong, BadDex, BadConfig, BadScript, ScriptLong, ReadFault, WriteFault, BadTeam, NoMemory, DoorFault, UnknownFormat, BadPack, NoTour, KeepFault, KeepFull, BadExport, NoExport}
 use Rattle.program_commands.specs.Words.{Options, Serves}
 use Rattle.program_commands.specs.Setups.{HasSetup, IsGood, Stops, IsOption, AreGood, IsSettled}
 
@@ -38,6 +38,8 @@ ServeCause contents o old new (BadTeam set rule subject) = ⊥
 ServeCause contents o old new (UnknownFormat id) = ⊥
 ServeCause contents o old new (BadPack at kind) = ⊥
 ServeCause contents o old new NoTour = ⊥
+ServeCause contents o old new KeepFault = ⊥
+ServeCause contents o old new (KeepFull count) = ⊥
 ServeCause contents o old new (BadExport line) = ⊥
 ServeCause contents o old new (NoExport set) = ⊥
 
@@ -77,5 +79,7 @@ IsOfDoor (BadTeam set rule subject) = ⊥
 IsOfDoor (UnknownFormat id) = ⊥
 IsOfDoor (BadPack at kind) = ⊥
 IsOfDoor NoTour = ⊥
+IsOfDoor KeepFault = ⊥
+IsOfDoor (KeepFull count) = ⊥
 IsOfDoor (BadExport line) = ⊥
 IsOfDoor (NoExport set) = ⊥
