@@ -16,9 +16,10 @@ use Rattle.replay_state.specs.Setup.{Setup}
 use Rattle.replay_state.specs.Entries.{entries}
 use Rattle.replay_state.specs.Counts.{refused}
 use Rattle.replay_state.specs.Transcript.{output}
-use Rattle.replay_state.specs.Tables.{Desk, fresh, item_text, item_after, text_from, no_counts, item_counts, counts_from}
+use Rattle.replay_state.specs.Ledgers.{Sheet, blank}
+use Rattle.replay_state.specs.Tables.{Desk, fresh, item_text, item_after, text_from, item_ledger, ledger_from}
 use Rattle.replay_state.proofs.TextLemmas.{output_is}
-use Rattle.replay_state.proofs.EntryCounts.{counts_is}
+use Rattle.replay_state.proofs.LedgerLemmas.{counts_is}
 use Rattle.replay_drill.specs.declared.tally.Tally.{Tally}
 use Rattle.replay_drill.specs.declared.counter.Counter.{Counter}
 use Rattle.replay_drill.specs.Messages.{messages_in}
@@ -47,17 +48,17 @@ Ran-more old mid new counter after whole s i rest r tally count = record {
   parts = r.parts ∙ sym (append_assoc r.front (item_text s i) (text_from (item_after s i) rest));
 }
 
-pub Ran-all : (old new : Tally) (counter : Counter) (counts : EntryCounts) (s end : Desk) (items : List Item) → Ran old new counter (text_from s items) end [] → counts ≡ counts_from s items no_counts → SummarizesRun old s items (record { tally = new; counter = counter; counts = counts })
-Ran-all old new counter counts s end items r is =
+pub Ran-all : (old new : Tally) (counter : Counter) (kept : Sheet) (s end : Desk) (items : List Item) → Ran old new counter (text_from s items) end [] → kept ≡ ledger_from s items blank → SummarizesRun old s items (record { tally = new; counter = counter; counts = kept.counts })
+Ran-all old new counter kept s end items r is =
     let whole : r.front ≡ text_from s items = sym (r.parts ∙ append-nil r.front) in
     record {
       tallies = λ text t. subst (λ (x : List ℕ). Tallies new (text ++ x)) whole (r.tallies text t);
       counter = subst (Counts counter) whole r.counts;
-      counts = is;
+      counts = ap (λ (x : Sheet). x.counts) is;
     }
 
-pub counts_more : (s next : Desk) (i : Item) (rest : List Item) (c more all : EntryCounts) → next ≡ item_after s i → more ≡ item_counts s i c → counts_from s (i ∷ rest) c ≡ all → counts_from next rest more ≡ all
-counts_more s next i rest c more all after made is = rw (after, made) is
+pub ledger_more : (s next : Desk) (i : Item) (rest : List Item) (c more all : Sheet) → next ≡ item_after s i → more ≡ item_ledger s i c → ledger_from s (i ∷ rest) c ≡ all → ledger_from next rest more ≡ all
+ledger_more s next i rest c more all after made is = rw (after, made) is
 
 -- ---- numbers
 

@@ -2,7 +2,8 @@
 use Rattle.std.specs.Prelude.{◌≡◌, ℕ, List, ◌++◌, length}
 use Rattle.sha2.specs.Sha256.{sha256}
 use Rattle.replay_script.specs.declared.item.Item.{Item}
-use Rattle.replay_state.specs.Tables.{Desk, no_counts, counts_from, text_from}
+use Rattle.replay_state.specs.Ledgers.{blank}
+use Rattle.replay_state.specs.Tables.{Desk, ledger_from, text_from}
 use Rattle.replay_drill.specs.declared.tally.Tally.{Tally}
 use Rattle.replay_drill.specs.Messages.{messages_in}
 use Rattle.replay_drill.specs.Tallies.{Tallies, Counts}
@@ -13,7 +14,7 @@ use Rattle.ps_replay.specs.Drills.{summary_lines}
 pub record SummarizesRun (tally : Tally) (s : Desk) (items : List Item) (run : Run) : Type 0 where
   pub tallies : (text : List ℕ) → Tallies tally text → Tallies run.tally (text ++ text_from s items)
   pub counter : Counts run.counter (text_from s items)
-  pub counts : run.counts ≡ counts_from s items no_counts
+  pub counts : run.counts ≡ (ledger_from s items blank).counts
 
 -- this is its summary, for a script of so many lines, whatever text it was that was tallied, with which transcript
 pub record HasRun (run : Run) (all : ℕ) (summary : List ℕ) : Type 0 where

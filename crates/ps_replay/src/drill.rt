@@ -4,7 +4,7 @@ ghost use Rattle.std.specs.Arc.{arc_value};
 ghost use Rattle.ps_outside.specs.Causes.{Rose};
 ghost use Rattle.replay_script.specs.Scripts.{IsScript};
 ghost use Rattle.replay_state.specs.Setup.{setup_of};
-ghost use Rattle.replay_state.specs.Tables.{item_after, item_text, item_counts, no_counts, counts_from, text_from};
+ghost use Rattle.replay_state.specs.Tables.{item_after, item_text, item_ledger, text_from};
 ghost use Rattle.replay_drill.specs.Messages.{counted};
 ghost use Rattle.replay_drill.specs.Plain.{HasPlainNames, HasPlainFormats};
 ghost use Rattle.replay_drill.specs.Drills.{drill_text};
@@ -63,7 +63,7 @@ fn run_item(
 ) -> Result<(), AllocError>
     requires { string_bytes pending.old.text ≡ [] }
     ensures state { OnOk result (table.new ≡ item_after table.old item.now) }
-    ensures counts { OnOk result (pending.new.counts ≡ item_counts table.old item.now pending.old.counts) }
+    ensures ledger { OnOk result (pending.new.ledger ≡ item_ledger table.old item.now pending.old.ledger) }
     ensures empty { OnOk result (string_bytes pending.new.text ≡ []) }
     ensures tally { OnOk result ((text : List ℕ) → tallies.Tallies tally.old text → tallies.Tallies tally.new (text ++ item_text table.old item.now)) }
     ensures counter { OnOk result ((text : List ℕ) → tallies.Counts counter.old text → tallies.Counts counter.new (text ++ item_text table.old item.now)) }
@@ -93,7 +93,7 @@ fn run_from(
     Ok(Run {
         tally,
         counter,
-        counts: pending.counts,
+        counts: pending.ledger.counts(),
     })
 }
 

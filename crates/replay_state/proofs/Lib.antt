@@ -19,5 +19,5 @@ pub mod ReadLemmas
 pub mod OneEntryLemmas
 pub mod OrderLemmas
 pub mod EndLemmas
-pub mod EntryCounts
+pub mod LedgerLemmas
 pub mod HearerLemmas

@@ -20,6 +20,7 @@ use Rattle.ps_room.specs.Logs.{ended_in}
 use Rattle.replay_state.specs.Nows.{Standing, Now, room_at, record_at}
 use Rattle.replay_state.specs.Entries.{quit_in, room_quits, named_quits, quits, hall_entry, ended, report_of, out_at, reports, entry_happenings, text_entry, text_session, session_of, is_open, end_by, end_sent, end_at, idle, sent_by, sent, closed, line_at, State, Line}
 use Rattle.replay_state.specs.Counts.{is_refused, out_refuses}
+use Rattle.replay_state.specs.Notes.{act_in, done_by}
 use Rattle.ps_lines.specs.declared.command.HallCmd.TheVariants as hall_commands
 
 -- rooms without what was logged
@@ -72,6 +73,16 @@ reports_same moment n conn (Room number e) = ap (λ (o : Option RoomOut). report
 pub refused_same : (n : Now) (p : Placed) → is_refused (blank_now n) p ≡ is_refused n p
 refused_same n (Hall e) = refl
 refused_same n (Room number e) = ap out_refuses (record_out number n e)
+
+-- ---- what an entry does
+
+act_same : (e : Entry) (o : Option Standing) → act_in (option_map blank_standing o) e ≡ act_in o e
+act_same e None = refl
+act_same e (Some s) = refl
+
+pub done_same : (n : Now) (p : Placed) → done_by (blank_now n) p ≡ done_by n p
+done_same n (Hall e) = refl
+done_same n (Room number e) = ap (λ (o : Option Standing). act_in o e) (found_by number n (nat_lt number first_battle)) ∙ act_same e (room_at number n)
 
 -- ---- lines
 

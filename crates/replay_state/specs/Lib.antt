@@ -5,6 +5,8 @@ pub mod Houses
 pub mod Nows
 pub mod Entries
 pub mod Counts
+pub mod Notes
+pub mod Ledgers
 pub mod Transcript
 pub mod OneEntry
 pub mod TwoWorlds

@@ -1,16 +1,17 @@
--- What a replay prints and counts line by line, by the state that its code keeps in the place of histories. No statement of the top call
+-- What a replay prints, counts and notes line by line, by the state that its code keeps in the place of histories. No statement of the top call
 -- rests on this file.
-use Rattle.std.specs.Prelude.{ℕ, ◌+◌, ◌&&◌, Bool, List, [], ◌∷◌, ◌++◌, length, codes, nat_lt, nat_le, if◌then◌else◌}
+use Rattle.std.specs.Prelude.{ℕ, ◌&&◌, Bool, List, [], ◌∷◌, ◌++◌, length, codes, nat_lt, nat_le, if◌then◌else◌}
 use Rattle.replay_script.specs.declared.item.Item.{Item}
 use Rattle.replay_state.specs.declared.place.Placed.{Placed}
 use Rattle.replay_state.specs.declared.place.Happening.{Happening}
 use Rattle.replay_state.specs.declared.place.Happening.TheVariants.{Entry, Ended}
-use Rattle.replay_state.specs.declared.transcript.Counts.{Counts}
 use Rattle.replay_state.specs.Setup.{Setup}
 use Rattle.ps_session.specs.Sessions.{Record as Session}
 use Rattle.replay_state.specs.Houses.{House, now_in, house_of, house_opening, house_after, house_message, house_id}
 use Rattle.replay_state.specs.Entries.{State, Line, line_at, moment_after, Run}
-use Rattle.replay_state.specs.Counts.{is_refused, one_if}
+use Rattle.replay_state.specs.Counts.{is_refused}
+use Rattle.replay_state.specs.Notes.{done_by}
+use Rattle.replay_state.specs.Ledgers.{Sheet, entered}
 use Rattle.replay_state.specs.Transcript.{printed, with_id, over_line}
 use Rattle.ps_base.specs.Lists.{each_to}
 
@@ -98,29 +99,26 @@ abbrev pub desk_after : Desk → List Item → Desk
 desk_after d [] = d
 desk_after d (i ∷ is) = desk_after (item_after d i) is
 
--- ---- counts
-
-abbrev pub no_counts : Counts
-no_counts = record { entries = 0; refused = 0 }
+-- ---- the ledger
 
 -- with an entry more
-abbrev pub one_more : Bool → Counts → Counts
-one_more refused c = record { entries = c.entries + 1; refused = c.refused + one_if refused }
+abbrev pub entry_ledger : House → Placed → Sheet → Sheet
+entry_ledger k p s = entered (is_refused (now_in k) p) (done_by (now_in k) p) s
 
-abbrev pub happening_counts : House → Happening → Counts → Counts
-happening_counts k (Entry p) c = one_more (is_refused (now_in k) p) c
-happening_counts k (Ended conn) c = c
+abbrev pub happening_ledger : House → Happening → Sheet → Sheet
+happening_ledger k (Entry p) s = entry_ledger k p s
+happening_ledger k (Ended conn) s = s
 
 -- with the entries of these happenings
-abbrev pub happenings_counts : House → List Happening → Counts → Counts
-happenings_counts k [] c = c
-happenings_counts k (x ∷ xs) c = happenings_counts (happening_after k x) xs (happening_counts k x c)
+abbrev pub happenings_ledger : House → List Happening → Sheet → Sheet
+happenings_ledger k [] s = s
+happenings_ledger k (x ∷ xs) s = happenings_ledger (happening_after k x) xs (happening_ledger k x s)
 
 -- with the entries of a line
-abbrev pub item_counts : Desk → Item → Counts → Counts
-item_counts d i c = happenings_counts d.house (line_at (state_in d) i).happenings c
+abbrev pub item_ledger : Desk → Item → Sheet → Sheet
+item_ledger d i s = happenings_ledger d.house (line_at (state_in d) i).happenings s
 
 -- with the entries of these lines
-abbrev pub counts_from : Desk → List Item → Counts → Counts
-counts_from d [] c = c
-counts_from d (i ∷ is) c = counts_from (item_after d i) is (item_counts d i c)
+abbrev pub ledger_from : Desk → List Item → Sheet → Sheet
+ledger_from d [] s = s
+ledger_from d (i ∷ is) s = ledger_from (item_after d i) is (item_ledger d i s)

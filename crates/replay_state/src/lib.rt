@@ -3,6 +3,7 @@
 
 mod heads;
 mod hearers;
+mod notes;
 pub mod place;
 mod places;
 mod play;

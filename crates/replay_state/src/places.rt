@@ -11,16 +11,17 @@ ghost use Rattle.replay_state.specs.declared.place.Placed.TheVariants as placed;
 ghost use Rattle.ps_room.specs.Openings.{chat_opening, chats_from, battle_opening};
 ghost use Rattle.replay_state.specs.Worlds.{with_number, numbers_from, started_by};
 ghost use Rattle.ps_room.specs.Logs.{record_in, seen_opened, ended_in};
-ghost use Rattle.replay_state.specs.Nows.{record_at};
+ghost use Rattle.replay_state.specs.Nows.{room_at, record_at};
 ghost use Rattle.replay_state.specs.Houses.{House, standing, now_in, begin, house_opening, house_after};
 ghost use Rattle.replay_state.specs.Entries.{is_member, quit_of, quit_in, room_quits, named_quits, quits, hall_entry, is_open, out_at, ending_at};
-ghost use Rattle.replay_state.specs.Counts.{is_refused};
-ghost use Rattle.replay_state.specs.Tables.{entry_text, one_more};
+ghost use Rattle.replay_state.specs.Notes.{act_in, won_by};
+ghost use Rattle.replay_state.specs.Ledgers.{asked};
+ghost use Rattle.replay_state.specs.Tables.{entry_text, entry_ledger};
 
 use crate::place::Placed;
-use crate::play;
 use crate::replay_room::{ReplayRoom, play_rooms};
-use crate::transcript::{Transcript, count, hall_refuses, out_refuses};
+use crate::transcript::{Ledger, Transcript, hall_refuses, out_refuses};
+use crate::{notes, play};
 use ps_base::badge::Badge;
 use ps_base::id_map::IdMap;
 use ps_base::limit::MOST_BATTLES;
@@ -29,6 +30,7 @@ use ps_dex::dex::Dex;
 use ps_hall::entry::HallEntry;
 use ps_hall::hall::Hall;
 use ps_hall::outcome::HallOut;
+use ps_keep::note::Note;
 use ps_lines::command::{Command, HallCmd};
 use ps_room::entry::Entry;
 use ps_room::opening::{FIRST_BATTLE, battle_opening, chat_opening, room_of_battle};
@@ -314,8 +316,44 @@ impl Places {
         Ok(quits)
     }
 
-    /// Prints and counts an entry of the hall, to the connections from 1 to `conns`, and applies it. Gives the badge that
+    // The battle whose end an entry of the hall reports, for who asks for notes.
+    fn asked_won(
+        &self,
+        alloc: Global,
+        ledger: &Ledger,
+        entry: &HallEntry,
+    ) -> Result<Option<Note>, AllocError>
+        ensures { IfOk result (λ n. n ≡ asked ledger.now.notes (won_by self.now.hall entry.now.cmd)) }
+    {
+        if !ledger.is_noting() {
+            return Ok(None);
+        }
+        notes::won_by(alloc, &self.hall, entry)
+    }
+
+    // The act of an entry of a room, for who asks for notes.
+    fn asked_act(
+        &self,
+        alloc: Global,
+        ledger: &Ledger,
+        no: RoomNo,
+        entry: &Entry,
+    ) -> Result<Option<Note>, AllocError>
+        ensures { IfOk result (λ n. n ≡ asked ledger.now.notes (act_in (room_at no (now_in self.now)) entry.now)) }
+    {
+        if !ledger.is_noting() {
+            return Ok(None);
+        }
+        if no.0 < FIRST_BATTLE {
+            notes::act_in(alloc, &self.chats, no.0 as usize, entry)
+        } else {
+            notes::act_in(alloc, &self.battles, (no.0 - FIRST_BATTLE) as usize, entry)
+        }
+    }
+
+    /// Prints, counts and notes an entry of the hall, to the connections from 1 to `conns`, and applies it. Gives the badge that
     /// its sender has from it on.
+    #[tactic(auto, using(crate::proofs::LedgerLemmas::as_asked))]
     pub fn push_hall(
         &mut self,
         alloc: Global,
@@ -325,18 +363,19 @@ impl Places {
     ) -> Result<Option<Badge>, AllocError>
         ensures state { OnOk result (self.new ≡ house_after self.old (placed.Hall entry.now)) }
         ensures text { OnOk result (string_bytes out.new.text ≡ string_bytes out.old.text ++ entry_text conns self.old (placed.Hall entry.now)) }
-        ensures counts { OnOk result (out.new.counts ≡ one_more (is_refused (now_in self.old) (placed.Hall entry.now)) out.old.counts) }
+        ensures ledger { OnOk result (out.new.ledger ≡ entry_ledger self.old (placed.Hall entry.now) out.old.ledger) }
         ensures badge { IfOk result (λ b. b ≡ (halls.out_of self.old.hall entry.now).badge) }
     {
         let config = self.hall.config().clone()?;
         let dex = self.hall.dex().clone()?;
+        let won = self.asked_won(alloc, &out.ledger, entry)?;
         let HallOut {
             verdict,
             badge,
             start,
         } = self.hall.apply(alloc, entry)?;
         play::push_hall_told(alloc, &mut out.text, conns, self.hall.told())?;
-        count(&mut out.counts, hall_refuses(&verdict))?;
+        out.ledger.enter(hall_refuses(&verdict), won)?;
         match start {
             None => {}
             Some(start) => {
@@ -375,8 +414,9 @@ impl Places {
         }
     }
 
-    /// Prints and counts an entry of a room, to the connections from 1 to `conns`, and applies it. Gives the end of its
+    /// Prints, counts and notes an entry of a room, to the connections from 1 to `conns`, and applies it. Gives the end of its
     /// battle, where the entry ended it.
+    #[tactic(auto, using(crate::proofs::LedgerLemmas::as_asked))]
     pub fn push_room(
         &mut self,
         alloc: Global,
@@ -387,11 +427,12 @@ impl Places {
     ) -> Result<Option<Ending>, AllocError>
         ensures state { OnOk result (self.new ≡ house_after self.old (placed.Room no entry.now)) }
         ensures text { OnOk result (string_bytes out.new.text ≡ string_bytes out.old.text ++ entry_text conns self.old (placed.Room no entry.now)) }
-        ensures counts { OnOk result (out.new.counts ≡ one_more (is_refused (now_in self.old) (placed.Room no entry.now)) out.old.counts) }
+        ensures ledger { OnOk result (out.new.ledger ≡ entry_ledger self.old (placed.Room no entry.now) out.old.ledger) }
         ensures ended { IfOk result (λ o. o ≡ ending_at (record_at no (now_in self.old)) entry.now) }
     {
+        let act = self.asked_act(alloc, &out.ledger, no, entry)?;
         let made = self.play_room(alloc, conns, no, entry, &mut out.text)?;
-        count(&mut out.counts, out_refuses(made))?;
+        out.ledger.enter(out_refuses(made), act)?;
         Ok(ending_in(made))
     }
 }

@@ -9,7 +9,7 @@ ghost use Rattle.replay_state.specs.Houses.{now_in};
 ghost use Rattle.replay_state.specs.Nows.{record_at};
 ghost use Rattle.ps_session.specs.Sessions.{begun};
 ghost use Rattle.replay_state.specs.Entries.{quits, ended, badged, report_of, entry_happenings, entry_in_room, entry_in_hall, text_entry, text_session, order_entry, order_session, sent_by, session_of, opening, ending_at, end_by, end_sent, IsCounted};
-ghost use Rattle.replay_state.specs.Tables.{happenings_text, happenings_after, happenings_counts};
+ghost use Rattle.replay_state.specs.Tables.{happenings_text, happenings_after, happenings_ledger};
 
 use crate::place::Placed;
 use crate::places::Places;
@@ -70,7 +70,7 @@ fn push_placed(
 ) -> Result<(), AllocError>
     ensures state { OnOk result (places.new ≡ happenings_after places.old (happening.Entry entry.now ∷ [])) }
     ensures text { OnOk result (string_bytes out.new.text ≡ string_bytes out.old.text ++ happenings_text count places.old (happening.Entry entry.now ∷ [])) }
-    ensures counts { OnOk result (out.new.counts ≡ happenings_counts places.old (happening.Entry entry.now ∷ []) out.old.counts) }
+    ensures ledger { OnOk result (out.new.ledger ≡ happenings_ledger places.old (happening.Entry entry.now ∷ []) out.old.ledger) }
 {
     match entry {
         Placed::Hall(entry) => {
@@ -93,7 +93,7 @@ fn push_all(
 ) -> Result<(), AllocError>
     ensures state { OnOk result (places.new ≡ happenings_after places.old (map happening.Entry entries.now)) }
     ensures text { OnOk result (string_bytes out.new.text ≡ string_bytes out.old.text ++ happenings_text count places.old (map happening.Entry entries.now)) }
-    ensures counts { OnOk result (out.new.counts ≡ happenings_counts places.old (map happening.Entry entries.now) out.old.counts) }
+    ensures ledger { OnOk result (out.new.ledger ≡ happenings_ledger places.old (map happening.Entry entries.now) out.old.ledger) }
 {
     match entries {
         [] => Ok(()),
@@ -115,14 +115,14 @@ fn push_quits(
 ) -> Result<(), AllocError>
     ensures state { OnOk result (places.new ≡ happenings_after places.old (map happening.Entry (quits moment (now_in places.old) conn))) }
     ensures text { OnOk result (string_bytes out.new.text ≡ string_bytes out.old.text ++ happenings_text count places.old (map happening.Entry (quits moment (now_in places.old) conn))) }
-    ensures counts { OnOk result (out.new.counts ≡ happenings_counts places.old (map happening.Entry (quits moment (now_in places.old) conn)) out.old.counts) }
+    ensures ledger { OnOk result (out.new.ledger ≡ happenings_ledger places.old (map happening.Entry (quits moment (now_in places.old) conn)) out.old.ledger) }
 {
     let quits = places.quits(alloc, moment, conn)?;
     push_all(alloc, places, count, &quits, out)
 }
 
 // The end of a session.
-#[tactic(auto, using(crate::proofs::EndLemmas::ended_after, crate::proofs::EndLemmas::ended_text, crate::proofs::EndLemmas::ended_counts))]
+#[tactic(auto, using(crate::proofs::EndLemmas::ended_after, crate::proofs::EndLemmas::ended_text, crate::proofs::EndLemmas::ended_ledger))]
 fn push_ended(
     alloc: Global,
     places: &mut Places,
@@ -133,7 +133,7 @@ fn push_ended(
 ) -> Result<(), AllocError>
     ensures state { OnOk result (places.new ≡ happenings_after places.old (ended moment (now_in places.old) conn)) }
     ensures text { OnOk result (string_bytes out.new.text ≡ string_bytes out.old.text ++ happenings_text count places.old (ended moment (now_in places.old) conn)) }
-    ensures counts { OnOk result (out.new.counts ≡ happenings_counts places.old (ended moment (now_in places.old) conn) out.old.counts) }
+    ensures ledger { OnOk result (out.new.ledger ≡ happenings_ledger places.old (ended moment (now_in places.old) conn) out.old.ledger) }
 {
     push_quits(alloc, places, moment, count, conn, out)?;
     print::push_over(&mut out.text, conn)?;
@@ -164,7 +164,7 @@ fn push_report(
 ) -> Result<(), AllocError>
     ensures state { OnOk result (places.new ≡ happenings_after places.old (report_of moment conn end)) }
     ensures text { OnOk result (string_bytes out.new.text ≡ string_bytes out.old.text ++ happenings_text count places.old (report_of moment conn end)) }
-    ensures counts { OnOk result (out.new.counts ≡ happenings_counts places.old (report_of moment conn end) out.old.counts) }
+    ensures ledger { OnOk result (out.new.ledger ≡ happenings_ledger places.old (report_of moment conn end) out.old.ledger) }
 {
     match end {
         None => Ok(()),
@@ -195,7 +195,7 @@ fn push_in_room(
 ) -> Result<Option<Ending>, AllocError>
     ensures state { OnOk result (places.new ≡ happenings_after places.old (entry_happenings moment (now_in places.old) entry.now.conn (Some (placed.Room no entry.now)))) }
     ensures text { OnOk result (string_bytes out.new.text ≡ string_bytes out.old.text ++ happenings_text count places.old (entry_happenings moment (now_in places.old) entry.now.conn (Some (placed.Room no entry.now)))) }
-    ensures counts { OnOk result (out.new.counts ≡ happenings_counts places.old (entry_happenings moment (now_in places.old) entry.now.conn (Some (placed.Room no entry.now))) out.old.counts) }
+    ensures ledger { OnOk result (out.new.ledger ≡ happenings_ledger places.old (entry_happenings moment (now_in places.old) entry.now.conn (Some (placed.Room no entry.now))) out.old.ledger) }
     ensures ended { IfOk result (λ end. end ≡ ending_at (record_at no (now_in places.old)) entry.now) }
 {
     let end = places.push_room(alloc, count, RoomNo(no), entry, out)?;
@@ -214,7 +214,7 @@ fn push_in_hall(
 ) -> Result<Option<Badge>, AllocError>
     ensures state { OnOk result (places.new ≡ happenings_after places.old (entry_happenings moment (now_in places.old) entry.now.conn (Some (placed.Hall entry.now)))) }
     ensures text { OnOk result (string_bytes out.new.text ≡ string_bytes out.old.text ++ happenings_text count places.old (entry_happenings moment (now_in places.old) entry.now.conn (Some (placed.Hall entry.now)))) }
-    ensures counts { OnOk result (out.new.counts ≡ happenings_counts places.old (entry_happenings moment (now_in places.old) entry.now.conn (Some (placed.Hall entry.now))) out.old.counts) }
+    ensures ledger { OnOk result (out.new.ledger ≡ happenings_ledger places.old (entry_happenings moment (now_in places.old) entry.now.conn (Some (placed.Hall entry.now))) out.old.ledger) }
     ensures badge { IfOk result (λ b. b ≡ (halls.out_of places.old.hall entry.now).badge) }
 {
     places.push_hall(alloc, count, entry, out)
@@ -236,7 +236,7 @@ fn push_to_room(
     ensures state { OnOk result (places.new ≡ happenings_after places.old (entry_happenings moment (now_in places.old) conn (entry_in_room moment conn no cmd session.old.badge))) }
     ensures session { OnOk result (session.new ≡ session.old) }
     ensures text { OnOk result (string_bytes out.new.text ≡ string_bytes out.old.text ++ happenings_text count places.old (entry_happenings moment (now_in places.old) conn (entry_in_room moment conn no cmd session.old.badge))) }
-    ensures counts { OnOk result (out.new.counts ≡ happenings_counts places.old (entry_happenings moment (now_in places.old) conn (entry_in_room moment conn no cmd session.old.badge)) out.old.counts) }
+    ensures ledger { OnOk result (out.new.ledger ≡ happenings_ledger places.old (entry_happenings moment (now_in places.old) conn (entry_in_room moment conn no cmd session.old.badge)) out.old.ledger) }
     ensures ended { IfOk result (λ end. end ≡ end_by (now_in places.old) (entry_in_room moment conn no cmd session.old.badge)) }
 {
     match session.take_badge() {
@@ -272,7 +272,7 @@ fn push_to_none(
     ensures state { OnOk result (places.new ≡ happenings_after places.old (entry_happenings moment (now_in places.old) conn (entry_in_hall moment conn (no_room session.old)))) }
     ensures session { session.new ≡ after_no_room session.old }
     ensures text { OnOk result (string_bytes out.new.text ≡ string_bytes out.old.text ++ happenings_text count places.old (entry_happenings moment (now_in places.old) conn (entry_in_hall moment conn (no_room session.old)))) }
-    ensures counts { OnOk result (out.new.counts ≡ happenings_counts places.old (entry_happenings moment (now_in places.old) conn (entry_in_hall moment conn (no_room session.old))) out.old.counts) }
+    ensures ledger { OnOk result (out.new.ledger ≡ happenings_ledger places.old (entry_happenings moment (now_in places.old) conn (entry_in_hall moment conn (no_room session.old))) out.old.ledger) }
     ensures ended { IfOk result (λ end. end ≡ end_by (now_in places.old) (entry_in_hall moment conn (no_room session.old))) }
 {
     match session.no_room() {
@@ -303,7 +303,7 @@ fn push_order(
     ensures state { OnOk result (places.new ≡ happenings_after places.old (entry_happenings moment (now_in places.old) conn (order_entry moment (now_in places.old) conn (Ok order) session.old))) }
     ensures session { OnOk result (session.new ≡ order_session moment (now_in places.old) conn (Ok order) session.old) }
     ensures text { OnOk result (string_bytes out.new.text ≡ string_bytes out.old.text ++ happenings_text count places.old (entry_happenings moment (now_in places.old) conn (order_entry moment (now_in places.old) conn (Ok order) session.old))) }
-    ensures counts { OnOk result (out.new.counts ≡ happenings_counts places.old (entry_happenings moment (now_in places.old) conn (order_entry moment (now_in places.old) conn (Ok order) session.old)) out.old.counts) }
+    ensures ledger { OnOk result (out.new.ledger ≡ happenings_ledger places.old (entry_happenings moment (now_in places.old) conn (order_entry moment (now_in places.old) conn (Ok order) session.old)) out.old.ledger) }
     ensures ended { IfOk result (λ end. end ≡ end_by (now_in places.old) (order_entry moment (now_in places.old) conn (Ok order) session.old)) }
 {
     match order {
@@ -335,7 +335,7 @@ fn push_text(
     ensures state { OnOk result (places.new ≡ happenings_after places.old (entry_happenings moment (now_in places.old) conn (text_entry moment (now_in places.old) conn text.now session.old))) }
     ensures session { OnOk result (session.new ≡ text_session moment (now_in places.old) conn text.now session.old) }
     ensures text { OnOk result (string_bytes out.new.text ≡ string_bytes out.old.text ++ happenings_text count places.old (entry_happenings moment (now_in places.old) conn (text_entry moment (now_in places.old) conn text.now session.old))) }
-    ensures counts { OnOk result (out.new.counts ≡ happenings_counts places.old (entry_happenings moment (now_in places.old) conn (text_entry moment (now_in places.old) conn text.now session.old)) out.old.counts) }
+    ensures ledger { OnOk result (out.new.ledger ≡ happenings_ledger places.old (entry_happenings moment (now_in places.old) conn (text_entry moment (now_in places.old) conn text.now session.old)) out.old.ledger) }
     ensures ended { IfOk result (λ end. end ≡ end_by (now_in places.old) (text_entry moment (now_in places.old) conn text.now session.old)) }
 {
     match session.take(alloc, text.as_bytes()) {
@@ -373,7 +373,7 @@ fn push_sent(
     ensures state { OnOk result (places.new ≡ happenings_after places.old (sent_by (record { moment = moment; now = now_in places.old; sessions = sessions.old }) conn text.now (session_of conn sessions.old)).happenings) }
     ensures sessions { OnOk result (sessions.new ≡ (sent_by (record { moment = moment; now = now_in places.old; sessions = sessions.old }) conn text.now (session_of conn sessions.old)).sessions) }
     ensures text { OnOk result (string_bytes out.new.text ≡ string_bytes out.old.text ++ happenings_text count places.old (sent_by (record { moment = moment; now = now_in places.old; sessions = sessions.old }) conn text.now (session_of conn sessions.old)).happenings) }
-    ensures counts { OnOk result (out.new.counts ≡ happenings_counts places.old (sent_by (record { moment = moment; now = now_in places.old; sessions = sessions.old }) conn text.now (session_of conn sessions.old)).happenings out.old.counts) }
+    ensures ledger { OnOk result (out.new.ledger ≡ happenings_ledger places.old (sent_by (record { moment = moment; now = now_in places.old; sessions = sessions.old }) conn text.now (session_of conn sessions.old)).happenings out.old.ledger) }
     ensures ended { IfOk result (λ end. end ≡ end_sent (record { moment = moment; now = now_in places.old; sessions = sessions.old }) conn text.now (session_of conn sessions.old)) }
 {
     let place = index_of_conn(conn);
@@ -406,7 +406,7 @@ fn push_opened(
     ensures sessions { OnOk result (sessions.new.items ≡ sessions.old.items ++ begun conn ∷ []) }
     ensures few { length sessions.new.items ≤ 65536 }
     ensures text { OnOk result (string_bytes out.new.text ≡ string_bytes out.old.text ++ happenings_text (length sessions.new.items) places.old (opening moment conn ∷ [])) }
-    ensures counts { OnOk result (out.new.counts ≡ happenings_counts places.old (opening moment conn ∷ []) out.old.counts) }
+    ensures ledger { OnOk result (out.new.ledger ≡ happenings_ledger places.old (opening moment conn ∷ []) out.old.ledger) }
 {
     if sessions.len() >= MOST_SESSIONS {
         return Err(AllocError);
@@ -423,7 +423,7 @@ fn push_opened(
 
 impl Table {
     ghost use Rattle.replay_state.specs.Entries.{moment_after, end_at};
-    ghost use Rattle.replay_state.specs.Tables.{state_in, fresh, item_text, item_after, item_counts};
+    ghost use Rattle.replay_state.specs.Tables.{state_in, fresh, item_text, item_after, item_ledger};
 
     /// Before the first line, with the ranks that the script gives.
     pub fn new(
@@ -441,7 +441,7 @@ impl Table {
         })
     }
 
-    /// Prints what a line prints, counts its entries, and goes on to the state after it. Gives the end of the battle that its
+    /// Prints what a line prints, counts and notes its entries, and goes on to the state after it. Gives the end of the battle that its
     /// entry ended.
     pub fn play(
         &mut self,
@@ -451,7 +451,7 @@ impl Table {
     ) -> Result<Option<Ending>, AllocError>
         ensures state { OnOk result (self.new ≡ item_after self.old item.now) }
         ensures text { OnOk result (string_bytes out.new.text ≡ string_bytes out.old.text ++ item_text self.old item.now) }
-        ensures counts { OnOk result (out.new.counts ≡ item_counts self.old item.now out.old.counts) }
+        ensures ledger { OnOk result (out.new.ledger ≡ item_ledger self.old item.now out.old.ledger) }
         ensures ended { IfOk result (λ end. end ≡ end_at (state_in self.old) item.now) }
     {
         match item {
