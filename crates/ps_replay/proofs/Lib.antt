@@ -8,3 +8,6 @@ pub mod TourEnds
 pub mod RunLemmas
 pub mod CommandLemmas
 pub mod ReplayLemmas
+pub mod ArchiveLemmas
+pub mod StandingsLemmas
+pub mod KeptLemmas

@@ -5,3 +5,7 @@ pub mod Runs
 pub mod Tours
 pub mod Flow
 pub mod Commands
+pub mod Dealings
+pub mod Archives
+pub mod StandingsEnds
+pub mod KeptRuns

@@ -4,13 +4,16 @@
 mod door;
 
 use crate::door::PrintingDoor;
+use program_commands::kept_words::read_kept_words;
 use program_commands::status::Status;
+use ps_keep::sql_keeper::SqlKeeper;
 use ps_outside::host_clock::HostClock;
 use ps_outside::host_files::HostFiles;
 use ps_outside::sink::StdSink;
 use ps_outside::source::StdSource;
 use ps_outside::spawner::ThreadSpawner;
 use ps_replay::run::run;
+use ps_replay::run_kept::run_kept;
 use ps_ws::door::WsDoor;
 use server_accept::serve::serve;
 use std::alloc::Global;
@@ -47,6 +50,12 @@ Usage:
   psd tour N SEED [--dex NAME] [--config NAME]
       plays a tournament of N users, 2 to 16, in an order that the seed draws, and
       prints the transcript of its battles, who beat whom, and the champion
+  psd archive --keep NAME [--dex NAME] [--config NAME]
+      does what `replay` does, and first notes in the database NAME each act of staff
+      and each rated battle that was won; `sqlite3 NAME` reads it
+  psd standings FORMAT --keep NAME
+      prints the id and the rating of each user by the rated battles of the format
+      that the database NAME has notes of, the best first
   psd --help
       prints this help
   psd --version
@@ -97,6 +106,8 @@ enum Asked {
     Server,
     /// A run, and the words are its own to read.
     Run,
+    /// A run with notes that are kept, and the words are its own to read.
+    Kept,
     /// Nothing: this word can't stand.
     Nothing { word: u32 },
 }
@@ -117,6 +128,7 @@ fn asked_by(words: &[String]) -> Asked {
             "--help" => text_or_nothing(HELP, rest),
             "--version" => text_or_nothing(VERSION, rest),
             "serve" => Asked::Server,
+            "archive" | "standings" => Asked::Kept,
             _ => Asked::Run,
         },
     }
@@ -157,6 +169,26 @@ fn run_status(rt: &HostRuntime, words: &[String]) -> Status {
     run(rt.alloc(), words, &mut files, &mut input, &mut out)
 }
 
+/// Words that name no database are at fault.
+fn kept_status(rt: &HostRuntime, words: &[String]) -> Status {
+    let command = match read_kept_words(words) {
+        Err(word) => return Status::Usage { word },
+        Ok(command) => command,
+    };
+    let mut files = HostFiles::new(rt);
+    let mut input = StdSource::new(rt.reader());
+    let mut out = StdSink::new(io::writer(rt));
+    let mut keeper = SqlKeeper::in_file(rt, command.keep());
+    run_kept(
+        rt.alloc(),
+        words,
+        &mut files,
+        &mut input,
+        &mut out,
+        &mut keeper,
+    )
+}
+
 fn main(rt: HostRuntime) -> ExitCode {
     let status = match words(&rt) {
         Err(why) => no_words(&why),
@@ -164,6 +196,7 @@ fn main(rt: HostRuntime) -> ExitCode {
             Asked::Text(text) => text_status(&rt, text),
             Asked::Server => serve_status(rt, rt.alloc(), &words),
             Asked::Run => run_status(&rt, &words),
+            Asked::Kept => kept_status(&rt, &words),
             Asked::Nothing { word } => Status::Usage { word },
         },
     };

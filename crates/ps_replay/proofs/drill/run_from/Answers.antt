@@ -21,5 +21,5 @@ loop-item-preserved c =
 pub returns : goal.returns
 returns c =
     let none : drop c.loop-item.item-index c.args.items.now ≡ [] = drop_all c.loop-item.item-index c.args.items.now (omega arith) in
-    Ran-all c.args.tally c.loop-item.tally c.loop-item.counter c.loop-item.pending.ledger c.args.table.now c.loop-item.table c.args.items.now
-    (rw none at c.loop-item.invariant.ran) (rw none at c.loop-item.invariant.ledger)
+    rw c.counts.ensures (Ran-all c.args.tally c.loop-item.tally c.loop-item.counter c.loop-item.pending.ledger c.args.table.now c.loop-item.table c.args.items.now
+    (rw none at c.loop-item.invariant.ran) (rw none at c.loop-item.invariant.ledger))
