@@ -1,5 +1,5 @@
-//! Tests of whole runs: replays, checks, drills, tournaments, exports and imports, from their words to what is written and the line of their
-//! status. It has tests alone, and no crate stands on it.
+//! Tests of whole runs: replays, checks, drills, tournaments, exports and imports, archives and standings, from their words to what
+//! is written and the line of their status. It has tests alone, and no crate stands on it.
 #![tactic(auto)]
 
 #[cfg(test)]
@@ -8,6 +8,8 @@ mod check_tests;
 mod convert_tests;
 #[cfg(test)]
 mod drill_tests;
+#[cfg(test)]
+mod kept_tests;
 #[cfg(test)]
 mod laws_tests;
 #[cfg(test)]
