@@ -11,7 +11,7 @@ use Rattle.program_commands.specs.Words.{Asked, Options, IfReplay, IfDrill, IfCh
 use Rattle.program_commands.specs.Setups.{usage_in, usage_reported, HasSetup, EndsIfKnown}
 use Rattle.program_commands.specs.Checks.{legal_line, CheckEnds, IsNamed, CheckCause, SettlesCheck}
 use Rattle.program_commands.specs.Conversions.{HasExport, MakesPacked, ExportCause, ImportCause, WritesExport, WritesPacked, SettlesConversion}
-use Rattle.ps_replay.specs.Outcomes.{KeepsInput, IsTranscript, HasOneEntryEachText, HasHistories, HasEqualWorlds, WritesPrefix, ReplayCause, Settles}
+use Rattle.ps_replay.specs.Outcomes.{KeepsInput, IsTranscript, HasOneEntryEachText, HasHistories, LosesNothing, HasEqualWorlds, WritesPrefix, ReplayCause, Settles}
 use Rattle.ps_replay.specs.Drills.{DrillEnds, DrillCause, WritesSummary, SettlesDrill}
 use Rattle.ps_replay.specs.Tours.{IsTour, TourEnds, TourCause, SettlesTour}
 use Rattle.ps_replay.specs.Writes.{Writes}
@@ -49,6 +49,7 @@ pub record IsReplay (o : Options) (m : Met) (status : Status) : Type 0 where
   pub transcript : status ≡ Done → HasSetup m.contents o (λ config dex. IfSome m.left (IsTranscript config dex m.written m.written_after))
   pub one_entry : status ≡ Done → HasSetup m.contents o (λ config dex. IfSome m.left (HasOneEntryEachText config dex))
   pub histories : status ≡ Done → HasSetup m.contents o (λ config dex. IfSome m.left (HasHistories config dex))
+  pub hall : status ≡ Done → HasSetup m.contents o (λ config dex. IfSome m.left (LosesNothing config dex))
   pub two_worlds : status ≡ Done → HasSetup m.contents o (λ config dex. IfSome m.left (HasEqualWorlds config dex))
   pub prefix : WritesPrefix m.contents o m.left m.written m.written_after status
   pub bounded : ReadsFew m.left m.left_after
@@ -66,6 +67,7 @@ pub record IsRun (asked : Result Asked ℕ) (m : Met) (status : Status) : Type 0
       status ≡ Done → HasSetup m.contents o (λ config dex. IfSome m.left (IsTranscript config dex m.written m.written_after)))
   pub one_entry : IfReplay asked (λ o. status ≡ Done → HasSetup m.contents o (λ config dex. IfSome m.left (HasOneEntryEachText config dex)))
   pub histories : IfReplay asked (λ o. status ≡ Done → HasSetup m.contents o (λ config dex. IfSome m.left (HasHistories config dex)))
+  pub hall : IfReplay asked (λ o. status ≡ Done → HasSetup m.contents o (λ config dex. IfSome m.left (LosesNothing config dex)))
   pub two_worlds : IfReplay asked (λ o. status ≡ Done → HasSetup m.contents o (λ config dex. IfSome m.left (HasEqualWorlds config dex)))
   pub check_ends : IfCheck asked (λ words. EndsIfKnown m.contents (λ lookup. CheckEnds lookup words) status)
   pub check_cause : IfCheck asked (λ words. CheckCause (IsNamed words) m.counts m.counts_after status)

@@ -18,6 +18,7 @@ use Rattle.replay_state.specs.Entries.{world_of}
 use Rattle.replay_state.specs.Transcript.{messages, output, block}
 use Rattle.replay_state.specs.OneEntry.{HasOneEntryEach, AreHistories}
 use Rattle.replay_state.specs.TwoWorlds.{HasEqualBlocks}
+use Rattle.replay_state.specs.WholeHall.{HasWholeHall}
 use Rattle.program_commands.specs.declared.status.Status.{Status}
 use Rattle.program_commands.specs.declared.status.Status.TheVariants.{Done, Usage, FileMissing, FileFault, FileLong, BadDex, BadConfig, BadScript, ScriptLong, ReadFault, WriteFault, BadTeam, NoMemory, DoorFault, UnknownFormat, BadPack, NoTour, KeepFault, KeepFull, BadExport, NoExport}
 use Rattle.program_commands.specs.Words.{Options}
@@ -83,6 +84,10 @@ HasOneEntryEachText config dex bytes = (items : List Item) → IsScript (symbols
 abbrev pub HasHistories : Settings → Tables → List ℕ → Type 0
 HasHistories config dex bytes = (items : List Item) → IsScript (symbols_of config.groups) bytes items → AreHistories (setup_of config dex items) items
 
+-- in the hall each match started its battle, and each won report of a rated battle counts
+abbrev pub LosesNothing : Settings → Tables → List ℕ → Type 0
+LosesNothing config dex bytes = (items : List Item) → IsScript (symbols_of config.groups) bytes items → HasWholeHall config dex items
+
 -- a connection's block from the hall or a room is the same for every script whose world there is the same to it
 abbrev pub HasEqualWorlds : Settings → Tables → List ℕ → Type 0
 HasEqualWorlds config dex bytes = (items : List Item) → IsScript (symbols_of config.groups) bytes items → HasEqualBlocks config dex items
@@ -92,6 +97,7 @@ pub record IsReplayed (config : Settings) (dex : Tables) (old new : Option (List
   pub transcript : IsTranscript config dex old new bytes
   pub one_entry : HasOneEntryEachText config dex bytes
   pub histories : HasHistories config dex bytes
+  pub hall : LosesNothing config dex bytes
   pub two_worlds : HasEqualWorlds config dex bytes
 
 -- a front of the transcript

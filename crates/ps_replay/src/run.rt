@@ -11,7 +11,7 @@ ghost use Rattle.program_commands.specs.Steps.{dex_in};
 ghost use Rattle.program_commands.specs.Setups.{usage_of, usage_reported, HasSetup, Stands, EndsIfKnown};
 ghost use Rattle.program_commands.specs.Checks.{legal_line, CheckEnds, IsNamed, CheckCause, SettlesCheck};
 ghost use Rattle.program_commands.specs.Conversions.{HasExport, MakesPacked, ExportCause, ImportCause, WritesExport, WritesPacked, SettlesConversion};
-ghost use Rattle.ps_replay.specs.Outcomes.{symbols_of, IsOfInput, KeepsInput, IsTranscript, HasOneEntryEachText, HasHistories, HasEqualWorlds, IsReplayed, WritesOfInput, ReplayCause, InputCause, Settles, SettlesInput};
+ghost use Rattle.ps_replay.specs.Outcomes.{symbols_of, IsOfInput, KeepsInput, IsTranscript, HasOneEntryEachText, HasHistories, LosesNothing, HasEqualWorlds, IsReplayed, WritesOfInput, ReplayCause, InputCause, Settles, SettlesInput};
 ghost use Rattle.ps_replay.specs.Drills.{DrillEnds, DrillCause, WritesSummary, SettlesDrill};
 ghost use Rattle.ps_replay.specs.Tours.{IsTour, TourEnds, TourCause, SettlesTour};
 ghost use Rattle.ps_replay.specs.Writes.{Writes};
@@ -242,6 +242,9 @@ pub fn run<F: Files, S: Source, K: Sink>(
     // Each of the script's texts is one entry, and the entries are the histories of their places.
     ensures one_entry { IfReplay (words_in (map string_bytes words.now)) (λ o. result ≡ Status.Done → HasSetup (F.contents files.old) o (λ config dex. IfSome (S.left input.old) (HasOneEntryEachText config dex))) }
     ensures histories { IfReplay (words_in (map string_bytes words.now)) (λ o. result ≡ Status.Done → HasSetup (F.contents files.old) o (λ config dex. IfSome (S.left input.old) (HasHistories config dex))) }
+
+    // In its hall each match started its battle, and the ladder of each format is made of all won reports of rated battles.
+    ensures hall { IfReplay (words_in (map string_bytes words.now)) (λ o. result ≡ Status.Done → HasSetup (F.contents files.old) o (λ config dex. IfSome (S.left input.old) (LosesNothing config dex))) }
 
     // A connection's block from the hall or a room is the same for every script whose world there is the same to it.
     ensures two_worlds { IfReplay (words_in (map string_bytes words.now)) (λ o. result ≡ Status.Done → HasSetup (F.contents files.old) o (λ config dex. IfSome (S.left input.old) (HasEqualWorlds config dex))) }

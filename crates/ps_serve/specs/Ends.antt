@@ -29,6 +29,7 @@ use Rattle.ps_laws.specs.Same.{AreSame}
 use Rattle.ps_room.specs.declared.entry.Entry.{Entry}
 use Rattle.ps_room.specs.Openings.{room_of_battle}
 use Rattle.ps_laws.specs.HallSame.{AreHallsSame}
+use Rattle.ps_laws.specs.HallRatings.{IsHallWhole}
 use Rattle.ps_room.specs.Stories.{Story, story, view_of}
 use Rattle.ps_laws.specs.HallStories.{HallStory, hall_story, hall_view_of}
 use Rattle.server_places.specs.declared.command.RoomCmd.{RoomCmd}
@@ -336,6 +337,16 @@ pub record OneBegin (end : End) (t : Account) (rooms : List RoomPass) : Type 0 w
   pub are_sure : AreSure (is_short end) sure t.acts
   pub begun : All (IsBegunBy rooms) (all_begun sure)
   pub own : All (λ (k : RoomPass). All (IsOwnStart t k.number) (starts_in (commands k.pass.1.mine))) rooms
+
+-- ---- the hall's battles
+
+-- the hall with all entries that a pass saw
+abbrev pub hall_seen : Hub → HallPass → HallStory
+hall_seen hub h = hall_story (record { config = hub.config; dex = hub.dex; ranks = empty }) (commands h.pass.1.seen)
+
+-- in it each match started its battle, and the ladder of each format is made of all won reports of rated battles
+abbrev pub LosesNothing : Hub → HallPass → Type 0
+LosesNothing hub h = IsHallWhole (hall_seen hub h)
 
 -- ---- two worlds
 

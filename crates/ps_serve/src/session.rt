@@ -7,7 +7,7 @@ ghost use Rattle.ps_serve.specs.Acts.{Act};
 ghost use Rattle.ps_serve.specs.Sendings.{Sending};
 ghost use Rattle.ps_serve.specs.Sittings.{Sits};
 ghost use Rattle.ps_serve.specs.Steps.{Hours, Stands};
-ghost use Rattle.ps_serve.specs.Ends.{Account, IsAccount, SentIsView, IsLabelled, EntriesAreMade, AnswersAreKept, IsOpen, TellsMoments, LooksAreAnswered, AreOfHub, OneHistory, OneBegin, TwoWorlds, HasCause, EndsWell, EndsWellWithin, AreFew, Served, is_short};
+ghost use Rattle.ps_serve.specs.Ends.{Account, IsAccount, SentIsView, IsLabelled, EntriesAreMade, AnswersAreKept, IsOpen, TellsMoments, LooksAreAnswered, AreOfHub, OneHistory, OneBegin, LosesNothing, TwoWorlds, HasCause, EndsWell, EndsWellWithin, AreFew, Served, is_short};
 ghost use Rattle.ps_serve.specs.Rests.{end_after, IsSitting, GoesOn, ComesToRest};
 
 use crate::closed::{Closed, End};
@@ -152,6 +152,7 @@ pub fn serve_session<R: Wait, L: Link, C: Clock>(
     ensures of_the_hub { AreOfHub hub.now result.passes }
     ensures one_history { OneHistory hub.now conn result.passes }
     ensures one_begin { (t : Account) × IsAccount conn t (L.talk link.old) (L.talk link.new) × OneBegin result.end t result.passes.rooms.items }
+    ensures hall { IfSome result.passes.hall (LosesNothing hub.now) }
     ensures two_worlds { (t : Account) × IsAccount conn t (L.talk link.old) (L.talk link.new) × TwoWorlds result.end hub.now conn t result.passes }
     ensures cause { (t : Account) × IsAccount conn t (L.talk link.old) (L.talk link.new) × HasCause result.end hub.now conn t result.passes.rooms.items (L.talk link.new) (L.counts link.old) (L.counts link.new) }
     ensures complete { (t : Account) × IsAccount conn t (L.talk link.old) (L.talk link.new) × EndsWellWithin result.end hub.now conn t result.passes.rooms.items (L.talk link.old) (L.counts link.old) (L.counts link.new) }

@@ -9,6 +9,7 @@ pub mod ViewLemmas
 pub mod SenderLemmas
 pub mod BlockLemmas
 pub mod TwoWorldLemmas
+pub mod WholeHallLemmas
 pub mod RouteLemmas
 pub mod HallLemmas
 pub mod LineLemmas

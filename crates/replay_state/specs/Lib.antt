@@ -10,4 +10,5 @@ pub mod Ledgers
 pub mod Transcript
 pub mod OneEntry
 pub mod TwoWorlds
+pub mod WholeHall
 pub mod Tables

@@ -4,6 +4,7 @@ use Rattle.replay_state.proofs.BlockLemmas.{blocks_of}
 use Rattle.replay_state.proofs.OneEntryLemmas.{one_entry_each}
 use Rattle.replay_state.proofs.PlaceLemmas.{are_histories}
 use Rattle.replay_state.proofs.TwoWorldLemmas.{equal_blocks}
+use Rattle.replay_state.proofs.WholeHallLemmas.{whole_hall}
 use Rattle.ps_replay.specs.Outcomes.{symbols_of}
 use Rattle.ps_replay.proofs.run.run_items.Goals as goal
 
@@ -21,5 +22,6 @@ returns-in-Ok-clause-replayed g c = λ _.
       };
       one_entry = λ items script. one_entry_each (setup_of config dex items) (symbols_of config.groups) c.args.bytes.now items c.requires.few script;
       histories = λ items script. are_histories (setup_of config dex items) items c.requires.few;
+      hall = λ items script. whole_hall config dex items;
       two_worlds = λ items script. equal_blocks config dex (symbols_of config.groups) c.args.bytes.now items script;
     }

@@ -1,4 +1,5 @@
 use Rattle.ps_serve.proofs.CountLemmas.{few_complete}
+use Rattle.ps_serve.proofs.WorldLemmas.{loses_nothing}
 use Rattle.ps_serve.proofs.session.serve_session.Goals as goal
 
 pub returns-clause-sent_is_the_view : goal.returns-clause-sent_is_the_view
@@ -30,6 +31,9 @@ returns-clause-one_history g c = let s = c.serve.ensures.served in s.1.history
 
 pub returns-clause-one_begin : goal.returns-clause-one_begin
 returns-clause-one_begin g c = let s = c.serve.ensures.served in (s.0, s.1.told, s.1.begin)
+
+pub returns-clause-hall : goal.returns-clause-hall
+returns-clause-hall g c = loses_nothing c.args.hub.now c.serve.result.passes.hall
 
 pub returns-clause-two_worlds : goal.returns-clause-two_worlds
 returns-clause-two_worlds g c = let s = c.serve.ensures.served in (s.0, s.1.told, s.1.worlds)
