@@ -43,8 +43,8 @@ pub(crate) fn without_newline(bytes: Vec<u8>) -> Vec<u8>
     bytes
 }
 
-/// The team that the text has.
-pub(crate) fn team_of(alloc: Global, text: &[u8]) -> Result<Team, PackFault>
+/// The team that the bytes of a packed text have. `Fault` comes exactly where they have none, at 0 where they are no UTF-8.
+pub fn team_of(alloc: Global, text: &[u8]) -> Result<Team, PackFault>
     ensures found { IfOk result (λ t. IsUtf8 text.now × IsTeam (chars text.now) t) }
     ensures none { IfErr result (Unpacks text.now) }
 {

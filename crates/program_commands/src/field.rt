@@ -34,8 +34,8 @@ fn kept(alloc: Global, dex: &Dex, rules: &RuleTable, text: &Text) -> Result<bool
     }
 }
 
-// The rules of the first format.
-fn first_rules(formats: &[Format]) -> Option<&RuleTable>
+/// What is played under the first format. `None` exactly where there is no format.
+pub fn first_rules(formats: &[Format]) -> Option<&RuleTable>
     ensures { option_map (λ t. t.now) result ≡ first_rules formats.now }
 {
     match formats {

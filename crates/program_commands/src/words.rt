@@ -85,7 +85,8 @@ pub enum Command<'a> {
     Tour(TourWords<'a>),
 }
 
-pub(crate) fn is_name(word: &str) -> bool
+/// Whether a word names a file or a format: it isn't empty, and doesn't begin with `-`.
+pub fn is_name(word: &str) -> bool
     ensures { result ≡ is_name word.now }
 {
     match word.as_bytes() {
@@ -183,7 +184,9 @@ fn config_first(at: u32, words: &[String]) -> Result<OptionWords<'_>, u32>
     }
 }
 
-fn options_in(at: u32, words: &[String]) -> Result<OptionWords<'_>, u32>
+/// Reads `--dex NAME` and `--config NAME`, each at most once, in either order, and nothing more. The words begin at the index
+/// `at`, below 97; the error is the index of the first that can't stand, or of the one that is missing.
+pub fn options_in(at: u32, words: &[String]) -> Result<OptionWords<'_>, u32>
     requires { at < 97 }
     ensures { MatchResult result (λ o. options_in at (map string_bytes words.now) ≡ Ok (options_of o)) (λ n. options_in at (map string_bytes words.now) ≡ Err n) }
 {
