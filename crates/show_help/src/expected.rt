@@ -1,0 +1,379 @@
+//! What was expected at a place, and the names that would have stood there.
+use crate::rules::CLAUSES;
+use ps_base::text::Text;
+use serde_json::Value;
+use std::alloc::{AllocError, Global};
+
+const NAME: &str =
+    "a name of 1 to 32 plain characters without `|`, `,` and `]`, whose id nothing of its list has";
+
+const CHANCE: &str = "a whole number from 0 to 256, out of 256";
+
+const ID: &str = "one or more of a to z and 0 to 9, which nothing before in the list has";
+
+const PERMISSION: &str = "a text of the letters `u` (lower ranks), `s` (oneself) and `a` (all)";
+
+const SEED: &str = "a whole number from 0 to 18446744073709551615";
+
+/// What is expected at a place of a dex file, by its path without indexes.
+const IN_DEX: &[(&str, &str)] = &[
+    (
+        "",
+        "a JSON object with the keys `types`, `factors`, `moves`, `species` and `aliases`",
+    ),
+    ("types", "a list of at most 32 types"),
+    ("types[]", "an object with `name` and `special`"),
+    ("types[].name", NAME),
+    ("types[].special", "true or false"),
+    ("factors", "a list of triples, as [\"Fire\", \"Grass\", 20]"),
+    (
+        "factors[]",
+        "a pair of types that no triple before has, and its factor in tenths",
+    ),
+    ("factors[][0]", "the name of a type"),
+    ("factors[][1]", "the name of a type"),
+    ("factors[][2]", "0, 5, 10 or 20: the factor in tenths"),
+    ("moves", "a list of at most 1,024 moves"),
+    (
+        "moves[]",
+        "an object with `name`, `type`, `power`, `accuracy`, `pp` and `priority`",
+    ),
+    ("moves[].name", NAME),
+    ("moves[].type", "the name of a type"),
+    ("moves[].power", "a whole number from 0 to 255"),
+    (
+        "moves[].accuracy",
+        "a whole number from 0 to 100, in percent; 0 never misses",
+    ),
+    ("moves[].pp", "a whole number from 1 to 64, with all PP Ups"),
+    ("moves[].priority", "-1, 0 or 1"),
+    ("moves[].high", "true or false"),
+    (
+        "moves[].effect",
+        "an object with `kind` and the fields of that kind",
+    ),
+    ("moves[].effect.kind", "a kind of effect"),
+    ("moves[].effect.amount", "a whole number from 1 to 713"),
+    (
+        "moves[].effect.status",
+        "`slp`, `par`, `brn`, `psn`, `tox` or `frz`",
+    ),
+    ("moves[].effect.chance", CHANCE),
+    ("moves[].effect.who", "`self` or `foe`"),
+    (
+        "moves[].effect.stat",
+        "`atk`, `def`, `spc`, `spe`, `acc` or `eva`",
+    ),
+    (
+        "moves[].effect.by",
+        "a whole number: -6 to 6 without 0 of a boost, 1 to 255 of a recoil",
+    ),
+    ("moves[].effect.away", "true or false"),
+    ("moves[].effect.which", "`reflect` or `light`"),
+    (
+        "moves[].effect.sub",
+        "`mimic`, `transform`, `metronome`, `mirrormove`, `conversion` or `disable`",
+    ),
+    ("species", "a list of at most 1,024 species"),
+    (
+        "species[]",
+        "an object with `name`, `types`, `stats` and `learns`",
+    ),
+    ("species[].name", NAME),
+    ("species[].types", "a list of one or two types"),
+    (
+        "species[].types[]",
+        "the name of a type, not the same one twice",
+    ),
+    (
+        "species[].stats",
+        "a list of five numbers: HP, Attack, Defense, Special, Speed",
+    ),
+    ("species[].stats[]", "a whole number from 1 to 255"),
+    ("species[].learns", "a list of names of moves"),
+    ("species[].learns[]", "the name of a move, none twice"),
+    (
+        "aliases",
+        "an object from texts to names of species and moves",
+    ),
+    (
+        "aliases.*",
+        "the name of a species or a move; a key with letters or digits, whose id no key before has",
+    ),
+];
+
+/// The same of a configuration.
+const IN_CONFIG: &[(&str, &str)] = &[
+    (
+        "",
+        "a JSON object with the keys `version`, `groups`, `staff`, `rooms`, `users`, `rulesets`, `formats`, `nonce`, `seed` and `seeds`",
+    ),
+    ("version", "1 or 2"),
+    ("groups", "a list of 1 to 16 groups, the highest first"),
+    (
+        "groups[]",
+        "an object with `symbol`, `id` and `name`; at most 16 of them",
+    ),
+    (
+        "groups[].symbol",
+        "one character, no other group's; of the last group a space",
+    ),
+    ("groups[].id", ID),
+    ("groups[].name", "a text"),
+    (
+        "groups[].inherit",
+        "the symbol of a group further down; only the last group may lack it",
+    ),
+    (
+        "groups[].permissions",
+        "an object with some of `announce`, `modnote`, `warn`, `mute`, `ban`, `modchat` and `promote`",
+    ),
+    ("groups[].permissions.announce", PERMISSION),
+    ("groups[].permissions.modnote", PERMISSION),
+    ("groups[].permissions.warn", PERMISSION),
+    ("groups[].permissions.mute", PERMISSION),
+    ("groups[].permissions.ban", PERMISSION),
+    ("groups[].permissions.modchat", PERMISSION),
+    ("groups[].permissions.promote", PERMISSION),
+    (
+        "staff",
+        "the symbol of a group; where it is missing, some group has `%`",
+    ),
+    ("rooms", "a list of 1 to 16 rooms"),
+    ("rooms[]", "an object with `id` and `title`"),
+    ("rooms[].id", ID),
+    ("rooms[].title", "a text without control characters"),
+    ("users", "a list of registered names"),
+    ("users[]", "an object with `id`, `secret` and `group`"),
+    ("users[].id", ID),
+    ("users[].secret", "a text"),
+    ("users[].group", "the symbol of a group"),
+    ("rulesets", "an object from ids to lists of rules"),
+    (
+        "rulesets.*",
+        "a list of rules; a key with letters or digits, whose id no key before has",
+    ),
+    (
+        "rulesets.*[]",
+        "a text: a clause, a ruleset, or `!` and a clause",
+    ),
+    ("formats", "a list of formats"),
+    ("formats[]", "an object with `name`"),
+    (
+        "formats[].name",
+        "1 to 32 characters without `|`, some of them letters or digits, whose id no format before has",
+    ),
+    (
+        "formats[].rules",
+        "clauses, rulesets, or `!` and a clause, here and in each ruleset that is named; no ruleset inside itself; no clause named and repealed in one list",
+    ),
+    (
+        "formats[].rules[]",
+        "a text: a clause, a ruleset, or `!` and a clause",
+    ),
+    (
+        "formats[].bans",
+        "a list of species and moves of the dex file",
+    ),
+    (
+        "formats[].bans[]",
+        "a species, a move or an alias of the dex file, none twice",
+    ),
+    ("formats[].min", "a whole number from 1 to 6"),
+    ("formats[].max", "a whole number from 1 to 6"),
+    ("formats[].levels", "a list of two levels, the lowest first"),
+    ("formats[].levels[]", "a whole number from 1 to 100"),
+    ("formats[].rated", "true or false"),
+    ("nonce", "1 to 32 letters and digits"),
+    ("seed", SEED),
+    ("seeds", "a list of whole numbers"),
+    ("seeds[]", SEED),
+];
+
+const KINDS: &[&str] = &[
+    "plain",
+    "fixed",
+    "level",
+    "half",
+    "psywave",
+    "ohko",
+    "status",
+    "confuse",
+    "flinch",
+    "boost",
+    "drain",
+    "dreameater",
+    "recoil",
+    "crash",
+    "multi",
+    "double",
+    "explode",
+    "charge",
+    "recharge",
+    "trap",
+    "thrash",
+    "bide",
+    "rage",
+    "counter",
+    "substitute",
+    "leechseed",
+    "screen",
+    "mist",
+    "focus",
+    "haze",
+    "heal",
+    "rest",
+    "copy",
+    "nothing",
+];
+
+/// The path without the indexes of lists, but for those of a factor; a free key is a star.
+pub(crate) fn pattern_of(alloc: Global, path: &str) -> Result<String, AllocError> {
+    let mut pattern = String::new(alloc);
+    let mut in_index = false;
+    let mut in_key = false;
+    for byte in path.as_bytes() {
+        let byte = *byte;
+        if byte == b']' {
+            in_index = false;
+        }
+        if byte == b'[' && in_key {
+            in_key = false;
+        }
+        let is_fixed = pattern.as_str() == "factors[][";
+        if byte.is_ascii() && !in_key && (!in_index || is_fixed) {
+            pattern.push(char::from(byte))?;
+        }
+        if byte == b'[' {
+            in_index = true;
+        }
+        if pattern.as_str() == "aliases." || pattern.as_str() == "rulesets." {
+            pattern.push('*')?;
+            in_key = true;
+        }
+    }
+    Ok(pattern)
+}
+
+/// What is expected at a place with this pattern, if anything may stand there.
+pub(crate) fn expected(is_dex: bool, pattern: &str) -> Option<&'static str> {
+    let table = if is_dex { IN_DEX } else { IN_CONFIG };
+    for (place, what) in table {
+        if *place == pattern {
+            return Some(*what);
+        }
+    }
+    None
+}
+
+fn add_words(alloc: Global, names: &mut Vec<Text>, words: &[&str]) -> Result<(), AllocError> {
+    for word in words {
+        names.push(Text::copy_of(alloc, word)?)?;
+    }
+    Ok(())
+}
+
+fn add_clauses(alloc: Global, names: &mut Vec<Text>) -> Result<(), AllocError> {
+    for clause in CLAUSES {
+        names.push(Text::copy_of(alloc, clause.name())?)?;
+    }
+    Ok(())
+}
+
+// The texts that the objects of a list have at a key.
+fn add_list(
+    alloc: Global,
+    names: &mut Vec<Text>,
+    value: Option<&Value>,
+    list: &str,
+    key: &str,
+) -> Result<(), AllocError> {
+    if let Some(items) = value.and_then(|v| v.get(list)).and_then(Value::as_array) {
+        for item in items {
+            if let Some(name) = item.get(key).and_then(Value::as_str) {
+                names.push(Text::copy_of(alloc, name)?)?;
+            }
+        }
+    }
+    Ok(())
+}
+
+fn add_keys(
+    alloc: Global,
+    names: &mut Vec<Text>,
+    value: Option<&Value>,
+    object: &str,
+) -> Result<(), AllocError> {
+    if let Some(members) = value.and_then(|v| v.get(object)).and_then(Value::as_object) {
+        for key in members.keys() {
+            names.push(Text::copy_of(alloc, key.as_str())?)?;
+        }
+    }
+    Ok(())
+}
+
+/// The names that may stand at a place with this pattern.
+pub(crate) fn names_for(
+    alloc: Global,
+    pattern: &str,
+    dex: Option<&Value>,
+    config: Option<&Value>,
+) -> Result<Vec<Text>, AllocError> {
+    let mut names = Vec::new(alloc);
+    match pattern {
+        "factors[][0]" | "factors[][1]" | "moves[].type" | "species[].types[]" => {
+            add_list(alloc, &mut names, dex, "types", "name")?
+        }
+        "species[].learns[]" => add_list(alloc, &mut names, dex, "moves", "name")?,
+        "aliases.*" => {
+            add_list(alloc, &mut names, dex, "species", "name")?;
+            add_list(alloc, &mut names, dex, "moves", "name")?;
+        }
+        "moves[].effect.kind" => add_words(alloc, &mut names, KINDS)?,
+        "moves[].effect.status" => {
+            add_words(
+                alloc,
+                &mut names,
+                &["slp", "par", "brn", "psn", "tox", "frz"],
+            )?
+        }
+        "moves[].effect.stat" => {
+            add_words(
+                alloc,
+                &mut names,
+                &["atk", "def", "spc", "spe", "acc", "eva"],
+            )?
+        }
+        "moves[].effect.who" => add_words(alloc, &mut names, &["self", "foe"])?,
+        "moves[].effect.which" => add_words(alloc, &mut names, &["reflect", "light"])?,
+        "moves[].effect.sub" => add_words(
+            alloc,
+            &mut names,
+            &[
+                "mimic",
+                "transform",
+                "metronome",
+                "mirrormove",
+                "conversion",
+                "disable",
+            ],
+        )?,
+        "formats[].bans[]" => {
+            add_list(alloc, &mut names, dex, "species", "name")?;
+            add_list(alloc, &mut names, dex, "moves", "name")?;
+            add_keys(alloc, &mut names, dex, "aliases")?;
+        }
+        "formats[].rules" => {
+            add_clauses(alloc, &mut names)?;
+            add_keys(alloc, &mut names, config, "rulesets")?;
+        }
+        "staff" | "groups[].inherit" | "users[].group" => {
+            add_list(alloc, &mut names, config, "groups", "symbol")?;
+            if names.is_empty() {
+                add_words(alloc, &mut names, &["~", "#", "@", "%", "*", "+", " "])?;
+            }
+        }
+        _ => {}
+    }
+    Ok(names)
+}
