@@ -27,7 +27,7 @@ const REFUSED: &str =
 
 /// Each act of staff, and Cy, who is in no room, is banned.
 const ACTS: &str =
-    "G @ ann\n+1\n+2\n>1 |/trn Ann,0,\n>2 |/trn Bob,0,\n>1 |/join lobby\n>2 |/join lobby\nT 1
+    "G # ann\n+1\n+2\n>1 |/trn Ann,0,\n>2 |/trn Bob,0,\n>1 |/join lobby\n>2 |/join lobby\nT 1
 >1 lobby|/warn Bob, one\n>1 lobby|/mute Bob\n>1 lobby|/unmute Bob\nT 2
 >1 lobby|/roompromote Bob, +\n>1 lobby|/ban Cy\n>1 lobby|/unban Cy\n";
 
