@@ -6,6 +6,7 @@ mod door;
 use crate::door::PrintingDoor;
 use program_commands::kept_words::read_kept_words;
 use program_commands::status::Status;
+use program_show::show::show;
 use ps_keep::sql_keeper::SqlKeeper;
 use ps_outside::host_clock::HostClock;
 use ps_outside::host_files::HostFiles;
@@ -44,6 +45,9 @@ Usage:
       first: `psd import FILE > TEAMFILE`
   psd export FILE
       reads a packed team, and prints it as a teambuilder imports it
+  psd show [FORMAT] [--json] [--dex NAME] [--config NAME]
+      tells what the two files say, or what a format comes to; and where a file is
+      wrong: the line, the column, and what was expected there
   psd drill N [--dex NAME] [--config NAME]
       makes a script of N steps, 1 to 4000, runs it, and prints six lines that say
       what came of it: the same on every machine, as long as the files are
@@ -65,6 +69,8 @@ Usage:
                  one there are none
   --config NAME  the configuration: groups, rooms, users and formats; without one
                  there is no format
+
+Where BadDex or BadConfig ends a run, `psd show` with the same files says more.
 
 A run that does not end well prints one line on standard error, as
 `psd: Usage word=1`, and ends with the number of that line's status. `word` is
@@ -104,6 +110,8 @@ enum Asked {
     Text(&'static str),
     /// A server, and the words are its own to read.
     Server,
+    /// A page on the two files, and the words are its own to read.
+    Page,
     /// A run, and the words are its own to read.
     Run,
     /// A run with notes that are kept, and the words are its own to read.
@@ -128,6 +136,7 @@ fn asked_by(words: &[String]) -> Asked {
             "--help" => text_or_nothing(HELP, rest),
             "--version" => text_or_nothing(VERSION, rest),
             "serve" => Asked::Server,
+            "show" => Asked::Page,
             "archive" | "standings" => Asked::Kept,
             _ => Asked::Run,
         },
@@ -160,6 +169,12 @@ where
         &mut clock,
         &mut spawner,
     )
+}
+
+fn show_status(rt: &HostRuntime, words: &[String]) -> Status {
+    let mut files = HostFiles::new(rt);
+    let mut out = StdSink::new(io::writer(rt));
+    show(rt.alloc(), words, &mut files, &mut out)
 }
 
 fn run_status(rt: &HostRuntime, words: &[String]) -> Status {
@@ -195,6 +210,7 @@ fn main(rt: HostRuntime) -> ExitCode {
         Ok(words) => match asked_by(&words) {
             Asked::Text(text) => text_status(&rt, text),
             Asked::Server => serve_status(rt, rt.alloc(), &words),
+            Asked::Page => show_status(&rt, &words),
             Asked::Run => run_status(&rt, &words),
             Asked::Kept => kept_status(&rt, &words),
             Asked::Nothing { word } => Status::Usage { word },

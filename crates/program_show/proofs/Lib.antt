@@ -1,0 +1,2 @@
+pub mod SecretLemmas
+pub mod ShowLemmas

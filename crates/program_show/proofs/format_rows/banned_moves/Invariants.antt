@@ -1,0 +1,6 @@
+use Rattle.std.proofs.Common.{◌≡◌, ◌++◌, drop}
+use Rattle.program_show.specs.FormatRows.{banned_moves}
+use Rattle.program_show.proofs.format_rows.banned_moves.Given as goal
+
+abbrev pub invariant-loop-id : goal.invariant-loop-id
+invariant-loop-id l = l.numbers.items ++ banned_moves l.dex (drop l.id-index l.bans) ≡ banned_moves l.dex l.bans

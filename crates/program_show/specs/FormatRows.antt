@@ -1,0 +1,89 @@
+-- What is told of a format.
+use Rattle.std.specs.Prelude.{ℕ, ◌+◌, Bool, not, List, [], ◌∷◌, ◌++◌, codes, decimal, map, filter, slice_index, if◌then◌else◌}
+use Rattle.std.specs.List.{filter_map}
+use Rattle.ps_mon.specs.Clauses.{has_clause}
+use Rattle.ps_dex.specs.declared.item.MoveItem.{MoveItem}
+use Rattle.ps_dex.specs.declared.item.SpeciesItem.{SpeciesItem}
+use Rattle.ps_dex.specs.declared.item.Tables.{Tables}
+use Rattle.ps_dex.specs.Lookups.{species_of, move_of, name_of_move}
+use Rattle.ps_dex.specs.Species.{has_number}
+use Rattle.ps_rules.specs.declared.clause.Clause.{Clause}
+use Rattle.ps_rules.specs.declared.clause.Clause.TheVariants as clauses
+use Rattle.ps_rules.specs.declared.table.RuleTable.{RuleTable}
+use Rattle.ps_rules.specs.declared.table.Format.{Format}
+use Rattle.ps_rules.specs.Clauses.{bit_of, name_of}
+use Rattle.file_help.specs.declared.page.Row.{Row}
+use Rattle.file_help.specs.declared.page.Section.{Section}
+use Rattle.file_help.specs.Pages.{listed}
+use Rattle.program_show.specs.DexRows.{parts_text}
+
+-- ---- clauses
+
+abbrev pub clause_part : ℕ → Clause → List (List ℕ)
+clause_part on c = if has_clause on (bit_of c) then name_of c ∷ [] else []
+
+-- the names of the clauses that are on
+unfoldable pub clause_names : ℕ → List (List ℕ)
+clause_names on =
+    clause_part on clauses.Species ++ clause_part on clauses.Sleep ++ clause_part on clauses.Freeze ++ clause_part on clauses.Ohko
+    ++ clause_part on clauses.Evasion ++ clause_part on clauses.Nickname ++ clause_part on clauses.Preview
+    ++ clause_part on clauses.Percentage
+
+-- ---- the rows
+
+-- a ban: what its id stands for
+abbrev pub ban_text : Tables → List ℕ → List ℕ
+ban_text dex id = parts_text dex (species_of id dex) (move_of id dex)
+
+-- `LEAST to GREATEST`
+abbrev pub range_text : ℕ → ℕ → List ℕ
+range_text least greatest = decimal least ++ codes " to " ++ decimal greatest
+
+abbrev pub yes_or_no : Bool → List ℕ
+yes_or_no b = if b then codes "yes" else codes "no"
+
+unfoldable pub table_rows : Tables → RuleTable → List Row
+table_rows dex t =
+    record { key = codes "clauses"; value = listed (clause_names t.clauses) }
+    ∷ record { key = codes "bans"; value = listed (map (ban_text dex) t.bans) }
+    ∷ record { key = codes "members"; value = range_text t.min t.max }
+    ∷ record { key = codes "levels"; value = range_text (slice_index t.levels 0) (slice_index t.levels 1) }
+    ∷ record { key = codes "rated"; value = yes_or_no t.rated }
+    ∷ []
+
+abbrev pub format_rows : Tables → Format → List Row
+format_rows dex f = record { key = codes "name"; value = f.name } ∷ table_rows dex f.table
+
+abbrev pub format_section : Tables → Format → Section
+format_section dex f = record { title = codes "Format " ++ f.id; rows = format_rows dex f }
+
+-- ---- what may stand in a format
+
+abbrev pub banned_species : Tables → List (List ℕ) → List ℕ
+banned_species dex bans = filter_map (λ id. species_of id dex) bans
+
+abbrev pub banned_moves : Tables → List (List ℕ) → List ℕ
+banned_moves dex bans = filter_map (λ id. move_of id dex) bans
+
+-- the names of the moves with these numbers that no ban names
+abbrev pub left_moves : List MoveItem → List ℕ → List ℕ → List (List ℕ)
+left_moves moves banned numbers = map (λ n. name_of_move n moves) (filter (λ n. not (has_number n banned)) numbers)
+
+abbrev pub left_row : List MoveItem → List ℕ → SpeciesItem → Row
+left_row moves banned s = record { key = s.name; value = listed (left_moves moves banned s.learns) }
+
+-- a row for a species that no ban names
+abbrev pub left_part : List MoveItem → List ℕ → List ℕ → ℕ → SpeciesItem → List Row
+left_part moves banned_s banned_m index s = if has_number index banned_s then [] else left_row moves banned_m s ∷ []
+
+-- a row for each species from an index on that no ban names, with its moves that no ban names
+abbrev pub left_rows : List MoveItem → List ℕ → List ℕ → ℕ → List SpeciesItem → List Row
+left_rows moves banned_s banned_m index [] = []
+left_rows moves banned_s banned_m index (s ∷ species) =
+    left_part moves banned_s banned_m index s ++ left_rows moves banned_s banned_m (index + 1) species
+
+abbrev pub left_section : Tables → Format → Section
+left_section dex f = record {
+  title = codes "May stand in " ++ f.id;
+  rows = left_rows dex.moves (banned_species dex f.table.bans) (banned_moves dex f.table.bans) 0 dex.species;
+}
