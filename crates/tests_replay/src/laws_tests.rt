@@ -90,6 +90,28 @@ const UNDONE: &str = ">1 battle-gen1ou-1|/choose move 2\n>1 battle-gen1ou-1|/und
 
 const SENT_OUT: &str = ">1 battle-gen1ou-1|/choose switch 2\n>2 battle-gen1ou-1|/choose move 1\n";
 
+/// A round in which Ann asks by name for a move that she has in one world alone.
+const BY_NAME: &str =
+    ">2 battle-gen1ou-1|/choose move 1\n>1 battle-gen1ou-1|/choose move earthquake\n>1 battle-gen1ou-1|/choose move 1\n";
+
+const STAFF: &str = "G % ann\n";
+
+const NOTE: &str = ">1 battle-gen1ou-1|/modnote watch him\n";
+
+/// A choice of Ann's, until Bob gives up.
+const LEFT: &str = ">1 battle-gen1ou-1|/choose move 2\n";
+
+const LEFT_TO_SWITCH: &str = ">1 battle-gen1ou-1|/choose switch 2\n";
+
+const GIVEN_UP: &str = ">3 battle-gen1ou-1|hi\n>2 battle-gen1ou-1|/forfeit\n";
+
+/// Ann chooses first, and Cy says something before Bob does.
+const ANN_FIRST: &str =
+    ">1 battle-gen1ou-1|/choose move 1\n>3 battle-gen1ou-1|hi\n>2 battle-gen1ou-1|/choose move 1\n";
+
+const BOB_FIRST: &str =
+    ">2 battle-gen1ou-1|/choose move 1\n>3 battle-gen1ou-1|hi\n>1 battle-gen1ou-1|/choose move 1\n";
+
 const WHISPERS: &str =
     ">1 |/pm Bob, hi\n>2 |/pm Ann, go away\n>2 |/block Ann\n>1 |/pm Bob, hello?\n>2 |/unblock Ann\n";
 
@@ -152,5 +174,52 @@ fn foreign_whispers_change_no_line(rt: HostRuntime) -> Result<(), Fail> {
     let two = [WITH_CHANSEY, BOUT];
     assert!(rt; are_alike(alloc, '3', &one, &two)?);
     assert!(rt; !are_alike(alloc, '2', &one, &two)?);
+    Ok(())
+}
+
+#[test]
+fn a_move_that_is_asked_for_by_name_in_vain_does_change_lines(rt: HostRuntime) -> Result<(), Fail> {
+    let alloc = rt.alloc();
+    let one = [WITH_CHANSEY, BOUT, BY_NAME];
+    let two = [WITH_EARTHQUAKE, BOUT, BY_NAME];
+    assert!(rt; !are_alike(alloc, '3', &one, &two)?);
+    let lines = lines_by(alloc, '3', &one)?;
+    has_line(
+        &rt,
+        lines.as_str(),
+        "3. |move|p1a: Tauros|Body Slam|p2a: Snorlax",
+    );
+    Ok(())
+}
+
+#[test]
+fn unseen_notes_in_a_battles_room_change_no_line(rt: HostRuntime) -> Result<(), Fail> {
+    let alloc = rt.alloc();
+    let one = [STAFF, WITH_CHANSEY, BOUT, NOTE, ROUNDS];
+    let two = [STAFF, WITH_CHANSEY, BOUT, ROUNDS];
+    assert!(rt; are_alike(alloc, '2', &one, &two)?);
+    assert!(rt; are_alike(alloc, '3', &one, &two)?);
+    assert!(rt; !are_alike(alloc, '1', &one, &two)?);
+    Ok(())
+}
+
+#[test]
+fn choices_that_no_round_has_change_no_line(rt: HostRuntime) -> Result<(), Fail> {
+    let alloc = rt.alloc();
+    let none = [WITH_CHANSEY, BOUT, ROUNDS, GIVEN_UP];
+    for left in [LEFT, LEFT_TO_SWITCH] {
+        let other = [WITH_CHANSEY, BOUT, ROUNDS, left, GIVEN_UP];
+        assert!(rt; are_alike(alloc, '2', &none, &other)?);
+        assert!(rt; are_alike(alloc, '3', &none, &other)?);
+    }
+    Ok(())
+}
+
+#[test]
+fn who_chose_first_changes_no_line_of_who_looks_on(rt: HostRuntime) -> Result<(), Fail> {
+    let alloc = rt.alloc();
+    let one = [WITH_CHANSEY, BOUT, ANN_FIRST, ROUNDS];
+    let two = [WITH_CHANSEY, BOUT, BOB_FIRST, ROUNDS];
+    assert!(rt; are_alike(alloc, '3', &one, &two)?);
     Ok(())
 }
