@@ -2,7 +2,8 @@
 ghost use Rattle.std.specs.Prelude.{◌≡◌, ◌++◌, ◌∷◌, [], IfOk, OnOk, codes, string_bytes};
 ghost use Rattle.std.specs.List.{flat_map};
 ghost use Rattle.json_text.specs.Lines.{with_tokens};
-ghost use Rattle.file_help.specs.Pages.{listed, row_text, rows_text, section_text, text_page, row_tokens, section_tokens, page_tokens, json_page, page_of};
+ghost use Rattle.file_help.specs.Pages.{listed, row_text, rows_text, section_text, text_page};
+ghost use Rattle.file_help.specs.Pages.{row_tokens, section_tokens, page_tokens, json_page, page_of};
 ghost use Rattle.json.specs.Token.{end_array, end_object};
 ghost use Rattle.json.specs.Print.{print};
 

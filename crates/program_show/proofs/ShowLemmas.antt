@@ -14,7 +14,8 @@ use Rattle.ps_dex.specs.declared.item.Tables.{Tables}
 use Rattle.ps_rules.specs.declared.table.Format.{Format}
 use Rattle.rules_config.specs.declared.settings.Settings.{Settings}
 use Rattle.program_show.specs.Summary.{IsWhole, of_format, without_secrets}
-use Rattle.program_show.specs.Shows.{ShowCause, IsPageFront, CountsAfter, WritesPage, WritesMore, WritesShown, IsWritten, ToldEnds, chosen, Tells}
+use Rattle.program_show.specs.Shows.{chosen, Tells, IsWritten, ToldEnds, ShowCause, IsPageFront, WritesShown}
+use Rattle.program_show.specs.Shows.{CountsAfter, WritesPage, WritesMore}
 
 keeps_self : (old : Option (List ℕ)) → Keeps old old
 keeps_self None = tt
@@ -78,8 +79,8 @@ written_cause named old new status (inl none) = subst (ShowCause named old new) 
 written_cause named old new status (inr (inl done)) = subst (ShowCause named old new) (sym done) tt
 written_cause named old new status (inr (inr fault)) = subst (ShowCause named old new) (sym fault) tt
 
-pub written_shown : (is_told : List Section → Type 0) (sections : List Section) (as_json : Bool) (old new : Option (List ℕ)) (status : Status)
-    → is_told sections → WritesMore as_json sections old new status → WritesShown is_told as_json old new status
+pub written_shown : (is_told : List Section → Type 0) (sections : List Section) (as_json : Bool) (old new : Option (List ℕ))
+    (status : Status) → is_told sections → WritesMore as_json sections old new status → WritesShown is_told as_json old new status
 written_shown is_told sections as_json old new Done told page = (sections, told, page)
 written_shown is_told sections as_json old new WriteFault told front = front
 written_shown is_told sections as_json old new NoMemory told keeps = keeps
@@ -107,5 +108,6 @@ unknown_shown is_told as_json old other cause = absurd cause
 pub unknown_fault : (old new : ℕ) (status : Status) → FormatCause status → status ≡ WriteFault → Rose old new
 unknown_fault old new status cause is = absurd (subst FormatCause is cause)
 
-pub no_memory_shown : (is_told : List Section → Type 0) (as_json : Bool) (old : Option (List ℕ)) → WritesShown is_told as_json old old NoMemory
+pub no_memory_shown : (is_told : List Section → Type 0) (as_json : Bool) (old : Option (List ℕ))
+    → WritesShown is_told as_json old old NoMemory
 no_memory_shown is_told as_json old = keeps_self old

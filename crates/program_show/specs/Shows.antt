@@ -12,7 +12,8 @@ use Rattle.rules_config.specs.declared.settings.Settings.{Settings}
 use Rattle.program_commands.specs.declared.status.Status.{Status}
 use Rattle.program_commands.specs.declared.status.Status.TheVariants.{Done, Usage, FileMissing, FileFault, FileLong, BadDex, BadConfig}
 use Rattle.program_commands.specs.declared.status.Status.TheVariants.{BadScript, ScriptLong, ReadFault, WriteFault, BadTeam, NoMemory}
-use Rattle.program_commands.specs.declared.status.Status.TheVariants.{DoorFault, UnknownFormat, BadPack, NoTour, KeepFault, KeepFull, BadExport, NoExport}
+use Rattle.program_commands.specs.declared.status.Status.TheVariants.{DoorFault, UnknownFormat, BadPack, NoTour}
+use Rattle.program_commands.specs.declared.status.Status.TheVariants.{KeepFault, KeepFull, BadExport, NoExport}
 use Rattle.program_commands.specs.Steps.{IsFaultOf, dex_in, config_in}
 use Rattle.program_commands.specs.Setups.{Then, Stands, HasSetup}
 use Rattle.file_help.specs.declared.page.Section.{Section}

@@ -128,7 +128,8 @@ fn push_factor_row(
     attack: u8,
 ) -> Result<(), AllocError>
     requires { attack < 32 }
-    ensures { OnOk result (rows.new.items ≡ rows.old.items ++ factor_row dex.now.types dex.now.factors attack (slice_get types.now attack)) }
+    ensures { OnOk result (rows.new.items ≡ rows.old.items
+        ++ factor_row dex.now.types dex.now.factors attack (slice_get types.now attack)) }
 {
     match type_at(types, attack) {
         None => Ok(()),

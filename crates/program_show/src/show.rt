@@ -179,7 +179,8 @@ fn show_format<F: Files, K: Sink>(
 ) -> Status
     ensures ends { (result ≡ Status.NoMemory) ⊎ ToldEnds (Some name.now) config.now result }
     ensures cause { ShowCause (IsOption (show_of words.entry).options) (F.counts files.old) (F.counts files.new) result }
-    ensures wrote { WritesShown (Tells dex.now config.now (Some name.now)) words.entry.as_json (K.written out.old) (K.written out.new) result }
+    ensures wrote { WritesShown (Tells dex.now config.now (Some name.now)) words.entry.as_json
+        (K.written out.old) (K.written out.new) result }
     ensures write_fault { result ≡ Status.WriteFault → Rose (K.faults out.old) (K.faults out.new) }
 {
     match format_named(alloc, config, name) {
@@ -220,7 +221,8 @@ fn show_told<F: Files, K: Sink>(
 ) -> Status
     ensures ends { (result ≡ Status.NoMemory) ⊎ ToldEnds (show_of words.entry).format config.now result }
     ensures cause { ShowCause (IsOption (show_of words.entry).options) (F.counts files.old) (F.counts files.new) result }
-    ensures wrote { WritesShown (Tells dex.now config.now (show_of words.entry).format) words.entry.as_json (K.written out.old) (K.written out.new) result }
+    ensures wrote { WritesShown (Tells dex.now config.now (show_of words.entry).format) words.entry.as_json
+        (K.written out.old) (K.written out.new) result }
     ensures write_fault { result ≡ Status.WriteFault → Rose (K.faults out.old) (K.faults out.new) }
 {
     match words.format {
@@ -238,7 +240,8 @@ fn show_config<F: Files, K: Sink>(
 ) -> Status
     ensures ends { EndsIfKnown (F.contents files.old) (λ lookup. OverDexEnds lookup (show_of words.entry) dex.now) result }
     ensures cause { ShowCause (IsOption (show_of words.entry).options) (F.counts files.old) (F.counts files.new) result }
-    ensures wrote { WritesShown (IsToldOver (F.contents files.old) (show_of words.entry) dex.now) words.entry.as_json (K.written out.old) (K.written out.new) result }
+    ensures wrote { WritesShown (IsToldOver (F.contents files.old) (show_of words.entry) dex.now) words.entry.as_json
+        (K.written out.old) (K.written out.new) result }
     ensures write_fault { result ≡ Status.WriteFault → Rose (K.faults out.old) (K.faults out.new) }
 {
     match config_or_standard(alloc, files, dex, words.options.config) {
@@ -258,7 +261,8 @@ fn show_dex<F: Files, K: Sink>(
 ) -> Status
     ensures ends { EndsIfKnown (F.contents files.old) (λ lookup. ShowEnds lookup (show_of words.entry)) result }
     ensures cause { ShowCause (IsOption (show_of words.entry).options) (F.counts files.old) (F.counts files.new) result }
-    ensures wrote { WritesShown (IsTold (F.contents files.old) (show_of words.entry)) words.entry.as_json (K.written out.old) (K.written out.new) result }
+    ensures wrote { WritesShown (IsTold (F.contents files.old) (show_of words.entry)) words.entry.as_json
+        (K.written out.old) (K.written out.new) result }
     ensures write_fault { result ≡ Status.WriteFault → Rose (K.faults out.old) (K.faults out.new) }
 {
     match dex_or_none(alloc, files, words.options.dex) {
@@ -281,10 +285,14 @@ pub fn show<F: Files, K: Sink>(
     files: &mut F,
     out: &mut K,
 ) -> Status
-    ensures usage { IfUsage (show_words_in (map string_bytes words.now)) (λ at. (result ≡ Status.Usage at) × Keeps (K.written out.old) (K.written out.new)) }
-    ensures ends { IfShow (show_words_in (map string_bytes words.now)) (λ asked. EndsIfKnown (F.contents files.old) (λ lookup. ShowEnds lookup asked) result) }
-    ensures cause { IfShow (show_words_in (map string_bytes words.now)) (λ asked. ShowCause (IsOption asked.options) (F.counts files.old) (F.counts files.new) result) }
-    ensures wrote { IfShow (show_words_in (map string_bytes words.now)) (λ asked. WritesShown (IsTold (F.contents files.old) asked) asked.as_json (K.written out.old) (K.written out.new) result) }
+    ensures usage { IfUsage (show_words_in (map string_bytes words.now))
+        (λ at. (result ≡ Status.Usage at) × Keeps (K.written out.old) (K.written out.new)) }
+    ensures ends { IfShow (show_words_in (map string_bytes words.now))
+        (λ asked. EndsIfKnown (F.contents files.old) (λ lookup. ShowEnds lookup asked) result) }
+    ensures cause { IfShow (show_words_in (map string_bytes words.now))
+        (λ asked. ShowCause (IsOption asked.options) (F.counts files.old) (F.counts files.new) result) }
+    ensures wrote { IfShow (show_words_in (map string_bytes words.now))
+        (λ asked. WritesShown (IsTold (F.contents files.old) asked) asked.as_json (K.written out.old) (K.written out.new) result) }
     ensures write_fault { result ≡ Status.WriteFault → Rose (K.faults out.old) (K.faults out.new) }
 {
     match read_show_words(words) {

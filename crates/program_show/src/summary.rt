@@ -55,7 +55,8 @@ fn push_section(
 }
 
 fn push_factors(alloc: Global, sections: &mut Vec<Section>, dex: &Dex) -> Result<(), AllocError>
-    ensures { OnOk result (sections.new.items ≡ sections.old.items ++ section (codes "Factors in tenths") (all_factors dex.now.types dex.now.factors) ∷ []) }
+    ensures { OnOk result (sections.new.items ≡ sections.old.items
+        ++ section (codes "Factors in tenths") (all_factors dex.now.types dex.now.factors) ∷ []) }
 {
     let rows = factor_rows(alloc, dex)?;
     push_section(alloc, sections, "Factors in tenths", rows)?;
@@ -71,7 +72,8 @@ fn push_types(alloc: Global, sections: &mut Vec<Section>, dex: &Dex) -> Result<(
 }
 
 fn push_kinds(alloc: Global, sections: &mut Vec<Section>, dex: &Dex) -> Result<(), AllocError>
-    ensures { OnOk result (sections.new.items ≡ sections.old.items ++ section (codes "Moves by kind of effect") (map (kind_row dex.now.moves) kind_words) ∷ []) }
+    ensures { OnOk result (sections.new.items ≡ sections.old.items
+        ++ section (codes "Moves by kind of effect") (map (kind_row dex.now.moves) kind_words) ∷ []) }
 {
     let rows = kind_rows(alloc, dex)?;
     push_section(alloc, sections, "Moves by kind of effect", rows)?;

@@ -18,7 +18,8 @@ pub struct ShowWords<'a> {
 
 fn json_in<'a>(format: Option<&'a str>, at: u32, words: &'a [String]) -> Result<ShowWords<'a>, u32>
     requires { at < 96 }
-    ensures { MatchResult result (λ w. json_in (option_copied format.entry) at (map string_bytes words.now) ≡ Ok (show_of w)) (λ n. json_in (option_copied format.entry) at (map string_bytes words.now) ≡ Err n) }
+    ensures { MatchResult result (λ w. json_in (option_copied format.entry) at (map string_bytes words.now) ≡ Ok (show_of w))
+        (λ n. json_in (option_copied format.entry) at (map string_bytes words.now) ≡ Err n) }
 {
     if let [word, rest @ ..] = words {
         if word.as_str() == "--json" {
@@ -43,7 +44,8 @@ fn json_in<'a>(format: Option<&'a str>, at: u32, words: &'a [String]) -> Result<
 }
 
 fn show_in(words: &[String]) -> Result<ShowWords<'_>, u32>
-    ensures { MatchResult result (λ w. show_in (map string_bytes words.now) ≡ Ok (show_of w)) (λ n. show_in (map string_bytes words.now) ≡ Err n) }
+    ensures { MatchResult result (λ w. show_in (map string_bytes words.now) ≡ Ok (show_of w))
+        (λ n. show_in (map string_bytes words.now) ≡ Err n) }
 {
     match words {
         [] => json_in(None, 1, words),
@@ -60,7 +62,8 @@ fn show_in(words: &[String]) -> Result<ShowWords<'_>, u32>
 /// `--config NAME`, each at most once, in either order. The error is the index of the first word that can't stand, counted
 /// from 0, or how many there are where one is missing.
 pub fn read_show_words(words: &[String]) -> Result<ShowWords<'_>, u32>
-    ensures { MatchResult result (λ w. show_words_in (map string_bytes words.now) ≡ Ok (show_of w)) (λ n. show_words_in (map string_bytes words.now) ≡ Err n) }
+    ensures { MatchResult result (λ w. show_words_in (map string_bytes words.now) ≡ Ok (show_of w))
+        (λ n. show_words_in (map string_bytes words.now) ≡ Err n) }
 {
     match words {
         [] => Err(0),

@@ -165,7 +165,8 @@ const IN_CONFIG: &[(&str, &str)] = &[
     ),
     (
         "formats[].rules",
-        "clauses, rulesets, or `!` and a clause, here and in each ruleset that is named; no ruleset inside itself; no clause named and repealed in one list",
+        "clauses, rulesets, or `!` and a clause, here and in each ruleset that is named; no ruleset inside itself; \
+        no clause named and repealed in one list",
     ),
     (
         "formats[].rules[]",

@@ -57,12 +57,17 @@ fn missing(alloc: Global, page: &str, wanted: &[&str]) -> Result<String, AllocEr
 const BOTH: &str = "show --dex d --config c";
 
 /// A dex with an alias that is used and one that isn't.
-const ALIAS_DEX: &str =
-    r#"{"types":[{"name":"Normal","special":false}],"moves":[{"name":"Quick Attack","type":"Normal","power":40,"accuracy":100,"pp":48,"priority":1,"high":true},{"name":"Rest","type":"Normal","power":0,"accuracy":0,"pp":16,"priority":0}],"species":[{"name":"Tauros","types":["Normal"],"stats":[75,100,95,70,110],"learns":["quickattack"]}],"aliases":{"bull":"Tauros","rest":"Tauros"}}"#;
+const ALIAS_DEX: &str = r#"{"types":[{"name":"Normal","special":false}],
+"moves":[{"name":"Quick Attack","type":"Normal","power":40,"accuracy":100,"pp":48,"priority":1,"high":true},
+{"name":"Rest","type":"Normal","power":0,"accuracy":0,"pp":16,"priority":0}],
+"species":[{"name":"Tauros","types":["Normal"],"stats":[75,100,95,70,110],"learns":["quickattack"]}],
+"aliases":{"bull":"Tauros","rest":"Tauros"}}"#;
 
 /// Rulesets that are right and wrong, and a format that a drill's team can't play.
-const RULES: &str =
-    r#"{"version":2,"rulesets":{"good":["Species Clause","Sleep Clause Mod"],"loop":["loop"],"more":["good","!Sleep Clause Mod"],"torn":["OHKO Clause","!OHKO Clause"],"typo":["Specis Clause"]},"formats":[{"name":"Two","rules":["more"],"min":2,"max":4,"levels":[5,50]}]}"#;
+const RULES: &str = r#"{"version":2,
+"rulesets":{"good":["Species Clause","Sleep Clause Mod"],"loop":["loop"],"more":["good","!Sleep Clause Mod"],
+"torn":["OHKO Clause","!OHKO Clause"],"typo":["Specis Clause"]},
+"formats":[{"name":"Two","rules":["more"],"min":2,"max":4,"levels":[5,50]}]}"#;
 
 const USERS: &str =
     r#"{"users":[{"id":"ann","secret":"correct horse","group":"@"},{"id":"bob","secret":"","group":"+"}],"nonce":"mine","seed":7}"#;
@@ -131,7 +136,8 @@ fn what_is_told_where_words_ask_for_less(rt: HostRuntime) -> Result<(), Fail> {
     let cases: &[(&str, &str)] = &[
         (
             "show GEN1-OU --config c --dex d",
-            "May stand in gen1ou\n  Tauros: Body Slam\n\nClauses and the rules that put them on\n  gen1ou: Species Clause (`speciesclause`), HP Percentage Mod (always on)\n\nWarnings\n  none\n\nDone",
+            "May stand in gen1ou\n  Tauros: Body Slam\n\nClauses and the rules that put them on\n  \
+            gen1ou: Species Clause (`speciesclause`), HP Percentage Mod (always on)\n\nWarnings\n  none\n\nDone",
         ),
         ("show --json --config c", r#""Rooms":[["lobby","Lobby"]]"#),
         ("show ou --config c", "UnknownFormat id=ou"),
@@ -186,7 +192,8 @@ fn what_is_warned_of(rt: HostRuntime) -> Result<(), Fail> {
         (
             ALIAS_DEX,
             RULES,
-            "seed: the default: whoever knows it foretells the draws of battles\n  ruleset loop: nobody uses it, and it is wrong: see `Rulesets`",
+            "seed: the default: whoever knows it foretells the draws of battles\n  \
+            ruleset loop: nobody uses it, and it is wrong: see `Rulesets`",
         ),
         (ALIAS_DEX, RULES, "moves that nobody learns: Rest\n"),
     ];
