@@ -1,6 +1,6 @@
 //! Where a file isn't in its form, as a person looks it up.
+use crate::data_file::{DataFile, open_bytes, open_text, open_value};
 use crate::expected::{expected, names_for, pattern_of};
-use crate::source::{Source, open_bytes, open_text, open_value};
 use file_help::page::{Row, Section, listed, row_of, section_of};
 use json_place::excerpt::{Place, byte_of, excerpt, has_star_before, place_of, text_at};
 use json_place::keys::{Note, of_config, of_dex};
@@ -374,17 +374,17 @@ pub fn fault_page<F: Files>(
     path: &str,
     kind: DataKind,
 ) -> Result<Vec<Section>, AllocError> {
-    let dex = Source {
+    let dex = DataFile {
         name: names.dex,
         is_dex: true,
     };
-    let config = Source {
+    let config = DataFile {
         name: names.config,
         is_dex: false,
     };
-    let source = if is_dex { dex } else { config };
+    let file = if is_dex { dex } else { config };
     let mut rows = Vec::new(alloc);
-    rows.push(text_row(alloc, "file", source.name.unwrap_or("none"))?)?;
+    rows.push(text_row(alloc, "file", file.name.unwrap_or("none"))?)?;
     let place = if path.is_empty() {
         "the whole file"
     } else {
@@ -393,10 +393,10 @@ pub fn fault_page<F: Files>(
     rows.push(text_row(alloc, "path", place)?)?;
     rows.push(text_row(alloc, "fault", kind_text(kind))?)?;
     if kind == DataKind::Json {
-        if let Some((shown, parsed)) = open_text(alloc, files, source)? {
+        if let Some((shown, parsed)) = open_text(alloc, files, file)? {
             push_json(alloc, &mut rows, &shown, &parsed)?;
         }
-    } else if let Some(bytes) = open_bytes(alloc, files, source)? {
+    } else if let Some(bytes) = open_bytes(alloc, files, file)? {
         let dex = open_value(alloc, files, dex)?;
         let config = open_value(alloc, files, config)?;
         push_value(

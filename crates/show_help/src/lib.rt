@@ -2,8 +2,8 @@
 //! says what is answered here; no secret comes in, since each file is blanked where it is read.
 #![tactic(auto)]
 
+mod data_file;
 mod expected;
 pub mod fault;
 pub mod notes;
 mod rules;
-mod source;

@@ -1,6 +1,6 @@
 //! Notes on a dex and a configuration that are in their forms.
+use crate::data_file::{DataFile, open_value};
 use crate::rules::{is_told, source_rows, unused_rows};
-use crate::source::{Source, open_value};
 use file_help::page::{Row, Section, listed, row_of, section_of};
 use json_place::keys::{Note, looks_like_config, looks_like_dex, of_config, of_dex};
 use ps_base::id::to_id;
@@ -296,11 +296,11 @@ pub fn notes<F: Files>(
     words: NoteWords<'_>,
     files: &mut F,
 ) -> Result<Vec<Section>, AllocError> {
-    let dex_file = Source {
+    let dex_file = DataFile {
         name: words.dex,
         is_dex: true,
     };
-    let config_file = Source {
+    let config_file = DataFile {
         name: words.config,
         is_dex: false,
     };

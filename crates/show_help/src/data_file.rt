@@ -15,7 +15,7 @@ const SETUP: &[&str] = &["nonce", "seed", "seeds"];
 
 /// A file that may be read once more.
 #[derive(Clone, Copy, Debug)]
-pub(crate) struct Source<'a> {
+pub(crate) struct DataFile<'a> {
     /// Its name, if one is named.
     pub(crate) name: Option<&'a str>,
     /// Whether it is the dex file, and not the configuration.
@@ -25,14 +25,14 @@ pub(crate) struct Source<'a> {
 fn bytes_of<F: Files>(
     alloc: Global,
     files: &mut F,
-    source: Source<'_>,
+    file: DataFile<'_>,
     keys: &[&str],
     bare: u8,
 ) -> Result<Option<Vec<u8>>, AllocError> {
-    let Some(name) = source.name else {
+    let Some(name) = file.name else {
         return Ok(None);
     };
-    let limit = if source.is_dex { MOST_DEX } else { MOST_CONFIG };
+    let limit = if file.is_dex { MOST_DEX } else { MOST_CONFIG };
     match files.read(alloc, name, limit) {
         Err(_) => Ok(None),
         Ok(bytes) => Ok(Some(blanked(alloc, &bytes, keys, bare)?)),
@@ -40,8 +40,8 @@ fn bytes_of<F: Files>(
 }
 
 // An alias of a dex may well be `seed`.
-fn keys_in(source: Source<'_>) -> &'static [&'static str] {
-    if source.is_dex { &[] } else { SETUP }
+fn keys_in(file: DataFile<'_>) -> &'static [&'static str] {
+    if file.is_dex { &[] } else { SETUP }
 }
 
 /// The bytes of a file that is no JSON without what is hidden in any file, if there is one and it is read: as they may be
@@ -49,12 +49,12 @@ fn keys_in(source: Source<'_>) -> &'static [&'static str] {
 pub(crate) fn open_text<F: Files>(
     alloc: Global,
     files: &mut F,
-    source: Source<'_>,
+    file: DataFile<'_>,
 ) -> Result<Option<(Vec<u8>, Vec<u8>)>, AllocError> {
-    let Some(shown) = bytes_of(alloc, files, source, SETUP, b'*')? else {
+    let Some(shown) = bytes_of(alloc, files, file, SETUP, b'*')? else {
         return Ok(None);
     };
-    let Some(parsed) = bytes_of(alloc, files, source, SETUP, b'0')? else {
+    let Some(parsed) = bytes_of(alloc, files, file, SETUP, b'0')? else {
         return Ok(None);
     };
     Ok(Some((shown, parsed)))
@@ -64,18 +64,18 @@ pub(crate) fn open_text<F: Files>(
 pub(crate) fn open_bytes<F: Files>(
     alloc: Global,
     files: &mut F,
-    source: Source<'_>,
+    file: DataFile<'_>,
 ) -> Result<Option<Vec<u8>>, AllocError> {
-    bytes_of(alloc, files, source, keys_in(source), b'*')
+    bytes_of(alloc, files, file, keys_in(file), b'*')
 }
 
 /// The value of a file without what is hidden, if it has one. A hidden number is 0 there.
 pub(crate) fn open_value<F: Files>(
     alloc: Global,
     files: &mut F,
-    source: Source<'_>,
+    file: DataFile<'_>,
 ) -> Result<Option<Value>, AllocError> {
-    match bytes_of(alloc, files, source, keys_in(source), b'0')? {
+    match bytes_of(alloc, files, file, keys_in(file), b'0')? {
         None => Ok(None),
         Some(bytes) => Ok(Value::from_slice(alloc, &bytes).ok()),
     }
