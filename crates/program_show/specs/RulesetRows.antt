@@ -26,10 +26,11 @@ outcome_text (Err (Cycle id)) = codes "wrong: it comes to `" ++ id ++ codes "` i
 outcome_text (Err (Contradiction id)) = codes "wrong: a list names and repeals `" ++ id ++ codes "`"
 outcome_text (Err NoMemory) = []
 
--- An id means a clause before it means a ruleset. What is played under a ruleset by itself is looked up behind the formats.
+-- An id means a clause before it means a ruleset. What is played under an id by itself is looked up among formats first, so of a
+-- ruleset that has the id of one this tells nothing; what rule lists mean by it is told behind.
 abbrev pub set_end : Said → List ℕ → Option Clause → Option Format → List ℕ
 set_end said id (Some clause) format = codes "never used: a clause has this id"
-set_end said id None (Some format) = codes "not walked by itself: a format has this id"
+set_end said id None (Some format) = codes "a format has this id, too: see `Warnings`"
 set_end said id None None = outcome_text (resolved said id)
 
 -- the rules as they stand in the list, and what they come to

@@ -69,7 +69,7 @@ fn set_end(alloc: Global, formats: &Formats, id: &Id) -> Result<Text, AllocError
     match Clause::from_id(id.as_str()) {
         Some(_) => Text::copy_of(alloc, "never used: a clause has this id"),
         None => match formats.format(id) {
-            Some(_) => Text::copy_of(alloc, "not walked by itself: a format has this id"),
+            Some(_) => Text::copy_of(alloc, "a format has this id, too: see `Warnings`"),
             None => outcome_text(alloc, formats, id),
         },
     }

@@ -1,6 +1,6 @@
 //! Notes on a dex and a configuration that are in their forms.
 use crate::data_file::{DataFile, open_value};
-use crate::rules::{is_told, source_rows, unused_rows};
+use crate::rules::{is_told, ruleset_rows, source_rows, without_formats};
 use file_help::page::{Row, Section, listed, row_of, section_of};
 use json_place::keys::{Note, looks_like_config, looks_like_dex, of_config, of_dex};
 use ps_base::id::to_id;
@@ -239,13 +239,14 @@ fn push_general(
     rows: &mut Vec<Row>,
     dex: &Dex,
     formats: &Formats,
+    sets: &Formats,
     words: NoteWords<'_>,
     config: Option<&Value>,
 ) -> Result<(), AllocError> {
     if let Some(value) = config {
         push_empty_secrets(alloc, rows, value)?;
         push_defaults(alloc, rows, words)?;
-        rows.append(&mut unused_rows(alloc, formats, value)?)?;
+        rows.append(&mut ruleset_rows(alloc, formats, sets, value)?)?;
     }
     let unlearned = unlearned(alloc, dex)?;
     push_named(alloc, rows, "moves that nobody learns", &unlearned)?;
@@ -257,6 +258,7 @@ fn warning_rows(
     alloc: Global,
     dex: &Dex,
     formats: &Formats,
+    sets: &Formats,
     words: NoteWords<'_>,
     only: Option<&Format>,
     values: Values<'_>,
@@ -264,7 +266,7 @@ fn warning_rows(
     let mut rows = Vec::new(alloc);
     push_file_notes(alloc, &mut rows, values.dex, values.config)?;
     if only.is_none() {
-        push_general(alloc, &mut rows, dex, formats, words, values.config)?;
+        push_general(alloc, &mut rows, dex, formats, sets, words, values.config)?;
     }
     for format in formats.list() {
         if is_told(format, only) {
@@ -311,12 +313,17 @@ pub fn notes<F: Files>(
         config: config_value.as_ref(),
     };
     let only = format_of(alloc, formats, words.format)?;
+    let alone = match values.config {
+        None => None,
+        Some(value) => without_formats(alloc, dex, value)?,
+    };
+    let sets = alone.as_ref().unwrap_or(formats);
     let mut sections = Vec::new(alloc);
     if let Some(value) = values.config {
-        let rows = source_rows(alloc, formats, only, value)?;
+        let rows = source_rows(alloc, formats, sets, only, value)?;
         sections.push(section_of(alloc, "Clauses and the rules that put them on", rows)?)?;
     }
-    let rows = warning_rows(alloc, dex, formats, words, only, values)?;
+    let rows = warning_rows(alloc, dex, formats, sets, words, only, values)?;
     sections.push(section_of(alloc, "Warnings", rows)?)?;
     Ok(sections)
 }

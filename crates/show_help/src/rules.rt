@@ -2,11 +2,12 @@
 use file_help::page::{Row, listed, row_of};
 use ps_base::id::{Id, to_id};
 use ps_base::text::Text;
+use ps_dex::dex::Dex;
 use ps_rules::clause::Clause;
-use ps_rules::fault::RuleFault;
+use ps_rules::fault::{FormatFault, RuleFault};
 use ps_rules::formats::{Formats, resolve};
-use ps_rules::table::Format;
-use serde_json::Value;
+use ps_rules::table::{Format, Rule, Ruleset};
+use serde_json::{Map, Value};
 use std::alloc::{AllocError, Global};
 use std::collections::BTreeMap;
 
@@ -30,38 +31,137 @@ pub(crate) const CLAUSES: &[Clause] = &[
     Clause::Percentage,
 ];
 
-fn add_name(alloc: Global, named: &mut BTreeMap<String, ()>, id: &str) -> Result<(), AllocError> {
-    named.insert(String::from_str(alloc, id)?, ())?;
-    Ok(())
+// ---- rulesets
+
+/// The rulesets of a configuration without its formats: an id that a format has, too, means the ruleset there, as it does in
+/// every rule list. `None` where they aren't in their form.
+pub(crate) fn without_formats(
+    alloc: Global,
+    dex: &Dex,
+    config: &Value,
+) -> Result<Option<Formats>, AllocError> {
+    let mut members = Map::new(alloc);
+    if let Some(version) = config.get("version") {
+        serde_json::put(&mut members, alloc, "version", version.clone()?)?;
+    }
+    if let Some(sets) = config.get("rulesets") {
+        serde_json::put(&mut members, alloc, "rulesets", sets.clone()?)?;
+    }
+    match Formats::from_value(alloc, &Value::Object(members), dex) {
+        Ok(sets) => Ok(Some(sets)),
+        Err(FormatFault::NoMemory) => Err(AllocError),
+        Err(FormatFault::Fault { path: _, kind: _ }) => Ok(None),
+    }
 }
 
-// The ids that the rule list of some format names, or that of another ruleset. What is repealed is a clause.
-fn named_ids(
-    alloc: Global,
-    formats: &Formats,
-    config: &Value,
-) -> Result<BTreeMap<String, ()>, AllocError> {
-    let mut named = BTreeMap::new(alloc);
-    for index in 0..formats.list().len() {
-        for rule in rules_at(config, index) {
+/// Which rulesets rule lists have come to.
+#[derive(Drop)]
+struct Reached {
+    /// The index of each ruleset, by its id.
+    indexes: BTreeMap<String, usize>,
+    /// Whether a list names it, by its index.
+    marks: Vec<bool>,
+    /// The indexes of those whose own lists are still to be gone through.
+    waiting: Vec<usize>,
+}
+
+impl Reached {
+    // A list names an id. A clause comes before a ruleset.
+    fn meet(&mut self, id: &str) -> Result<(), AllocError> {
+        if Clause::from_id(id).is_some() {
+            return Ok(());
+        }
+        if let Some(index) = self.indexes.get(id).copied() {
+            if self.marks.get(index) == Some(&false) {
+                if let Some(mark) = self.marks.get_mut(index) {
+                    *mark = true;
+                }
+                self.waiting.push(index)?;
+            }
+        }
+        Ok(())
+    }
+
+    // What is repealed is a clause.
+    fn meet_rules(&mut self, rules: &[Rule]) -> Result<(), AllocError> {
+        for rule in rules {
+            if !rule.repeals {
+                self.meet(rule.id.as_str())?;
+            }
+        }
+        Ok(())
+    }
+
+    fn meet_texts(&mut self, alloc: Global, rules: &[Value]) -> Result<(), AllocError> {
+        for rule in rules {
             if let Some(text) = rule.as_str() {
                 if !text.starts_with('!') {
-                    add_name(alloc, &mut named, to_id(alloc, text)?.as_str())?;
+                    self.meet(to_id(alloc, text)?.as_str())?;
                 }
             }
         }
+        Ok(())
     }
-    for set in formats.rulesets() {
-        for rule in set.rules.as_slice() {
-            if !rule.repeals && rule.id.as_str() != set.id.as_str() {
-                add_name(alloc, &mut named, rule.id.as_str())?;
-            }
-        }
-    }
-    Ok(named)
 }
 
-// Whether a ruleset by itself comes to no clauses at all, for a fault of its rules.
+fn none_reached(alloc: Global, sets: &[Ruleset]) -> Result<Reached, AllocError> {
+    let mut indexes = BTreeMap::new(alloc);
+    let mut marks = Vec::new(alloc);
+    for index in 0..sets.len() {
+        indexes.insert(String::from_str(alloc, sets[index].id.as_str())?, index)?;
+        marks.push(false)?;
+    }
+    Ok(Reached {
+        indexes,
+        marks,
+        waiting: Vec::new(alloc),
+    })
+}
+
+// By a ruleset's index, whether some format comes to it, be it by its own list or by another ruleset.
+fn used_marks(alloc: Global, formats: &Formats, config: &Value) -> Result<Vec<bool>, AllocError> {
+    let sets = formats.rulesets();
+    let mut reached = none_reached(alloc, sets)?;
+    for index in 0..formats.list().len() {
+        reached.meet_texts(alloc, rules_at(config, index))?;
+    }
+    for _ in 0..sets.len() {
+        let Some(index) = reached.waiting.pop() else {
+            break;
+        };
+        if let Some(set) = sets.get(index) {
+            reached.meet_rules(set.rules.as_slice())?;
+        }
+    }
+    let Reached { marks, .. } = reached;
+    Ok(marks)
+}
+
+// What a ruleset comes to by itself, over rulesets without formats.
+fn outcome(alloc: Global, sets: &Formats, id: &Id) -> Result<Text, AllocError> {
+    let table = match resolve(alloc, sets, id) {
+        Ok(table) => table,
+        Err(RuleFault::UnknownRule { id }) => return wrong_at(alloc, &id),
+        Err(RuleFault::Cycle { id }) => return wrong_at(alloc, &id),
+        Err(RuleFault::Contradiction { id }) => return wrong_at(alloc, &id),
+        Err(RuleFault::NoMemory) => return Err(AllocError),
+    };
+    let mut names = Vec::new(alloc);
+    for clause in CLAUSES {
+        if clause.is_in(table.clauses) {
+            names.push(Text::copy_of(alloc, clause.name())?)?;
+        }
+    }
+    let names = listed(alloc, &names)?;
+    let names = names.as_str();
+    Ok(Text::from_string(format!(in alloc; "comes to {names}")?))
+}
+
+fn wrong_at(alloc: Global, id: &Id) -> Result<Text, AllocError> {
+    Ok(Text::from_string(format!(in alloc; "is wrong at `{id}`")?))
+}
+
+// Whether `Rulesets` tells a fault of it.
 fn is_wrong(alloc: Global, formats: &Formats, id: &Id) -> Result<bool, AllocError> {
     match resolve(alloc, formats, id) {
         Ok(_) => Ok(false),
@@ -70,31 +170,74 @@ fn is_wrong(alloc: Global, formats: &Formats, id: &Id) -> Result<bool, AllocErro
     }
 }
 
-/// A row for each ruleset that no list names, which says too whether it is wrong.
-pub(crate) fn unused_rows(
+fn push_told(
+    alloc: Global,
+    rows: &mut Vec<Row>,
+    set: &Ruleset,
+    told: Text,
+) -> Result<(), AllocError> {
+    let id = set.id.as_str();
+    let key = format!(in alloc; "ruleset {id}")?;
+    rows.push(row_of(alloc, key.as_str(), told)?)?;
+    Ok(())
+}
+
+// Of a ruleset with the id of a format, what it comes to: `Rulesets` says nothing of that.
+fn push_shared(
+    alloc: Global,
+    rows: &mut Vec<Row>,
+    formats: &Formats,
+    sets: &Formats,
+    set: &Ruleset,
+) -> Result<(), AllocError> {
+    if formats.format(&set.id).is_some() {
+        let outcome = outcome(alloc, sets, &set.id)?;
+        let outcome = outcome.as_str();
+        let told = format!(in alloc;
+            "a format has this id, too; rule lists mean the ruleset, which {outcome}"
+        )?;
+        push_told(alloc, rows, set, Text::from_string(told))?;
+    }
+    Ok(())
+}
+
+fn push_unused(
+    alloc: Global,
+    rows: &mut Vec<Row>,
+    formats: &Formats,
+    set: &Ruleset,
+) -> Result<(), AllocError> {
+    let told = if is_wrong(alloc, formats, &set.id)? {
+        "nobody uses it, and it is wrong: see `Rulesets`"
+    } else {
+        "nobody uses it"
+    };
+    push_told(alloc, rows, set, Text::copy_of(alloc, told)?)
+}
+
+/// Rows on the rulesets that have the id of a format, and on those that no format comes to, which say too whether they are
+/// wrong. `sets` are the same rulesets without formats.
+pub(crate) fn ruleset_rows(
     alloc: Global,
     formats: &Formats,
+    sets: &Formats,
     config: &Value,
 ) -> Result<Vec<Row>, AllocError> {
     let mut rows = Vec::new(alloc);
-    let named = named_ids(alloc, formats, config)?;
-    for set in formats.rulesets() {
-        let id = set.id.as_str();
-        if named.get(id).is_none() {
-            let told = if is_wrong(alloc, formats, &set.id)? {
-                "nobody uses it, and it is wrong: see `Rulesets`"
-            } else {
-                "nobody uses it"
-            };
-            let key = format!(in alloc; "ruleset {id}")?;
-            rows.push(row_of(alloc, key.as_str(), Text::copy_of(alloc, told)?)?)?;
+    let used = used_marks(alloc, formats, config)?;
+    for (set, is_used) in formats.rulesets().iter().zip(used.as_slice()) {
+        push_shared(alloc, &mut rows, formats, sets, set)?;
+        if !*is_used {
+            push_unused(alloc, &mut rows, formats, set)?;
         }
     }
     Ok(rows)
 }
 
-// Whether a rule text puts a clause on, by itself or by a ruleset.
-fn gives(alloc: Global, formats: &Formats, rule: &str, clause: Clause) -> Result<bool, AllocError> {
+// ---- where clauses come from
+
+// Whether a rule text puts a clause on, by itself or by a ruleset, over rulesets without formats.
+fn gives(alloc: Global, sets: &Formats, rule: &str, clause: Clause) -> Result<bool, AllocError> {
     if rule.starts_with('!') {
         return Ok(false);
     }
@@ -102,22 +245,19 @@ fn gives(alloc: Global, formats: &Formats, rule: &str, clause: Clause) -> Result
     if let Some(other) = Clause::from_id(id.as_str()) {
         return Ok(other == clause);
     }
-    if formats.format(&id).is_some() {
-        return Ok(false);
-    }
-    match resolve(alloc, formats, &id) {
+    match resolve(alloc, sets, &id) {
         Ok(table) => Ok(clause.is_in(table.clauses)),
         Err(_) => Ok(false),
     }
 }
 
 // Whether each list has the clause, whatever it says: HP Percentage Mod in the first form of a configuration.
-fn is_always_on(alloc: Global, formats: &Formats, clause: Clause) -> Result<bool, AllocError> {
+fn is_always_on(alloc: Global, sets: &Formats, clause: Clause) -> Result<bool, AllocError> {
     if clause != Clause::Percentage {
         return Ok(false);
     }
     let other = to_id(alloc, "speciesclause")?;
-    match resolve(alloc, formats, &other) {
+    match resolve(alloc, sets, &other) {
         Ok(table) => Ok(clause.is_in(table.clauses)),
         Err(_) => Ok(false),
     }
@@ -125,17 +265,17 @@ fn is_always_on(alloc: Global, formats: &Formats, clause: Clause) -> Result<bool
 
 fn source_of(
     alloc: Global,
-    formats: &Formats,
+    sets: &Formats,
     rules: &[Value],
     clause: Clause,
 ) -> Result<Text, AllocError> {
     let name = clause.name();
-    if is_always_on(alloc, formats, clause)? {
+    if is_always_on(alloc, sets, clause)? {
         return Ok(Text::from_string(format!(in alloc; "{name} (always on)")?));
     }
     for rule in rules {
         if let Some(rule) = rule.as_str() {
-            if gives(alloc, formats, rule, clause)? {
+            if gives(alloc, sets, rule, clause)? {
                 return Ok(Text::from_string(format!(in alloc; "{name} (`{rule}`)")?));
             }
         }
@@ -145,14 +285,14 @@ fn source_of(
 
 fn format_row(
     alloc: Global,
-    formats: &Formats,
+    sets: &Formats,
     format: &Format,
     rules: &[Value],
 ) -> Result<Row, AllocError> {
     let mut sources = Vec::new(alloc);
     for clause in CLAUSES {
         if clause.is_in(format.table.clauses) {
-            sources.push(source_of(alloc, formats, rules, *clause)?)?;
+            sources.push(source_of(alloc, sets, rules, *clause)?)?;
         }
     }
     row_of(alloc, format.id.as_str(), listed(alloc, &sources)?)
@@ -171,10 +311,12 @@ fn rules_at(config: &Value, index: usize) -> &[Value] {
     }
 }
 
-/// A row for each format, or for one of them alone: by which rule text of its list each of its clauses is on.
+/// A row for each format, or for one of them alone: by which rule text of its list each of its clauses is on. `sets` are the
+/// same rulesets without formats.
 pub(crate) fn source_rows(
     alloc: Global,
     formats: &Formats,
+    sets: &Formats,
     only: Option<&Format>,
     config: &Value,
 ) -> Result<Vec<Row>, AllocError> {
@@ -182,7 +324,7 @@ pub(crate) fn source_rows(
     let list = formats.list();
     for index in 0..list.len() {
         if is_told(&list[index], only) {
-            rows.push(format_row(alloc, formats, &list[index], rules_at(config, index))?)?;
+            rows.push(format_row(alloc, sets, &list[index], rules_at(config, index))?)?;
         }
     }
     Ok(rows)

@@ -69,6 +69,11 @@ const RULES: &str = r#"{"version":2,
 "torn":["OHKO Clause","!OHKO Clause"],"typo":["Specis Clause"]},
 "formats":[{"name":"Two","rules":["more"],"min":2,"max":4,"levels":[5,50]}]}"#;
 
+/// Rulesets with the ids of formats: one gives a clause, one is wrong. And two that name each other alone.
+const SHARED: &str = r#"{"version":2,
+"rulesets":{"two":["Species Clause"],"one":["Specis Clause"],"ring":["rings"],"rings":["ring"],"in":["OHKO Clause"],"on":["in"]},
+"formats":[{"name":"Two","rules":["two","on"]},{"name":"One"}]}"#;
+
 const USERS: &str =
     r#"{"users":[{"id":"ann","secret":"correct horse","group":"@"},{"id":"bob","secret":"","group":"+"}],"nonce":"mine","seed":7}"#;
 
@@ -196,6 +201,25 @@ fn what_is_warned_of(rt: HostRuntime) -> Result<(), Fail> {
             ruleset loop: nobody uses it, and it is wrong: see `Rulesets`",
         ),
         (ALIAS_DEX, RULES, "moves that nobody learns: Rest\n"),
+        (
+            "{}",
+            SHARED,
+            "  two: speciesclause; a format has this id, too: see `Warnings`\n",
+        ),
+        (
+            "{}",
+            SHARED,
+            "  two: Species Clause (`two`), OHKO Clause (`on`)\n  one: none\n",
+        ),
+        (
+            "{}",
+            SHARED,
+            "  ruleset one: a format has this id, too; rule lists mean the ruleset, which is wrong at `specisclause`\n  \
+            ruleset one: nobody uses it\n  \
+            ruleset ring: nobody uses it, and it is wrong: see `Rulesets`\n  \
+            ruleset rings: nobody uses it, and it is wrong: see `Rulesets`\n  \
+            ruleset two: a format has this id, too; rule lists mean the ruleset, which comes to Species Clause\n  format",
+        ),
     ];
     for (dex, config, wanted) in cases {
         let told = page(alloc, BOTH, dex, config)?;
