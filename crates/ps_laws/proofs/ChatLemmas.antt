@@ -1,5 +1,5 @@
--- The chat of a room takes its way by itself, so the users of a connection are told by its low history.
-use Rattle.std.proofs.Common.{◌≡◌, ℕ, Bool, true, false, cond, List, [], ◌∷◌, ◌++◌, Option, Some, None, append-nil, append_assoc, refl, ap, ◌∙◌, sym}
+-- The chat of a room takes its way by itself, so the low history tells as whom a connection joins.
+use Rattle.std.proofs.Common.{◌≡◌, ℕ, Bool, true, false, cond, List, [], ◌∷◌, ◌++◌, Option, Some, None, refl, ap, ◌∙◌, sym}
 use Rattle.std.specs.Prelude.{◌==◌}
 use Rattle.ps_base.specs.Ids.{id_of}
 use Rattle.ps_base.specs.declared.why.Why.{Why}
@@ -15,13 +15,15 @@ use Rattle.ps_chat.specs.Verdicts.{verdict as chat_verdict}
 use Rattle.ps_room.specs.declared.entry.Entry.{Entry}
 use Rattle.ps_room.specs.Records.{Record}
 use Rattle.ps_room.specs.Roles.{side_of_member}
-use Rattle.ps_room.specs.Rooms.{sender_of, verdict, after, after_by, refusal_by_battle, or_else}
+use Rattle.ps_room.specs.Rooms.{sender_of, verdict, after, after_by, refusal_by_battle, or_else, is_join}
 use Rattle.ps_room.specs.Unseen.{sees_notes}
 use Rattle.ps_laws.specs.Users.{badge_of, user_of}
 use Rattle.ps_laws.specs.Rounds.{Round, round_of}
-use Rattle.ps_laws.specs.Low.{Item, whole, commit, commit_of, items_of_others, items_of_allowed, items_of_own}
+use Rattle.ps_laws.specs.Low.{Item, whole, commit, commit_of, entry_kept, items_of_others, items_of_allowed, items_of_own}
+use Rattle.ps_laws.specs.HallLow.{is_user}
 use Rattle.ps_laws.proofs.PartLemmas.{is_choose}
 use Rattle.ps_laws.proofs.ItemLemmas.{item_after, items_after, whole_after, commit_after, whole_is}
+use Rattle.ps_laws.proofs.BadgeLemmas.{join_user_kept}
 
 -- ---- the chat after an entry
 
@@ -125,47 +127,48 @@ items_chat r (commit one two ∷ is) =
     ∙ ap (λ (o : ChatOpening). chat_over o (item_after r (commit one two)).chat is) (commit_opening r one two)
     ∙ ap (λ (chat : ChatRecord). chat_over r.opening chat is) (commit_chat r one two)
 
--- ---- users
+-- ---- who joins
 
 -- the id of who makes an entry
 abbrev pub chat_user : ChatOpening → ChatRecord → Entry → List ℕ
 chat_user o chat e = id_of (badge_of (member e.conn (presents o chat)) e.badge).name
 
-abbrev pub user_if : Bool → List ℕ → List (List ℕ)
-user_if own id = cond own (id ∷ []) []
+-- as the connection only users join, among items
+abbrev pub JoinAsUsers : ℕ → List (List ℕ) → ChatOpening → ChatRecord → List Item → Type 0
+JoinAsUsers conn ids o chat [] = Unit {0}
+JoinAsUsers conn ids o chat (whole e ∷ is) = ((e.conn == conn) ≡ true → is_join e.cmd ≡ true → is_user ids (chat_user o chat e) ≡ true) × JoinAsUsers conn ids o (chat_next o chat e) is
+JoinAsUsers conn ids o chat (commit one two ∷ is) = JoinAsUsers conn ids o chat is
 
--- the ids of a connection's entries among items
-abbrev pub items_users : ℕ → ChatOpening → ChatRecord → List Item → List (List ℕ)
-items_users conn o chat [] = []
-items_users conn o chat (whole e ∷ is) = user_if (e.conn == conn) (chat_user o chat e) ++ items_users conn o (chat_next o chat e) is
-items_users conn o chat (commit one two ∷ is) = items_users conn o chat is
+pub joins_more : (conn : ℕ) (ids : List (List ℕ)) (o : ChatOpening) (chat : ChatRecord) (is js : List Item) → JoinAsUsers conn ids o chat is → JoinAsUsers conn ids o (chat_over o chat is) js → JoinAsUsers conn ids o chat (is ++ js)
+joins_more conn ids o chat [] js h more = more
+joins_more conn ids o chat (whole e ∷ is) js h more = (h.0, joins_more conn ids o (chat_next o chat e) is js h.1 more)
+joins_more conn ids o chat (commit one two ∷ is) js h more = joins_more conn ids o chat is js h more
 
-pub users_more : (conn : ℕ) (o : ChatOpening) (chat : ChatRecord) (is js : List Item) → items_users conn o chat (is ++ js) ≡ items_users conn o chat is ++ items_users conn o (chat_over o chat is) js
-users_more conn o chat [] js = refl
-users_more conn o chat (whole e ∷ is) js =
-    ap (λ (ids : List (List ℕ)). user_if (e.conn == conn) (chat_user o chat e) ++ ids) (users_more conn o (chat_next o chat e) is js)
-    ∙ sym (append_assoc (user_if (e.conn == conn) (chat_user o chat e)) (items_users conn o (chat_next o chat e) is) _)
-users_more conn o chat (commit one two ∷ is) js = users_more conn o chat is js
+round_joins : (conn : ℕ) (ids : List (List ℕ)) (o : ChatOpening) (chat : ChatRecord) (x : Option Round) → JoinAsUsers conn ids o chat (commit_of x)
+round_joins conn ids o chat None = tt
+round_joins conn ids o chat (Some r) = tt
 
-round_users : (conn : ℕ) (o : ChatOpening) (chat : ChatRecord) (x : Option Round) → items_users conn o chat (commit_of x) ≡ []
-round_users conn o chat None = refl
-round_users conn o chat (Some r) = refl
+-- an entry of an own user
+pub own_joins : (conn : ℕ) (ids : List (List ℕ)) (r : Record) (e : Entry) → ((e.conn == conn) ≡ true → is_user ids (user_of r e) ≡ true) → JoinAsUsers conn ids r.opening r.chat (items_of_own r e)
+own_joins conn ids r e user = (
+  λ mine joins. ap (is_user ids) (join_user_kept r e joins) ∙ user mine,
+  round_joins conn ids r.opening (chat_next r.opening r.chat (entry_kept r e)) (round_of r e),
+)
 
--- of an own user's entry the one of its connection
-pub own_users : (conn : ℕ) (r : Record) (e : Entry) → items_users conn r.opening r.chat (items_of_own r e) ≡ user_if (e.conn == conn) (user_of r e)
-own_users conn r e = ap (λ (ids : List (List ℕ)). user_if (e.conn == conn) (user_of r e) ++ ids) (round_users conn r.opening (chat_next r.opening r.chat e) (round_of r e)) ∙ append-nil _
+-- an entry of another connection
+away_joins : (conn : ℕ) (ids : List (List ℕ)) (r : Record) (e : Entry) → (e.conn == conn) ≡ false → JoinAsUsers conn ids r.opening r.chat (whole (entry_kept r e) ∷ [])
+away_joins conn ids r e other = (λ mine joins. absurd (let wrong : true ≡ false = sym mine ∙ other in cc), tt)
 
-note_users : (conn : ℕ) (r : Record) (e : Entry) (sees : Bool) → (e.conn == conn) ≡ false → items_users conn r.opening r.chat (cond sees (whole e ∷ []) []) ≡ []
-note_users conn r e true other = rw other refl
-note_users conn r e false other = refl
+note_joins : (conn : ℕ) (ids : List (List ℕ)) (r : Record) (e : Entry) (sees : Bool) → (e.conn == conn) ≡ false → JoinAsUsers conn ids r.opening r.chat (cond sees (whole (entry_kept r e) ∷ []) [])
+note_joins conn ids r e true other = away_joins conn ids r e other
+note_joins conn ids r e false other = tt
 
-allowed_users : (conn : ℕ) (r : Record) (e : Entry) (cmd : Command) → (e.conn == conn) ≡ false → items_users conn r.opening r.chat (items_of_allowed conn r e cmd) ≡ []
-allowed_users conn r e (Choose choice rqid) other = round_users conn r.opening r.chat (round_of r e)
-allowed_users conn r e Undo other = refl
-allowed_users conn r e (Modnote text) other = note_users conn r e (sees_notes conn r) other
-allowed_users conn r e rest other = rw other refl
+allowed_joins : (conn : ℕ) (ids : List (List ℕ)) (r : Record) (e : Entry) (cmd : Command) → (e.conn == conn) ≡ false → JoinAsUsers conn ids r.opening r.chat (items_of_allowed conn r e cmd)
+allowed_joins conn ids r e (Choose choice rqid) other = round_joins conn ids r.opening r.chat (round_of r e)
+allowed_joins conn ids r e Undo other = tt
+allowed_joins conn ids r e (Modnote text) other = note_joins conn ids r e (sees_notes conn r) other
+allowed_joins conn ids r e rest other = away_joins conn ids r e other
 
--- of another's none
-pub others_users : (conn : ℕ) (r : Record) (e : Entry) (v : Option Why) → (e.conn == conn) ≡ false → items_users conn r.opening r.chat (items_of_others conn r e v) ≡ []
-others_users conn r e (Some why) other = refl
-others_users conn r e None other = allowed_users conn r e e.cmd other
+pub others_joins : (conn : ℕ) (ids : List (List ℕ)) (r : Record) (e : Entry) (v : Option Why) → (e.conn == conn) ≡ false → JoinAsUsers conn ids r.opening r.chat (items_of_others conn r e v)
+others_joins conn ids r e (Some why) other = tt
+others_joins conn ids r e None other = allowed_joins conn ids r e e.cmd other

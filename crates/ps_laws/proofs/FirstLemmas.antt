@@ -21,7 +21,7 @@ use Rattle.ps_laws.specs.Alike.{own_fight, own_part}
 use Rattle.ps_laws.specs.Users.{user_of, users_from, users}
 use Rattle.ps_laws.specs.Rounds.{Round, round_of_choices, round_of, round_if_allowed}
 use Rattle.ps_laws.specs.Hidden.{is_previewed, hidden_in_both}
-use Rattle.ps_laws.specs.Low.{Item, whole, commit_of, is_own, items_of_own, items_of_others, items_of_allowed, items_of, low_from}
+use Rattle.ps_laws.specs.Low.{Item, whole, commit_of, entry_kept, is_own, items_of_own, items_of_others, items_of_allowed, items_of, low_from}
 use Rattle.ps_laws.specs.HallLow.{is_user}
 use Rattle.ps_laws.specs.Secrets.{is_choose, is_undo, AreNoChoices, IsEitherFirst, OrderMayDiffer, AreForeign, OrderIsUnseen}
 use Rattle.ps_laws.proofs.PartLemmas.{side_below, is_choice, verdict_free, after_own, role_own}
@@ -75,6 +75,9 @@ free_items conn ids own r s e free same =
 -- who sends it is the same
 pub part_user : (own : ℕ → Bool) (r s : Record) (e : Entry) → own_part own r ≡ own_part own s → user_of r e ≡ user_of s e
 part_user own r s e same = ap (λ (x : Record). user_of x e) same
+
+pub part_kept : (own : ℕ → Bool) (r s : Record) (e : Entry) → own_part own r ≡ own_part own s → entry_kept r e ≡ entry_kept s e
+part_kept own r s e same = ap (λ (x : Record). entry_kept x e) same
 
 pub part_own : (conn : ℕ) (ids : List (List ℕ)) (own : ℕ → Bool) (r s : Record) (e : Entry) → own_part own r ≡ own_part own s → is_own conn ids r e ≡ is_own conn ids s e
 part_own conn ids own r s e same = ap (λ (x : Record). is_own conn ids x e) same
@@ -286,9 +289,10 @@ module _ (conn : ℕ) (ids : List (List ℕ)) (r : Record) (one two : Entry) (la
   first_items : (own : Bool) → is_own conn ids r one ≡ own → items_of conn ids r one ++ commit_of (Some round) ≡ items_of conn ids (after r two) one
   first_items true is =
       ap (λ (b : Bool). cond b (items_of_own r one) (items_of_others conn r one (verdict r one)) ++ commit_of (Some round)) is
-      ∙ ap (λ (o : Option Round). whole one ∷ commit_of o ++ commit_of (Some round)) w.waits
+      ∙ ap (λ (o : Option Round). whole (entry_kept r one) ∷ commit_of o ++ commit_of (Some round)) w.waits
+      ∙ ap (λ (e : Entry). whole e ∷ commit_of (Some round)) (sym (part_kept bare (after r two) r one second_bare))
       ∙ sym (ap (λ (b : Bool). cond b (items_of_own (after r two) one) (items_of_others conn (after r two) one (verdict (after r two) one))) (part_own conn ids bare (after r two) r one second_bare ∙ is)
-      ∙ ap (λ (o : Option Round). whole one ∷ commit_of o) w.completes_too)
+      ∙ ap (λ (o : Option Round). whole (entry_kept (after r two) one) ∷ commit_of o) w.completes_too)
   first_items false is =
       ap (λ (is : List Item). is ++ commit_of (Some round)) (other_items conn ids r one w.first is ∙ ap commit_of w.waits)
       ∙ sym (other_items conn ids (after r two) one w.first (part_own conn ids bare (after r two) r one second_bare ∙ is) ∙ ap commit_of w.completes_too)

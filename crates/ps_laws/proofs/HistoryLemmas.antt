@@ -1,5 +1,5 @@
--- Histories of one world: a view is the view over the items of its history, which are fine and tell the connection's users.
-use Rattle.std.proofs.Common.{◌≡◌, ℕ, Bool, true, false, ◌||◌, List, [], ◌∷◌, ◌++◌, Option, Some, None, option_to_list, append_assoc, refl, ap, ◌∙◌, sym, subst}
+-- Histories of one world: a view is the view over the items of its history, which are fine and tell as whom the connection joins.
+use Rattle.std.proofs.Common.{◌≡◌, ℕ, Bool, true, false, cond, ◌||◌, List, [], ◌∷◌, ◌++◌, Option, Some, None, option_to_list, append_assoc, refl, ap, ◌∙◌, sym, subst}
 use Rattle.std.proofs.lemmas.Bool.{or_parts}
 use Rattle.std.specs.Prelude.{◌==◌}
 use Rattle.std.proofs.lemmas.Cmp.{nat_eq_equiv}
@@ -30,7 +30,7 @@ use Rattle.ps_laws.proofs.FineLemmas.{AreFine, fine_more}
 use Rattle.ps_laws.proofs.TwinLemmas.{IsEntryGood}
 use Rattle.ps_laws.proofs.StepLemmas.{StandFor, own_entry}
 use Rattle.ps_laws.proofs.OtherLemmas.{PlaysOther, other_entry}
-use Rattle.ps_laws.proofs.ChatLemmas.{chat_over, user_if, items_users, users_more, own_users, others_users, items_chat, opening_after}
+use Rattle.ps_laws.proofs.ChatLemmas.{chat_over, JoinAsUsers, joins_more, own_joins, others_joins, items_chat, opening_after}
 use Rattle.ps_laws.proofs.UserLists.{AreUsers}
 use Rattle.ps_laws.specs.HallLow.{is_user}
 
@@ -53,7 +53,7 @@ owns_by ids own r e None v h = subst (λ (x : Record). OwnsOf ids own x.battle) 
 pub settled_after : (conn : ℕ) (ids : List (List ℕ)) (own : ℕ → Bool) (r : Record) (e : Entry) → IsSettled conn ids own r → ((e.conn == conn) ≡ true → is_user ids (user_of r e) ≡ true) → IsSettled conn ids own (after r e)
 settled_after conn ids own r e h user = record {
   owns = owns_by ids own r e (verdict r e) refl h.owns;
-  home = home_after conn ids r e h.home user;
+  home = home_after conn ids r e h.home (λ mine joins. user mine);
   waits = waits_after_entry r e h.waits;
 }
 
@@ -110,7 +110,10 @@ entry_stands conn ids own r e h user = entry_by conn ids own r e (is_own conn id
 
 -- ---- histories
 
-pub users_split : (ids : List (List ℕ)) (mine : Bool) (id : List ℕ) (more : List (List ℕ)) → AreUsers ids (user_if mine id ++ more) → (mine ≡ true → is_user ids id ≡ true) × AreUsers ids more
+abbrev user_if : Bool → List ℕ → List (List ℕ)
+user_if mine id = cond mine (id ∷ []) []
+
+users_split : (ids : List (List ℕ)) (mine : Bool) (id : List ℕ) (more : List (List ℕ)) → AreUsers ids (user_if mine id ++ more) → (mine ≡ true → is_user ids id ≡ true) × AreUsers ids more
 users_split ids true id more h = (λ e. h.0, h.1)
 users_split ids false id more h = (λ e. absurd cc, h)
 
@@ -147,23 +150,20 @@ low_is_fine conn ids own places r (e ∷ es) h users shown =
     fine_more conn own places (own_part own r) (items_of conn ids r e) (low_from conn ids (after r e) es) (s.fine places h.waits rounds.0)
     (subst (λ (x : Record). AreFine conn own places x (low_from conn ids (after r e) es)) (sym s.after) more)
 
-entry_users_by : (conn : ℕ) (ids : List (List ℕ)) (r : Record) (e : Entry) (mine : Bool) → is_own conn ids r e ≡ mine → items_users conn r.opening r.chat (items_of conn ids r e) ≡ user_if (e.conn == conn) (user_of r e)
-entry_users_by conn ids r e true is = rw is (own_users conn r e)
-entry_users_by conn ids r e false is =
+entry_joins : (conn : ℕ) (ids : List (List ℕ)) (r : Record) (e : Entry) (mine : Bool) → is_own conn ids r e ≡ mine → ((e.conn == conn) ≡ true → is_user ids (user_of r e) ≡ true) → JoinAsUsers conn ids r.opening r.chat (items_of conn ids r e)
+entry_joins conn ids r e true is user = rw is (own_joins conn ids r e user)
+entry_joins conn ids r e false is user =
     let n = or_parts (e.conn == conn) (is_user ids (user_of r e)) is in
-    rw is (others_users conn r e (verdict r e) n.0 ∙ ap (λ (b : Bool). user_if b (user_of r e)) (sym n.0))
+    rw is (others_joins conn ids r e (verdict r e) n.0)
 
--- the users are told by the items
-pub users_is : (conn : ℕ) (ids : List (List ℕ)) (own : ℕ → Bool) (r : Record) (es : List Entry) → IsSettled conn ids own r → AreUsers ids (users_from conn r es) → users_from conn r es ≡ items_users conn r.opening r.chat (low_from conn ids r es)
-users_is conn ids own r [] h users = refl
-users_is conn ids own r (e ∷ es) h users =
+-- and among its items only users join as the connection
+pub low_joins : (conn : ℕ) (ids : List (List ℕ)) (own : ℕ → Bool) (r : Record) (es : List Entry) → IsSettled conn ids own r → AreUsers ids (users_from conn r es) → JoinAsUsers conn ids r.opening r.chat (low_from conn ids r es)
+low_joins conn ids own r [] h users = tt
+low_joins conn ids own r (e ∷ es) h users =
     let u = users_split ids (e.conn == conn) (user_of r e) (users_from conn (after r e) es) users in
     let s = entry_stands conn ids own r e h u.0 in
-    let more = users_is conn ids own (after r e) es (settled_after conn ids own r e h u.0) u.1 in
+    let more = low_joins conn ids own (after r e) es (settled_after conn ids own r e h u.0) u.1 in
     let js = low_from conn ids (after r e) es in
     let chat : (after r e).chat ≡ chat_over r.opening r.chat (items_of conn ids r e) = ap (λ (x : Record). x.chat) (sym s.after) ∙ items_chat (own_part own r) (items_of conn ids r e) in
-    ap (λ (us : List (List ℕ)). user_if (e.conn == conn) (user_of r e) ++ us) more
-    ∙ ap (λ (us : List (List ℕ)). us ++ items_users conn (after r e).opening (after r e).chat js) (sym (entry_users_by conn ids r e (is_own conn ids r e) refl))
-    ∙ ap (λ (o : ChatOpening). items_users conn r.opening r.chat (items_of conn ids r e) ++ items_users conn o (after r e).chat js) (opening_after r e)
-    ∙ ap (λ (c : ChatRecord). items_users conn r.opening r.chat (items_of conn ids r e) ++ items_users conn r.opening c js) chat
-    ∙ sym (users_more conn r.opening r.chat (items_of conn ids r e) js)
+    joins_more conn ids r.opening r.chat (items_of conn ids r e) js (entry_joins conn ids r e (is_own conn ids r e) refl u.0)
+    (subst (λ (c : ChatRecord). JoinAsUsers conn ids r.opening c js) chat (subst (λ (o : ChatOpening). JoinAsUsers conn ids o (after r e).chat js) (opening_after r e) more))

@@ -20,7 +20,7 @@ use Rattle.ps_chat.specs.Verdicts.{verdict as chat_verdict}
 use Rattle.ps_chat.proofs.StepLemmas.{joins_new}
 use Rattle.ps_room.specs.declared.entry.Entry.{Entry}
 use Rattle.ps_room.specs.Records.{Record, presents_of}
-use Rattle.ps_room.specs.Rooms.{verdict, after, sender_of}
+use Rattle.ps_room.specs.Rooms.{verdict, after, sender_of, is_join}
 use Rattle.ps_room.proofs.AnswerLemmas.{after_allowed, after_refused, chat_allows}
 use Rattle.ps_laws.specs.Users.{badge_of, user_of}
 use Rattle.ps_laws.proofs.UserLemmas.{IsHome}
@@ -85,17 +85,17 @@ join_is_new r e room is v = joined_new r.opening r.chat e.conn e.badge e.moment 
 pub join_user : (r : Record) (e : Entry) (room : List ℕ) → e.cmd ≡ Join room → verdict r e ≡ None → user_of r e ≡ id_of e.badge.name
 join_user r e room is v = ap (λ (me : Option Present). id_of (badge_of me e.badge).name) (join_is_new r e room is v)
 
-joins_home_by : (conn : ℕ) (ids : List (List ℕ)) (r : Record) (e : Entry) (cmd : Command) → e.cmd ≡ cmd → verdict r e ≡ None → ((e.conn == conn) ≡ true → is_user ids (user_of r e) ≡ true) → JoinsHome conn ids e.conn e.badge cmd
+joins_home_by : (conn : ℕ) (ids : List (List ℕ)) (r : Record) (e : Entry) (cmd : Command) → e.cmd ≡ cmd → verdict r e ≡ None → ((e.conn == conn) ≡ true → is_join e.cmd ≡ true → is_user ids (user_of r e) ≡ true) → JoinsHome conn ids e.conn e.badge cmd
 unfolding JoinsHome
-joins_home_by conn ids r e (Join room) is v user = λ own. sym (ap (is_user ids) (join_user r e room is v)) ∙ user own
+joins_home_by conn ids r e (Join room) is v user = λ own. sym (ap (is_user ids) (join_user r e room is v)) ∙ user own (ap is_join is)
 joins_home_by conn ids r e other is v user = tt
 
-home_by : (conn : ℕ) (ids : List (List ℕ)) (r : Record) (e : Entry) (v : Option Why) → verdict r e ≡ v → AreHome conn ids r.chat.members → ((e.conn == conn) ≡ true → is_user ids (user_of r e) ≡ true) → AreHome conn ids (after r e).chat.members
+home_by : (conn : ℕ) (ids : List (List ℕ)) (r : Record) (e : Entry) (v : Option Why) → verdict r e ≡ v → AreHome conn ids r.chat.members → ((e.conn == conn) ≡ true → is_join e.cmd ≡ true → is_user ids (user_of r e) ≡ true) → AreHome conn ids (after r e).chat.members
 home_by conn ids r e (Some why) v h user = subst (λ (x : Record). AreHome conn ids x.chat.members) (sym (after_refused r e why v)) h
 home_by conn ids r e None v h user = subst (λ (x : Record). AreHome conn ids x.chat.members) (sym (after_allowed r e v)) (home_record conn ids r.opening.groups r.chat e.conn e.badge e.moment e.cmd h (joins_home_by conn ids r e e.cmd refl v user))
 
--- each member of the connection stays one of the users, where the connection's entries are of users
-pub home_after : (conn : ℕ) (ids : List (List ℕ)) (r : Record) (e : Entry) → AreHome conn ids r.chat.members → ((e.conn == conn) ≡ true → is_user ids (user_of r e) ≡ true) → AreHome conn ids (after r e).chat.members
+-- each member of the connection stays one of the users, where the connection joins as one of them
+pub home_after : (conn : ℕ) (ids : List (List ℕ)) (r : Record) (e : Entry) → AreHome conn ids r.chat.members → ((e.conn == conn) ≡ true → is_join e.cmd ≡ true → is_user ids (user_of r e) ≡ true) → AreHome conn ids (after r e).chat.members
 home_after conn ids r e h user = home_by conn ids r e (verdict r e) refl h user
 
 -- ---- the connection's member

@@ -7,6 +7,7 @@ pub mod UserLemmas
 pub mod StepLemmas
 pub mod OtherLemmas
 pub mod HomeLemmas
+pub mod BadgeLemmas
 pub mod WaitLemmas
 pub mod ShownLemmas
 pub mod TwinSideLemmas

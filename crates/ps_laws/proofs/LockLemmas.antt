@@ -37,7 +37,7 @@ use Rattle.ps_laws.specs.Alike.{AreAlike, AreBoutsAlike, AreFightsAlike, AreMayb
 use Rattle.ps_laws.specs.Users.{user_of, users_from}
 use Rattle.ps_laws.specs.Rounds.{Round, choice_of, round_of_choices, completed_if, round_by, round_in, round_if_allowed, round_of, rounds_from}
 use Rattle.ps_laws.specs.Hidden.{is_chosen, names_slot}
-use Rattle.ps_laws.specs.Low.{Item, whole, commit, is_own, commit_of, items_of_own, items_of_others, items_of_allowed, items_of, low_from}
+use Rattle.ps_laws.specs.Low.{Item, whole, commit, entry_kept, is_own, commit_of, items_of_own, items_of_others, items_of_allowed, items_of, low_from}
 use Rattle.ps_laws.proofs.PartLemmas.{is_choose, side_below}
 use Rattle.ps_laws.proofs.WaitLemmas.{AreChoices, MayWait, WaitsIn, chosen_waits, round_choices, waits_after_entry}
 use Rattle.ps_laws.proofs.ShownLemmas.{IsUnshown, AreUnshown}
@@ -286,12 +286,12 @@ others_same conn r go e None seen rounds = allowed_same e.cmd where
   allowed_same : (cmd : Command) → items_of_allowed conn r e cmd ≡ items_of_allowed conn (with_fight r go) e cmd
   allowed_same (Choose choice rqid) = rounds
   allowed_same Undo = refl
-  allowed_same (Modnote text) = ap (λ (x : Role). cond (sees conn x (Rank r.opening.staff)) (whole e ∷ []) []) seen
+  allowed_same (Modnote text) = ap (λ (x : Role). cond (sees conn x (Rank r.opening.staff)) (whole (entry_kept r e) ∷ []) []) seen
   allowed_same other = refl
 
 pub items_by_own : (conn : ℕ) (r : Record) (go : Option Fight) (e : Entry) (own : Bool) → role conn r ≡ role conn (with_fight r go) → verdict r e ≡ verdict (with_fight r go) e → commit_of (round_of r e) ≡ commit_of (round_of (with_fight r go) e)
     → cond own (items_of_own r e) (items_of_others conn r e (verdict r e)) ≡ cond own (items_of_own (with_fight r go) e) (items_of_others conn (with_fight r go) e (verdict (with_fight r go) e))
-items_by_own conn r go e true seen same rounds = ap (λ (is : List Item). whole e ∷ is) rounds
+items_by_own conn r go e true seen same rounds = ap (λ (is : List Item). whole (entry_kept r e) ∷ is) rounds
 items_by_own conn r go e false seen same rounds = others_same conn r go e (verdict r e) seen rounds ∙ ap (items_of_others conn (with_fight r go) e) same
 
 items_paired : (conn : ℕ) (ids : List (List ℕ)) (P : Hidden) (r : Record) (go : Option Fight) (e : Entry) → AreMaybeAlike P r.battle go → verdict r e ≡ verdict (with_fight r go) e → AreMaybeRounds (round_of r e) (round_of (with_fight r go) e) → items_of conn ids r e ≡ items_of conn ids (with_fight r go) e

@@ -21,7 +21,7 @@ use Rattle.ps_room.proofs.UnseenLemmas.{note_unseen}
 use Rattle.ps_room.specs.Stories.{story}
 use Rattle.ps_laws.specs.Users.{user_of, users_from, users}
 use Rattle.ps_laws.specs.Hidden.{hidden_in_both, is_previewed}
-use Rattle.ps_laws.specs.Low.{Item, whole, items_of_round, items_of_allowed, items_of_others, items_of, is_own, low_from}
+use Rattle.ps_laws.specs.Low.{Item, whole, entry_kept, items_of_round, items_of_allowed, items_of_others, items_of, is_own, low_from}
 use Rattle.ps_laws.specs.Same.{AreBattlesSame, UnshownMayBeMissing}
 use Rattle.ps_laws.specs.HallLow.{is_user}
 
@@ -30,7 +30,7 @@ record IsIdle (conn : ℕ) (r : Record) (e : Entry) : Type 0 where
   other : (e.conn == conn) ≡ false
   kept : after r e ≡ r
 
-of_modnote : (conn : ℕ) (r : Record) (e : Entry) (text : List ℕ) (sees : Bool) → (e.conn == conn) ≡ false → e.cmd ≡ Modnote text → verdict r e ≡ None → sees_notes conn r ≡ sees → cond sees (whole e ∷ []) [] ≡ [] → after r e ≡ r
+of_modnote : (conn : ℕ) (r : Record) (e : Entry) (text : List ℕ) (sees : Bool) → (e.conn == conn) ≡ false → e.cmd ≡ Modnote text → verdict r e ≡ None → sees_notes conn r ≡ sees → cond sees (whole (entry_kept r e) ∷ []) [] ≡ [] → after r e ≡ r
 of_modnote conn r e text true other is v sees none = absurd cc
 of_modnote conn r e text false other is v sees none = (note_unseen conn r e text (nat_eq_equiv.symm conn e.conn ∙ other) is v sees).unchanged
 
@@ -45,7 +45,7 @@ of_others conn r e (Some why) chat other v none = after_refused r e why v
 of_others conn r e None chat other v none = of_allowed conn r e e.cmd chat other refl v none
 
 idle_by : (conn : ℕ) (ids : List (List ℕ)) (r : Record) (e : Entry) (own : Bool) → IsChat r → is_own conn ids r e ≡ own → items_of conn ids r e ≡ [] → IsIdle conn r e
-idle_by conn ids r e true chat own none = absurd (let some : whole e ∷ items_of_round r e ≡ [] = rw own at none in cc)
+idle_by conn ids r e true chat own none = absurd (let some : whole (entry_kept r e) ∷ items_of_round r e ≡ [] = rw own at none in cc)
 idle_by conn ids r e false chat own none =
     let other = (or_parts (e.conn == conn) (is_user ids (user_of r e)) own).0 in
     record { other = other; kept = of_others conn r e (verdict r e) chat other refl (rw own at none) }

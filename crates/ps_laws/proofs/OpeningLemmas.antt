@@ -195,7 +195,7 @@ course_alike own rs other config dex one two fit fit_too w =
       names = c.names;
     })
 
-own_outcome : (own : ℕ → Bool) (config : Settings) (st : Start) → own_bout own (bout_with config st).bout ≡ (bout_with config st).bout
+pub own_outcome : (own : ℕ → Bool) (config : Settings) (st : Start) → own_bout own (bout_with config st).bout ≡ (bout_with config st).bout
 unfolding opened_bout
 own_outcome own config st = rw (if_none (own 0), if_none (own 1)) refl
 

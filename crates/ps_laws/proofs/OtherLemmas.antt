@@ -32,7 +32,7 @@ use Rattle.ps_room.specs.Unseen.{sees_notes}
 use Rattle.ps_room.proofs.AnswerLemmas.{after_allowed, after_refused, silent_line, battle_allows}
 use Rattle.ps_room.proofs.UnseenLemmas.{note_unseen}
 use Rattle.ps_laws.specs.Alike.{own_bout, own_fight, own_part}
-use Rattle.ps_laws.specs.Low.{commit, commit_of, items_of_others, items_of_allowed, items_of_round, items_of_modnote}
+use Rattle.ps_laws.specs.Low.{whole, commit, commit_of, entry_kept, items_of_others, items_of_allowed, items_of_round, items_of_modnote}
 use Rattle.ps_laws.proofs.PartLemmas.{side_below, is_choose, is_choice, verdict_free}
 use Rattle.ps_laws.proofs.ItemLemmas.{waiting_fight, undo_message}
 use Rattle.ps_laws.proofs.ChoiceLemmas.{Waits, Completes, choice_does, waiting_other}
@@ -40,7 +40,7 @@ use Rattle.battle_secrecy.specs.Places.{Hidden}
 use Rattle.ps_mon.specs.declared.choice.Choice.{Choice}
 use Rattle.ps_laws.proofs.TwinLemmas.{IsEntryGood}
 use Rattle.ps_laws.proofs.FineLemmas.{IsFineRound, AreFineChoices}
-use Rattle.ps_laws.proofs.StepLemmas.{round_fine, StandFor, one_item, made, said, round_at, waits_after, waits_message, completes_after, completes_message, chat_choice_after, chat_choice_message, chat_choice_round, commit_seen}
+use Rattle.ps_laws.proofs.StepLemmas.{round_fine, StandFor, one_item, stands_kept, made, said, round_at, waits_after, waits_message, completes_after, completes_message, chat_choice_after, chat_choice_message, chat_choice_round, commit_seen}
 
 -- the sender plays no own side
 abbrev pub PlaysOther : (ℕ → Bool) → Option Fight → Option Present → Type 0
@@ -163,8 +163,14 @@ other_good conn own r e away free = record {
   joins = λ v mine joins. absurd (let wrong : true ≡ false = sym (nat_eq_equiv.symm conn e.conn ∙ mine) ∙ away in cc);
 }
 
+-- an entry that stands for itself, without a badge that nothing looks at
+one_kept : (conn : ℕ) (own : ℕ → Bool) (r : Record) (e : Entry) → (conn == e.conn) ≡ false → is_choose e.cmd ≡ false → is_choice e.cmd ≡ false → StandFor conn own r e (whole (entry_kept r e) ∷ [])
+one_kept conn own r e away free plain =
+    let f : Entry = entry_kept r e in
+    stands_kept conn own r e (whole f ∷ []) (one_item conn own r f (other_good conn own r f away free) free (verdict_free own r f plain))
+
 of_modnote : (conn : ℕ) (own : ℕ → Bool) (r : Record) (e : Entry) (text : List ℕ) (sees : Bool) → e.cmd ≡ Modnote text → verdict r e ≡ None → (conn == e.conn) ≡ false → sees_notes conn r ≡ sees → StandFor conn own r e (items_of_modnote conn r e)
-of_modnote conn own r e text true is v away seen = rw seen (one_item conn own r e (other_good conn own r e away (ap is_choose is)) (ap is_choose is) (verdict_free own r e (ap is_choice is)))
+of_modnote conn own r e text true is v away seen = rw seen (one_kept conn own r e away (ap is_choose is) (ap is_choice is))
 of_modnote conn own r e text false is v away seen =
     let u = note_unseen conn r e text away is v seen in
     rw seen (nothing conn own r e (ap (own_part own) u.unchanged) u.silent)
@@ -173,7 +179,7 @@ of_allowed : (conn : ℕ) (own : ℕ → Bool) (r : Record) (e : Entry) (cmd : C
 of_allowed conn own r e (Choose choice rqid) is v away other plays = other_choice conn own r e choice rqid r.battle is v refl other
 of_allowed conn own r e Undo is v away other plays = other_undo conn own r e r.battle is v refl other plays
 of_allowed conn own r e (Modnote text) is v away other plays = of_modnote conn own r e text (sees_notes conn r) is v away refl
-of_allowed conn own r e rest is v away other plays = one_item conn own r e (other_good conn own r e away (ap is_choose is)) (ap is_choose is) (verdict_free own r e (ap is_choice is))
+of_allowed conn own r e rest is v away other plays = one_kept conn own r e away (ap is_choose is) (ap is_choice is)
 
 of_others : (conn : ℕ) (own : ℕ → Bool) (r : Record) (e : Entry) (v : Option Why) → verdict r e ≡ v → (conn == e.conn) ≡ false → PlaysOther own r.battle (sender_of r e) → PlaysNoOther conn own r → StandFor conn own r e (items_of_others conn r e v)
 of_others conn own r e (Some why) v away other plays = nothing conn own r e (ap (own_part own) (after_refused r e why v)) (silent_line r e why conn v away)

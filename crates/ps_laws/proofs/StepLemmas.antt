@@ -1,6 +1,6 @@
 -- One entry in one world: its items make of what a connection knows of the record what the entry makes of the record, and give the
 -- connection what the entry gives it.
-use Rattle.std.proofs.Common.{◌≡◌, ◌⊎◌, ℕ, Bool, false, List, [], ◌∷◌, ◌++◌, Option, Some, None, option_to_list, append-nil, refl, ap, ◌∙◌, sym, subst, inl, inr}
+use Rattle.std.proofs.Common.{◌≡◌, ◌⊎◌, ℕ, Bool, true, false, List, [], ◌∷◌, ◌++◌, Option, Some, None, option_to_list, append-nil, refl, ap, ◌∙◌, sym, subst, inl, inr}
 use Rattle.ps_base.specs.declared.why.Why.{Why}
 use Rattle.ps_base.specs.Messages.{sent}
 use Rattle.ps_lines.specs.declared.command.Command.{Command}
@@ -16,17 +16,18 @@ use Rattle.ps_chat.specs.Told.{lines}
 use Rattle.ps_room.specs.declared.entry.Entry.{Entry}
 use Rattle.ps_room.specs.Records.{Record, cast_in}
 use Rattle.ps_room.specs.Roles.{side_of_member}
-use Rattle.ps_room.specs.Rooms.{sender_of, verdict, told, after, message, role, refusal_by_battle, logged_of, shown_events, seen_texts, role_in}
+use Rattle.ps_room.specs.Rooms.{sender_of, verdict, told, after, message, role, refusal_by_battle, logged_of, shown_events, seen_texts, role_in, joiner_of}
 use Rattle.ps_room.proofs.AnswerLemmas.{after_allowed, after_refused, battle_allows}
 use Rattle.ps_laws.specs.Alike.{own_fight, own_part}
 use Rattle.ps_laws.specs.Rounds.{Round, round_of_choices, round_of, round_of_member, round_if_allowed, round_in}
-use Rattle.ps_laws.specs.Low.{Item, whole, commit, commit_of, items_of_own}
+use Rattle.ps_laws.specs.Low.{Item, whole, commit, commit_of, entry_kept, items_of_round, items_of_own}
 use Rattle.ps_laws.proofs.PartLemmas.{PlaysOwn, side_below, is_choose, verdict_own, after_own, message_own, role_own, cast_own}
 use Rattle.ps_laws.proofs.ItemLemmas.{item_after, item_message, items_after, items_view, whole_after, whole_message, whole_is, whole_message_is, with_choice, waiting_fight, outcome_of_choices, commit_after, commit_message, choice_message}
 use Rattle.ps_laws.proofs.ChoiceLemmas.{Waits, Completes, choice_does, fight_waiting_own, waiting_outcome, round_own}
 use Rattle.battle_secrecy.specs.Places.{Hidden}
 use Rattle.ps_laws.proofs.WaitLemmas.{WaitsIn}
 use Rattle.ps_laws.proofs.ShownLemmas.{AreUnshown}
+use Rattle.ps_laws.proofs.BadgeLemmas.{verdict_kept, join_kept, message_kept, after_kept, round_kept}
 use Rattle.ps_laws.proofs.TwinLemmas.{IsEntryGood}
 use Rattle.ps_laws.proofs.FineLemmas.{IsFineRound, AreFineChoices, AreFine, fine_with_choice, unshown_round}
 
@@ -118,6 +119,10 @@ completes_message conn r e choice rqid f is v b c = message_choice conn r e choi
 
 -- ---- an allowed choice of an own side
 
+-- the items of an own entry, with its badge
+abbrev pub entire : Record → Entry → List Item
+entire r e = whole e ∷ items_of_round r e
+
 whole_at : (own : ℕ → Bool) (r : Record) (e : Entry) (choice : List ℕ) (rqid : Option ℕ) → e.cmd ≡ Choose choice rqid → verdict r e ≡ None → PlaysOwn own r.battle (sender_of r e) → item_after (own_part own r) (whole e) ≡ own_part own (with_choice r e choice rqid)
 whole_at own r e choice rqid is v plays =
     ap (λ (x : Option Why). whole_after x (own_part own r) e e.cmd) (verdict_own own r e plays ∙ v)
@@ -166,16 +171,16 @@ fine_completed own places r e choice rqid f c b is waits shown =
     let fine = round_fine places r e choice rqid f c b is waits shown in
     rw b (fine_with_choice own places f (sender_of r e) choice rqid c.one c.two fine)
 
-own_choice_by : (conn : ℕ) (own : ℕ → Bool) (r : Record) (e : Entry) (choice : List ℕ) (rqid : Option ℕ) (f : Fight) → e.cmd ≡ Choose choice rqid → verdict r e ≡ None → r.battle ≡ Some f → PlaysOwn own r.battle (sender_of r e) → IsEntryGood conn own (own_part own r) e → Waits f (side_of_member f.cast (sender_of r e)) choice rqid ⊎ Completes f (side_of_member f.cast (sender_of r e)) choice rqid → StandFor conn own r e (items_of_own r e)
+own_choice_by : (conn : ℕ) (own : ℕ → Bool) (r : Record) (e : Entry) (choice : List ℕ) (rqid : Option ℕ) (f : Fight) → e.cmd ≡ Choose choice rqid → verdict r e ≡ None → r.battle ≡ Some f → PlaysOwn own r.battle (sender_of r e) → IsEntryGood conn own (own_part own r) e → Waits f (side_of_member f.cast (sender_of r e)) choice rqid ⊎ Completes f (side_of_member f.cast (sender_of r e)) choice rqid → StandFor conn own r e (entire r e)
 own_choice_by conn own r e choice rqid f is v b plays good (inl w) =
-    let items : items_of_own r e ≡ whole e ∷ [] = ap (λ (x : Option Round). whole e ∷ commit_of x) (round_at r e choice rqid f is v b ∙ w.round) in
+    let items : entire r e ≡ whole e ∷ [] = ap (λ (x : Option Round). whole e ∷ commit_of x) (round_at r e choice rqid f is v b ∙ w.round) in
     subst (StandFor conn own r e) (sym items) (record {
       after = whole_at own r e choice rqid is v plays ∙ ap (own_part own) (sym (waits_after r e choice rqid f is v b w));
       view = ap (λ (m : List (List ℕ)). sent m ++ []) (whole_silent conn own r e choice rqid is v plays) ∙ ap sent (sym (waits_message conn r e choice rqid f is v b w));
       fine = λ places waits shown. (good, tt);
     })
 own_choice_by conn own r e choice rqid f is v b plays good (inr c) =
-    let items : items_of_own r e ≡ whole e ∷ commit c.one c.two ∷ [] = ap (λ (x : Option Round). whole e ∷ commit_of x) (round_at r e choice rqid f is v b ∙ c.round) in
+    let items : entire r e ≡ whole e ∷ commit c.one c.two ∷ [] = ap (λ (x : Option Round). whole e ∷ commit_of x) (round_at r e choice rqid f is v b ∙ c.round) in
     let whole_is_with_choice = whole_at own r e choice rqid is v plays in
     subst (StandFor conn own r e) (sym items) (record {
       after =
@@ -191,10 +196,10 @@ own_choice_by conn own r e choice rqid f is v b plays good (inr c) =
 
 -- ---- a choice of an own side, refused
 
-refused_choice : (conn : ℕ) (own : ℕ → Bool) (r : Record) (e : Entry) (why : Why) → verdict r e ≡ Some why → PlaysOwn own r.battle (sender_of r e) → IsEntryGood conn own (own_part own r) e → StandFor conn own r e (items_of_own r e)
+refused_choice : (conn : ℕ) (own : ℕ → Bool) (r : Record) (e : Entry) (why : Why) → verdict r e ≡ Some why → PlaysOwn own r.battle (sender_of r e) → IsEntryGood conn own (own_part own r) e → StandFor conn own r e (entire r e)
 unfolding told
 refused_choice conn own r e why v plays good =
-    let items : items_of_own r e ≡ whole e ∷ [] = ap (λ (x : Option Why). whole e ∷ commit_of (round_if_allowed x r e)) v in
+    let items : entire r e ≡ whole e ∷ [] = ap (λ (x : Option Why). whole e ∷ commit_of (round_if_allowed x r e)) v in
     let vo : verdict (own_part own r) e ≡ Some why = verdict_own own r e plays ∙ v in
     subst (StandFor conn own r e) (sym items) (record {
       after = ap (λ (x : Option Why). whole_after x (own_part own r) e e.cmd) vo ∙ ap (own_part own) (sym (after_refused r e why v));
@@ -205,35 +210,63 @@ refused_choice conn own r e why v plays good =
 -- ---- any entry of an own user
 
 -- a choice in a chat room
-chat_own_choice : (conn : ℕ) (own : ℕ → Bool) (r : Record) (e : Entry) (choice : List ℕ) (rqid : Option ℕ) → e.cmd ≡ Choose choice rqid → verdict r e ≡ None → r.battle ≡ None → PlaysOwn own r.battle (sender_of r e) → IsEntryGood conn own (own_part own r) e → StandFor conn own r e (items_of_own r e)
+chat_own_choice : (conn : ℕ) (own : ℕ → Bool) (r : Record) (e : Entry) (choice : List ℕ) (rqid : Option ℕ) → e.cmd ≡ Choose choice rqid → verdict r e ≡ None → r.battle ≡ None → PlaysOwn own r.battle (sender_of r e) → IsEntryGood conn own (own_part own r) e → StandFor conn own r e (entire r e)
 chat_own_choice conn own r e choice rqid is v b plays good =
-    let items : items_of_own r e ≡ whole e ∷ [] = ap (λ (x : Option Round). whole e ∷ commit_of x) (chat_choice_round r e choice rqid is v b) in
+    let items : entire r e ≡ whole e ∷ [] = ap (λ (x : Option Round). whole e ∷ commit_of x) (chat_choice_round r e choice rqid is v b) in
     subst (StandFor conn own r e) (sym items) (record {
       after = whole_at own r e choice rqid is v plays ∙ ap (own_part own) (sym (chat_choice_after r e choice rqid is v b));
       view = ap (λ (m : List (List ℕ)). sent m ++ []) (whole_silent conn own r e choice rqid is v plays) ∙ ap sent (sym (chat_choice_message conn r e choice rqid is v b));
       fine = λ places waits shown. (good, tt);
     })
 
-own_choice_in : (conn : ℕ) (own : ℕ → Bool) (r : Record) (e : Entry) (choice : List ℕ) (rqid : Option ℕ) (fo : Option Fight) → e.cmd ≡ Choose choice rqid → verdict r e ≡ None → r.battle ≡ fo → PlaysOwn own r.battle (sender_of r e) → IsEntryGood conn own (own_part own r) e → StandFor conn own r e (items_of_own r e)
+own_choice_in : (conn : ℕ) (own : ℕ → Bool) (r : Record) (e : Entry) (choice : List ℕ) (rqid : Option ℕ) (fo : Option Fight) → e.cmd ≡ Choose choice rqid → verdict r e ≡ None → r.battle ≡ fo → PlaysOwn own r.battle (sender_of r e) → IsEntryGood conn own (own_part own r) e → StandFor conn own r e (entire r e)
 own_choice_in conn own r e choice rqid None is v b plays good = chat_own_choice conn own r e choice rqid is v b plays good
 own_choice_in conn own r e choice rqid (Some f) is v b plays good =
     let allowed : refusal_by_battle (Some f) (sender_of r e) (Choose choice rqid) ≡ None = ap (λ (fo : Option Fight). refusal_by_battle fo (sender_of r e) (Choose choice rqid)) (sym b) ∙ ap (refusal_by_battle r.battle (sender_of r e)) (sym is) ∙ battle_allows r e v in
     own_choice_by conn own r e choice rqid f is v b plays good (choice_does f (side_of_member f.cast (sender_of r e)) choice rqid (side_below f.cast (sender_of r e)) allowed)
 
-own_choice : (conn : ℕ) (own : ℕ → Bool) (r : Record) (e : Entry) (choice : List ℕ) (rqid : Option ℕ) (v : Option Why) → e.cmd ≡ Choose choice rqid → verdict r e ≡ v → PlaysOwn own r.battle (sender_of r e) → IsEntryGood conn own (own_part own r) e → StandFor conn own r e (items_of_own r e)
+own_choice : (conn : ℕ) (own : ℕ → Bool) (r : Record) (e : Entry) (choice : List ℕ) (rqid : Option ℕ) (v : Option Why) → e.cmd ≡ Choose choice rqid → verdict r e ≡ v → PlaysOwn own r.battle (sender_of r e) → IsEntryGood conn own (own_part own r) e → StandFor conn own r e (entire r e)
 own_choice conn own r e choice rqid None is v plays good = own_choice_in conn own r e choice rqid r.battle is v refl plays good
 own_choice conn own r e choice rqid (Some why) is v plays good = refused_choice conn own r e why v plays good
 
-own_by : (conn : ℕ) (own : ℕ → Bool) (r : Record) (e : Entry) (cmd : Command) → e.cmd ≡ cmd → PlaysOwn own r.battle (sender_of r e) → IsEntryGood conn own (own_part own r) e → StandFor conn own r e (items_of_own r e)
+own_by : (conn : ℕ) (own : ℕ → Bool) (r : Record) (e : Entry) (cmd : Command) → e.cmd ≡ cmd → PlaysOwn own r.battle (sender_of r e) → IsEntryGood conn own (own_part own r) e → StandFor conn own r e (entire r e)
 own_by conn own r e (Choose choice rqid) is plays good = own_choice conn own r e choice rqid (verdict r e) is refl plays good
 own_by conn own r e cmd is plays good =
     let free : is_choose e.cmd ≡ false = ap is_choose is in
-    let items : items_of_own r e ≡ whole e ∷ [] = ap (λ (x : Option Round). whole e ∷ commit_of x) (round_none r e free) in
+    let items : entire r e ≡ whole e ∷ [] = ap (λ (x : Option Round). whole e ∷ commit_of x) (round_none r e free) in
     subst (StandFor conn own r e) (sym items) (one_item conn own r e good free (verdict_own own r e plays))
+
+-- the items of an entry of an own user stand for it, with its badge
+own_entire : (conn : ℕ) (own : ℕ → Bool) (r : Record) (e : Entry) → PlaysOwn own r.battle (sender_of r e) → IsEntryGood conn own (own_part own r) e → StandFor conn own r e (entire r e)
+own_entire conn own r e plays good = own_by conn own r e e.cmd refl plays good
+
+-- ---- without a badge that nothing looks at
+
+-- what stands for an entry without it, stands for the entry
+pub stands_kept : (conn : ℕ) (own : ℕ → Bool) (r : Record) (e : Entry) (items : List Item) → StandFor conn own r (entry_kept r e) items → StandFor conn own r e items
+stands_kept conn own r e items s = record {
+  after = s.after ∙ ap (own_part own) (after_kept r e);
+  view = s.view ∙ ap sent (message_kept conn r e);
+  fine = λ places waits shown. s.fine places waits (subst (λ (o : Option Round). AreUnshown places (option_to_list o)) (sym (round_kept r e)) shown);
+}
+
+good_kept : (conn : ℕ) (own : ℕ → Bool) (r : Record) (e : Entry) → IsEntryGood conn own r e → IsEntryGood conn own r (entry_kept r e)
+good_kept conn own r e good = record {
+  chooses = good.chooses;
+  joins = λ v mine joins.
+      (let allowed : verdict r e ≡ None = sym (verdict_kept r e) ∙ v in
+      elim (join_kept r e e.cmd refl allowed) [
+        | inl free ↦ absurd (let wrong : true ≡ false = sym joins ∙ free in cc)
+        | inr same ↦ subst (λ (x : Entry). PlaysOwn own r.battle (Some (joiner_of r x))) (sym same) (good.joins allowed mine joins)
+      ]);
+}
 
 -- the items of an entry of an own user stand for it
 pub own_entry : (conn : ℕ) (own : ℕ → Bool) (r : Record) (e : Entry) → PlaysOwn own r.battle (sender_of r e) → IsEntryGood conn own (own_part own r) e → StandFor conn own r e (items_of_own r e)
-own_entry conn own r e plays good = own_by conn own r e e.cmd refl plays good
+own_entry conn own r e plays good =
+    let f : Entry = entry_kept r e in
+    stands_kept conn own r e (items_of_own r e)
+    (subst (λ (o : Option Round). StandFor conn own r f (whole f ∷ commit_of o)) (round_kept r e) (own_entire conn own r f plays (good_kept conn own (own_part own r) e good)))
 
 -- the round's item by itself, at what a connection knows of the record
 said_of_own : (conn : ℕ) (role : Role) (own : ℕ → Bool) (fo : Option Fight) (f : Fight) (one two : Choice) → fo ≡ Some f → commit_message conn role (own_fight own fo) one two ≡ commit_message conn role (Some f) one two

@@ -27,7 +27,7 @@ use Rattle.ps_room.specs.Stories.{story}
 use Rattle.ps_laws.specs.Users.{user_of, users_from, users}
 use Rattle.ps_laws.specs.Rounds.{round_of}
 use Rattle.ps_laws.specs.Hidden.{is_previewed, hidden_in_both, member_in}
-use Rattle.ps_laws.specs.Low.{Item, whole, items_of, items_of_round, is_own, low_from}
+use Rattle.ps_laws.specs.Low.{Item, whole, entry_kept, items_of, items_of_round, is_own, low_from}
 use Rattle.ps_laws.specs.Same.{IsSlotSame, IsKindSame, IsMemberSame, IsNickSame, nick_in, AreBattlesSame, IdleMayBeMissing, UndoneLeavesNothing}
 use Rattle.ps_laws.proofs.PartLemmas.{side_below}
 use Rattle.ps_laws.proofs.ItemLemmas.{put_choice, waiting_in, waiting_fight, with_choice}
@@ -73,7 +73,7 @@ battle_self preview places (Some st) = record {
 
 -- they are of others
 away_by : (conn : ℕ) (ids : List (List ℕ)) (r : Record) (e : Entry) (own : Bool) → is_own conn ids r e ≡ own → items_of conn ids r e ≡ [] → (e.conn == conn) ≡ false
-away_by conn ids r e true own none = absurd (let some : whole e ∷ items_of_round r e ≡ [] = rw own at none in cc)
+away_by conn ids r e true own none = absurd (let some : whole (entry_kept r e) ∷ items_of_round r e ≡ [] = rw own at none in cc)
 away_by conn ids r e false own none = (or_parts (e.conn == conn) _ own).0
 
 no_items : (is js : List Item) → is ++ js ≡ [] → (is ≡ []) × (js ≡ [])

@@ -29,14 +29,14 @@ use Rattle.ps_room.proofs.AnswerLemmas.{after_allowed, after_refused, battle_all
 use Rattle.ps_laws.specs.Alike.{if_own, own_bout, own_fight, own_part}
 use Rattle.ps_laws.specs.Users.{badge_of, user_of, users_from, users}
 use Rattle.ps_laws.specs.Rounds.{Round, round_of, round_if_allowed, round_in, round_by, completed_if}
-use Rattle.ps_laws.specs.Low.{Item, whole, commit_of, is_own, items_of_own, items_of_others, items_of_allowed, items_of, low_from}
+use Rattle.ps_laws.specs.Low.{Item, whole, commit_of, entry_kept, is_own, items_of_own, items_of_others, items_of_allowed, items_of, low_from}
 use Rattle.ps_laws.specs.Secrets.{is_choose, side_in, waits_in, IsNeverPlayed, IsUnplayed, ChoicesMayBeMissing, ChoicesMayDiffer}
 use Rattle.ps_laws.specs.HallLow.{is_user}
 use Rattle.ps_laws.proofs.PartLemmas.{PlaysOwn, side_below, is_choice, verdict_own, verdict_free}
 use Rattle.ps_laws.proofs.ItemLemmas.{put_choice, waiting_in, waiting_fight}
 use Rattle.ps_laws.proofs.StepLemmas.{round_none, round_at, chat_choice_round}
 use Rattle.ps_laws.proofs.OtherLemmas.{PlaysOther, fight_waiting_other, undone_other, undo_after}
-use Rattle.ps_laws.proofs.FirstLemmas.{choose_in, free_after, free_items, part_user, part_own, waits_in_room, other_items, away, no_user, later_same}
+use Rattle.ps_laws.proofs.FirstLemmas.{choose_in, free_after, free_items, part_user, part_own, part_kept, waits_in_room, other_items, away, no_user, later_same}
 
 -- ---- a room without what waits of one side
 
@@ -211,14 +211,15 @@ wish_others conn r e None (Choose choice rqid) is wish none = ap (items_of_allow
 wish_others conn r e None Undo is wish none = ap (items_of_allowed conn r e) is
 wish_others conn r e None cmd is wish none = absurd cc
 
-wish_by : (conn : ℕ) (ids : List (List ℕ)) (r : Record) (e : Entry) (own : Bool) → is_choice e.cmd ≡ true → round_of r e ≡ None → cond own (items_of_own r e) (items_of_others conn r e (verdict r e)) ≡ cond own (whole e ∷ []) []
-wish_by conn ids r e true wish none = ap (λ (o : Option Round). whole e ∷ commit_of o) none
+wish_by : (conn : ℕ) (ids : List (List ℕ)) (r : Record) (e : Entry) (own : Bool) → is_choice e.cmd ≡ true → round_of r e ≡ None → cond own (items_of_own r e) (items_of_others conn r e (verdict r e)) ≡ cond own (whole (entry_kept r e) ∷ []) []
+wish_by conn ids r e true wish none = ap (λ (o : Option Round). whole (entry_kept r e) ∷ commit_of o) none
 wish_by conn ids r e false wish none = wish_others conn r e (verdict r e) e.cmd refl wish none
 
 wish_items : (conn : ℕ) (ids : List (List ℕ)) (s : ℕ) (r q : Record) (e : Entry) → is_choice e.cmd ≡ true → own_part (hide s) r ≡ own_part (hide s) q → round_of r e ≡ None → round_of q e ≡ None → items_of conn ids r e ≡ items_of conn ids q e
 wish_items conn ids s r q e wish same none none_too =
     wish_by conn ids r e (is_own conn ids r e) wish none
-    ∙ ap (λ (own : Bool). cond own (whole e ∷ []) []) (part_own conn ids (hide s) r q e same)
+    ∙ ap (λ (own : Bool). cond own (whole (entry_kept r e) ∷ []) []) (part_own conn ids (hide s) r q e same)
+    ∙ ap (λ (x : Entry). cond (is_own conn ids q e) (whole x ∷ []) []) (part_kept (hide s) r q e same)
     ∙ sym (wish_by conn ids q e (is_own conn ids q e) wish none_too)
 
 -- ---- of another side: refused

@@ -1,6 +1,5 @@
 -- Two worlds: from records that are alike equal low histories give equal views.
 use Rattle.std.proofs.Common.{◌≡◌, ℕ, Bool, List, [], ◌∷◌, ◌++◌, Option, Some, None, refl, ap, ◌∙◌, sym, subst}
-use Rattle.std.specs.Prelude.{◌==◌}
 use Rattle.ps_base.specs.declared.why.Why.{Why}
 use Rattle.ps_base.specs.Messages.{sent}
 use Rattle.ps_lines.specs.declared.command.Command.{Command}
@@ -21,9 +20,8 @@ use Rattle.ps_laws.proofs.HomeLemmas.{AreHome, home_after, is_home}
 use Rattle.ps_laws.proofs.FineLemmas.{AreFine, fine_is_good}
 use Rattle.ps_laws.proofs.TwinSideLemmas.{IsOpen}
 use Rattle.ps_laws.proofs.TwinLemmas.{item_alike}
-use Rattle.ps_laws.proofs.ChatLemmas.{chat_next, chat_user, items_users, whole_chat, whole_opening, commit_chat, commit_opening, chat_after_is}
-use Rattle.ps_laws.proofs.HistoryLemmas.{users_split, battle_owns}
-use Rattle.ps_laws.proofs.UserLists.{AreUsers}
+use Rattle.ps_laws.proofs.ChatLemmas.{chat_next, JoinAsUsers, whole_chat, whole_opening, commit_chat, commit_opening, chat_after_is}
+use Rattle.ps_laws.proofs.HistoryLemmas.{battle_owns}
 
 -- ---- what an item keeps
 
@@ -44,27 +42,26 @@ item_owns : (ids : List (List ℕ)) (own : ℕ → Bool) (r : Record) (i : Item)
 item_owns ids own r (whole e) h = whole_owns ids own r e (verdict r e) e.cmd refl h
 item_owns ids own r (commit one two) h = commit_owns ids own r r.battle one two refl h
 
-item_home : (conn : ℕ) (ids : List (List ℕ)) (r : Record) (i : Item) (is : List Item) → AreHome conn ids r.chat.members → AreUsers ids (items_users conn r.opening r.chat (i ∷ is)) → AreHome conn ids (item_after r i).chat.members × AreUsers ids (items_users conn (item_after r i).opening (item_after r i).chat is)
-item_home conn ids r (whole e) is h users =
-    let u = users_split ids (e.conn == conn) (chat_user r.opening r.chat e) (items_users conn r.opening (chat_next r.opening r.chat e) is) users in
-    let home : AreHome conn ids (chat_next r.opening r.chat e).members = subst (λ (c : ChatRecord). AreHome conn ids c.members) (chat_after_is r e) (home_after conn ids r e h u.0) in (
+item_home : (conn : ℕ) (ids : List (List ℕ)) (r : Record) (i : Item) (is : List Item) → AreHome conn ids r.chat.members → JoinAsUsers conn ids r.opening r.chat (i ∷ is) → AreHome conn ids (item_after r i).chat.members × JoinAsUsers conn ids (item_after r i).opening (item_after r i).chat is
+item_home conn ids r (whole e) is h joins =
+    let home : AreHome conn ids (chat_next r.opening r.chat e).members = subst (λ (c : ChatRecord). AreHome conn ids c.members) (chat_after_is r e) (home_after conn ids r e h joins.0) in (
       subst (λ (c : ChatRecord). AreHome conn ids c.members) (sym (whole_chat r e)) home,
-      subst (λ (o : ChatOpening). AreUsers ids (items_users conn o (item_after r (whole e)).chat is)) (sym (whole_opening r e))
-          (subst (λ (c : ChatRecord). AreUsers ids (items_users conn r.opening c is)) (sym (whole_chat r e)) u.1),
+      subst (λ (o : ChatOpening). JoinAsUsers conn ids o (item_after r (whole e)).chat is) (sym (whole_opening r e))
+          (subst (λ (c : ChatRecord). JoinAsUsers conn ids r.opening c is) (sym (whole_chat r e)) joins.1),
     )
-item_home conn ids r (commit one two) is h users = (
+item_home conn ids r (commit one two) is h joins = (
   subst (λ (c : ChatRecord). AreHome conn ids c.members) (sym (commit_chat r one two)) h,
-  subst (λ (o : ChatOpening). AreUsers ids (items_users conn o (item_after r (commit one two)).chat is)) (sym (commit_opening r one two))
-      (subst (λ (c : ChatRecord). AreUsers ids (items_users conn r.opening c is)) (sym (commit_chat r one two)) users),
+  subst (λ (o : ChatOpening). JoinAsUsers conn ids o (item_after r (commit one two)).chat is) (sym (commit_opening r one two))
+      (subst (λ (c : ChatRecord). JoinAsUsers conn ids r.opening c is) (sym (commit_chat r one two)) joins),
 )
 
 -- ---- items
 
 -- from records that are alike equal items give equal views
-pub views_alike : (conn : ℕ) (ids : List (List ℕ)) (own : ℕ → Bool) (places : Hidden) (one two : Record) (is : List Item) → OwnsOf ids own one.battle → AreHome conn ids one.chat.members → AreUsers ids (items_users conn one.opening one.chat is) → IsOpen own places → AreFine conn own places one is → AreAlike places one two → items_view conn one is ≡ items_view conn two is
-views_alike conn ids own places one two [] owns home users plain fine w = refl
-views_alike conn ids own places one two (i ∷ is) owns home users plain fine w =
+pub views_alike : (conn : ℕ) (ids : List (List ℕ)) (own : ℕ → Bool) (places : Hidden) (one two : Record) (is : List Item) → OwnsOf ids own one.battle → AreHome conn ids one.chat.members → JoinAsUsers conn ids one.opening one.chat is → IsOpen own places → AreFine conn own places one is → AreAlike places one two → items_view conn one is ≡ items_view conn two is
+views_alike conn ids own places one two [] owns home joins plain fine w = refl
+views_alike conn ids own places one two (i ∷ is) owns home joins plain fine w =
     let step = item_alike conn ids own places one two i owns (is_home conn ids one home) plain (fine_is_good conn own places one two i w fine.0) w in
-    let later = item_home conn ids one i is home users in
+    let later = item_home conn ids one i is home joins in
     ap (λ (m : List (List ℕ)). sent m ++ items_view conn (item_after one i) is) step.equal
     ∙ ap (λ (ms : List (List (List ℕ))). sent (item_message conn two i) ++ ms) (views_alike conn ids own places (item_after one i) (item_after two i) is (item_owns ids own one i owns) later.0 later.1 plain fine.1 step.alike)

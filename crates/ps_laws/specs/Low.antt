@@ -2,13 +2,15 @@
 use Rattle.std.specs.Prelude.{ℕ, Bool, ◌||◌, ◌==◌, if◌then◌else◌, List, [], ◌∷◌, ◌++◌, Option, Some, None}
 use Rattle.std.specs.List.{list_any}
 use Rattle.std.specs.Str.{bytes_eq}
+use Rattle.ps_base.specs.declared.badge.Badge.{Badge}
 use Rattle.ps_base.specs.declared.why.Why.{Why}
 use Rattle.ps_lines.specs.declared.command.Command.{Command}
-use Rattle.ps_lines.specs.declared.command.Command.TheVariants.{Modnote, Choose, Undo}
+use Rattle.ps_lines.specs.declared.command.Command.TheVariants.{Join, Modnote, Choose, Undo}
 use Rattle.ps_mon.specs.declared.choice.Choice.{Choice}
+use Rattle.ps_chat.specs.declared.present.Present.{Present}
 use Rattle.ps_room.specs.declared.entry.Entry.{Entry}
 use Rattle.ps_room.specs.Records.{Record}
-use Rattle.ps_room.specs.Rooms.{verdict, after}
+use Rattle.ps_room.specs.Rooms.{sender_of, verdict, after}
 use Rattle.ps_room.specs.Unseen.{sees_notes}
 use Rattle.ps_room.specs.Stories.{Story, begun}
 use Rattle.ps_laws.specs.Users.{user_of, users}
@@ -16,10 +18,24 @@ use Rattle.ps_laws.specs.Rounds.{Round, round_of}
 
 -- ---- items
 
--- what is kept of an entry: all of it; or the two choices of the round that it completes
+-- what is kept of an entry: all of it, but for a badge that nothing looks at; or the two choices of the round that it completes
 pub data Item : Type 0 where
   whole : Entry → Item
   commit : Choice → Choice → Item
+
+-- in the place of a badge
+abbrev pub no_badge : Badge
+no_badge = record { name = []; rank = 0 }
+
+-- A room looks at the badge that an entry brings only at a Join of who is no member yet, which is answered by it, and whose member keeps
+-- it. A member is who it was at its Join, and who is no member does nothing else by a badge.
+abbrev pub looked_at : Command → Option Present → Badge → Badge
+looked_at (Join room) None badge = badge
+looked_at cmd me badge = no_badge
+
+-- an entry without a badge that nothing looks at
+abbrev pub entry_kept : Record → Entry → Entry
+entry_kept r e = record e { badge = looked_at e.cmd (sender_of r e) e.badge }
 
 -- whether an entry is of the connection, or of one with the same user
 abbrev pub is_own : ℕ → List (List ℕ) → Record → Entry → Bool
@@ -37,7 +53,7 @@ items_of_round r e = commit_of (round_of r e)
 
 -- an entry of the connection, or of a connection whose user is one of its users: the entry whole, and the round that it completes
 abbrev pub items_of_own : Record → Entry → List Item
-items_of_own r e = whole e ∷ items_of_round r e
+items_of_own r e = whole (entry_kept r e) ∷ items_of_round r e
 
 -- of others, refused: none
 abbrev pub items_of_refused : List Item
@@ -53,11 +69,11 @@ items_of_undo = []
 
 -- of others, an allowed Modnote: none where the connection's role doesn't see it
 abbrev pub items_of_modnote : ℕ → Record → Entry → List Item
-items_of_modnote conn r e = if sees_notes conn r then whole e ∷ [] else []
+items_of_modnote conn r e = if sees_notes conn r then whole (entry_kept r e) ∷ [] else []
 
 -- of others, an allowed entry that no row above names: the entry whole
-abbrev pub items_of_rest : Entry → List Item
-items_of_rest e = whole e ∷ []
+abbrev pub items_of_rest : Record → Entry → List Item
+items_of_rest r e = whole (entry_kept r e) ∷ []
 
 -- ---- which row an entry has
 
@@ -65,7 +81,7 @@ abbrev pub items_of_allowed : ℕ → Record → Entry → Command → List Item
 items_of_allowed conn r e (Choose choice rqid) = items_of_choice r e
 items_of_allowed conn r e Undo = items_of_undo
 items_of_allowed conn r e (Modnote text) = items_of_modnote conn r e
-items_of_allowed conn r e other = items_of_rest e
+items_of_allowed conn r e other = items_of_rest r e
 
 abbrev pub items_of_others : ℕ → Record → Entry → Option Why → List Item
 items_of_others conn r e (Some why) = items_of_refused
