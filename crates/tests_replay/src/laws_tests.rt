@@ -60,6 +60,30 @@ fn what_is_seen_does_change_lines(rt: HostRuntime) -> Result<(), Fail> {
     Ok(())
 }
 
+/// A third connection texts the lobby without being a member of it.
+const FROM_OUTSIDE: &str = ">3 lobby|hi\n>1 lobby|hi\n>3 lobby|/leave\n";
+
+const NOT_MEMBER: &str = "3< >lobby\n3. |error|[NotMember]\n3< >lobby\n3. |error|[NotMember]\n";
+
+#[test]
+fn the_name_of_who_is_no_member_changes_no_line_of_a_room(rt: HostRuntime) -> Result<(), Fail> {
+    let alloc = rt.alloc();
+    for name in ["Cat", "Dan"] {
+        let begin = "+1\n+3\n>1 |/trn Ann,0,\n>1 |/join lobby\n";
+        let named = format!(in alloc; "{begin}>3 |/trn {name},0,\n{FROM_OUTSIDE}")?;
+        let bytes = replayed(alloc, named)?;
+        let lines = lines_of(alloc, &bytes, '3')?;
+        assert!(rt; lines.ends_with(NOT_MEMBER), "{name}: {lines}");
+        // By its name it joins.
+        let joins = format!(in alloc; "{begin}>3 |/trn {name},0,\n>3 |/join lobby\n")?;
+        let bytes = replayed(alloc, joins)?;
+        let lines = lines_of(alloc, &bytes, '3')?;
+        let users = format!(in alloc; "3. |users|2, Ann, {name}\n")?;
+        assert!(rt; lines.ends_with(users.as_str()), "{name}: {lines}");
+    }
+    Ok(())
+}
+
 /// Ann with Tauros and a second member, Bob and Cy.
 const WITH_CHANSEY: &str = "+1\n+2\n+3\n>1 |/trn Ann,0,\n>2 |/trn Bob,0,\n>3 |/trn Cy,0,
 >1 |/utm Tauros||||bodyslam,hyperbeam,blizzard|||||||]Chansey||||softboiled,blizzard|||||||\n";
