@@ -14,9 +14,9 @@ use Rattle.ps_room.specs.declared.entry.Entry.{Entry}
 use Rattle.ps_room.specs.Openings.{Opening, IsFitOpening}
 use Rattle.ps_room.specs.Records.{Record, opened}
 use Rattle.ps_room.specs.Roles.{side_of_member}
-use Rattle.ps_room.specs.Rooms.{sender_of, verdict, after, run_record, refusal_by_battle}
+use Rattle.ps_room.specs.Rooms.{sender_of, verdict, after, run_record}
 use Rattle.ps_room.specs.Stories.{story, view_of}
-use Rattle.ps_room.proofs.AnswerLemmas.{after_refused, battle_allows}
+use Rattle.ps_room.proofs.AnswerLemmas.{after_refused}
 use Rattle.ps_laws.specs.Alike.{own_fight, own_part}
 use Rattle.ps_laws.specs.Users.{user_of, users_from, users}
 use Rattle.ps_laws.specs.Rounds.{Round, round_of_choices, round_of, round_if_allowed}
@@ -25,11 +25,11 @@ use Rattle.ps_laws.specs.Low.{Item, whole, commit_of, entry_kept, is_own, items_
 use Rattle.ps_laws.specs.HallLow.{is_user}
 use Rattle.ps_laws.specs.Secrets.{is_choose, is_undo, AreNoChoices, IsEitherFirst, OrderMayDiffer, AreForeign, OrderIsUnseen}
 use Rattle.ps_laws.proofs.PartLemmas.{side_below, is_choice, verdict_free, after_own, role_own}
-use Rattle.ps_laws.proofs.ItemLemmas.{waiting_fight, with_choice, commit_after}
-use Rattle.ps_laws.proofs.ChoiceLemmas.{Waits, Completes, choice_does, waiting_other}
-use Rattle.ps_laws.proofs.StepLemmas.{round_none, round_at, waits_after, completes_after, chat_choice_after, chat_choice_round}
+use Rattle.ps_laws.proofs.ItemLemmas.{waiting_fight, commit_after}
+use Rattle.ps_laws.proofs.ChoiceLemmas.{Waits, Completes, waiting_other}
+use Rattle.ps_laws.proofs.StepLemmas.{round_none, round_at, completes_after, chat_choice_round}
 use Rattle.ps_laws.proofs.LockLemmas.{items_by_own}
-use Rattle.ps_laws.proofs.UndoneLemmas.{battle_self}
+use Rattle.ps_laws.proofs.UndoneLemmas.{battle_self, does_in, waits_in_room}
 use Rattle.ps_laws.proofs.RoomLemmas.{views_are_equal}
 
 -- ---- commands
@@ -91,21 +91,6 @@ bare s = false
 fight_waits : (own : ℕ → Bool) (fo : Option Fight) (me : Option Present) (choice : List ℕ) (rqid : Option ℕ) → ((s : ℕ) → own s ≡ false) → own_fight own (waiting_fight fo me choice rqid) ≡ own_fight own fo
 fight_waits own None me choice rqid none = refl
 fight_waits own (Some f) me choice rqid none = ap (λ (b : Bout). Some (record f { bout = b })) (waiting_other own f (side_of_member f.cast me) choice rqid (side_below f.cast me) (λ s side. none s))
-
--- what an allowed choice comes to in a battle
-pub does_in : (r : Record) (e : Entry) (choice : List ℕ) (rqid : Option ℕ) (f : Fight) → e.cmd ≡ Choose choice rqid → verdict r e ≡ None → r.battle ≡ Some f → Waits f (side_of_member f.cast (sender_of r e)) choice rqid ⊎ Completes f (side_of_member f.cast (sender_of r e)) choice rqid
-does_in r e choice rqid f is v b =
-    let allowed : refusal_by_battle (Some f) (sender_of r e) (Choose choice rqid) ≡ None =
-    ap (λ (fo : Option Fight). refusal_by_battle fo (sender_of r e) (Choose choice rqid)) (sym b) ∙ ap (refusal_by_battle r.battle (sender_of r e)) (sym is) ∙ battle_allows r e v in
-    choice_does f (side_of_member f.cast (sender_of r e)) choice rqid (side_below f.cast (sender_of r e)) allowed
-
-waits_by : (r : Record) (e : Entry) (choice : List ℕ) (rqid : Option ℕ) (f : Fight) → e.cmd ≡ Choose choice rqid → verdict r e ≡ None → round_of r e ≡ None → r.battle ≡ Some f → Waits f (side_of_member f.cast (sender_of r e)) choice rqid ⊎ Completes f (side_of_member f.cast (sender_of r e)) choice rqid → after r e ≡ with_choice r e choice rqid
-waits_by r e choice rqid f is v none b (inl w) = waits_after r e choice rqid f is v b w
-waits_by r e choice rqid f is v none b (inr c) = absurd (let wrong : None ≡ Some _ = sym none ∙ round_at r e choice rqid f is v b ∙ c.round in cc)
-
-pub waits_in_room : (r : Record) (e : Entry) (choice : List ℕ) (rqid : Option ℕ) (fo : Option Fight) → e.cmd ≡ Choose choice rqid → verdict r e ≡ None → round_of r e ≡ None → r.battle ≡ fo → after r e ≡ with_choice r e choice rqid
-waits_in_room r e choice rqid None is v none b = chat_choice_after r e choice rqid is v b
-waits_in_room r e choice rqid (Some f) is v none b = waits_by r e choice rqid f is v none b (does_in r e choice rqid f is v b)
 
 waits_judged : (own : ℕ → Bool) (r : Record) (e : Entry) (choice : List ℕ) (rqid : Option ℕ) (v : Option Why) → ((s : ℕ) → own s ≡ false) → e.cmd ≡ Choose choice rqid → verdict r e ≡ v → round_of r e ≡ None → own_part own (after r e) ≡ own_part own r
 waits_judged own r e choice rqid (Some why) blank is v none = ap (own_part own) (after_refused r e why v)

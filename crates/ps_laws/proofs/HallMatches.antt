@@ -13,7 +13,7 @@ use Rattle.ps_lines.specs.declared.command.HallCmd.{HallCmd}
 use Rattle.ps_lines.specs.declared.command.HallCmd.TheVariants.{Open, Quit, Bad, Name, Team, Search, CancelSearch, Challenge, CancelChallenge, Reject, Accept, Block, Unblock, Report}
 use Rattle.ps_valid.specs.declared.legal.Legal.{Legal}
 use Rattle.ps_rules.specs.declared.table.Format.{Format}
-use Rattle.ps_ladder.specs.Waiting.{has_user, is_for, suits, found, without, waits}
+use Rattle.ps_ladder.specs.Waiting.{is_for, suits, found, without, waits}
 use Rattle.ps_ladder.specs.Waiting as waitings
 use Rattle.ps_ladder.specs.declared.searches.Search.{Search as Waiting}
 use Rattle.ps_hall.specs.declared.entry.HallEntry.{HallEntry}
@@ -31,7 +31,8 @@ use Rattle.ps_laws.specs.HallSame.{HallMatchesStart}
 use Rattle.ps_laws.proofs.HallListLemmas.{map_kept, find_mapped}
 use Rattle.ps_laws.proofs.HallAlike.{Label, label, labels, label_is, label_of, without_label, labels_without_user, labels_without_kept, labels_keep}
 use Rattle.ps_laws.proofs.HallLegal.{search_legal}
-use Rattle.ps_laws.proofs.HallTidy.{Ends, ends_label, ends_are, without_ends, ends_without, is_there, when_not, any_put}
+use Rattle.ps_laws.proofs.HallTidy.{Ends, ends_label, ends_are, without_ends, ends_without, is_there, when_not, any_put, any_kept}
+use Rattle.ps_laws.proofs.HallStarts.{start_there}
 
 -- ---- who searches what
 
@@ -52,16 +53,8 @@ IsSought h = AreSought h.searches (labels h.search_teams)
 
 -- ---- lists without two of one
 
-any_filtered : (p test : Ends → Bool) (e : Ends) (es : List Ends) (b : Bool) → test e ≡ b → (p e || list_any p es) ≡ false → (list_any p es ≡ false → list_any p (filter test es) ≡ false) → list_any p (cond b (e ∷ filter test es) (filter test es)) ≡ false
-any_filtered p test e es true is none more = let parts = or_parts (p e) (list_any p es) none in rw parts.0 (more parts.1)
-any_filtered p test e es false is none more = more (or_parts (p e) (list_any p es) none).1
-
-any_filter : (p test : Ends → Bool) (es : List Ends) → list_any p es ≡ false → list_any p (filter test es) ≡ false
-any_filter p test [] none = refl
-any_filter p test (e ∷ es) none = any_filtered p test e es (test e) refl none (any_filter p test es)
-
 once_by : (test : Ends → Bool) (e : Ends) (es : List Ends) (b : Bool) → AreOnce (e ∷ es) → AreOnce (filter test es) → AreOnce (cond b (e ∷ filter test es) (filter test es))
-once_by test e es true once more = (any_filter (ends_are e.by e.to) test es once.0, more)
+once_by test e es true once more = (any_kept (ends_are e.by e.to) test es once.0, more)
 once_by test e es false once more = more
 
 once_filter : (test : Ends → Bool) (es : List Ends) → AreOnce es → AreOnce (filter test es)
@@ -266,10 +259,6 @@ team_there h me format rating s t same =
     ∙ ap is_some (find_mapped ends_label (ends_are s.user format) (labels h.search_teams))
     ∙ ap (λ (es : List Ends). is_some (find (ends_are s.user format) es)) t.same
     ∙ some_found (ends_are s.user format) (map ends_search h.searches) (found_any h.searches me format rating s same)
-
-start_there : (h : Record) (format name : List ℕ) (k : Option KeptTeam) (legal : Legal) → is_some k ≡ true → is_some (start_if h format k name (Some legal)) ≡ true
-start_there h format name None legal there = absurd cc
-start_there h format name (Some k) legal there = refl
 
 match_starts : (h : Record) (name format : List ℕ) (legal : Legal) (o : Option Waiting) → IsSought h → opponent h (id_of name) format ≡ o → legal_team h (id_of name) format ≡ Some legal → is_some (start_of_match h name format o) ≡ is_some o
 match_starts h name format legal None t is team = refl

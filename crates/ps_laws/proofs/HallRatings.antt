@@ -1,6 +1,6 @@
 -- The ladder of each format is the fold over the won reports of its rated battles: none is dropped, since both players differ, and there are
 -- never more results than battles that started.
-use Rattle.std.proofs.Common.{◌≡◌, ℕ, zero, suc, ◌+◌, ◌<◌, ◌≤◌, Bool, true, false, cond, not, ◌&&◌, List, [], ◌∷◌, ◌++◌, length, Option, Some, None, option_map, is_none, find, All, append_assoc, append-nil, unwrap_or, IfSome, refl, sym, ap, ap₂, subst, ◌∙◌, arith, ℤ}
+use Rattle.std.proofs.Common.{◌≡◌, ℕ, zero, suc, ◌+◌, ◌<◌, ◌≤◌, Bool, true, false, cond, not, ◌&&◌, List, [], ◌∷◌, ◌++◌, length, Option, Some, None, option_map, find, All, append_assoc, append-nil, unwrap_or, IfSome, refl, sym, ap, ap₂, subst, ◌∙◌, arith, ℤ}
 use Rattle.std.proofs.lemmas.Bool.{and_parts, not-true, lt-ltb, ltb-true}
 use Rattle.std.proofs.lemmas.List.{length_push}
 use Rattle.std.proofs.lemmas.List.Elements.{All-nil, All-append, All-cons}
@@ -16,14 +16,12 @@ use Rattle.ps_base.specs.Ids.{id_of}
 use Rattle.ps_base.specs.Limits.{most_battles}
 use Rattle.ps_base.specs.declared.badge.Badge.{Badge}
 use Rattle.ps_base.specs.declared.hall_why.HallWhy.{HallWhy}
-use Rattle.ps_base.specs.declared.hall_why.HallWhy.TheVariants as why
 use Rattle.ps_lines.specs.declared.command.HallCmd.{HallCmd}
 use Rattle.ps_lines.specs.declared.command.HallCmd.TheVariants.{Open, Quit, Bad, Name, Team, Search, CancelSearch, Challenge, CancelChallenge, Reject, Accept, Block, Unblock, Report}
 use Rattle.ps_valid.specs.declared.legal.Legal.{Legal}
 use Rattle.rules_start.specs.declared.start.Start.{Start}
 use Rattle.ps_pms.specs.Lookups.{asked_of}
 use Rattle.ps_pms.specs.declared.asked.Asked.{Asked}
-use Rattle.ps_pms.specs.Refusals.{when}
 use Rattle.ps_ladder.specs.Ratings.{Won, Standing, standing_of, standing_after, IsOfTwo}
 use Rattle.ps_ladder.specs.Waiting.{suits, found}
 use Rattle.ps_ladder.specs.declared.searches.Search.{Search as Waiting}
@@ -33,11 +31,11 @@ use Rattle.ps_hall.specs.declared.game.Game.{Game}
 use Rattle.ps_hall.specs.declared.kept.KeptTeam.{KeptTeam}
 use Rattle.ps_hall.specs.Records.{Record}
 use Rattle.ps_hall.specs.Lookups.{badge_of, ladder_in, player_id, has_number, game_in, is_kept, kept_team, challenge_from, opponent, legal_team, rating_in}
-use Rattle.ps_hall.specs.Refusals.{is_winner, refusal_of_report, refusal_by, refusal, refusal_of_named}
+use Rattle.ps_hall.specs.Refusals.{is_winner, refusal_by, refusal, refusal_of_named}
 use Rattle.ps_hall.specs.Starts.{start_if, start_of_match, start_of_search, start_of_challenge, start_of_accept, with_game, game_of}
 use Rattle.ps_hall.specs.Steps.{winner_of, loser_of, standing_with, with_settled, settled_by, without_game, reported, forgotten, with_search, with_accept, after_team, after_named, after_by, applied}
 use Rattle.ps_hall.specs.Halls.{verdict, after, run_record}
-use Rattle.ps_hall.proofs.ApplyLemmas.{few_search, few_accept, when_more}
+use Rattle.ps_hall.proofs.ApplyLemmas.{few_search, few_accept, winner_is}
 use Rattle.ps_laws.specs.HallStories.{HallOpening, HallStory, hall_opened}
 use Rattle.ps_laws.specs.HallRatings.{won_by, won_in, won_at, results_from, HallRatingsAreResults, IsHallWhole}
 use Rattle.ps_laws.proofs.HallListLemmas.{find_passes}
@@ -256,13 +254,6 @@ game_book h g number true None results found ok b = unsettled_book h number resu
 game_book h g number false (Some s) results found ok b = unsettled_book h number results b
 game_book h g number false None results found ok b = unsettled_book h number results b
 
-report_ok : (h : Record) (number : ℕ) (winner : Option ℕ) → refusal_of_report h number winner ≡ None → is_winner winner ≡ true
-unfolding refusal_of_report
-report_ok h number winner none = by_answer (is_winner winner) refl (when_more (is_none (game_in h number)) why.NoBattle _ none) where
-  by_answer : (b : Bool) → is_winner winner ≡ b → when (not b) why.NoBattle None ≡ None → is_winner winner ≡ true
-  by_answer true is ok = is
-  by_answer false is ok = absurd cc
-
 report_book : (h : Record) (number : ℕ) (winner : Option ℕ) (o : Option Game) (results : List ℕ → List Won) → game_in h number ≡ o → is_winner winner ≡ true → IsKept h results → IsKept (reported h number winner o) (λ format. results format ++ won_in format winner o)
 report_book h number winner None results found ok b = kept_nothing h results b
 report_book h number winner (Some g) results found ok b = game_book h g number g.rated winner results found ok b
@@ -299,7 +290,7 @@ book_applied h conn Open results none b = kept_nothing h results b
 book_applied h conn Quit results none b = kept_nothing (forgotten h (badge_of h conn)) results (book_quit h (badge_of h conn) results b)
 book_applied h conn (Bad reason) results none b = kept_nothing h results b
 book_applied h conn (Name name assertion) results none b = kept_nothing h results b
-book_applied h conn (Report number winner) results none b = report_book h number winner (game_in h number) results refl (report_ok h number winner none) b
+book_applied h conn (Report number winner) results none b = report_book h number winner (game_in h number) results refl (winner_is h number winner none) b
 book_applied h conn other results none b = kept_nothing (after_by h (badge_of h conn) other) results (book_badge h (badge_of h conn) other results none b)
 
 book_judged : (h : Record) (e : HallEntry) (v : Option HallWhy) (results : List ℕ → List Won) → verdict h e ≡ v → IsKept h results → IsKept (after h e) (λ format. results format ++ won_at format v h e.cmd)

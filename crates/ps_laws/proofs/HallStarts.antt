@@ -23,7 +23,7 @@ use Rattle.ps_laws.proofs.HallEffects.{challenger}
 use Rattle.ps_laws.proofs.HallLegal.{accept_legal}
 use Rattle.ps_laws.proofs.HallTidy.{IsTidy, tidy_first, run_tidy, team_kept}
 
-start_there : (h : Record) (format name : List ℕ) (k : Option KeptTeam) (legal : Legal) → is_some k ≡ true → is_some (start_if h format k name (Some legal)) ≡ true
+pub start_there : (h : Record) (format name : List ℕ) (k : Option KeptTeam) (legal : Legal) → is_some k ≡ true → is_some (start_if h format k name (Some legal)) ≡ true
 start_there h format name None legal there = absurd cc
 start_there h format name (Some k) legal there = refl
 

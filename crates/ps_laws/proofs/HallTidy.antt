@@ -68,7 +68,7 @@ any_at p test e es true b is kept none more = absurd cc
 any_at p test e es false true is kept none more = rw is (more none)
 any_at p test e es false false is kept none more = more none
 
-any_kept : (p test : Ends → Bool) (es : List Ends) → list_any p es ≡ false → list_any p (filter test es) ≡ false
+pub any_kept : (p test : Ends → Bool) (es : List Ends) → list_any p es ≡ false → list_any p (filter test es) ≡ false
 any_kept p test [] none = refl
 any_kept p test (e ∷ es) none = any_at p test e es (p e) (test e) refl refl none (any_kept p test es)
 

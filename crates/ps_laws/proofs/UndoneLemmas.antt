@@ -156,14 +156,18 @@ waits_by : (r : Record) (e : Entry) (choice : List ℕ) (rqid : Option ℕ) (f :
 waits_by r e choice rqid f is v none b (inl w) = waits_after r e choice rqid f is v b w
 waits_by r e choice rqid f is v none b (inr c) = absurd (let wrong : None ≡ Some _ = sym none ∙ round_at r e choice rqid f is v b ∙ c.round in cc)
 
-with_choice_in : (r : Record) (e : Entry) (choice : List ℕ) (rqid : Option ℕ) (fo : Option Fight) → e.cmd ≡ Choose choice rqid → verdict r e ≡ None → round_of r e ≡ None → r.battle ≡ fo → after r e ≡ with_choice r e choice rqid
-with_choice_in r e choice rqid None is v none b = chat_choice_after r e choice rqid is v b
-with_choice_in r e choice rqid (Some f) is v none b =
+-- what an allowed choice comes to in a battle
+pub does_in : (r : Record) (e : Entry) (choice : List ℕ) (rqid : Option ℕ) (f : Fight) → e.cmd ≡ Choose choice rqid → verdict r e ≡ None → r.battle ≡ Some f → Waits f (side_of_member f.cast (sender_of r e)) choice rqid ⊎ Completes f (side_of_member f.cast (sender_of r e)) choice rqid
+does_in r e choice rqid f is v b =
     let allowed : refusal_by_battle (Some f) (sender_of r e) (Choose choice rqid) ≡ None = ap (λ (fo : Option Fight). refusal_by_battle fo (sender_of r e) (Choose choice rqid)) (sym b) ∙ ap (refusal_by_battle r.battle (sender_of r e)) (sym is) ∙ battle_allows r e v in
-    waits_by r e choice rqid f is v none b (choice_does f (side_of_member f.cast (sender_of r e)) choice rqid (side_below f.cast (sender_of r e)) allowed)
+    choice_does f (side_of_member f.cast (sender_of r e)) choice rqid (side_below f.cast (sender_of r e)) allowed
+
+pub waits_in_room : (r : Record) (e : Entry) (choice : List ℕ) (rqid : Option ℕ) (fo : Option Fight) → e.cmd ≡ Choose choice rqid → verdict r e ≡ None → round_of r e ≡ None → r.battle ≡ fo → after r e ≡ with_choice r e choice rqid
+waits_in_room r e choice rqid None is v none b = chat_choice_after r e choice rqid is v b
+waits_in_room r e choice rqid (Some f) is v none b = waits_by r e choice rqid f is v none b (does_in r e choice rqid f is v b)
 
 pub undone_leaves_nothing : UndoneLeavesNothing
 undone_leaves_nothing r e u choice rqid chooses undoes same v none w =
-    let waits : after r e ≡ with_choice r e choice rqid = with_choice_in r e choice rqid r.battle chooses v none refl in
+    let waits : after r e ≡ with_choice r e choice rqid = waits_in_room r e choice rqid r.battle chooses v none refl in
     ap (λ (x : Record). after x u) waits
     ∙ undone_in r e u choice rqid r.battle chooses undoes same v (sym (ap (λ (x : Record). verdict x u) waits) ∙ w) refl

@@ -36,7 +36,8 @@ use Rattle.ps_laws.proofs.PartLemmas.{PlaysOwn, side_below, is_choice, verdict_o
 use Rattle.ps_laws.proofs.ItemLemmas.{put_choice, waiting_in, waiting_fight}
 use Rattle.ps_laws.proofs.StepLemmas.{round_none, round_at, chat_choice_round}
 use Rattle.ps_laws.proofs.OtherLemmas.{PlaysOther, fight_waiting_other, undone_other, undo_after}
-use Rattle.ps_laws.proofs.FirstLemmas.{choose_in, free_after, free_items, part_user, part_own, part_kept, waits_in_room, other_items, away, no_user, later_same}
+use Rattle.ps_laws.proofs.UndoneLemmas.{waits_in_room}
+use Rattle.ps_laws.proofs.FirstLemmas.{choose_in, free_after, free_items, part_user, part_own, part_kept, other_items, away, no_user, later_same}
 
 -- ---- a room without what waits of one side
 

@@ -1,6 +1,6 @@
 -- What a player asks for stands for the same choice in two battles that differ in places that are hidden, where it asks by name for no move
 -- of such a slot.
-use Rattle.std.proofs.Common.{◌≡◌, ◌⊎◌, ℕ, zero, suc, ◌<◌, ◌-◌, Bool, true, false, cond, ◌&&◌, ◌||◌, List, take, drop, position, Option, Some, None, Result, Err, is_some, not, nat_lt, get_or, refl, ap, ◌∙◌, sym, subst, inl, inr, arith}
+use Rattle.std.proofs.Common.{◌≡◌, ◌⊎◌, ℕ, ◌<◌, ◌-◌, Bool, true, false, cond, ◌&&◌, ◌||◌, List, take, drop, position, Option, Some, None, Result, Err, is_some, not, nat_lt, get_or, refl, ap, ◌∙◌, sym, subst, inl, inr, arith}
 use Rattle.std.proofs.lemmas.Bool.Decides.{leb_tells, nat_tests}
 use Rattle.std.specs.Prelude.{◌==◌, codes}
 use Rattle.std.specs.Str.{bytes_eq}
@@ -32,9 +32,11 @@ use Rattle.battle_rounds.specs.declared.bout.Bout.{Bout}
 use Rattle.battle_rounds.specs.Bouts.{waiting}
 use Rattle.battle_rounds.specs.Refusals.{with_why, is_stale, choice_in, chosen}
 use Rattle.battle_secrecy.specs.Places.{Hidden}
-use Rattle.battle_secrecy.specs.Alike.{AreSlotsAlike, AreSidesAlike, AreSidesAlikeUnsent, IsUnsent, AreActiveShown, AreBattlesAlike}
+use Rattle.battle_secrecy.specs.Alike.{AreSlotsAlike, AreSidesAlike, IsUnsent, AreActiveShown, AreBattlesAlike}
+use Rattle.battle_secrecy.proofs.OrderLemmas.{sides_sent}
 use Rattle.battle_secrecy.proofs.SideLemmas.{stands, stands_spares, member_agrees, index_alike, active_alike, count_alike, pp_alike, ready_at_alike}
 use Rattle.ps_laws.specs.Alike.{AreBoutsAlike}
+use Rattle.ps_laws.proofs.TwinSideLemmas.{waiting_same}
 use Rattle.ps_laws.specs.Secrets.{named_in}
 
 -- ---- members
@@ -355,9 +357,6 @@ pub record AreBattlesTwins (P Q : Hidden) (a b : Battle) : Type 0 where
   pub members : (s k : ℕ) → P.member s k ≡ Q.member s k
   pub slots : (s k j : ℕ) → P.slot s k j ≡ Q.slot s k j
 
-sent_side : (member : ℕ → Bool) (slot : ℕ → ℕ → Bool) (move : ℕ → ℕ → ℕ) (a b : SideState) → member (active_index a) ≡ false → AreSidesAlikeUnsent member slot move a b → AreSidesAlike member slot move a b
-sent_side member slot move a b active w = record { first = w.first; second = w.second; count = w.count; order = w.order; vol = w.vol; active = active; members = w.members; long = w.long; rest = w.rest }
-
 active_shown : (hidden : Hidden) (b : Battle) → IsSent b.phase → (IsUnsent b.phase ⊎ AreActiveShown hidden b) → AreActiveShown hidden b
 active_shown hidden b sent (inr shown) = shown
 active_shown hidden b sent (inl unsent) = absurd (both b.phase sent unsent) where
@@ -374,8 +373,8 @@ sides_twins P Q a b s lt sent t =
     let shown = active_shown P a sent t.one.active in
     let shown_too = active_shown Q b sent_too t.two.active in
     record {
-      one = sent_side (P.member s) (P.slot s) (P.move s) (side_of a s) (side_of b s) (shown s lt) (t.one.sides s lt);
-      two = sent_side (Q.member s) (Q.slot s) (Q.move s) (side_of b s) (side_of a s) (shown_too s lt) (t.two.sides s lt);
+      one = sides_sent (P.member s) (P.slot s) (P.move s) (side_of a s) (side_of b s) (shown s lt) (t.one.sides s lt);
+      two = sides_sent (Q.member s) (Q.slot s) (Q.move s) (side_of b s) (side_of a s) (shown_too s lt) (t.two.sides s lt);
       slots = t.slots s;
     }
 
@@ -405,10 +404,6 @@ asked_chosen : (asked : Bool) (waits : Option Choice) (round : ℕ) (number : Op
 asked_chosen true waits round number x y same = ap (chosen_from true waits round number) (same refl)
 asked_chosen false waits round number x y same = refl
 
-waits_same : (places : Hidden) (a b : Bout) (s : ℕ) → AreBoutsAlike places a b → waiting a s ≡ waiting b s
-waits_same places a b zero w = w.first
-waits_same places a b (suc s) w = w.second
-
 -- bouts that are alike both ways
 pub record AreBoutsTwins (P Q : Hidden) (a b : Bout) : Type 0 where
   pub one : AreBoutsAlike P a b
@@ -425,6 +420,6 @@ chosen_twins P Q a b s dex text number lt t past =
     chosen_is a s dex text number
     ∙ asked_chosen (is_asked a.battle.phase s) (waiting a s) a.round number one two (λ asked. choice_in_same P Q a.battle b.battle s dex (want_in text) lt asked battles past)
     ∙ ap (λ (x : Phase). chosen_from (is_asked x s) (waiting a s) a.round number two) t.one.battle.phase
-    ∙ ap (λ (x : Option Choice). chosen_from (is_asked b.battle.phase s) x a.round number two) (waits_same P a b s t.one)
+    ∙ ap (λ (x : Option Choice). chosen_from (is_asked b.battle.phase s) x a.round number two) (waiting_same P a b s t.one)
     ∙ ap (λ (x : ℕ). chosen_from (is_asked b.battle.phase s) (waiting b s) x number two) t.one.round
     ∙ sym (chosen_is b s dex text number)
