@@ -7,7 +7,8 @@ use Rattle.ps_base.specs.Ids.{id_of}
 use Rattle.ps_base.specs.declared.badge.Badge.{Badge}
 use Rattle.ps_base.specs.declared.hall_why.HallWhy.{HallWhy}
 use Rattle.ps_lines.specs.declared.command.HallCmd.{HallCmd}
-use Rattle.ps_lines.specs.declared.command.HallCmd.TheVariants.{Open, Quit, Bad, Name, Team, Search, CancelSearch, Challenge, CancelChallenge, Reject, Accept, Whisper, Block, Unblock, Rank, Report}
+use Rattle.ps_lines.specs.declared.command.HallCmd.TheVariants.{Open, Quit, Bad, Name, Team, Search, CancelSearch, Rank, Report}
+use Rattle.ps_lines.specs.declared.command.HallCmd.TheVariants.{Challenge, CancelChallenge, Reject, Accept, Whisper, Block, Unblock}
 use Rattle.rules_start.specs.declared.start.Start.{Start}
 use Rattle.ps_users.specs.Refusals.{read_of}
 use Rattle.ps_pms.specs.Lookups.{asked_by}

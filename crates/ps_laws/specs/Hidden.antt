@@ -50,7 +50,8 @@ is_chosen s k j r = active_index (side_of r.before s) == k && names_slot j (choi
 -- whether an event of a round shows the slot: its move was used by its member or named by an event of its member, or Mimic or
 -- Transform copied it
 abbrev pub is_told : Start → ℕ → ℕ → ℕ → Round → Bool
-is_told st s k j r = shows_one s k (active_index (side_of r.after s) == k) (slot_of (member_in st s k) j).mv (forms r.before r.first r.second s k) r.told
+is_told st s k j r =
+    shows_one s k (active_index (side_of r.after s) == k) (slot_of (member_in st s k) j).mv (forms r.before r.first r.second s k) r.told
 
 abbrev pub is_slot_shown : Start → ℕ → ℕ → ℕ → Round → Bool
 is_slot_shown st s k j r = is_chosen s k j r || is_told st s k j r

@@ -102,12 +102,20 @@ pub record AreSame (conn : ℕ) (one two : Story) : Type 0 where
 -- In a chat room an entry that has no item where it stands may as well be missing: the story with it and the story without it are
 -- the same to the connection.
 abbrev pub UnshownMayBeMissing : Type 0
-UnshownMayBeMissing = (conn : ℕ) (o : Opening) (before : List Entry) (e : Entry) (later : List Entry) → o.battle ≡ None → items_of conn (users conn (story o (before ++ later))) (run_record (opened o) before) e ≡ [] → AreSame conn (story o (before ++ e ∷ later)) (story o (before ++ later))
+UnshownMayBeMissing = (conn : ℕ) (o : Opening) (before : List Entry) (e : Entry) (later : List Entry) → o.battle ≡ None
+    → items_of conn (users conn (story o (before ++ later))) (run_record (opened o) before) e ≡ []
+    → AreSame conn (story o (before ++ e ∷ later)) (story o (before ++ later))
 
 -- In every room so may entries that have no items where they stand, and together leave the record as it was.
 abbrev pub IdleMayBeMissing : Type 0
-IdleMayBeMissing = (conn : ℕ) (o : Opening) (before es later : List Entry) → IsFitOpening o → low_from conn (users conn (story o (before ++ later))) (run_record (opened o) before) es ≡ [] → run_record (run_record (opened o) before) es ≡ run_record (opened o) before → AreSame conn (story o (before ++ (es ++ later))) (story o (before ++ later))
+IdleMayBeMissing = (conn : ℕ) (o : Opening) (before es later : List Entry) → IsFitOpening o
+    → low_from conn (users conn (story o (before ++ later))) (run_record (opened o) before) es ≡ []
+    → run_record (run_record (opened o) before) es ≡ run_record (opened o) before
+    → AreSame conn (story o (before ++ (es ++ later))) (story o (before ++ later))
 
 -- A choice that waits and is taken back at once leaves the record as it was.
 abbrev pub UndoneLeavesNothing : Type 0
-UndoneLeavesNothing = (r : Record) (e u : Entry) (choice : List ℕ) (rqid : Option ℕ) → e.cmd ≡ Choose choice rqid → u.cmd ≡ Undo → u.conn ≡ e.conn → verdict r e ≡ None → round_of r e ≡ None → verdict (after r e) u ≡ None → after (after r e) u ≡ r
+UndoneLeavesNothing = (r : Record) (e u : Entry) (choice : List ℕ) (rqid : Option ℕ)
+    → e.cmd ≡ Choose choice rqid → u.cmd ≡ Undo → u.conn ≡ e.conn
+    → verdict r e ≡ None → round_of r e ≡ None → verdict (after r e) u ≡ None
+    → after (after r e) u ≡ r

@@ -1,6 +1,7 @@
 //! What may differ that a connection isn't told: each law says it of two worlds, as equality of what the
 //! connection is sent over them. Its premises are of the world alone.
-ghost use Rattle.ps_laws.specs.Secrets.{MembersMayDiffer, SlotsMayDiffer, ChoicesMayBeMissing, ChoicesMayDiffer, OrderMayDiffer, OrderIsUnseen, NotesMayBeMissing, NotesMayDiffer};
+ghost use Rattle.ps_laws.specs.Secrets.{MembersMayDiffer, SlotsMayDiffer, ChoicesMayBeMissing, ChoicesMayDiffer};
+ghost use Rattle.ps_laws.specs.Secrets.{OrderMayDiffer, OrderIsUnseen, NotesMayBeMissing, NotesMayDiffer};
 ghost use Rattle.ps_laws.specs.HallSecrets.{WhispersMayBeMissing, WhispersMayDiffer};
 
 use ps_base::number::ConnNo;
