@@ -274,7 +274,7 @@ fn add_words(alloc: Global, names: &mut Vec<Text>, words: &[&str]) -> Result<(),
     Ok(())
 }
 
-fn add_clauses(alloc: Global, names: &mut Vec<Text>) -> Result<(), AllocError> {
+pub(crate) fn add_clauses(alloc: Global, names: &mut Vec<Text>) -> Result<(), AllocError> {
     for clause in CLAUSES {
         names.push(Text::copy_of(alloc, clause.name())?)?;
     }

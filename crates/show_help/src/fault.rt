@@ -1,6 +1,6 @@
 //! Where a file isn't in its form, as a person looks it up.
 use crate::data_file::{DataFile, open_bytes, open_text, open_value};
-use crate::expected::{expected, names_for, pattern_of};
+use crate::expected::{add_clauses, expected, names_for, pattern_of};
 use file_help::page::{Row, Section, listed, row_of, section_of};
 use json_place::excerpt::{Place, byte_of, excerpt, has_star_before, place_of, text_at};
 use json_place::keys::{Note, of_config, of_dex};
@@ -157,22 +157,54 @@ fn is_rule(alloc: Global, rule: &str, names: &BTreeMap<String, ()>) -> Result<bo
     Ok(names.get(id.as_str()).is_some())
 }
 
-// The first text of a list that is neither a clause nor a ruleset.
+// Whether a text may stand in a list of rules: a clause or a ruleset, or `!` and a clause.
+fn can_stand(
+    alloc: Global,
+    rule: &str,
+    names: &BTreeMap<String, ()>,
+    clauses: &BTreeMap<String, ()>,
+) -> Result<bool, AllocError> {
+    if rule.starts_with('!') {
+        is_rule(alloc, rule, clauses)
+    } else {
+        is_rule(alloc, rule, names)
+    }
+}
+
+// The first text of a list that can't stand in it.
 fn wrong_rule<'a>(
     alloc: Global,
     rules: Option<&'a Value>,
     names: &BTreeMap<String, ()>,
+    clauses: &BTreeMap<String, ()>,
 ) -> Result<Option<&'a str>, AllocError> {
     if let Some(rules) = rules.and_then(Value::as_array) {
         for rule in rules {
             if let Some(rule) = rule.as_str() {
-                if !is_rule(alloc, rule, names)? {
+                if !can_stand(alloc, rule, names, clauses)? {
                     return Ok(Some(rule));
                 }
             }
         }
     }
     Ok(None)
+}
+
+// A rule that can't stand, as it is told, and the nearest of those that can.
+fn push_wrong_rule(
+    alloc: Global,
+    rows: &mut Vec<Row>,
+    told: &str,
+    rule: &str,
+    names: &[Text],
+    clauses: &[Text],
+) -> Result<(), AllocError> {
+    rows.push(text_row(alloc, "at fault", told)?)?;
+    if rule.starts_with('!') {
+        push_nearest(alloc, rows, rule, clauses)
+    } else {
+        push_nearest(alloc, rows, rule, names)
+    }
 }
 
 fn id_names(alloc: Global, names: &[Text]) -> Result<BTreeMap<String, ()>, AllocError> {
@@ -290,19 +322,20 @@ fn push_rule(
         return Ok(());
     }
     let ids = id_names(alloc, names)?;
-    if let Some(rule) = wrong_rule(alloc, own, &ids)? {
-        rows.push(text_row(alloc, "at fault", rule)?)?;
-        return push_nearest(alloc, rows, rule, names);
+    let mut clauses = Vec::new(alloc);
+    add_clauses(alloc, &mut clauses)?;
+    let clause_ids = id_names(alloc, &clauses)?;
+    if let Some(rule) = wrong_rule(alloc, own, &ids, &clause_ids)? {
+        return push_wrong_rule(alloc, rows, rule, rule, names, &clauses);
     }
     if let Some(sets) = config
         .and_then(|v| v.get("rulesets"))
         .and_then(Value::as_object)
     {
         for (key, rules) in sets {
-            if let Some(rule) = wrong_rule(alloc, Some(rules), &ids)? {
+            if let Some(rule) = wrong_rule(alloc, Some(rules), &ids, &clause_ids)? {
                 let told = format!(in alloc; "{rule}, in the ruleset {key}")?;
-                rows.push(text_row(alloc, "at fault", told.as_str())?)?;
-                return push_nearest(alloc, rows, rule, names);
+                return push_wrong_rule(alloc, rows, told.as_str(), rule, names, &clauses);
             }
         }
     }
