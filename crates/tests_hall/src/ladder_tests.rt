@@ -1,18 +1,9 @@
-//! Ratings and searches.
+//! Ratings that are far apart, which takes more battles than a script should have.
 use crate::made;
-use ps_base::id::Id;
 use ps_ladder::gain::gain_of;
-use ps_ladder::ladder::Ladder;
 use ps_ladder::searches::{AddFault, Found, Searches};
 use std::alloc::{AllocError, Global};
 use std::process::Abort;
-
-/// Who wins against whom, in order, and the new ratings of both.
-const RESULTS: &[(&str, &str, (i32, i32))] = &[
-    ("ann", "bob", (1016, 984)),
-    ("bob", "ann", (1001, 999)),
-    ("cy", "ann", (1016, 983)),
-];
 
 /// Who searches a format at a rating, in order, and what it learns.
 const SEARCHES: &[(&str, &str, i32, &str)] = &[
@@ -24,51 +15,6 @@ const SEARCHES: &[(&str, &str, i32, &str)] = &[
     ("eve", "ou", 1601, "bob 1301"),
     ("ann", "ou", 1000, "waits"),
 ];
-
-/// The new ratings of both, and the winner's as the ladder tells it then.
-fn settle(
-    rt: &impl Abort,
-    alloc: Global,
-    ladder: &mut Ladder,
-    winner: &Id,
-    loser: &Id,
-) -> Option<((i32, i32), i32)> {
-    if ladder.count() < 10 && winner.as_str() != loser.as_str() {
-        let new = ladder.settle(alloc, winner, loser).expect(rt, "memory");
-        return Some((new, ladder.rating(winner)));
-    }
-    None
-}
-
-fn settle_named(
-    rt: &impl Abort,
-    alloc: Global,
-    ladder: &mut Ladder,
-    winner: &str,
-    loser: &str,
-) -> Option<((i32, i32), i32)> {
-    let winner = made::id(rt, alloc, winner);
-    let loser = made::id(rt, alloc, loser);
-    settle(rt, alloc, ladder, &winner, &loser)
-}
-
-fn settle_all(rt: &impl Abort, alloc: Global, ladder: &mut Ladder) {
-    for (winner, loser, wanted) in RESULTS {
-        let told = settle_named(rt, alloc, ladder, winner, loser);
-        assert_eq!(rt; told, Some((*wanted, wanted.0)));
-    }
-}
-
-fn assert_count(rt: &impl Abort, ladder: &Ladder, wanted: u32) {
-    assert_eq!(rt; ladder.count(), wanted);
-}
-
-#[test]
-fn results(rt: HostRuntime) {
-    let mut ladder = Ladder::new(rt.alloc());
-    settle_all(&rt, rt.alloc(), &mut ladder);
-    assert_count(&rt, &ladder, 3);
-}
 
 /// A rating far above, one far below, and what it gains.
 const GAINS: &[(i32, i32, i32)] = &[(1400, 1000, 2), (1000, 1400, 29), (-50, -50, 16)];

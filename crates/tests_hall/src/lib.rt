@@ -1,26 +1,15 @@
-//! Tests of the hall and of what it stands on, worked by hand: files, formats, teams, names, challenges and searches, and the
-//! texts of a connection. It has tests alone, and no crate stands on it.
+//! Tests of what no run of the program shows: the numbers of a dex file's effects, ratings that are far apart, very many rooms, and
+//! starts of battles that no hall makes. What it shows of files, formats, teams, names, challenges and searches is in `data/cases`,
+//! and in the run of `psd`. It has tests alone, and no crate stands on it.
 #![tactic(auto)]
 
 #[cfg(test)]
-mod config_tests;
-#[cfg(test)]
 mod dex_tests;
-#[cfg(test)]
-mod hall_tests;
 #[cfg(test)]
 mod ladder_tests;
 #[cfg(test)]
 mod made;
 #[cfg(test)]
-mod pms_tests;
-#[cfg(test)]
-mod rules_tests;
-#[cfg(test)]
 mod session_tests;
 #[cfg(test)]
 mod start_tests;
-#[cfg(test)]
-mod team_tests;
-#[cfg(test)]
-mod users_tests;

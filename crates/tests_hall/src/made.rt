@@ -2,8 +2,6 @@
 //! makes the proof of that caller longer, and no test needs it.
 use ps_base::id::{Id, to_id};
 use ps_dex::dex::Dex;
-use ps_lines::command::{HallCmd, Parsed};
-use ps_lines::read::read_command;
 use rules_config::config::Config;
 use std::alloc::{AllocError, Global};
 use std::process::Abort;
@@ -31,26 +29,6 @@ pub(crate) fn set_up(rt: &impl Abort, alloc: Global, dex_text: &str, config_text
     let dex = dex(rt, alloc, dex_text);
     let config = config(rt, alloc, &dex, config_text);
     Setup { dex, config }
-}
-
-fn parsed(rt: &impl Abort, alloc: Global, text: &str) -> Parsed {
-    read_command(alloc, text).expect(rt, "a command")
-}
-
-fn written_command(rt: &impl Abort, alloc: Global, text: &str) -> HallCmd {
-    match parsed(rt, alloc, text) {
-        Parsed::Hall(cmd) => cmd,
-        Parsed::Room(_) => HallCmd::Open,
-    }
-}
-
-/// What a connection does: `+` opens it, `-` closes it, and else the text is a command.
-pub(crate) fn command(rt: &impl Abort, alloc: Global, text: &str) -> HallCmd {
-    match text {
-        "+" => HallCmd::Open,
-        "-" => HallCmd::Quit,
-        _ => written_command(rt, alloc, text),
-    }
 }
 
 /// Three texts behind each other.

@@ -1,6 +1,5 @@
 //! Two scripts whose worlds of a place are the same to a connection give it the same lines from there.
-use crate::runs::{lines_of, replayed};
-use crate::world_tests::written;
+use crate::runs::{lines_of, replayed, written};
 use std::alloc::{AllocError, Global};
 use std::process::Abort;
 use std::test::Fail;

@@ -7,7 +7,7 @@ use ps_outside::sink::{MemSink, Sink};
 use ps_outside::source::{MemSource, Source, SureSource};
 use ps_replay::run::run;
 use std::alloc::{AllocError, Global};
-use test_data::{SMALL_CONFIG, SMALL_DEX};
+use test_data::SMALL_DEX;
 
 /// How a run ends, and nothing of what else it promises: a test compares what was written with a text, and the proofs of
 /// its functions stay small.
@@ -65,7 +65,7 @@ pub(crate) fn two_files(
 }
 
 /// How a replay by these words ends over the files `dex` and `config`, and what is written.
-pub(crate) fn replayed_by(
+fn replayed_by(
     alloc: Global,
     words: &[&str],
     dex: &str,
@@ -80,12 +80,20 @@ pub(crate) fn replayed_by(
     Ok((told(alloc, &status)?, sink.bytes().to_vec(alloc)?))
 }
 
-/// How a command with the files `dex` and `config` ends, and what it writes, while a script waits in the input.
-pub(crate) fn told_by(alloc: Global, words: &[&str]) -> Result<String, AllocError> {
-    let script = String::from_str(alloc, "+1\n")?;
-    let (status, bytes) = replayed_by(alloc, words, SMALL_DEX, SMALL_CONFIG, script)?;
-    let text = std::str::from_utf8(&bytes).unwrap_or("?");
-    format!(in alloc; "{status}\n{text}")
+fn script_of(alloc: Global, parts: &[&str]) -> Result<String, AllocError> {
+    let mut script = String::new(alloc);
+    for part in parts {
+        script.push_str(part)?;
+    }
+    Ok(script)
+}
+
+/// What is written for the parts of a script, under the small dex and a configuration.
+pub(crate) fn written(alloc: Global, config: &str, parts: &[&str]) -> Result<Vec<u8>, AllocError> {
+    let words = ["replay", "--dex", "dex", "--config", "config"];
+    let script = script_of(alloc, parts)?;
+    let (_, bytes) = replayed_by(alloc, &words, SMALL_DEX, config, script)?;
+    Ok(bytes)
 }
 
 /// The lines of a connection, by the digit that they begin with.
@@ -94,19 +102,6 @@ pub(crate) fn lines_of(alloc: Global, bytes: &[u8], conn: char) -> Result<String
     let text = std::str::from_utf8(bytes).unwrap_or("");
     for line in text.lines() {
         if line.starts_with(conn) {
-            lines.push_str(line)?;
-            lines.push_str("\n")?;
-        }
-    }
-    Ok(lines)
-}
-
-/// The lines that tell a refusal, to whomever.
-pub(crate) fn refusals_in(alloc: Global, bytes: &[u8]) -> Result<String, AllocError> {
-    let mut lines = String::new(alloc);
-    let text = std::str::from_utf8(bytes).unwrap_or("");
-    for line in text.lines() {
-        if line.contains("|popup|[") || line.contains("|error|[") {
             lines.push_str(line)?;
             lines.push_str("\n")?;
         }
