@@ -35,6 +35,3 @@ pub const ONE_MOVE_DEX: &str = r#"{"types":[{"name":"Normal","special":false}],
 
 /// Tauros with its first four moves of the small dex, as a packed team.
 pub const TAUROS_TEAM: &str = "Tauros||||bodyslam,hyperbeam,blizzard,earthquake|||||||";
-
-/// Snorlax with two of its moves of the small dex, as a packed team.
-pub const SNORLAX_TEAM: &str = "Snorlax||||bodyslam,rest|||||||";

@@ -40,7 +40,7 @@ pub fn say(alloc: Global, hub: &Hub, passes: &mut Passes, text: &str) -> Option<
 }
 
 /// One text to a room, by a connection that has a name; None if the text is no command of a room, or if memory runs out.
-pub fn say_at(
+fn say_at(
     alloc: Global,
     hub: &Hub,
     passes: &mut Passes,
@@ -81,7 +81,7 @@ fn is_held(pass: &RoomPass, id: &str) -> bool
 }
 
 /// Whether the first of the connection's passes of rooms holds this one.
-pub fn holds(passes: &Passes, id: &str) -> bool
+fn holds(passes: &Passes, id: &str) -> bool
     ensures { IsTrue result → IsHeldBy (Some id.now) passes.now }
 {
     match passes.rooms.first() {
