@@ -3,7 +3,7 @@ use ps_base::list::List;
 use ps_base::number::{ConnNo, Moment};
 use ps_hub::hub::Hub;
 use ps_outside::clock::MemClock;
-use ps_outside::link::{Arrival, Link, SentText};
+use ps_outside::link::{Arrival, Link};
 use ps_serve::closed::{Closed, End};
 use ps_serve::session::serve_session;
 use std::alloc::Global;
@@ -108,14 +108,4 @@ pub(crate) fn inbox_of(rt: &impl Abort, alloc: Global, texts: &[&str]) -> Vec<Ar
         push_text(rt, alloc, &mut inbox, text.as_bytes());
     }
     inbox
-}
-
-/// Whether a text that begins so was sent.
-pub(crate) fn was_sent(sent: &[SentText], begin: &str) -> bool {
-    for text in sent {
-        if text.text.as_str().starts_with(begin) {
-            return true;
-        }
-    }
-    false
 }

@@ -1,5 +1,5 @@
-//! Tests of whole servers: links in memory that wait for each other, doors that fail, and a client over a socket. It has tests
-//! alone, and no crate stands on it.
+//! Tests of whole servers: links in memory that wait for each other, and doors that fail. A server of the built program and its
+//! clients are in `data/cases/server.talk`. It has tests alone, and no crate stands on it.
 #![tactic(auto)]
 
 #[cfg(test)]
@@ -12,5 +12,3 @@ mod gate;
 mod gate_tests;
 #[cfg(test)]
 mod served;
-#[cfg(test)]
-mod socket_tests;

@@ -12,19 +12,14 @@ use std::process::Abort;
 use std::sync::Wait;
 use std::thread::Threads;
 
-/// The words of a server at an address, of so many links.
-pub(crate) fn words_at(rt: &impl Abort, alloc: Global, address: &str, count: &str) -> Vec<String> {
+/// The words of a server of so many links, whose door is in memory.
+pub(crate) fn words(rt: &impl Abort, alloc: Global, count: &str) -> Vec<String> {
     let mut words = Vec::new(alloc);
-    for word in ["serve", address, count] {
+    for word in ["serve", "127.0.0.1:0", count] {
         let word = String::from_str(alloc, word).expect(rt, "memory");
         words.push(word).expect(rt, "memory");
     }
     words
-}
-
-/// The words of a server of so many links, whose door is in memory.
-pub(crate) fn words(rt: &impl Abort, alloc: Global, count: &str) -> Vec<String> {
-    words_at(rt, alloc, "127.0.0.1:0", count)
 }
 
 /// How a server ends that has no files.
