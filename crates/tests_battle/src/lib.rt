@@ -1,11 +1,9 @@
-//! Tests of battles, worked by hand: numbers, turns, the effects of moves, choices, requests, and the lines of events. It has tests
-//! alone, and no crate stands on it.
+//! Tests of battles, worked by hand: numbers, the effects of moves, choices, requests, and the lines of events. Openings, plain turns
+//! and ends are in the run of `psd`. It has tests alone, and no crate stands on it.
 #![tactic(auto)]
 
 #[cfg(test)]
 mod arena;
-#[cfg(test)]
-mod battle_tests;
 #[cfg(test)]
 mod calc_tests;
 #[cfg(test)]

@@ -38,27 +38,6 @@ fn request_of_ann(rt: &impl Abort, alloc: Global, dex: &Dex, steps: Steps) -> St
     request_of(rt, alloc, dex, steps, names, 0, 7)
 }
 
-/// Bob's request in round 1.
-fn request_of_bob(rt: &impl Abort, alloc: Global, dex: &Dex) -> String {
-    let nicks = nicks(rt, alloc, &["Snorlax"]);
-    let names = SideNames {
-        player: "Bob",
-        nicks: nicks.as_slice(),
-    };
-    request_of(rt, alloc, dex, FRESH, names, 1, 1)
-}
-
-const OF_BOB: &str =
-    r#"{"active":[{"moves":[{"disabled":false,"id":"bodyslam","maxpp":24,"move":"Body Slam","pp":24},{"disabled":false,"id":"rest","maxpp":16,"move":"Rest","pp":16}]}],"rqid":1,"side":{"id":"p2","name":"Bob","pokemon":[{"active":true,"condition":"523/523","details":"Snorlax","ident":"p2: Snorlax","moves":["bodyslam","rest"],"stats":{"atk":318,"def":228,"spa":228,"spd":228,"spe":158}}]}}"#;
-
-#[test]
-fn request_of_the_first_turn(rt: HostRuntime) -> Result<(), Fail> {
-    let dex = small_dex(&rt, rt.alloc());
-    let text = request_of_bob(&rt, rt.alloc(), &dex);
-    assert_eq!(rt; text.as_str(), OF_BOB);
-    Ok(())
-}
-
 /// A request in parts.
 type Parts = &'static [&'static str];
 
