@@ -125,7 +125,7 @@ fn can_choose(battle: &Battle, side: u8, choice: Choice) -> bool
 pub(crate) type Turn = (Choice, Choice);
 
 /// The events of a turn; None where one of the choices can't be.
-pub(crate) fn next(battle: &mut Battle, facts: Facts<'_>, turn: Turn) -> Option<Events>
+fn next(battle: &mut Battle, facts: Facts<'_>, turn: Turn) -> Option<Events>
     requires valid { IsValid battle.old }
     requires fair { AreFair (figures facts) }
     requires known { AreKnown (move_count (figures facts)) battle.old }
