@@ -59,25 +59,25 @@ fn what_is_seen_does_change_lines(rt: HostRuntime) -> Result<(), Fail> {
     Ok(())
 }
 
-/// A third connection texts the lobby without being a member of it.
-const FROM_OUTSIDE: &str = ">3 lobby|hi\n>1 lobby|hi\n>3 lobby|/leave\n";
+/// Another connection texts the lobby without being a member of it.
+const FROM_OUTSIDE: &str = ">2 lobby|hi\n>1 lobby|hi\n>2 lobby|/leave\n";
 
-const NOT_MEMBER: &str = "3< >lobby\n3. |error|[NotMember]\n3< >lobby\n3. |error|[NotMember]\n";
+const NOT_MEMBER: &str = "2< >lobby\n2. |error|[NotMember]\n2< >lobby\n2. |error|[NotMember]\n";
 
 #[test]
 fn the_name_of_who_is_no_member_changes_no_line_of_a_room(rt: HostRuntime) -> Result<(), Fail> {
     let alloc = rt.alloc();
     for name in ["Cat", "Dan"] {
-        let begin = "+1\n+3\n>1 |/trn Ann,0,\n>1 |/join lobby\n";
-        let named = format!(in alloc; "{begin}>3 |/trn {name},0,\n{FROM_OUTSIDE}")?;
+        let begin = "+1\n+2\n>1 |/trn Ann,0,\n>1 |/join lobby\n";
+        let named = format!(in alloc; "{begin}>2 |/trn {name},0,\n{FROM_OUTSIDE}")?;
         let bytes = replayed(alloc, named)?;
-        let lines = lines_of(alloc, &bytes, '3')?;
+        let lines = lines_of(alloc, &bytes, '2')?;
         assert!(rt; lines.ends_with(NOT_MEMBER), "{name}: {lines}");
         // By its name it joins.
-        let joins = format!(in alloc; "{begin}>3 |/trn {name},0,\n>3 |/join lobby\n")?;
+        let joins = format!(in alloc; "{begin}>2 |/trn {name},0,\n>2 |/join lobby\n")?;
         let bytes = replayed(alloc, joins)?;
-        let lines = lines_of(alloc, &bytes, '3')?;
-        let users = format!(in alloc; "3. |users|2, Ann, {name}\n")?;
+        let lines = lines_of(alloc, &bytes, '2')?;
+        let users = format!(in alloc; "2. |users|2, Ann, {name}\n")?;
         assert!(rt; lines.ends_with(users.as_str()), "{name}: {lines}");
     }
     Ok(())
