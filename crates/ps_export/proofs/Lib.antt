@@ -1,3 +1,4 @@
+pub mod JoinLemmas
 pub mod Spelling
 pub mod ReadLemmas
 pub mod Prints

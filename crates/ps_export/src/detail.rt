@@ -14,7 +14,7 @@ use ps_base::text::Text;
 use std::alloc::{AllocError, Global};
 
 /// A field of a packed set that such a line says.
-#[derive(Clone, Copy, Debug, PartialEq, Eq)]
+#[derive(Clone, Copy)]
 pub enum Key {
     Ability,
     Nature,
@@ -26,7 +26,7 @@ pub enum Key {
 }
 
 /// What a line says.
-#[derive(Debug, Drop)]
+#[derive(Drop)]
 pub enum Detail {
     /// The text of a field, as the canonical packed text has it.
     Said(Key, Text),

@@ -1,16 +1,15 @@
 //! A set in the making.
-ghost use Rattle.std.specs.Prelude.{◌≡◌, IfOk};
+ghost use Rattle.std.specs.Prelude.{◌≡◌, IfOk, OnOk, map};
 ghost use Rattle.std.specs.List.{join_with_byte};
 ghost use Rattle.ps_export.specs.Sheets.{drafted, say, with_move, with_detail, spoken, fields_of, set_text};
 
 use crate::detail::{Detail, Key};
-use crate::join::joined;
+use crate::join::fields_joined;
 use crate::part::is_nil;
 use ps_base::text::Text;
 use std::alloc::{AllocError, Global};
 
 /// What the lines of a set say so far: texts of the fields of its canonical packed text.
-#[derive(Debug, Drop)]
 pub struct Draft {
     pub nick: Text,
     pub species: Text,
@@ -25,6 +24,26 @@ pub struct Draft {
     pub shiny: Option<Text>,
     pub level: Option<Text>,
     pub misc: Option<Text>,
+}
+
+// By hand, so that whoever drops a draft has one step of its proof for that.
+impl Drop for Draft {
+    fn drop(self) {
+        let Draft {
+            nick: _,
+            species: _,
+            item: _,
+            gender: _,
+            moves: _,
+            ability: _,
+            nature: _,
+            evs: _,
+            ivs: _,
+            shiny: _,
+            level: _,
+            misc: _,
+        } = self;
+    }
 }
 
 /// The set of a first line.
@@ -106,16 +125,16 @@ fn say(draft: Draft, key: Key, text: Text) -> Option<Draft>
 }
 
 #[tactic(auto, unfolding(crate::specs::Sheets::with_move))]
-fn with_move(alloc: Global, moves: Text, id: Text) -> Result<Text, AllocError>
-    ensures { IfOk result (λ t. t ≡ with_move moves id) }
+fn put_move(moves: &mut Text, id: Text) -> Result<(), AllocError>
+    ensures { OnOk result (moves.new ≡ with_move moves.old id) }
 {
     if is_nil(moves.as_str()) {
-        return Ok(id);
+        *moves = id;
+        return Ok(());
     }
-    let mut moves = moves;
     moves.push_str(",")?;
     moves.push_str(id.as_str())?;
-    Ok(moves)
+    Ok(())
 }
 
 /// The set with a line's detail, if it may have that.
@@ -126,39 +145,39 @@ pub fn with_detail(alloc: Global, draft: Draft, detail: Detail) -> Result<Option
         Detail::Said(key, text) => Ok(say(draft, key, text)),
         Detail::Move(id) => {
             let mut draft = draft;
-            draft.moves = with_move(alloc, draft.moves, id)?;
+            put_move(&mut draft.moves, id)?;
             Ok(Some(draft))
         }
         Detail::Ignored => Ok(Some(draft)),
     }
 }
 
-fn spoken(alloc: Global, text: &Option<Text>) -> Result<Text, AllocError>
-    ensures { IfOk result (λ t. t ≡ spoken text.now) }
+fn spoken(text: &Option<Text>) -> &str
+    ensures { result.now ≡ spoken text.now }
 {
     match text {
-        None => Ok(Text::new(alloc)),
-        Some(text) => text.copy(alloc),
+        None => "",
+        Some(text) => text.as_str(),
     }
 }
 
-fn fields_of(alloc: Global, draft: &Draft) -> Result<[Text; 12], AllocError>
-    ensures { IfOk result (λ ts. ts ≡ fields_of draft.now) }
+fn fields_of(draft: &Draft) -> [&str; 12]
+    ensures { map (λ x. x.now) result ≡ fields_of draft.now }
 {
-    Ok([
-        draft.nick.copy(alloc)?,
-        draft.species.copy(alloc)?,
-        draft.item.copy(alloc)?,
-        spoken(alloc, &draft.ability)?,
-        draft.moves.copy(alloc)?,
-        spoken(alloc, &draft.nature)?,
-        spoken(alloc, &draft.evs)?,
-        draft.gender.copy(alloc)?,
-        spoken(alloc, &draft.ivs)?,
-        spoken(alloc, &draft.shiny)?,
-        spoken(alloc, &draft.level)?,
-        spoken(alloc, &draft.misc)?,
-    ])
+    [
+        draft.nick.as_str(),
+        draft.species.as_str(),
+        draft.item.as_str(),
+        spoken(&draft.ability),
+        draft.moves.as_str(),
+        spoken(&draft.nature),
+        spoken(&draft.evs),
+        draft.gender.as_str(),
+        spoken(&draft.ivs),
+        spoken(&draft.shiny),
+        spoken(&draft.level),
+        spoken(&draft.misc),
+    ]
 }
 
 /// The canonical packed text of the set.
@@ -166,6 +185,6 @@ fn fields_of(alloc: Global, draft: &Draft) -> Result<[Text; 12], AllocError>
 pub fn set_text(alloc: Global, draft: &Draft) -> Result<Text, AllocError>
     ensures { IfOk result (λ t. t ≡ set_text draft.now) }
 {
-    let fields = fields_of(alloc, draft)?;
-    joined(alloc, &fields, '|')
+    let fields = fields_of(draft);
+    fields_joined(alloc, &fields)
 }

@@ -11,7 +11,7 @@ use ps_base::text::Text;
 use std::alloc::{AllocError, Global};
 
 /// The fields of the names and the gender.
-#[derive(Debug, Drop)]
+#[derive(Drop)]
 struct Names {
     nick: Text,
     species: Text,

@@ -1,5 +1,5 @@
 //! Texts with a character between each two.
-ghost use Rattle.std.specs.Prelude.{◌≡◌, ◌∷◌, ◌<◌, IfOk};
+ghost use Rattle.std.specs.Prelude.{◌≡◌, ◌∷◌, ◌<◌, IfOk, map};
 ghost use Rattle.std.specs.List.{join_with_byte};
 
 use ps_base::text::Text;
@@ -15,6 +15,13 @@ fn joined_to(alloc: Global, first: &Text, rest: &[Text], between: char) -> Resul
         whole.push_str(text.as_str())?;
     }
     Ok(Text::from_string(whole))
+}
+
+/// The fields of a set, as a packed text has them.
+pub fn fields_joined(alloc: Global, fields: &[&str]) -> Result<Text, AllocError>
+    ensures { IfOk result (λ t. t ≡ join_with_byte 124 (map (λ x. x.now) fields.now)) }
+{
+    Ok(Text::from_string(fields.join(alloc, "|")?))
 }
 
 /// The texts with a character between each two.

@@ -12,7 +12,7 @@ use ps_base::text::Text;
 use std::alloc::{AllocError, Global};
 
 /// The packed text that lines spell, as far as they go.
-#[derive(Debug, Drop)]
+#[derive(Drop)]
 pub struct Sheet {
     /// That of the sets that are done.
     pub before: Text,
