@@ -24,7 +24,6 @@ pub enum ActKind {
 }
 
 /// What is kept of one entry of a room or of the hall.
-#[derive(Debug, Drop)]
 pub enum Note {
     /// A rated battle of this format was won.
     Won {
@@ -42,6 +41,27 @@ pub enum Note {
         rank: Option<char>,
         moment: Moment,
     },
+}
+
+// By hand, so that whoever drops a note has one step of its proof for that.
+impl Drop for Note {
+    fn drop(self) {
+        match self {
+            Note::Won {
+                format: _,
+                winner: _,
+                loser: _,
+            } => {}
+            Note::Act {
+                room: _,
+                actor: _,
+                kind: _,
+                target: _,
+                rank: _,
+                moment: _,
+            } => {}
+        }
+    }
 }
 
 impl Note {

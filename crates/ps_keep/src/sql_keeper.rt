@@ -53,10 +53,19 @@ fn open(alloc: Global, shelf: &Shelf<'_>, make: bool) -> Result<Option<Opened>, 
 }
 
 // A database, which is opened at the first call that needs it, and then held.
-#[derive(Drop)]
 struct Book<'a> {
     shelf: Shelf<'a>,
     opened: Option<Opened>,
+}
+
+// By hand, so that whoever drops a book has one step of its proof for that.
+impl Drop for Book<'_> {
+    fn drop(self) {
+        let Book {
+            shelf: _,
+            opened: _,
+        } = self;
+    }
 }
 
 impl Book<'_> {

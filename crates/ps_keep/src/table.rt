@@ -40,7 +40,7 @@ INSERT INTO notes (kind, room, actor, target, rank, moment)
 VALUES (?1, ?2, ?3, ?4, ?5, ?6)";
 
 /// Why a call on the table was refused.
-#[derive(Clone, Copy, Debug, PartialEq, Eq)]
+#[derive(Clone, Copy)]
 pub enum TableEnd {
     /// The database refused a statement, or has a row that is no note.
     Failed,
@@ -70,7 +70,7 @@ impl<T: Drop> From<AllocFailed<T>> for TableEnd {
 }
 
 /// What a load found.
-#[derive(Debug, Drop)]
+#[derive(Drop)]
 pub enum Loaded {
     /// All notes, the oldest first.
     Notes(Vec<Note>),

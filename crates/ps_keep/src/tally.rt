@@ -7,7 +7,7 @@ use crate::note::Note;
 use std::marker::Model;
 
 /// How often a call failed, and how often there were too many notes.
-#[derive(Debug, Drop)]
+#[derive(Drop)]
 pub(crate) struct Tally {
     faults: u64,
     full: u64,
