@@ -14,7 +14,7 @@ pub(crate) const MOST_CONFIG: u32 = 1_048_576;
 const SETUP: &[&str] = &["nonce", "seed", "seeds"];
 
 /// A file that may be read once more.
-#[derive(Clone, Copy, Debug)]
+#[derive(Clone, Copy)]
 pub(crate) struct DataFile<'a> {
     /// Its name, if one is named.
     pub(crate) name: Option<&'a str>,

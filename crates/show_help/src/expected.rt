@@ -1,5 +1,6 @@
 //! What was expected at a place, and the names that would have stood there.
 use crate::rules::CLAUSES;
+use crate::values::{list_under, object_under, text_under};
 use ps_base::text::Text;
 use serde_json::Value;
 use std::alloc::{AllocError, Global};
@@ -15,8 +16,8 @@ const PERMISSION: &str = "a text of the letters `u` (lower ranks), `s` (oneself)
 
 const SEED: &str = "a whole number from 0 to 18446744073709551615";
 
-/// What is expected at a place of a dex file, by its path without indexes.
-const IN_DEX: &[(&str, &str)] = &[
+/// What is expected at a place of a dex file, by its path without indexes: of types and factors.
+const AT_TYPES: &[(&str, &str)] = &[
     (
         "",
         "a JSON object with the keys `types`, `factors`, `moves`, `species` and `aliases`",
@@ -33,6 +34,10 @@ const IN_DEX: &[(&str, &str)] = &[
     ("factors[][0]", "the name of a type"),
     ("factors[][1]", "the name of a type"),
     ("factors[][2]", "0, 5, 10 or 20: the factor in tenths"),
+];
+
+/// Of moves.
+const AT_MOVES: &[(&str, &str)] = &[
     ("moves", "a list of at most 1,024 moves"),
     (
         "moves[]",
@@ -52,6 +57,10 @@ const IN_DEX: &[(&str, &str)] = &[
         "moves[].effect",
         "an object with `kind` and the fields of that kind",
     ),
+];
+
+/// Of a move's effect.
+const AT_EFFECTS: &[(&str, &str)] = &[
     ("moves[].effect.kind", "a kind of effect"),
     ("moves[].effect.amount", "a whole number from 1 to 713"),
     (
@@ -74,6 +83,10 @@ const IN_DEX: &[(&str, &str)] = &[
         "moves[].effect.sub",
         "`mimic`, `transform`, `metronome`, `mirrormove`, `conversion` or `disable`",
     ),
+];
+
+/// Of species and aliases.
+const AT_SPECIES: &[(&str, &str)] = &[
     ("species", "a list of at most 1,024 species"),
     (
         "species[]",
@@ -102,8 +115,8 @@ const IN_DEX: &[(&str, &str)] = &[
     ),
 ];
 
-/// The same of a configuration.
-const IN_CONFIG: &[(&str, &str)] = &[
+/// What is expected at a place of a configuration: of groups.
+const AT_GROUPS: &[(&str, &str)] = &[
     (
         "",
         "a JSON object with the keys `version`, `groups`, `staff`, `rooms`, `users`, `rulesets`, `formats`, `nonce`, `seed` and `seeds`",
@@ -128,6 +141,10 @@ const IN_CONFIG: &[(&str, &str)] = &[
         "groups[].permissions",
         "an object with some of `announce`, `modnote`, `warn`, `mute`, `ban`, `modchat` and `promote`",
     ),
+];
+
+/// Of a group's permissions.
+const AT_PERMISSIONS: &[(&str, &str)] = &[
     ("groups[].permissions.announce", PERMISSION),
     ("groups[].permissions.modnote", PERMISSION),
     ("groups[].permissions.warn", PERMISSION),
@@ -135,6 +152,10 @@ const IN_CONFIG: &[(&str, &str)] = &[
     ("groups[].permissions.ban", PERMISSION),
     ("groups[].permissions.modchat", PERMISSION),
     ("groups[].permissions.promote", PERMISSION),
+];
+
+/// Of rooms and users.
+const AT_ROOMS: &[(&str, &str)] = &[
     (
         "staff",
         "the symbol of a group; where it is missing, some group has `%`",
@@ -148,15 +169,10 @@ const IN_CONFIG: &[(&str, &str)] = &[
     ("users[].id", ID),
     ("users[].secret", "a text"),
     ("users[].group", "the symbol of a group"),
-    ("rulesets", "an object from ids to lists of rules"),
-    (
-        "rulesets.*",
-        "a list of rules; a key with letters or digits, whose id no key before has",
-    ),
-    (
-        "rulesets.*[]",
-        "a text: a clause, a ruleset, or `!` and a clause",
-    ),
+];
+
+/// Of formats.
+const AT_FORMATS: &[(&str, &str)] = &[
     ("formats", "a list of formats"),
     ("formats[]", "an object with `name`"),
     (
@@ -185,6 +201,19 @@ const IN_CONFIG: &[(&str, &str)] = &[
     ("formats[].levels", "a list of two levels, the lowest first"),
     ("formats[].levels[]", "a whole number from 1 to 100"),
     ("formats[].rated", "true or false"),
+];
+
+/// Of rulesets, and of what is drawn.
+const AT_RULESETS: &[(&str, &str)] = &[
+    ("rulesets", "an object from ids to lists of rules"),
+    (
+        "rulesets.*",
+        "a list of rules; a key with letters or digits, whose id no key before has",
+    ),
+    (
+        "rulesets.*[]",
+        "a text: a clause, a ruleset, or `!` and a clause",
+    ),
     ("nonce", "1 to 32 letters and digits"),
     ("seed", SEED),
     ("seeds", "a list of whole numbers"),
@@ -228,6 +257,15 @@ const KINDS: &[&str] = &[
     "nothing",
 ];
 
+const SUBS: &[&str] = &[
+    "mimic",
+    "transform",
+    "metronome",
+    "mirrormove",
+    "conversion",
+    "disable",
+];
+
 /// The path without the indexes of lists, but for those of a factor; a free key is a star.
 pub(crate) fn pattern_of(alloc: Global, path: &str) -> Result<String, AllocError> {
     let mut pattern = String::new(alloc);
@@ -256,15 +294,43 @@ pub(crate) fn pattern_of(alloc: Global, path: &str) -> Result<String, AllocError
     Ok(pattern)
 }
 
-/// What is expected at a place with this pattern, if anything may stand there.
-pub(crate) fn expected(is_dex: bool, pattern: &str) -> Option<&'static str> {
-    let table = if is_dex { IN_DEX } else { IN_CONFIG };
+fn found(table: &[(&str, &'static str)], pattern: &str) -> Option<&'static str> {
     for (place, what) in table {
         if *place == pattern {
             return Some(*what);
         }
     }
     None
+}
+
+// The first of the tables that has the place tells.
+fn found_in(tables: &[&[(&str, &'static str)]], pattern: &str) -> Option<&'static str> {
+    for table in tables {
+        if let Some(what) = found(table, pattern) {
+            return Some(what);
+        }
+    }
+    None
+}
+
+fn in_dex(pattern: &str) -> Option<&'static str> {
+    found_in(&[AT_TYPES, AT_MOVES, AT_EFFECTS, AT_SPECIES], pattern)
+}
+
+fn in_config(pattern: &str) -> Option<&'static str> {
+    found_in(
+        &[AT_GROUPS, AT_PERMISSIONS, AT_ROOMS, AT_RULESETS, AT_FORMATS],
+        pattern,
+    )
+}
+
+/// What is expected at a place with this pattern, if anything may stand there.
+pub(crate) fn expected(is_dex: bool, pattern: &str) -> Option<&'static str> {
+    if is_dex {
+        in_dex(pattern)
+    } else {
+        in_config(pattern)
+    }
 }
 
 fn add_words(alloc: Global, names: &mut Vec<Text>, words: &[&str]) -> Result<(), AllocError> {
@@ -289,9 +355,9 @@ fn add_list(
     list: &str,
     key: &str,
 ) -> Result<(), AllocError> {
-    if let Some(items) = value.and_then(|v| v.get(list)).and_then(Value::as_array) {
+    if let Some(items) = list_under(value, list) {
         for item in items {
-            if let Some(name) = item.get(key).and_then(Value::as_str) {
+            if let Some(name) = text_under(item, key) {
                 names.push(Text::copy_of(alloc, name)?)?;
             }
         }
@@ -305,12 +371,86 @@ fn add_keys(
     value: Option<&Value>,
     object: &str,
 ) -> Result<(), AllocError> {
-    if let Some(members) = value.and_then(|v| v.get(object)).and_then(Value::as_object) {
+    if let Some(members) = object_under(value, object) {
         for key in members.keys() {
             names.push(Text::copy_of(alloc, key.as_str())?)?;
         }
     }
     Ok(())
+}
+
+fn add_list_or_all_symbols(
+    alloc: Global,
+    names: &mut Vec<Text>,
+    config: Option<&Value>,
+) -> Result<(), AllocError> {
+    add_list(alloc, names, config, "groups", "symbol")?;
+    if names.is_empty() {
+        add_words(alloc, names, &["~", "#", "@", "%", "*", "+", " "])?;
+    }
+    Ok(())
+}
+
+fn add_species_and_moves(
+    alloc: Global,
+    names: &mut Vec<Text>,
+    dex: Option<&Value>,
+) -> Result<(), AllocError> {
+    add_list(alloc, names, dex, "species", "name")?;
+    add_list(alloc, names, dex, "moves", "name")
+}
+
+// The words that may stand at a place, whatever the files say.
+fn words_at(pattern: &str) -> &'static [&'static str] {
+    match pattern {
+        "moves[].effect.kind" => KINDS,
+        "moves[].effect.status" => &["slp", "par", "brn", "psn", "tox", "frz"],
+        "moves[].effect.stat" => &["atk", "def", "spc", "spe", "acc", "eva"],
+        "moves[].effect.who" => &["self", "foe"],
+        "moves[].effect.which" => &["reflect", "light"],
+        "moves[].effect.sub" => SUBS,
+        _ => &[],
+    }
+}
+
+// The names of a dex that may stand at a place.
+fn add_of_dex(
+    alloc: Global,
+    names: &mut Vec<Text>,
+    pattern: &str,
+    dex: Option<&Value>,
+) -> Result<(), AllocError> {
+    match pattern {
+        "factors[][0]" | "factors[][1]" | "moves[].type" | "species[].types[]" => {
+            add_list(alloc, names, dex, "types", "name")
+        }
+        "species[].learns[]" => add_list(alloc, names, dex, "moves", "name"),
+        "aliases.*" => add_species_and_moves(alloc, names, dex),
+        "formats[].bans[]" => {
+            add_species_and_moves(alloc, names, dex)?;
+            add_keys(alloc, names, dex, "aliases")
+        }
+        _ => Ok(()),
+    }
+}
+
+// The names of a configuration that may stand at a place.
+fn add_of_config(
+    alloc: Global,
+    names: &mut Vec<Text>,
+    pattern: &str,
+    config: Option<&Value>,
+) -> Result<(), AllocError> {
+    match pattern {
+        "formats[].rules" => {
+            add_clauses(alloc, names)?;
+            add_keys(alloc, names, config, "rulesets")
+        }
+        "staff" | "groups[].inherit" | "users[].group" => {
+            add_list_or_all_symbols(alloc, names, config)
+        }
+        _ => Ok(()),
+    }
 }
 
 /// The names that may stand at a place with this pattern.
@@ -321,60 +461,8 @@ pub(crate) fn names_for(
     config: Option<&Value>,
 ) -> Result<Vec<Text>, AllocError> {
     let mut names = Vec::new(alloc);
-    match pattern {
-        "factors[][0]" | "factors[][1]" | "moves[].type" | "species[].types[]" => {
-            add_list(alloc, &mut names, dex, "types", "name")?
-        }
-        "species[].learns[]" => add_list(alloc, &mut names, dex, "moves", "name")?,
-        "aliases.*" => {
-            add_list(alloc, &mut names, dex, "species", "name")?;
-            add_list(alloc, &mut names, dex, "moves", "name")?;
-        }
-        "moves[].effect.kind" => add_words(alloc, &mut names, KINDS)?,
-        "moves[].effect.status" => {
-            add_words(
-                alloc,
-                &mut names,
-                &["slp", "par", "brn", "psn", "tox", "frz"],
-            )?
-        }
-        "moves[].effect.stat" => {
-            add_words(
-                alloc,
-                &mut names,
-                &["atk", "def", "spc", "spe", "acc", "eva"],
-            )?
-        }
-        "moves[].effect.who" => add_words(alloc, &mut names, &["self", "foe"])?,
-        "moves[].effect.which" => add_words(alloc, &mut names, &["reflect", "light"])?,
-        "moves[].effect.sub" => add_words(
-            alloc,
-            &mut names,
-            &[
-                "mimic",
-                "transform",
-                "metronome",
-                "mirrormove",
-                "conversion",
-                "disable",
-            ],
-        )?,
-        "formats[].bans[]" => {
-            add_list(alloc, &mut names, dex, "species", "name")?;
-            add_list(alloc, &mut names, dex, "moves", "name")?;
-            add_keys(alloc, &mut names, dex, "aliases")?;
-        }
-        "formats[].rules" => {
-            add_clauses(alloc, &mut names)?;
-            add_keys(alloc, &mut names, config, "rulesets")?;
-        }
-        "staff" | "groups[].inherit" | "users[].group" => {
-            add_list(alloc, &mut names, config, "groups", "symbol")?;
-            if names.is_empty() {
-                add_words(alloc, &mut names, &["~", "#", "@", "%", "*", "+", " "])?;
-            }
-        }
-        _ => {}
-    }
+    add_words(alloc, &mut names, words_at(pattern))?;
+    add_of_dex(alloc, &mut names, pattern, dex)?;
+    add_of_config(alloc, &mut names, pattern, config)?;
     Ok(names)
 }

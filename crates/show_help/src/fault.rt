@@ -1,7 +1,9 @@
 //! Where a file isn't in its form, as a person looks it up.
 use crate::data_file::{DataFile, open_bytes, open_text, open_value};
 use crate::expected::{add_clauses, expected, names_for, pattern_of};
-use file_help::page::{Row, Section, listed, row_of, section_of};
+use crate::rows::{push_row, push_text};
+use crate::values::{list_of, list_under, object_under};
+use file_help::page::{Row, Section, listed, section_of};
 use json_place::excerpt::{Place, byte_of, excerpt, has_star_before, place_of, text_at};
 use json_place::keys::{Note, of_config, of_dex};
 use json_place::nearest::nearest;
@@ -10,16 +12,12 @@ use ps_base::id::to_id;
 use ps_base::text::Text;
 use ps_data::fault::DataKind;
 use ps_outside::files::Files;
-use serde_json::Value;
+use serde_json::{Map, Value};
 use std::alloc::{AllocError, Global};
 use std::collections::BTreeMap;
 
 /// The most names that are listed where none is near.
 const MOST_NAMES: usize = 40;
-
-fn text_row(alloc: Global, key: &str, value: &str) -> Result<Row, AllocError> {
-    row_of(alloc, key, Text::copy_of(alloc, value)?)
-}
 
 fn kind_text(kind: DataKind) -> &'static str {
     match kind {
@@ -32,6 +30,18 @@ fn kind_text(kind: DataKind) -> &'static str {
     }
 }
 
+// A number, and what is to be said of it.
+fn push_number(
+    alloc: Global,
+    rows: &mut Vec<Row>,
+    key: &str,
+    number: usize,
+    told: &str,
+) -> Result<(), AllocError> {
+    let value = format!(in alloc; "{number}{told}")?;
+    push_row(alloc, rows, key, Text::from_string(value))
+}
+
 // Line, column, the line with a mark.
 fn push_place(
     alloc: Global,
@@ -40,33 +50,51 @@ fn push_place(
     at: usize,
 ) -> Result<(), AllocError> {
     let place = place_of(bytes, at);
-    let line = place.line;
-    let column = place.column;
     let counted = if has_star_before(bytes, at) {
         ", if what is hidden by a star counts as one character"
     } else {
         ""
     };
+    push_number(alloc, rows, "line", place.line, "")?;
+    push_number(alloc, rows, "column", place.column, counted)?;
     let (shown, mark) = excerpt(alloc, bytes, at)?;
-    rows.push(text_row(alloc, "line", format!(in alloc; "{line}")?.as_str())?)?;
-    rows.push(text_row(
-        alloc,
-        "column",
-        format!(in alloc; "{column}{counted}")?.as_str(),
-    )?)?;
-    rows.push(text_row(alloc, "text", shown.as_str())?)?;
-    rows.push(text_row(alloc, "here", mark.as_str())?)?;
-    Ok(())
+    push_excerpt(alloc, rows, shown, mark)
+}
+
+fn push_excerpt(
+    alloc: Global,
+    rows: &mut Vec<Row>,
+    shown: String,
+    mark: String,
+) -> Result<(), AllocError> {
+    push_row(alloc, rows, "text", Text::from_string(shown))?;
+    push_row(alloc, rows, "here", Text::from_string(mark))
+}
+
+fn between_backquotes(alloc: Global, name: &Text) -> Result<Text, AllocError> {
+    let name = name.as_str();
+    Ok(Text::from_string(format!(in alloc; "`{name}`")?))
 }
 
 // The names, each between backquotes, since one may be a space.
 fn quoted(alloc: Global, names: &[Text]) -> Result<Text, AllocError> {
     let mut texts = Vec::new(alloc);
     for name in names {
-        let name = name.as_str();
-        texts.push(Text::from_string(format!(in alloc; "`{name}`")?))?;
+        texts.push(between_backquotes(alloc, name)?)?;
     }
     listed(alloc, &texts)
+}
+
+fn nearest_of<'a>(
+    alloc: Global,
+    word: &str,
+    names: &'a [Text],
+) -> Result<Option<&'a str>, AllocError> {
+    let mut plain = Vec::new(alloc);
+    for name in names {
+        plain.push(name.as_str())?;
+    }
+    Ok(nearest(word, plain.as_slice()))
 }
 
 fn push_nearest(
@@ -75,14 +103,11 @@ fn push_nearest(
     word: &str,
     names: &[Text],
 ) -> Result<(), AllocError> {
-    let mut plain = Vec::new(alloc);
-    for name in names {
-        plain.push(name.as_str())?;
+    if let Some(name) = nearest_of(alloc, word, names)? {
+        return push_text(alloc, rows, "did you mean", name);
     }
-    if let Some(name) = nearest(word, plain.as_slice()) {
-        rows.push(text_row(alloc, "did you mean", name)?)?;
-    } else if !names.is_empty() && names.len() <= MOST_NAMES {
-        rows.push(row_of(alloc, "there are", quoted(alloc, names)?)?)?;
+    if !names.is_empty() && names.len() <= MOST_NAMES {
+        return push_row(alloc, rows, "there are", quoted(alloc, names)?);
     }
     Ok(())
 }
@@ -121,8 +146,18 @@ fn json_expected(bytes: &[u8], at: usize) -> &'static str {
 }
 
 fn push_expected(alloc: Global, rows: &mut Vec<Row>, what: &str) -> Result<(), AllocError> {
-    rows.push(text_row(alloc, "expected", what)?)?;
-    Ok(())
+    push_text(alloc, rows, "expected", what)
+}
+
+// Where a text stops being JSON, if it does.
+fn place_of_error(alloc: Global, parsed: &[u8]) -> Option<Place> {
+    match Value::from_slice(alloc, parsed) {
+        Ok(_) => None,
+        Err(error) => Some(Place {
+            line: error.line(),
+            column: error.column(),
+        }),
+    }
 }
 
 // Of a text as it may be told, and as it may be parsed.
@@ -137,13 +172,9 @@ fn push_json(
         let what = "JSON without a byte order mark: save the file as UTF-8 without one";
         return push_expected(alloc, rows, what);
     }
-    let Err(error) = Value::from_slice(alloc, parsed) else {
+    let Some(place) = place_of_error(alloc, parsed) else {
         let what = "JSON at the secrets, the nonce and the seeds, too, which aren't shown";
         return push_expected(alloc, rows, what);
-    };
-    let place = Place {
-        line: error.line(),
-        column: error.column(),
     };
     let at = byte_of(shown, place);
     push_place(alloc, rows, shown, at)?;
@@ -178,7 +209,7 @@ fn wrong_rule<'a>(
     names: &BTreeMap<String, ()>,
     clauses: &BTreeMap<String, ()>,
 ) -> Result<Option<&'a str>, AllocError> {
-    if let Some(rules) = rules.and_then(Value::as_array) {
+    if let Some(rules) = list_of(rules) {
         for rule in rules {
             if let Some(rule) = rule.as_str() {
                 if !can_stand(alloc, rule, names, clauses)? {
@@ -199,7 +230,7 @@ fn push_wrong_rule(
     names: &[Text],
     clauses: &[Text],
 ) -> Result<(), AllocError> {
-    rows.push(text_row(alloc, "at fault", told)?)?;
+    push_text(alloc, rows, "at fault", told)?;
     if rule.starts_with('!') {
         push_nearest(alloc, rows, rule, clauses)
     } else {
@@ -210,40 +241,132 @@ fn push_wrong_rule(
 fn id_names(alloc: Global, names: &[Text]) -> Result<BTreeMap<String, ()>, AllocError> {
     let mut ids = BTreeMap::new(alloc);
     for name in names {
-        let id = to_id(alloc, name.as_str())?;
-        ids.insert(String::from_str(alloc, id.as_str())?, ())?;
+        ids.insert(id_text(alloc, name.as_str())?, ())?;
     }
     Ok(ids)
 }
 
-// Each ruleset that names others, with these: a ruleset inside itself is among them.
-fn push_sets(alloc: Global, rows: &mut Vec<Row>, config: Option<&Value>) -> Result<(), AllocError> {
-    let Some(sets) = config
-        .and_then(|v| v.get("rulesets"))
-        .and_then(Value::as_object)
-    else {
-        return Ok(());
-    };
+fn id_text(alloc: Global, name: &str) -> Result<String, AllocError> {
+    let id = to_id(alloc, name)?;
+    String::from_str(alloc, id.as_str())
+}
+
+fn keys_of(alloc: Global, sets: &Map<String, Value>) -> Result<Vec<Text>, AllocError> {
     let mut keys = Vec::new(alloc);
     for key in sets.keys() {
         keys.push(Text::copy_of(alloc, key.as_str())?)?;
     }
-    let ids = id_names(alloc, &keys)?;
-    for (key, rules) in sets {
-        let mut inner = Vec::new(alloc);
-        let Some(list) = rules.as_array() else {
-            continue;
-        };
-        for rule in list {
-            if let Some(rule) = rule.as_str() {
-                if is_rule(alloc, rule, &ids)? {
-                    inner.push(Text::copy_of(alloc, rule)?)?;
-                }
+    Ok(keys)
+}
+
+// The texts of a list whose ids are among these.
+fn named_in(
+    alloc: Global,
+    list: &[Value],
+    ids: &BTreeMap<String, ()>,
+) -> Result<Vec<Text>, AllocError> {
+    let mut inner = Vec::new(alloc);
+    for rule in list {
+        if let Some(rule) = rule.as_str() {
+            if is_rule(alloc, rule, ids)? {
+                inner.push(Text::copy_of(alloc, rule)?)?;
             }
         }
-        if !inner.is_empty() {
-            let place = format!(in alloc; "ruleset {key} names")?;
-            rows.push(row_of(alloc, place.as_str(), listed(alloc, &inner)?)?)?;
+    }
+    Ok(inner)
+}
+
+fn push_named(
+    alloc: Global,
+    rows: &mut Vec<Row>,
+    key: &str,
+    names: &[Text],
+) -> Result<(), AllocError> {
+    if names.is_empty() {
+        return Ok(());
+    }
+    let place = format!(in alloc; "ruleset {key} names")?;
+    push_row(alloc, rows, place.as_str(), listed(alloc, names)?)
+}
+
+fn push_set(
+    alloc: Global,
+    rows: &mut Vec<Row>,
+    key: &str,
+    rules: &Value,
+    ids: &BTreeMap<String, ()>,
+) -> Result<(), AllocError> {
+    let Some(list) = rules.as_array() else {
+        return Ok(());
+    };
+    let inner = named_in(alloc, list, ids)?;
+    push_named(alloc, rows, key, &inner)
+}
+
+fn push_each_set(
+    alloc: Global,
+    rows: &mut Vec<Row>,
+    sets: &Map<String, Value>,
+    ids: &BTreeMap<String, ()>,
+) -> Result<(), AllocError> {
+    for (key, rules) in sets {
+        push_set(alloc, rows, key.as_str(), rules, ids)?;
+    }
+    Ok(())
+}
+
+fn rulesets_of(config: Option<&Value>) -> Option<&Map<String, Value>> {
+    object_under(config, "rulesets")
+}
+
+// Each ruleset that names others, with these: a ruleset inside itself is among them.
+fn push_sets(alloc: Global, rows: &mut Vec<Row>, config: Option<&Value>) -> Result<(), AllocError> {
+    let Some(sets) = rulesets_of(config) else {
+        return Ok(());
+    };
+    let keys = keys_of(alloc, sets)?;
+    let ids = id_names(alloc, &keys)?;
+    push_each_set(alloc, rows, sets, &ids)
+}
+
+// The texts of a list that repeal nothing.
+fn plain_in(alloc: Global, rules: &[Value]) -> Result<Vec<Text>, AllocError> {
+    let mut named = Vec::new(alloc);
+    for rule in rules {
+        if let Some(rule) = rule.as_str() {
+            if !rule.starts_with('!') {
+                named.push(Text::copy_of(alloc, rule)?)?;
+            }
+        }
+    }
+    Ok(named)
+}
+
+// A text of a list that repeals what is named in it, by its id.
+fn push_repeal(
+    alloc: Global,
+    rows: &mut Vec<Row>,
+    place: &str,
+    rule: &str,
+    ids: &BTreeMap<String, ()>,
+) -> Result<(), AllocError> {
+    if rule.starts_with('!') && is_rule(alloc, rule, ids)? {
+        let told = format!(in alloc; "{rule} beside the same clause, in {place}")?;
+        push_row(alloc, rows, "at fault", Text::from_string(told))?;
+    }
+    Ok(())
+}
+
+fn push_each_repeal(
+    alloc: Global,
+    rows: &mut Vec<Row>,
+    place: &str,
+    rules: &[Value],
+    ids: &BTreeMap<String, ()>,
+) -> Result<(), AllocError> {
+    for rule in rules {
+        if let Some(rule) = rule.as_str() {
+            push_repeal(alloc, rows, place, rule, ids)?;
         }
     }
     Ok(())
@@ -256,34 +379,35 @@ fn push_repeals(
     place: &str,
     rules: Option<&Value>,
 ) -> Result<(), AllocError> {
-    let Some(rules) = rules.and_then(Value::as_array) else {
+    let Some(rules) = list_of(rules) else {
         return Ok(());
     };
-    let mut named = Vec::new(alloc);
-    for rule in rules {
-        if let Some(rule) = rule.as_str() {
-            if !rule.starts_with('!') {
-                named.push(Text::copy_of(alloc, rule)?)?;
-            }
-        }
-    }
+    let named = plain_in(alloc, rules)?;
     let ids = id_names(alloc, &named)?;
-    for rule in rules {
-        if let Some(rule) = rule.as_str() {
-            if rule.starts_with('!') && is_rule(alloc, rule, &ids)? {
-                let told = format!(in alloc; "{rule} beside the same clause, in {place}")?;
-                rows.push(text_row(alloc, "at fault", told.as_str())?)?;
-            }
-        }
+    push_each_repeal(alloc, rows, place, rules, &ids)
+}
+
+// Those of the format's own list, and of each ruleset.
+fn push_all_repeals(
+    alloc: Global,
+    rows: &mut Vec<Row>,
+    own: Option<&Value>,
+    config: Option<&Value>,
+) -> Result<(), AllocError> {
+    push_repeals(alloc, rows, "its own rules", own)?;
+    let Some(sets) = rulesets_of(config) else {
+        return Ok(());
+    };
+    for (key, rules) in sets {
+        let place = format!(in alloc; "the ruleset {key}")?;
+        push_repeals(alloc, rows, place.as_str(), Some(rules))?;
     }
     Ok(())
 }
 
 // The rules of the format with the path `formats[INDEX].rules`.
 fn own_rules<'a>(config: Option<&'a Value>, path: &str) -> Option<&'a Value> {
-    let formats = config
-        .and_then(|v| v.get("formats"))
-        .and_then(Value::as_array)?;
+    let formats = list_under(config, "formats")?;
     let mut index = 0usize;
     for byte in path.as_bytes() {
         if byte.is_ascii_digit() {
@@ -292,7 +416,71 @@ fn own_rules<'a>(config: Option<&'a Value>, path: &str) -> Option<&'a Value> {
                 .saturating_add(usize::from(byte.saturating_sub(48)));
         }
     }
-    formats.get(index).and_then(|format| format.get("rules"))
+    formats.get(index)?.get("rules")
+}
+
+// What may stand in a list of rules.
+#[derive(Clone, Copy)]
+struct Known<'a> {
+    // Clauses and rulesets, and the ids of them.
+    names: &'a [Text],
+    ids: &'a BTreeMap<String, ()>,
+    // The clauses alone.
+    clauses: &'a [Text],
+    clause_ids: &'a BTreeMap<String, ()>,
+}
+
+// The first ruleset with a text that can't stand in it.
+fn push_wrong_set(
+    alloc: Global,
+    rows: &mut Vec<Row>,
+    sets: &Map<String, Value>,
+    known: Known<'_>,
+) -> Result<(), AllocError> {
+    for (key, rules) in sets {
+        if let Some(rule) = wrong_rule(alloc, Some(rules), known.ids, known.clause_ids)? {
+            let told = format!(in alloc; "{rule}, in the ruleset {key}")?;
+            return push_wrong_rule(alloc, rows, told.as_str(), rule, known.names, known.clauses);
+        }
+    }
+    Ok(())
+}
+
+// The first text that can't stand, in the format's own list or in a ruleset.
+fn push_wrong(
+    alloc: Global,
+    rows: &mut Vec<Row>,
+    own: Option<&Value>,
+    config: Option<&Value>,
+    known: Known<'_>,
+) -> Result<(), AllocError> {
+    if let Some(rule) = wrong_rule(alloc, own, known.ids, known.clause_ids)? {
+        return push_wrong_rule(alloc, rows, rule, rule, known.names, known.clauses);
+    }
+    match rulesets_of(config) {
+        None => Ok(()),
+        Some(sets) => push_wrong_set(alloc, rows, sets, known),
+    }
+}
+
+fn push_unknown(
+    alloc: Global,
+    rows: &mut Vec<Row>,
+    own: Option<&Value>,
+    config: Option<&Value>,
+    names: &[Text],
+) -> Result<(), AllocError> {
+    let ids = id_names(alloc, names)?;
+    let mut clauses = Vec::new(alloc);
+    add_clauses(alloc, &mut clauses)?;
+    let clause_ids = id_names(alloc, &clauses)?;
+    let known = Known {
+        names,
+        ids: &ids,
+        clauses: &clauses,
+        clause_ids: &clause_ids,
+    };
+    push_wrong(alloc, rows, own, config, known)
 }
 
 // Where a format's rules can't be walked: the text that names nothing, in its own list or in a ruleset.
@@ -305,44 +493,86 @@ fn push_rule(
     names: &[Text],
 ) -> Result<(), AllocError> {
     let own = own_rules(config, path);
-    if kind == DataKind::Repeat {
-        return push_sets(alloc, rows, config);
+    match kind {
+        DataKind::Repeat => push_sets(alloc, rows, config),
+        DataKind::Range => push_all_repeals(alloc, rows, own, config),
+        _ => push_unknown(alloc, rows, own, config, names),
     }
-    if kind == DataKind::Range {
-        push_repeals(alloc, rows, "its own rules", own)?;
-        if let Some(sets) = config
-            .and_then(|v| v.get("rulesets"))
-            .and_then(Value::as_object)
-        {
-            for (key, rules) in sets {
-                let place = format!(in alloc; "the ruleset {key}")?;
-                push_repeals(alloc, rows, place.as_str(), Some(rules))?;
-            }
-        }
-        return Ok(());
-    }
-    let ids = id_names(alloc, names)?;
-    let mut clauses = Vec::new(alloc);
-    add_clauses(alloc, &mut clauses)?;
-    let clause_ids = id_names(alloc, &clauses)?;
-    if let Some(rule) = wrong_rule(alloc, own, &ids, &clause_ids)? {
-        return push_wrong_rule(alloc, rows, rule, rule, names, &clauses);
-    }
-    if let Some(sets) = config
-        .and_then(|v| v.get("rulesets"))
-        .and_then(Value::as_object)
-    {
-        for (key, rules) in sets {
-            if let Some(rule) = wrong_rule(alloc, Some(rules), &ids, &clause_ids)? {
-                let told = format!(in alloc; "{rule}, in the ruleset {key}")?;
-                return push_wrong_rule(alloc, rows, told.as_str(), rule, names, &clauses);
-            }
-        }
+}
+
+// ---- a value that isn't in its form
+
+// What stands at a place.
+fn push_text_at(
+    alloc: Global,
+    rows: &mut Vec<Row>,
+    bytes: &[u8],
+    at: usize,
+    kind: DataKind,
+    names: &[Text],
+) -> Result<(), AllocError> {
+    let text = text_at(alloc, bytes, at)?;
+    push_text(alloc, rows, "at fault", text.as_str())?;
+    if kind == DataKind::Unknown {
+        push_nearest(alloc, rows, text.as_str(), names)?;
     }
     Ok(())
 }
 
-// ---- a value that isn't in its form
+fn notes_of(
+    alloc: Global,
+    is_dex: bool,
+    dex: Option<&Value>,
+    config: Option<&Value>,
+) -> Result<Vec<Note>, AllocError> {
+    match (is_dex, dex, config) {
+        (true, Some(value), _) => of_dex(alloc, value),
+        (false, _, Some(value)) => of_config(alloc, value),
+        _ => Ok(Vec::new(alloc)),
+    }
+}
+
+// The fault of a value with this path and pattern, and the names that may stand there.
+fn push_fault(
+    alloc: Global,
+    rows: &mut Vec<Row>,
+    bytes: &[u8],
+    path: &str,
+    pattern: &str,
+    kind: DataKind,
+    config: Option<&Value>,
+    names: &[Text],
+) -> Result<(), AllocError> {
+    let found = find(alloc, bytes, path)?;
+    push_place(alloc, rows, bytes, found.at)?;
+    if !found.is_whole {
+        return push_text(alloc, rows, "at fault", "nothing: the key is missing");
+    }
+    if pattern == "formats[].rules" {
+        return push_rule(alloc, rows, kind, path, config, names);
+    }
+    push_text_at(alloc, rows, bytes, found.at, kind, names)
+}
+
+// The fault of a value with this path and pattern, and what was expected.
+fn push_pattern(
+    alloc: Global,
+    rows: &mut Vec<Row>,
+    bytes: &[u8],
+    is_dex: bool,
+    path: &str,
+    pattern: &str,
+    kind: DataKind,
+    dex: Option<&Value>,
+    config: Option<&Value>,
+) -> Result<(), AllocError> {
+    let names = names_for(alloc, pattern, dex, config)?;
+    push_fault(alloc, rows, bytes, path, pattern, kind, config, &names)?;
+    match expected(is_dex, pattern) {
+        None => Ok(()),
+        Some(what) => push_expected(alloc, rows, what),
+    }
+}
 
 fn push_value(
     alloc: Global,
@@ -355,46 +585,121 @@ fn push_value(
     config: Option<&Value>,
 ) -> Result<(), AllocError> {
     let pattern = pattern_of(alloc, path)?;
-    let names = names_for(alloc, pattern.as_str(), dex, config)?;
-    let found = find(alloc, bytes, path)?;
-    push_place(alloc, rows, bytes, found.at)?;
-    if !found.is_whole {
-        rows.push(text_row(alloc, "at fault", "nothing: the key is missing")?)?;
-    } else if pattern.as_str() == "formats[].rules" {
-        push_rule(alloc, rows, kind, path, config, &names)?;
-    } else {
-        let text = text_at(alloc, bytes, found.at)?;
-        rows.push(text_row(alloc, "at fault", text.as_str())?)?;
-        if kind == DataKind::Unknown {
-            push_nearest(alloc, rows, text.as_str(), &names)?;
-        }
-    }
-    if let Some(what) = expected(is_dex, pattern.as_str()) {
-        rows.push(text_row(alloc, "expected", what)?)?;
-    }
-    let notes = match (is_dex, dex, config) {
-        (true, Some(value), _) => of_dex(alloc, value)?,
-        (false, _, Some(value)) => of_config(alloc, value)?,
-        _ => Vec::new(alloc),
-    };
+    push_pattern(
+        alloc,
+        rows,
+        bytes,
+        is_dex,
+        path,
+        pattern.as_str(),
+        kind,
+        dex,
+        config,
+    )?;
+    let notes = notes_of(alloc, is_dex, dex, config)?;
     push_notes(alloc, rows, &notes)
 }
 
 // Keys that nothing knows, since the one that is missing may be misspelt.
 fn push_notes(alloc: Global, rows: &mut Vec<Row>, notes: &[Note]) -> Result<(), AllocError> {
     for note in notes.iter().take(MOST_NAMES) {
-        rows.push(text_row(alloc, note.place.as_str(), note.told.as_str())?)?;
+        push_text(alloc, rows, note.place.as_str(), note.told.as_str())?;
     }
     Ok(())
 }
 
 /// The files that are read.
-#[derive(Clone, Copy, Debug)]
+#[derive(Clone, Copy)]
 pub struct Names<'a> {
     /// The dex file, if one is named.
     pub dex: Option<&'a str>,
     /// The configuration, if one is named.
     pub config: Option<&'a str>,
+}
+
+// The file, the path and the fault.
+fn push_head(
+    alloc: Global,
+    rows: &mut Vec<Row>,
+    file: DataFile<'_>,
+    path: &str,
+    kind: DataKind,
+) -> Result<(), AllocError> {
+    push_text(alloc, rows, "file", file.name.unwrap_or("none"))?;
+    let place = if path.is_empty() {
+        "the whole file"
+    } else {
+        path
+    };
+    push_text(alloc, rows, "path", place)?;
+    push_text(alloc, rows, "fault", kind_text(kind))
+}
+
+fn push_json_of<F: Files>(
+    alloc: Global,
+    rows: &mut Vec<Row>,
+    files: &mut F,
+    file: DataFile<'_>,
+) -> Result<(), AllocError> {
+    match open_text(alloc, files, file)? {
+        None => Ok(()),
+        Some((shown, parsed)) => push_json(alloc, rows, &shown, &parsed),
+    }
+}
+
+fn push_value_of<F: Files>(
+    alloc: Global,
+    rows: &mut Vec<Row>,
+    files: &mut F,
+    read: Read<'_>,
+    bytes: &[u8],
+) -> Result<(), AllocError> {
+    let dex = open_value(alloc, files, read.dex)?;
+    let config = open_value(alloc, files, read.config)?;
+    push_value(
+        alloc,
+        rows,
+        bytes,
+        read.is_dex,
+        read.path,
+        read.kind,
+        dex.as_ref(),
+        config.as_ref(),
+    )
+}
+
+// The files, and the fault that reading them came to.
+#[derive(Clone, Copy)]
+struct Read<'a> {
+    dex: DataFile<'a>,
+    config: DataFile<'a>,
+    is_dex: bool,
+    path: &'a str,
+    kind: DataKind,
+}
+
+fn push_page<F: Files>(
+    alloc: Global,
+    rows: &mut Vec<Row>,
+    files: &mut F,
+    read: Read<'_>,
+) -> Result<(), AllocError> {
+    let file = if read.is_dex { read.dex } else { read.config };
+    push_head(alloc, rows, file, read.path, read.kind)?;
+    if read.kind == DataKind::Json {
+        return push_json_of(alloc, rows, files, file);
+    }
+    match open_bytes(alloc, files, file)? {
+        None => Ok(()),
+        Some(bytes) => push_value_of(alloc, rows, files, read, &bytes),
+    }
+}
+
+fn one_section(alloc: Global, title: &str, rows: Vec<Row>) -> Result<Vec<Section>, AllocError> {
+    let section = section_of(alloc, title, rows)?;
+    let mut sections = Vec::new(alloc);
+    sections.push(section)?;
+    Ok(sections)
 }
 
 /// A page on the first fault of the dex file, or else of the configuration: the file's name, the line and the column, the text
@@ -407,48 +712,25 @@ pub fn fault_page<F: Files>(
     path: &str,
     kind: DataKind,
 ) -> Result<Vec<Section>, AllocError> {
-    let dex = DataFile {
-        name: names.dex,
-        is_dex: true,
+    let read = Read {
+        dex: DataFile {
+            name: names.dex,
+            is_dex: true,
+        },
+        config: DataFile {
+            name: names.config,
+            is_dex: false,
+        },
+        is_dex,
+        path,
+        kind,
     };
-    let config = DataFile {
-        name: names.config,
-        is_dex: false,
-    };
-    let file = if is_dex { dex } else { config };
     let mut rows = Vec::new(alloc);
-    rows.push(text_row(alloc, "file", file.name.unwrap_or("none"))?)?;
-    let place = if path.is_empty() {
-        "the whole file"
-    } else {
-        path
-    };
-    rows.push(text_row(alloc, "path", place)?)?;
-    rows.push(text_row(alloc, "fault", kind_text(kind))?)?;
-    if kind == DataKind::Json {
-        if let Some((shown, parsed)) = open_text(alloc, files, file)? {
-            push_json(alloc, &mut rows, &shown, &parsed)?;
-        }
-    } else if let Some(bytes) = open_bytes(alloc, files, file)? {
-        let dex = open_value(alloc, files, dex)?;
-        let config = open_value(alloc, files, config)?;
-        push_value(
-            alloc,
-            &mut rows,
-            &bytes,
-            is_dex,
-            path,
-            kind,
-            dex.as_ref(),
-            config.as_ref(),
-        )?;
-    }
+    push_page(alloc, &mut rows, files, read)?;
     let title = if is_dex {
         "The dex file is wrong"
     } else {
         "The configuration is wrong"
     };
-    let mut sections = Vec::new(alloc);
-    sections.push(section_of(alloc, title, rows)?)?;
-    Ok(sections)
+    one_section(alloc, title, rows)
 }

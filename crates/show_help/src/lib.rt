@@ -5,5 +5,8 @@
 mod data_file;
 mod expected;
 pub mod fault;
+mod marks;
 pub mod notes;
+mod rows;
 mod rules;
+mod values;

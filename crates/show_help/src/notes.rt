@@ -1,12 +1,15 @@
 //! Notes on a dex and a configuration that are in their forms.
 use crate::data_file::{DataFile, open_value};
-use crate::rules::{is_told, ruleset_rows, source_rows, without_formats};
-use file_help::page::{Row, Section, listed, row_of, section_of};
+use crate::marks::{no_marks, set_mark};
+use crate::rows::{push_row, push_text};
+use crate::rules::{is_told, push_rulesets, source_rows, without_formats};
+use crate::values::{list_under, text_under};
+use file_help::page::{Row, Section, listed, section_of};
 use json_place::keys::{Note, looks_like_config, looks_like_dex, of_config, of_dex};
 use ps_base::id::to_id;
 use ps_base::text::Text;
 use ps_dex::dex::Dex;
-use ps_dex::item::SpeciesItem;
+use ps_dex::item::{MoveItem, SpeciesItem};
 use ps_outside::files::Files;
 use ps_rules::clause::Clause;
 use ps_rules::formats::Formats;
@@ -15,7 +18,7 @@ use serde_json::Value;
 use std::alloc::{AllocError, Global};
 
 /// What the words ask for, and what is known of the configuration besides its file.
-#[derive(Clone, Copy, Debug)]
+#[derive(Clone, Copy)]
 pub struct NoteWords<'a> {
     /// The format, by its name or id, if one alone is asked for.
     pub format: Option<&'a str>,
@@ -36,10 +39,6 @@ struct Values<'a> {
     config: Option<&'a Value>,
 }
 
-fn text_row(alloc: Global, key: &str, value: &str) -> Result<Row, AllocError> {
-    row_of(alloc, key, Text::copy_of(alloc, value)?)
-}
-
 // ---- warnings
 
 fn push_notes(
@@ -51,9 +50,27 @@ fn push_notes(
     for note in notes {
         let place = note.place.as_str();
         let key = format!(in alloc; "{file} {place}")?;
-        rows.push(text_row(alloc, key.as_str(), note.told.as_str())?)?;
+        push_text(alloc, rows, key.as_str(), note.told.as_str())?;
     }
     Ok(())
+}
+
+fn push_dex_notes(alloc: Global, rows: &mut Vec<Row>, dex: &Value) -> Result<(), AllocError> {
+    if looks_like_config(dex) {
+        let told = "it looks like a configuration: are the files swapped?";
+        return push_text(alloc, rows, "dex file", told);
+    }
+    let notes = of_dex(alloc, dex)?;
+    push_notes(alloc, rows, "dex file", &notes)
+}
+
+fn push_config_notes(alloc: Global, rows: &mut Vec<Row>, config: &Value) -> Result<(), AllocError> {
+    if looks_like_dex(config) {
+        let told = "it looks like a dex file: are the files swapped?";
+        return push_text(alloc, rows, "configuration", told);
+    }
+    let notes = of_config(alloc, config)?;
+    push_notes(alloc, rows, "configuration", &notes)
 }
 
 fn push_file_notes(
@@ -63,20 +80,10 @@ fn push_file_notes(
     config: Option<&Value>,
 ) -> Result<(), AllocError> {
     if let Some(value) = dex {
-        if looks_like_config(value) {
-            let told = "it looks like a configuration: are the files swapped?";
-            rows.push(text_row(alloc, "dex file", told)?)?;
-        } else {
-            push_notes(alloc, rows, "dex file", &of_dex(alloc, value)?)?;
-        }
+        push_dex_notes(alloc, rows, value)?;
     }
     if let Some(value) = config {
-        if looks_like_dex(value) {
-            let told = "it looks like a dex file: are the files swapped?";
-            rows.push(text_row(alloc, "configuration", told)?)?;
-        } else {
-            push_notes(alloc, rows, "configuration", &of_config(alloc, value)?)?;
-        }
+        push_config_notes(alloc, rows, value)?;
     }
     Ok(())
 }
@@ -87,12 +94,12 @@ fn push_empty_secrets(
     rows: &mut Vec<Row>,
     config: &Value,
 ) -> Result<(), AllocError> {
-    if let Some(users) = config.get("users").and_then(Value::as_array) {
+    if let Some(users) = list_under(Some(config), "users") {
         for i in 0..users.len() {
-            if users[i].get("secret").and_then(Value::as_str) == Some("") {
+            if text_under(&users[i], "secret") == Some("") {
                 let key = format!(in alloc; "configuration users[{i}].secret")?;
                 let told = "it is empty: anybody can take the name";
-                rows.push(text_row(alloc, key.as_str(), told)?)?;
+                push_text(alloc, rows, key.as_str(), told)?;
             }
         }
     }
@@ -106,33 +113,16 @@ fn push_defaults(
 ) -> Result<(), AllocError> {
     if words.is_default_nonce {
         let told = "the default: a proof of who a user is may serve at another server, too";
-        rows.push(text_row(alloc, "configuration nonce", told)?)?;
+        push_text(alloc, rows, "configuration nonce", told)?;
     }
     if words.is_default_seed {
         let told = "the default: whoever knows it foretells the draws of battles";
-        rows.push(text_row(alloc, "configuration seed", told)?)?;
+        push_text(alloc, rows, "configuration seed", told)?;
     }
     Ok(())
 }
 
 // ---- formats that nobody can play
-
-// So many marks, none of them set.
-fn no_marks(alloc: Global, count: usize) -> Result<Vec<bool>, AllocError> {
-    let mut marks = Vec::new(alloc);
-    for _ in 0..count {
-        marks.push(false)?;
-    }
-    Ok(marks)
-}
-
-fn set_mark(marks: &mut [bool], number: Option<u16>) {
-    if let Some(number) = number {
-        if let Some(mark) = marks.get_mut(usize::from(number)) {
-            *mark = true;
-        }
-    }
-}
 
 // Whether some of these moves isn't marked.
 fn has_unmarked(numbers: &[u16], marks: &[bool]) -> bool {
@@ -144,21 +134,70 @@ fn has_unmarked(numbers: &[u16], marks: &[bool]) -> bool {
     false
 }
 
+fn set_bans(dex: &Dex, table: &RuleTable, species: &mut [bool], moves: &mut [bool]) {
+    for id in table.bans.as_slice() {
+        set_mark(species, dex.species(id));
+        set_mark(moves, dex.move_of(id));
+    }
+}
+
+fn count_unbanned(items: &[SpeciesItem], species: &[bool], moves: &[bool]) -> usize {
+    let mut count = 0usize;
+    for (item, is_banned) in items.iter().zip(species) {
+        if !*is_banned && has_unmarked(item.learns.as_slice(), moves) {
+            count = count.saturating_add(1);
+        }
+    }
+    count
+}
+
 // How many species are left that learn a move that is left.
 fn count_left(alloc: Global, dex: &Dex, table: &RuleTable) -> Result<usize, AllocError> {
     let mut species = no_marks(alloc, dex.all_species().len())?;
     let mut moves = no_marks(alloc, dex.moves().len())?;
-    for id in table.bans.as_slice() {
-        set_mark(&mut species, dex.species(id));
-        set_mark(&mut moves, dex.move_of(id));
+    set_bans(dex, table, &mut species, &mut moves);
+    Ok(count_unbanned(dex.all_species(), &species, &moves))
+}
+
+// Ranges that nothing is in.
+fn push_turned(
+    alloc: Global,
+    rows: &mut Vec<Row>,
+    key: &str,
+    table: &RuleTable,
+) -> Result<(), AllocError> {
+    if table.min > table.max {
+        push_text(alloc, rows, key, "nobody can play it: `min` is above `max`")?;
     }
-    let mut count = 0usize;
-    for (item, is_banned) in dex.all_species().iter().zip(species.as_slice()) {
-        if !*is_banned && has_unmarked(item.learns.as_slice(), &moves) {
-            count = count.saturating_add(1);
-        }
+    if table.levels[0] > table.levels[1] {
+        push_text(
+            alloc,
+            rows,
+            key,
+            "nobody can play it: `levels` is turned round",
+        )?;
     }
-    Ok(count)
+    Ok(())
+}
+
+// Of how many species are left.
+fn push_left(
+    alloc: Global,
+    rows: &mut Vec<Row>,
+    key: &str,
+    table: &RuleTable,
+    left: usize,
+) -> Result<(), AllocError> {
+    if left == 0 {
+        let told = "nobody can play it: no species is left that learns a move that is left";
+        return push_text(alloc, rows, key, told);
+    }
+    if Clause::Species.is_in(table.clauses) && left < usize::from(table.min) {
+        let told =
+            "nobody can play it: fewer species are left than `min`, and none may stand twice";
+        return push_text(alloc, rows, key, told);
+    }
+    Ok(())
 }
 
 fn push_unplayable(
@@ -169,44 +208,39 @@ fn push_unplayable(
 ) -> Result<(), AllocError> {
     let id = format.id.as_str();
     let key = format!(in alloc; "format {id}")?;
-    let key = key.as_str();
-    let table = &format.table;
-    if table.min > table.max {
-        let told = "nobody can play it: `min` is above `max`";
-        rows.push(text_row(alloc, key, told)?)?;
-    }
-    if table.levels[0] > table.levels[1] {
-        let told = "nobody can play it: `levels` is turned round";
-        rows.push(text_row(alloc, key, told)?)?;
-    }
-    let left = count_left(alloc, dex, table)?;
-    if left == 0 {
-        let told = "nobody can play it: no species is left that learns a move that is left";
-        rows.push(text_row(alloc, key, told)?)?;
-    } else if Clause::Species.is_in(table.clauses) && left < usize::from(table.min) {
-        let told =
-            "nobody can play it: fewer species are left than `min`, and none may stand twice";
-        rows.push(text_row(alloc, key, told)?)?;
-    }
-    Ok(())
+    push_turned(alloc, rows, key.as_str(), &format.table)?;
+    let left = count_left(alloc, dex, &format.table)?;
+    push_left(alloc, rows, key.as_str(), &format.table, left)
 }
 
 // ---- moves and species that nobody can use
 
-fn unlearned(alloc: Global, dex: &Dex) -> Result<Vec<Text>, AllocError> {
-    let mut marks = no_marks(alloc, dex.moves().len())?;
-    for species in dex.all_species() {
-        for number in species.learns.as_slice() {
-            set_mark(&mut marks, Some(*number));
-        }
+fn mark_learned(marks: &mut [bool], numbers: &[u16]) {
+    for number in numbers {
+        set_mark(marks, Some(*number));
     }
+}
+
+fn unmarked_names(
+    alloc: Global,
+    moves: &[MoveItem],
+    marks: &[bool],
+) -> Result<Vec<Text>, AllocError> {
     let mut names = Vec::new(alloc);
-    for (item, is_learned) in dex.moves().iter().zip(marks.as_slice()) {
+    for (item, is_learned) in moves.iter().zip(marks) {
         if !*is_learned {
             names.push(item.name.copy(alloc)?)?;
         }
     }
     Ok(names)
+}
+
+fn unlearned(alloc: Global, dex: &Dex) -> Result<Vec<Text>, AllocError> {
+    let mut marks = no_marks(alloc, dex.moves().len())?;
+    for species in dex.all_species() {
+        mark_learned(&mut marks, species.learns.as_slice());
+    }
+    unmarked_names(alloc, dex.moves(), &marks)
 }
 
 fn without_moves(alloc: Global, species: &[SpeciesItem]) -> Result<Vec<Text>, AllocError> {
@@ -225,13 +259,18 @@ fn push_named(
     key: &str,
     names: &[Text],
 ) -> Result<(), AllocError> {
-    if !names.is_empty() {
-        rows.push(row_of(alloc, key, listed(alloc, names)?)?)?;
+    if names.is_empty() {
+        return Ok(());
     }
-    Ok(())
+    push_row(alloc, rows, key, listed(alloc, names)?)
 }
 
 // ---- all of them
+
+fn push_unlearned(alloc: Global, rows: &mut Vec<Row>, dex: &Dex) -> Result<(), AllocError> {
+    let unlearned = unlearned(alloc, dex)?;
+    push_named(alloc, rows, "moves that nobody learns", &unlearned)
+}
 
 // What is wrong with no single format.
 fn push_general(
@@ -246,10 +285,9 @@ fn push_general(
     if let Some(value) = config {
         push_empty_secrets(alloc, rows, value)?;
         push_defaults(alloc, rows, words)?;
-        rows.append(&mut ruleset_rows(alloc, formats, sets, value)?)?;
+        push_rulesets(alloc, rows, formats, sets, value)?;
     }
-    let unlearned = unlearned(alloc, dex)?;
-    push_named(alloc, rows, "moves that nobody learns", &unlearned)?;
+    push_unlearned(alloc, rows, dex)?;
     let without = without_moves(alloc, dex.all_species())?;
     push_named(alloc, rows, "species without moves", &without)
 }
@@ -289,6 +327,77 @@ fn format_of<'a>(
     Ok(formats.format(&id))
 }
 
+fn push_section(
+    alloc: Global,
+    sections: &mut Vec<Section>,
+    title: &str,
+    rows: Vec<Row>,
+) -> Result<(), AllocError> {
+    sections.push(section_of(alloc, title, rows)?)?;
+    Ok(())
+}
+
+fn push_sections(
+    alloc: Global,
+    sections: &mut Vec<Section>,
+    dex: &Dex,
+    formats: &Formats,
+    sets: &Formats,
+    words: NoteWords<'_>,
+    values: Values<'_>,
+) -> Result<(), AllocError> {
+    let only = format_of(alloc, formats, words.format)?;
+    if let Some(value) = values.config {
+        let rows = source_rows(alloc, formats, sets, only, value)?;
+        push_section(
+            alloc,
+            sections,
+            "Clauses and the rules that put them on",
+            rows,
+        )?;
+    }
+    let rows = warning_rows(alloc, dex, formats, sets, words, only, values)?;
+    push_section(alloc, sections, "Warnings", rows)
+}
+
+// Over the rulesets without formats, or over all if they aren't in their form.
+fn sections_over(
+    alloc: Global,
+    dex: &Dex,
+    formats: &Formats,
+    sets: &Formats,
+    words: NoteWords<'_>,
+    values: Values<'_>,
+) -> Result<Vec<Section>, AllocError> {
+    let mut sections = Vec::new(alloc);
+    push_sections(alloc, &mut sections, dex, formats, sets, words, values)?;
+    Ok(sections)
+}
+
+fn alone_of(
+    alloc: Global,
+    dex: &Dex,
+    config: Option<&Value>,
+) -> Result<Option<Formats>, AllocError> {
+    match config {
+        None => Ok(None),
+        Some(value) => without_formats(alloc, dex, value),
+    }
+}
+
+fn sections_of(
+    alloc: Global,
+    dex: &Dex,
+    formats: &Formats,
+    words: NoteWords<'_>,
+    values: Values<'_>,
+) -> Result<Vec<Section>, AllocError> {
+    match alone_of(alloc, dex, values.config)? {
+        None => sections_over(alloc, dex, formats, formats, words, values),
+        Some(sets) => sections_over(alloc, dex, formats, &sets, words, values),
+    }
+}
+
 /// Further sections on files that are in their forms: by which rule each clause of a format is on, and warnings. With a format
 /// they speak of that one and of keys alone. Each file is read once more.
 pub fn notes<F: Files>(
@@ -312,18 +421,5 @@ pub fn notes<F: Files>(
         dex: dex_value.as_ref(),
         config: config_value.as_ref(),
     };
-    let only = format_of(alloc, formats, words.format)?;
-    let alone = match values.config {
-        None => None,
-        Some(value) => without_formats(alloc, dex, value)?,
-    };
-    let sets = alone.as_ref().unwrap_or(formats);
-    let mut sections = Vec::new(alloc);
-    if let Some(value) = values.config {
-        let rows = source_rows(alloc, formats, sets, only, value)?;
-        sections.push(section_of(alloc, "Clauses and the rules that put them on", rows)?)?;
-    }
-    let rows = warning_rows(alloc, dex, formats, sets, words, only, values)?;
-    sections.push(section_of(alloc, "Warnings", rows)?)?;
-    Ok(sections)
+    sections_of(alloc, dex, formats, words, values)
 }

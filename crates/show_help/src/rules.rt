@@ -1,4 +1,7 @@
 //! Notes on rulesets, and on the rules of formats.
+use crate::marks::no_marks;
+use crate::rows::push_row;
+use crate::values::list_under;
 use file_help::page::{Row, listed, row_of};
 use ps_base::id::{Id, to_id};
 use ps_base::text::Text;
@@ -6,7 +9,7 @@ use ps_dex::dex::Dex;
 use ps_rules::clause::Clause;
 use ps_rules::fault::{FormatFault, RuleFault};
 use ps_rules::formats::{Formats, resolve};
-use ps_rules::table::{Format, Rule, Ruleset};
+use ps_rules::table::{Format, Rule, RuleTable, Ruleset};
 use serde_json::{Map, Value};
 use std::alloc::{AllocError, Global};
 use std::collections::BTreeMap;
@@ -95,36 +98,50 @@ impl Reached {
     fn meet_texts(&mut self, alloc: Global, rules: &[Value]) -> Result<(), AllocError> {
         for rule in rules {
             if let Some(text) = rule.as_str() {
-                if !text.starts_with('!') {
-                    self.meet(to_id(alloc, text)?.as_str())?;
-                }
+                self.meet_text(alloc, text)?;
             }
         }
         Ok(())
     }
+
+    fn meet_text(&mut self, alloc: Global, text: &str) -> Result<(), AllocError> {
+        if text.starts_with('!') {
+            return Ok(());
+        }
+        let id = to_id(alloc, text)?;
+        self.meet(id.as_str())
+    }
+}
+
+fn indexes_of(alloc: Global, sets: &[Ruleset]) -> Result<BTreeMap<String, usize>, AllocError> {
+    let mut indexes = BTreeMap::new(alloc);
+    for index in 0..sets.len() {
+        indexes.insert(String::from_str(alloc, sets[index].id.as_str())?, index)?;
+    }
+    Ok(indexes)
 }
 
 fn none_reached(alloc: Global, sets: &[Ruleset]) -> Result<Reached, AllocError> {
-    let mut indexes = BTreeMap::new(alloc);
-    let mut marks = Vec::new(alloc);
-    for index in 0..sets.len() {
-        indexes.insert(String::from_str(alloc, sets[index].id.as_str())?, index)?;
-        marks.push(false)?;
-    }
     Ok(Reached {
-        indexes,
-        marks,
+        indexes: indexes_of(alloc, sets)?,
+        marks: no_marks(alloc, sets.len())?,
         waiting: Vec::new(alloc),
     })
 }
 
-// By a ruleset's index, whether some format comes to it, be it by its own list or by another ruleset.
-fn used_marks(alloc: Global, formats: &Formats, config: &Value) -> Result<Vec<bool>, AllocError> {
-    let sets = formats.rulesets();
-    let mut reached = none_reached(alloc, sets)?;
+fn meet_formats(
+    alloc: Global,
+    reached: &mut Reached,
+    formats: &Formats,
+    config: &Value,
+) -> Result<(), AllocError> {
     for index in 0..formats.list().len() {
         reached.meet_texts(alloc, rules_at(config, index))?;
     }
+    Ok(())
+}
+
+fn meet_sets(reached: &mut Reached, sets: &[Ruleset]) -> Result<(), AllocError> {
     for _ in 0..sets.len() {
         let Some(index) = reached.waiting.pop() else {
             break;
@@ -133,6 +150,14 @@ fn used_marks(alloc: Global, formats: &Formats, config: &Value) -> Result<Vec<bo
             reached.meet_rules(set.rules.as_slice())?;
         }
     }
+    Ok(())
+}
+
+// By a ruleset's index, whether some format comes to it, be it by its own list or by another ruleset.
+fn used_marks(alloc: Global, formats: &Formats, config: &Value) -> Result<Vec<bool>, AllocError> {
+    let mut reached = none_reached(alloc, formats.rulesets())?;
+    meet_formats(alloc, &mut reached, formats, config)?;
+    meet_sets(&mut reached, formats.rulesets())?;
     let Reached { marks, .. } = reached;
     Ok(marks)
 }
@@ -146,12 +171,21 @@ fn outcome(alloc: Global, sets: &Formats, id: &Id) -> Result<Text, AllocError> {
         Err(RuleFault::Contradiction { id }) => return wrong_at(alloc, &id),
         Err(RuleFault::NoMemory) => return Err(AllocError),
     };
+    clauses_text(alloc, &table)
+}
+
+fn names_in(alloc: Global, table: &RuleTable) -> Result<Vec<Text>, AllocError> {
     let mut names = Vec::new(alloc);
     for clause in CLAUSES {
         if clause.is_in(table.clauses) {
             names.push(Text::copy_of(alloc, clause.name())?)?;
         }
     }
+    Ok(names)
+}
+
+fn clauses_text(alloc: Global, table: &RuleTable) -> Result<Text, AllocError> {
+    let names = names_in(alloc, table)?;
     let names = listed(alloc, &names)?;
     let names = names.as_str();
     Ok(Text::from_string(format!(in alloc; "comes to {names}")?))
@@ -178,8 +212,15 @@ fn push_told(
 ) -> Result<(), AllocError> {
     let id = set.id.as_str();
     let key = format!(in alloc; "ruleset {id}")?;
-    rows.push(row_of(alloc, key.as_str(), told)?)?;
-    Ok(())
+    push_row(alloc, rows, key.as_str(), told)
+}
+
+fn shared_text(alloc: Global, outcome: &Text) -> Result<Text, AllocError> {
+    let outcome = outcome.as_str();
+    let told = format!(in alloc;
+        "a format has this id, too; rule lists mean the ruleset, which {outcome}"
+    )?;
+    Ok(Text::from_string(told))
 }
 
 // Of a ruleset with the id of a format, what it comes to: `Rulesets` says nothing of that.
@@ -192,11 +233,7 @@ fn push_shared(
 ) -> Result<(), AllocError> {
     if formats.format(&set.id).is_some() {
         let outcome = outcome(alloc, sets, &set.id)?;
-        let outcome = outcome.as_str();
-        let told = format!(in alloc;
-            "a format has this id, too; rule lists mean the ruleset, which {outcome}"
-        )?;
-        push_told(alloc, rows, set, Text::from_string(told))?;
+        push_told(alloc, rows, set, shared_text(alloc, &outcome)?)?;
     }
     Ok(())
 }
@@ -217,21 +254,31 @@ fn push_unused(
 
 /// Rows on the rulesets that have the id of a format, and on those that no format comes to, which say too whether they are
 /// wrong. `sets` are the same rulesets without formats.
-pub(crate) fn ruleset_rows(
+pub(crate) fn push_rulesets(
     alloc: Global,
+    rows: &mut Vec<Row>,
     formats: &Formats,
     sets: &Formats,
     config: &Value,
-) -> Result<Vec<Row>, AllocError> {
-    let mut rows = Vec::new(alloc);
+) -> Result<(), AllocError> {
     let used = used_marks(alloc, formats, config)?;
-    for (set, is_used) in formats.rulesets().iter().zip(used.as_slice()) {
-        push_shared(alloc, &mut rows, formats, sets, set)?;
+    push_by_use(alloc, rows, formats, sets, &used)
+}
+
+fn push_by_use(
+    alloc: Global,
+    rows: &mut Vec<Row>,
+    formats: &Formats,
+    sets: &Formats,
+    used: &[bool],
+) -> Result<(), AllocError> {
+    for (set, is_used) in formats.rulesets().iter().zip(used) {
+        push_shared(alloc, rows, formats, sets, set)?;
         if !*is_used {
-            push_unused(alloc, &mut rows, formats, set)?;
+            push_unused(alloc, rows, formats, set)?;
         }
     }
-    Ok(rows)
+    Ok(())
 }
 
 // ---- where clauses come from
@@ -273,14 +320,42 @@ fn source_of(
     if is_always_on(alloc, sets, clause)? {
         return Ok(Text::from_string(format!(in alloc; "{name} (always on)")?));
     }
+    match giving_rule(alloc, sets, rules, clause)? {
+        None => Text::copy_of(alloc, name),
+        Some(rule) => Ok(Text::from_string(format!(in alloc; "{name} (`{rule}`)")?)),
+    }
+}
+
+// The first text of a list that puts a clause on.
+fn giving_rule<'a>(
+    alloc: Global,
+    sets: &Formats,
+    rules: &'a [Value],
+    clause: Clause,
+) -> Result<Option<&'a str>, AllocError> {
     for rule in rules {
         if let Some(rule) = rule.as_str() {
             if gives(alloc, sets, rule, clause)? {
-                return Ok(Text::from_string(format!(in alloc; "{name} (`{rule}`)")?));
+                return Ok(Some(rule));
             }
         }
     }
-    Text::copy_of(alloc, name)
+    Ok(None)
+}
+
+fn sources_of(
+    alloc: Global,
+    sets: &Formats,
+    format: &Format,
+    rules: &[Value],
+) -> Result<Vec<Text>, AllocError> {
+    let mut sources = Vec::new(alloc);
+    for clause in CLAUSES {
+        if clause.is_in(format.table.clauses) {
+            sources.push(source_of(alloc, sets, rules, *clause)?)?;
+        }
+    }
+    Ok(sources)
 }
 
 fn format_row(
@@ -289,25 +364,19 @@ fn format_row(
     format: &Format,
     rules: &[Value],
 ) -> Result<Row, AllocError> {
-    let mut sources = Vec::new(alloc);
-    for clause in CLAUSES {
-        if clause.is_in(format.table.clauses) {
-            sources.push(source_of(alloc, sets, rules, *clause)?)?;
-        }
-    }
+    let sources = sources_of(alloc, sets, format, rules)?;
     row_of(alloc, format.id.as_str(), listed(alloc, &sources)?)
 }
 
+fn own_rules(config: &Value, index: usize) -> Option<&[Value]> {
+    let format = list_under(Some(config), "formats")?.get(index)?;
+    list_under(Some(format), "rules")
+}
+
 fn rules_at(config: &Value, index: usize) -> &[Value] {
-    let Some(items) = config.get("formats").and_then(Value::as_array) else {
-        return &[];
-    };
-    let Some(item) = items.get(index) else {
-        return &[];
-    };
-    match item.get("rules").and_then(Value::as_array) {
+    match own_rules(config, index) {
         None => &[],
-        Some(rules) => rules.as_slice(),
+        Some(rules) => rules,
     }
 }
 
