@@ -1,9 +1,11 @@
 //! What is told of a configuration. A secret is looked at only for whether it is empty.
 ghost use Rattle.std.specs.Prelude.{◌≡◌, ◌++◌, IfOk, OnOk, length, map, option_map};
+ghost use Rattle.file_help.specs.Pages.{listed};
 ghost use Rattle.program_show.specs.ConfigRows.{reach, reach_text, permissions, symbol_text, inherit_text, group_text, group_row};
 ghost use Rattle.program_show.specs.ConfigRows.{group_rows, room_row, secret_word, user_text, user_row, nonce_word, seed_word};
 ghost use Rattle.program_show.specs.ConfigRows.{setup_rows};
 
+use crate::rows::{push_count, push_row, push_text};
 use file_help::page::{Row, listed, row_of};
 use ps_base::text::Text;
 use ps_group::group::{Group, Perm};
@@ -72,6 +74,13 @@ fn permissions(alloc: Global, groups: &Groups, rank: u8) -> Result<Vec<Text>, Al
     Ok(texts)
 }
 
+fn listed_permissions(alloc: Global, groups: &Groups, rank: u8) -> Result<Text, AllocError>
+    ensures { IfOk result (λ t. t ≡ listed (permissions groups.now rank)) }
+{
+    let texts = permissions(alloc, groups, rank)?;
+    listed(alloc, &texts)
+}
+
 #[tactic(auto, unfolding(crate::specs::ConfigRows::symbol_text))]
 fn symbol_text(alloc: Global, symbol: char) -> Result<Text, AllocError>
     ensures { IfOk result (λ t. t ≡ symbol_text symbol) }
@@ -103,8 +112,7 @@ fn group_text(alloc: Global, groups: &Groups, rank: u8, group: &Group) -> Result
     let name = group.name.as_str();
     let inherits = inherit_text(alloc, group.inherit)?;
     let inherits = inherits.as_str();
-    let texts = permissions(alloc, groups, rank)?;
-    let texts = listed(alloc, &texts)?;
+    let texts = listed_permissions(alloc, groups, rank)?;
     let texts = texts.as_str();
     Ok(Text::from_string(format!(in alloc; "{id} ({name}){inherits}; {texts}")?))
 }
@@ -225,25 +233,16 @@ fn seed_word(seed: u64) -> &'static str
     }
 }
 
-fn copied_row(alloc: Global, key: &str, value: &str) -> Result<Row, AllocError>
-    ensures { IfOk result (λ r. r ≡ record { key = key.now; value = value.now }) }
-{
-    let value = Text::copy_of(alloc, value)?;
-    row_of(alloc, key, value)
-}
-
 /// Who is staff, and whether nonce and seed are the defaults.
 #[tactic(auto, unfolding(crate::specs::ConfigRows::setup_rows))]
 pub(crate) fn setup_rows(alloc: Global, config: &Config) -> Result<Vec<Row>, AllocError>
     ensures { IfOk result (λ v. v.items ≡ setup_rows config.now) }
 {
     let staff = symbol_text(alloc, config.groups().symbol(config.staff()))?;
-    let count = config.seeds().len();
-    let seeds = Text::from_string(format!(in alloc; "{count}")?);
     let mut rows = Vec::new(alloc);
-    rows.push(row_of(alloc, "staff", staff)?)?;
-    rows.push(copied_row(alloc, "nonce", nonce_word(config.nonce()))?)?;
-    rows.push(copied_row(alloc, "seed", seed_word(config.seed()))?)?;
-    rows.push(row_of(alloc, "seeds", seeds)?)?;
+    push_row(alloc, &mut rows, "staff", staff)?;
+    push_text(alloc, &mut rows, "nonce", nonce_word(config.nonce()))?;
+    push_text(alloc, &mut rows, "seed", seed_word(config.seed()))?;
+    push_count(alloc, &mut rows, "seeds", config.seeds().len())?;
     Ok(rows)
 }

@@ -431,16 +431,34 @@ pub(crate) fn move_names(alloc: Global, dex: &Dex, numbers: &[u16]) -> Result<Ve
     Ok(names)
 }
 
+fn listed_types(alloc: Global, types: &[TypeItem], numbers: &[u8]) -> Result<Text, AllocError>
+    ensures { IfOk result (λ t. t ≡ listed (map (type_name types.now) numbers.now)) }
+{
+    let names = type_names(alloc, types, numbers)?;
+    listed(alloc, &names)
+}
+
+fn listed_numbers(alloc: Global, numbers: &[u8]) -> Result<Text, AllocError>
+    ensures { IfOk result (λ t. t ≡ listed (map decimal numbers.now)) }
+{
+    let texts = decimals(alloc, numbers)?;
+    listed(alloc, &texts)
+}
+
+fn listed_moves(alloc: Global, dex: &Dex, numbers: &[u16]) -> Result<Text, AllocError>
+    ensures { IfOk result (λ t. t ≡ listed (map (λ n. name_of_move n dex.now.moves) numbers.now)) }
+{
+    let names = move_names(alloc, dex, numbers)?;
+    listed(alloc, &names)
+}
+
 #[tactic(auto, unfolding(crate::specs::DexRows::species_text))]
 fn species_text(alloc: Global, dex: &Dex, species: &SpeciesItem) -> Result<Text, AllocError>
     ensures { IfOk result (λ t. t ≡ species_text dex.now.types dex.now.moves species.now) }
 {
-    let types = type_names(alloc, dex.types(), own_types(&species.types))?;
-    let stats = decimals(alloc, &species.stats)?;
-    let moves = move_names(alloc, dex, species.learns.as_slice())?;
-    let stats = listed(alloc, &stats)?;
-    let moves = listed(alloc, &moves)?;
-    let mut text = listed(alloc, &types)?;
+    let stats = listed_numbers(alloc, &species.stats)?;
+    let moves = listed_moves(alloc, dex, species.learns.as_slice())?;
+    let mut text = listed_types(alloc, dex.types(), own_types(&species.types))?;
     text.push_str("; ")?;
     text.push_str(stats.as_str())?;
     text.push_str("; learns ")?;

@@ -4,7 +4,8 @@ ghost use Rattle.program_show.specs.DrillRows.{IsTrial, broken_text, unpacked_te
 ghost use Rattle.program_show.specs.DrillRows.{no_fight_rows, IsDrillIn, IsDrill};
 
 use crate::dex_rows::decimal_text;
-use file_help::page::{Row, row_of};
+use crate::rows::{push_row, push_text};
+use file_help::page::Row;
 use program_commands::check::team_of;
 use program_commands::field::first_rules;
 use ps_base::pack_kind::PackKind;
@@ -19,7 +20,7 @@ use rules_config::config::Config;
 use std::alloc::{AllocError, Global};
 
 /// What the check of a packed text finds.
-#[derive(Debug, Drop)]
+#[derive(Drop)]
 pub(crate) enum Trial {
     /// Its team keeps all rules.
     Legal,
@@ -90,11 +91,10 @@ fn rows_of_fight(alloc: Global, fight: Fight, trial: &Trial) -> Result<Vec<Row>,
     ensures { IfOk result (λ v. v.items ≡ fight_rows fight trial.now) }
 {
     let told = trial_text(alloc, trial)?;
-    let format = Text::copy_of(alloc, fight.format.as_str())?;
     let mut rows = Vec::new(alloc);
-    rows.push(row_of(alloc, "format", format)?)?;
-    rows.push(row_of(alloc, "team", fight.team)?)?;
-    rows.push(row_of(alloc, "check", told)?)?;
+    push_text(alloc, &mut rows, "format", fight.format.as_str())?;
+    push_row(alloc, &mut rows, "team", fight.team)?;
+    push_row(alloc, &mut rows, "check", told)?;
     Ok(rows)
 }
 
@@ -103,8 +103,12 @@ fn no_fight_rows(alloc: Global) -> Result<Vec<Row>, AllocError>
     ensures { IfOk result (λ v. v.items ≡ no_fight_rows) }
 {
     let mut rows = Vec::new(alloc);
-    let told = Text::copy_of(alloc, "none, without a format and a species")?;
-    rows.push(row_of(alloc, "battle", told)?)?;
+    push_text(
+        alloc,
+        &mut rows,
+        "battle",
+        "none, without a format and a species",
+    )?;
     Ok(rows)
 }
 

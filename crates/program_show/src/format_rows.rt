@@ -1,10 +1,12 @@
 //! What is told of a format.
-ghost use Rattle.std.specs.Prelude.{◌≡◌, ◌++◌, ◌∷◌, ◌≤◌, IfOk, OnOk, length, map};
+ghost use Rattle.std.specs.Prelude.{◌≡◌, ◌++◌, ◌∷◌, [], ◌≤◌, IfOk, OnOk, codes, length, map};
+ghost use Rattle.file_help.specs.Pages.{listed};
 ghost use Rattle.program_show.specs.FormatRows.{clause_part, clause_names, ban_text, range_text, yes_or_no, table_rows};
 ghost use Rattle.program_show.specs.FormatRows.{format_rows, format_section, banned_species, banned_moves, left_moves};
 ghost use Rattle.program_show.specs.FormatRows.{left_row, left_part, left_rows, left_section};
 
 use crate::dex_rows::parts_text;
+use crate::rows::{push_row, push_text};
 use file_help::page::{Row, Section, listed, row_of, section_of};
 use ps_base::id::Id;
 use ps_base::text::Text;
@@ -80,6 +82,34 @@ fn yes_or_no(b: bool) -> &'static str
     if b { "yes" } else { "no" }
 }
 
+fn push_clauses(alloc: Global, rows: &mut Vec<Row>, on: u8) -> Result<(), AllocError>
+    ensures { OnOk result (rows.new.items ≡ rows.old.items
+        ++ record { key = codes "clauses"; value = listed (clause_names on) } ∷ []) }
+{
+    let names = clause_names(alloc, on)?;
+    push_row(alloc, rows, "clauses", listed(alloc, &names)?)
+}
+
+fn push_bans(alloc: Global, rows: &mut Vec<Row>, dex: &Dex, bans: &[Id]) -> Result<(), AllocError>
+    ensures { OnOk result (rows.new.items ≡ rows.old.items
+        ++ record { key = codes "bans"; value = listed (map (ban_text dex.now) bans.now) } ∷ []) }
+{
+    let texts = ban_texts(alloc, dex, bans)?;
+    push_row(alloc, rows, "bans", listed(alloc, &texts)?)
+}
+
+fn push_range(
+    alloc: Global,
+    rows: &mut Vec<Row>,
+    key: &str,
+    least: u8,
+    greatest: u8,
+) -> Result<(), AllocError>
+    ensures { OnOk result (rows.new.items ≡ rows.old.items ++ record { key = key.now; value = range_text least greatest } ∷ []) }
+{
+    push_row(alloc, rows, key, range_text(alloc, least, greatest)?)
+}
+
 #[tactic(auto, unfolding(crate::specs::FormatRows::table_rows))]
 fn table_rows(
     alloc: Global,
@@ -89,20 +119,13 @@ fn table_rows(
 ) -> Result<Vec<Row>, AllocError>
     ensures { IfOk result (λ v. v.items ≡ name ∷ table_rows dex.now table.now) }
 {
-    let clauses = clause_names(alloc, table.clauses)?;
-    let bans = ban_texts(alloc, dex, table.bans.as_slice())?;
-    let members = range_text(alloc, table.min, table.max)?;
-    let levels = range_text(alloc, table.levels[0], table.levels[1])?;
-    let rated = Text::copy_of(alloc, yes_or_no(table.rated))?;
-    let clauses = listed(alloc, &clauses)?;
-    let bans = listed(alloc, &bans)?;
     let mut rows = Vec::new(alloc);
     rows.push(name)?;
-    rows.push(row_of(alloc, "clauses", clauses)?)?;
-    rows.push(row_of(alloc, "bans", bans)?)?;
-    rows.push(row_of(alloc, "members", members)?)?;
-    rows.push(row_of(alloc, "levels", levels)?)?;
-    rows.push(row_of(alloc, "rated", rated)?)?;
+    push_clauses(alloc, &mut rows, table.clauses)?;
+    push_bans(alloc, &mut rows, dex, table.bans.as_slice())?;
+    push_range(alloc, &mut rows, "members", table.min, table.max)?;
+    push_range(alloc, &mut rows, "levels", table.levels[0], table.levels[1])?;
+    push_text(alloc, &mut rows, "rated", yes_or_no(table.rated))?;
     Ok(rows)
 }
 

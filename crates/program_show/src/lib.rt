@@ -5,6 +5,7 @@ mod config_rows;
 mod dex_rows;
 mod drill_rows;
 mod format_rows;
+mod rows;
 mod ruleset_rows;
 pub mod show;
 mod summary;

@@ -2,43 +2,41 @@
 ghost use Rattle.std.specs.Prelude.{◌≡◌, ◌++◌, ◌∷◌, [], IfOk, OnOk, codes, map};
 ghost use Rattle.program_show.specs.DexRows.{all_factors, kind_row, kind_words};
 ghost use Rattle.program_show.specs.FormatRows.{format_section};
-ghost use Rattle.program_show.specs.Summary.{count_row, count_rows, section, type_sections, move_sections, species_sections};
+ghost use Rattle.program_show.specs.Summary.{count_rows, section, type_sections, move_sections, species_sections};
 ghost use Rattle.program_show.specs.Summary.{config_sections, rule_sections, whole, IsWhole, of_format, without_secrets};
 
 use crate::config_rows::{group_rows, room_rows, setup_rows, user_rows};
 use crate::dex_rows::{alias_rows, factor_rows, kind_rows, move_rows, species_rows, type_rows};
 use crate::drill_rows::drill_rows;
 use crate::format_rows::{format_section, left_section};
+use crate::rows::push_count;
 use crate::ruleset_rows::set_rows;
-use file_help::page::{Row, Section, row_of, section_of};
-use ps_base::text::Text;
+use file_help::page::{Row, Section, section_of};
 use ps_dex::dex::Dex;
 use ps_rules::formats::Formats;
 use ps_rules::table::Format;
 use rules_config::config::Config;
 use std::alloc::{AllocError, Global};
 
-fn count_row(alloc: Global, key: &str, count: usize) -> Result<Row, AllocError>
-    ensures { IfOk result (λ r. r ≡ count_row key.now count) }
-{
-    let value = Text::from_string(format!(in alloc; "{count}")?);
-    row_of(alloc, key, value)
-}
-
 #[tactic(auto, unfolding(crate::specs::Summary::count_rows))]
 fn count_rows(alloc: Global, dex: &Dex, config: &Config) -> Result<Vec<Row>, AllocError>
     ensures { IfOk result (λ v. v.items ≡ count_rows dex.now config.now) }
 {
     let mut rows = Vec::new(alloc);
-    rows.push(count_row(alloc, "types", dex.types().len())?)?;
-    rows.push(count_row(alloc, "moves", dex.moves().len())?)?;
-    rows.push(count_row(alloc, "species", dex.all_species().len())?)?;
-    rows.push(count_row(alloc, "aliases", dex.aliases().len())?)?;
-    rows.push(count_row(alloc, "groups", config.groups().list().len())?)?;
-    rows.push(count_row(alloc, "rooms", config.rooms().len())?)?;
-    rows.push(count_row(alloc, "registered names", config.users().len())?)?;
-    rows.push(count_row(alloc, "rulesets", config.formats().rulesets().len())?)?;
-    rows.push(count_row(alloc, "formats", config.formats().list().len())?)?;
+    push_count(alloc, &mut rows, "types", dex.types().len())?;
+    push_count(alloc, &mut rows, "moves", dex.moves().len())?;
+    push_count(alloc, &mut rows, "species", dex.all_species().len())?;
+    push_count(alloc, &mut rows, "aliases", dex.aliases().len())?;
+    push_count(alloc, &mut rows, "groups", config.groups().list().len())?;
+    push_count(alloc, &mut rows, "rooms", config.rooms().len())?;
+    push_count(alloc, &mut rows, "registered names", config.users().len())?;
+    push_count(
+        alloc,
+        &mut rows,
+        "rulesets",
+        config.formats().rulesets().len(),
+    )?;
+    push_count(alloc, &mut rows, "formats", config.formats().list().len())?;
     Ok(rows)
 }
 
@@ -52,6 +50,17 @@ fn push_section(
 {
     sections.push(section_of(alloc, title, rows)?)?;
     Ok(())
+}
+
+fn push_counts(
+    alloc: Global,
+    sections: &mut Vec<Section>,
+    dex: &Dex,
+    config: &Config,
+) -> Result<(), AllocError>
+    ensures { OnOk result (sections.new.items ≡ sections.old.items ++ section (codes "Counts") (count_rows dex.now config.now) ∷ []) }
+{
+    push_section(alloc, sections, "Counts", count_rows(alloc, dex, config)?)
 }
 
 fn push_factors(alloc: Global, sections: &mut Vec<Section>, dex: &Dex) -> Result<(), AllocError>
@@ -153,12 +162,7 @@ fn all_sections(
     ensures { IfOk result (λ v. v.items ≡ whole dex.now config.now drill.items) }
 {
     let mut sections = Vec::new(alloc);
-    push_section(
-        alloc,
-        &mut sections,
-        "Counts",
-        count_rows(alloc, dex, config)?,
-    )?;
+    push_counts(alloc, &mut sections, dex, config)?;
     push_types(alloc, &mut sections, dex)?;
     push_moves(alloc, &mut sections, dex)?;
     push_species(alloc, &mut sections, dex)?;
