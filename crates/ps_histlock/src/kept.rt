@@ -1,5 +1,5 @@
 //! What may stand behind a lock.
-ghost use Rattle.std.specs.Prelude.{◌≡◌, ◌<◌, ◌^◌, List, [], ◌∷◌, ◌++◌, length, IfOk, OnErr};
+ghost use Rattle.std.specs.Prelude.{ℕ, Option, ◌≡◌, ◌<◌, ◌^◌, List, [], ◌∷◌, ◌++◌, length, IfOk, OnErr};
 
 use std::alloc::AllocError;
 
@@ -13,7 +13,7 @@ pub trait Kept: Drop {
     type Origin;
 
     /// One entry of the history.
-    type Cmd;
+    type Cmd: Drop;
 
     /// What `apply` answers.
     type Out;
@@ -27,6 +27,12 @@ pub trait Kept: Drop {
     /// The origin of this value.
     ghost origin: { Self → Self.Origin };
 
+    /// Some origin, whichever. No clause asks for it.
+    ghost nowhere: { Self.Origin };
+
+    /// By what name a command is signed, if by any.
+    ghost signer: { Self.Cmd → Option ℕ };
+
     /// The value may stand for this list of commands, the oldest first.
     ghost stands: { List Self.Cmd → Self → Type 0 };
 
@@ -35,6 +41,10 @@ pub trait Kept: Drop {
 
     /// Which messages `pull` may give for an origin, a list of commands and a cursor, and the cursor after it.
     ghost pulls: { Self.Origin → List Self.Cmd → Self.Cursor → List Self.Msg → Self.Cursor → Type 0 };
+
+    /// By what name a command is signed, if by any.
+    fn signed_by(cmd: &Self::Cmd) -> Option<u64>
+        ensures { result ≡ signer cmd.now };
 
     /// Appends one entry. `AllocError` if out of memory: then there is no entry.
     fn apply(&mut self, cmd: Self::Cmd) -> Result<Self::Out, AllocError>

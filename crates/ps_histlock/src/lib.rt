@@ -4,13 +4,17 @@
 //! where somebody has the turn. Nothing here names a room: what the value is and what its entries do is its own affair.
 #![tactic(auto)]
 
+mod home;
 mod kept;
 mod lock;
 mod rule;
+mod together;
 mod turn;
 mod view;
 
+pub use home::Home;
 pub use kept::Kept;
-pub use lock::{HistLock, OWN_LIMIT, Pass};
+pub use lock::{HistLock, OWN_LIMIT, Opener, Pass};
+pub use together::{authentic, look_after, no_others};
 pub use turn::{Turn, TurnOf};
 pub use view::{Entry, View};

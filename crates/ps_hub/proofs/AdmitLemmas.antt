@@ -1,15 +1,24 @@
 -- What the Open of a connection is in the history that its pass has seen.
-use Rattle.std.proofs.Common.{◌≡◌, ◌≢◌, ℕ, List, [], ◌∷◌, ◌++◌, length, sym, ap, ◌∙◌, arith}
+use Rattle.std.proofs.Common.{◌≡◌, ◌≢◌, ℕ, List, [], ◌∷◌, ◌++◌, length, Option, Some, sym, ap, ◌∙◌, subst, arith}
+use Rattle.std.proofs.lemmas.Option.{same_Some}
+use Rattle.ps_base.specs.declared.msg.Msg.{Msg}
 use Rattle.ps_lines.specs.declared.command.HallCmd.TheVariants as hall_commands
 use Rattle.ps_hall.specs.declared.entry.HallEntry.{HallEntry}
 use Rattle.ps_histlock.specs.declared.view.Entry.{Entry}
 use Rattle.ps_histlock.specs.declared.view.View.{View}
-use Rattle.ps_histlock.specs.Histories.{entry, entries_of}
+use Rattle.ps_histlock.specs.Histories.{commands, entry, entries_of, signed}
+use Rattle.ps_histlock.specs.Views.{newcomer, heir_of, with_number}
+use Rattle.ps_histlock.specs.Locks.{IsNameTaken}
+use Rattle.ps_histlock.specs.Signs.{Speaks}
 use Rattle.ps_histlock.proofs.Lists.{own_more}
 use Rattle.server_places.specs.declared.site.Root.{Root}
+use Rattle.server_places.specs.Halls.{hall_signer, HallAnswers, HallPulls}
 use Rattle.ps_hub.specs.Hubs.{Hub}
+use Rattle.ps_hub.specs.Turns.{TurnsAtLast, TakesAtLast}
+use Rattle.ps_hub.specs.declared.pass.HallPass.{HallPass}
+use Rattle.ps_hub.specs.declared.taken.Taken.TheVariants.{NameTaken}
 use Rattle.ps_hub.specs.Passes.{AreOf, IsHallPass}
-use Rattle.ps_hub.specs.Calls.{hall_entry, Admits}
+use Rattle.ps_hub.specs.Calls.{hall_entry, Admits, IsStranger}
 use Rattle.ps_hub.specs.declared.passes.Passes.{Passes}
 use Rattle.ps_hub.proofs.PassListLemmas.{hall_of}
 
@@ -36,3 +45,22 @@ admit_other hub conn moment p are a same =
     let own : [] ++ opening ∷ [] ≡ entries_of a.by (o.before ++ opening ∷ []) = own_more a.by [] o.before (hall_entry conn moment hall_commands.Open) (sym o.alone) in
     let one : length (opening ∷ []) ≡ 0 = ap length (own ∙ sym none) in
     absurd (omega arith)
+
+-- what the opener has said is the Open
+first_said : (r : Root) (by : ℕ) (v : View Root HallEntry) (e : HallEntry) → TurnsAtLast (newcomer r by) (Some e) v → v.said ≡ entry by e ∷ []
+first_said r by v e t = ap (λ (u : View Root HallEntry). u.said) t.1.2
+
+-- and so has its heir, which has made nothing
+pub heir_said : (r : Root) (by n : ℕ) (v w : View Root HallEntry) (e : HallEntry) → TurnsAtLast (newcomer r by) (Some e) v → w ≡ with_number (heir_of v) n → w.said ≡ entry by e ∷ w.mine
+heir_said r by n v w e t is = ap (λ (u : View Root HallEntry). u.said) is ∙ first_said r by v e t ∙ ap (λ (u : View Root HallEntry). entry by e ∷ u.mine) (sym is)
+
+-- the opener met an entry under the number
+pub stranger : (hub : Hub) (conn moment : ℕ) (h k : HallPass) (kept more : List Msg) (back : Option HallEntry) → IsHallPass hub conn k → TakesAtLast HallAnswers HallPulls h.pass.1 h.cursor kept (Some (hall_entry conn moment hall_commands.Open)) (NameTaken back) k.pass.1 k.cursor more
+    → IsNameTaken hall_signer h.pass.1.said k.pass.1.seen (hall_entry conn moment hall_commands.Open) → IsStranger hub conn k
+stranger hub conn moment h k kept more back of told taken =
+    let same : conn ≡ taken.0 = same_Some conn taken.0 taken.1 in
+    record {
+      of = of;
+      silent = ap (λ (l : List (Entry HallEntry)). signed hall_signer conn (commands l)) (ap (λ (u : View Root HallEntry). u.said) told.1.1.2) ∙ subst (λ (c : ℕ). signed hall_signer c (commands h.pass.1.said) ≡ []) (sym same) taken.2;
+      stands = subst (λ (c : ℕ). Speaks hall_signer c k.pass.1.seen) (sym same) taken.3;
+    }

@@ -1,24 +1,35 @@
 -- The other calls, from what happens to one pass.
 use Rattle.std.proofs.Common.{◌≡◌, ◌⊎◌, ℕ, ◌+◌, List, [], ◌∷◌, ◌++◌, Option, Some, None, Result, Ok, Err, refl, sym, ap, ◌∙◌, subst, inl, inr, ⊎_elim, Vec, Global}
-use Rattle.std.specs.Prelude.{slice_get, slice_set, IsSome, IsErr, IfOk, OnOk, OnErr}
+use Rattle.std.specs.Prelude.{slice_get, slice_set, IsSome, IsErr, IfOk, IfErr, OnOk, OnErr}
 use Rattle.std.specs.List.{AllZip}
 use Rattle.std.proofs.lemmas.List.{map-append}
 use Rattle.std.proofs.lemmas.Bool.{false≢true}
+use Rattle.std.proofs.lemmas.Option.{same_Some}
 use Rattle.ps_base.specs.declared.badge.Badge.{Badge}
 use Rattle.ps_base.specs.declared.msg.Msg.{Msg}
 use Rattle.ps_lines.specs.declared.command.Command.TheVariants as room_commands
 use Rattle.ps_lines.specs.declared.command.HallCmd.TheVariants as hall_commands
 use Rattle.rules_start.specs.declared.start.Start.{Start}
+use Rattle.ps_histlock.specs.declared.view.View.{View}
+use Rattle.ps_histlock.specs.Histories.{commands, signed}
+use Rattle.ps_histlock.specs.Locks.{IsNameTaken}
+use Rattle.ps_histlock.specs.Signs.{Speaks}
+use Rattle.server_places.specs.declared.command.RoomCmd.{RoomCmd}
 use Rattle.server_places.specs.declared.command.RoomCmd.TheVariants.{Begin, Play}
+use Rattle.server_places.specs.declared.site.Site.{Site}
+use Rattle.server_places.specs.Sites.{room_signer}
 use Rattle.server_places.specs.Halls.{HallAnswers}
-use Rattle.server_places.specs.Rooms.{Answers}
+use Rattle.server_places.specs.Rooms.{Answers, Pulls}
 use Rattle.ps_hub.specs.Hubs.{Hub, root_of, site_of}
 use Rattle.ps_hub.specs.Passes.{IsHallPass, IsRoomPass, numbers, AreOf, Keeps}
-use Rattle.ps_hub.specs.Turns.{TurnsAtLast, FallsShortAtLast}
-use Rattle.ps_hub.specs.Calls.{hall_entry, room_entry, BeginsAt, BeginsAtMost, Starts, LooksAtMost, HallCaught, Caught, HallOnly, CatchesUpHall, CatchesUp, LooksHall, LooksRoom, Counts, QuitsBy, QuitsRoom, QuitsRoomAtMost, QuitsHall, QuitsHallAtMost, QuitsUpTo, QuitsWith, Quits}
+use Rattle.ps_hub.specs.Turns.{TurnsAtLast, FallsShortAtLast, TakesAtLast}
+use Rattle.ps_hub.specs.Calls.{hall_entry, room_entry, BeginsAt, BeginsAtMost, Starts, LooksAtMost, HallCaught, Caught, HallOnly, CatchesUpHall, CatchesUp, LooksHall, LooksRoom, Counts, QuitsBy, QuitsRoom, QuitsRoomAtMost, QuitsHall, QuitsHallAtMost, QuitsUpTo, QuitsWith, Quits, IsShutOut, IsShutOutAmong, IsNotShutOut}
+use Rattle.ps_hub.specs.declared.out.QuitFault.{QuitFault}
+use Rattle.ps_hub.specs.declared.out.QuitFault.TheVariants as quit_faults
 use Rattle.ps_hub.specs.declared.pass.HallPass.{HallPass}
 use Rattle.ps_hub.specs.declared.pass.RoomPass.{RoomPass}
 use Rattle.ps_hub.specs.declared.passes.Passes.{Passes}
+use Rattle.ps_hub.specs.declared.taken.Taken.TheVariants.{NameTaken}
 use Rattle.ps_hub.proofs.QuitLemmas.{zip_weaker, zip_append, zip_self, IsDoneTo, parts_of}
 use Rattle.ps_hub.proofs.PassListLemmas.{kept_then, set_seam}
 use Rattle.ps_hub.proofs.ShortLemmas.{short_turns_at_last}
@@ -77,6 +88,27 @@ quits_by badge conn moment h k id b held is turns same = subst (λ (i : Option (
 pub quits_short : (hub : Hub) (badge : Option Badge) (conn moment : ℕ) (h k : RoomPass) (id : List ℕ) (b : Badge) → h.id ≡ Some id → badge ≡ Some b → (k.at ≡ h.at) × (k.number ≡ h.number) × (k.id ≡ h.id)
     → FallsShortAtLast (Answers (site_of hub h.number)) h.pass.1 h.cursor (Play (room_entry conn b moment room_commands.Quit)) k.pass.1 k.cursor → QuitsRoomAtMost hub badge conn moment h k
 quits_short hub badge conn moment h k id b held is same done = (subst IsSome (sym held) refl, b, is, done, same.0, same.1, same.2)
+
+-- its place is shut: an entry stands there under the number
+pub shut_out : (conn moment : ℕ) (b : Badge) (h k : RoomPass) (kept more : List Msg) (back : Option RoomCmd) → TakesAtLast Answers Pulls h.pass.1 h.cursor kept (Some (Play (room_entry conn b moment room_commands.Quit))) (NameTaken back) k.pass.1 k.cursor more
+    → IsNameTaken room_signer h.pass.1.said k.pass.1.seen (Play (room_entry conn b moment room_commands.Quit)) → IsShutOut conn k quit_faults.Taken
+shut_out conn moment b h k kept more back told taken =
+    let same : conn ≡ taken.0 = same_Some conn taken.0 taken.1 in (
+      ap (λ (u : View Site RoomCmd). signed room_signer conn (commands u.said)) told.1.1.2 ∙ subst (λ (c : ℕ). signed room_signer c (commands h.pass.1.said) ≡ []) (sym same) taken.2,
+      subst (λ (c : ℕ). Speaks room_signer c k.pass.1.seen) (sym same) taken.3,
+    )
+
+pub shut_out_among : (conn : ℕ) (rooms : List RoomPass) (i : ℕ) (k : RoomPass) (fault : QuitFault) → slice_get rooms i ≡ Some k → IsShutOut conn k fault → IsShutOutAmong conn rooms fault
+shut_out_among conn rooms i k quit_faults.Taken there out = (i, k, there, out)
+shut_out_among conn rooms i k quit_faults.NoMemory there out = tt
+
+not_shut_out : (conn : ℕ) (rooms : List RoomPass) (fault : QuitFault) → IsNotShutOut fault → IsShutOutAmong conn rooms fault
+not_shut_out conn rooms quit_faults.Taken not = absurd not
+not_shut_out conn rooms quit_faults.NoMemory not = tt
+
+pub none_shut_out : {T : Type 0} (conn : ℕ) (rooms : List RoomPass) (result : Result T QuitFault) → IfErr result IsNotShutOut → IfErr result (IsShutOutAmong conn rooms)
+none_shut_out conn rooms (Ok done) not = tt
+none_shut_out conn rooms (Err fault) not = not_shut_out conn rooms fault not
 
 -- the list where the next one fell short
 pub quits_up_to : (hub : Hub) (badge : Option Badge) (conn moment pass_index : ℕ) (old now new : List RoomPass) (h k : RoomPass) → slice_get now pass_index ≡ Some h → new ≡ slice_set now pass_index k → QuitsRoomAtMost hub badge conn moment h k → IsDoneTo (QuitsRoom badge conn moment) pass_index old now → QuitsUpTo hub badge conn moment old new
@@ -139,11 +171,6 @@ quit_numbers_up_to hub badge conn moment old new q =
     let parts : (front : List RoomPass) (k : RoomPass) → numbers (front ++ k ∷ q.back) ≡ numbers front ++ k.number ∷ numbers q.back = λ front k. map-append (λ (p : RoomPass). p.number) front (k ∷ q.back) in
     ap (λ (l : List RoomPass). numbers l) q.is ∙ parts q.quitted q.behind ∙ ap (λ (l : List ℕ). l ++ q.behind.number ∷ numbers q.back) (quit_numbers badge conn moment q.front q.quitted q.done)
     ∙ ap (λ (n : ℕ). numbers q.front ++ n ∷ numbers q.back) q.short.5 ∙ sym (ap (λ (l : List RoomPass). numbers l) q.was ∙ parts q.front q.before)
-
--- one in a room fell short
-pub quits_stopped : {T E : Type 0} (hub : Hub) (moment : ℕ) (old new : Passes) (result : Result T E) → IsErr result → new ≡ record old { rooms = new.rooms } → QuitsUpTo hub old.badge old.conn moment old.rooms.items new.rooms.items → Quits hub moment old result new
-quits_stopped hub moment old new (Ok done) is rest rooms = absurd (false≢true is)
-quits_stopped hub moment old new (Err e) is rest rooms = inl (rest, rooms)
 
 -- ---- the end of a connection, at each pass by itself
 

@@ -26,7 +26,7 @@ use Rattle.ps_hub.proofs.ToldLemmas.{pulled_stands, Grows, grows_looked, turns_g
 use Rattle.ps_hub.proofs.PassLemmas.{hall_law, hall_passed, room_law, room_passed}
 
 looked_on : {O C : Type 0} (v w : View O C) (n : ℕ) → Grows (after_look v n) w → Grows v w
-looked_on v w n g = record { origin = g.origin; seen = g.seen }
+looked_on v w n g = record { origin = g.origin; seen = g.seen; adds = g.adds }
 
 looks_grow : {O C : Type 0} (v w : View O C) (passed : ℕ) → LooksAnd v passed w → Grows v w
 looks_grow {O} {C} v w passed l =

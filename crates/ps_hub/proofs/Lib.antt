@@ -6,6 +6,8 @@ pub mod NameLemmas
 pub mod BadgeLemmas
 pub mod EnterLemmas
 pub mod CatchLemmas
+pub mod MeetLemmas
+pub mod OfLemmas
 pub mod OrderLemmas
 pub mod QuitLemmas
 pub mod CallLemmas

@@ -1,6 +1,7 @@
 -- The locks of a hub, each at its place.
 use Rattle.std.proofs.Common.{◌≡◌, ◌≢◌, ℕ, zero, suc, ◌+◌, ◌-◌, ◌<◌, ◌≤◌, true, false, List, [], ◌∷◌, ◌++◌, map, length, Option, Some, None, option_map, refl, sym, ap, ◌∙◌, subst, inl, inr, arith}
 use Rattle.std.specs.Prelude.{nat_lt, slice_get, IfNone}
+use Rattle.std.specs.List.{AllZip}
 use Rattle.std.proofs.lemmas.Bool.Decides.{nat_tests}
 use Rattle.std.proofs.lemmas.List.{length-map}
 use Rattle.std.proofs.lemmas.Option.{none-some, same_Some, slice_get_within, slice_get-map}
@@ -8,7 +9,9 @@ use Rattle.ps_dex.specs.declared.item.Tables.{Tables}
 use Rattle.rules_config.specs.declared.settings.Settings.{Settings}
 use Rattle.server_places.specs.declared.site.Site.{Site}
 use Rattle.ps_histlock.specs.Seated.{TableId}
-use Rattle.ps_hub.specs.Hubs.{Hub, site_of, lock_of, name_of, AreAt}
+use Rattle.ps_histlock.specs.Openers.{unopened}
+use Rattle.ps_histlock.specs.declared.view.View.{View}
+use Rattle.ps_hub.specs.Hubs.{Hub, site_of, lock_of, name_of, AreAt, IsUnopened}
 use Rattle.ps_hub.specs.Names.{IsNoChat, IsBattleId, Names}
 use Rattle.ps_hub.specs.Calls.{NamesNone}
 
@@ -106,3 +109,45 @@ named_place hub config read chats battles id number same_config same_read are_ch
 
 pub named_nowhere : (hub : Hub) (config read : Settings) (id : List ℕ) → hub.config ≡ config → read ≡ config → IsNoChat read id × ((n : ℕ) → IsBattleId id n → ⊥) → NamesNone hub id
 named_nowhere hub config read id same_config same_read none = (subst (λ (s : Settings). IsNoChat s id) (same_read ∙ sym same_config) none.0, none.1)
+
+-- ---- locks that aren't open yet
+
+module _ {O C : Type 0} where
+  pub is_unopened : (name : TableId) (origin : O) (opener : TableId × View O C) → opener ≡ (name, unopened origin) → IsUnopened name opener
+  is_unopened name origin opener is = (ap (λ (p : TableId × View O C). p.0) is, ap (λ (p : TableId × View O C). p.1) is ∙ ap (λ (o : O). unopened o) (sym (ap (λ (p : TableId × View O C). p.1.origin) is)))
+
+module _ {C : Type 0} where
+  -- a lock more, with its opener
+  pub unopened_end : (ls : List (TableId × Site)) (os : List (TableId × View Site C)) (l : TableId × Site) (o : TableId × View Site C) → AllZip IsUnopened (map name_of ls) os → IsUnopened l.0 o
+      → AllZip IsUnopened (map name_of (ls ++ l ∷ [])) (os ++ o ∷ [])
+  unopened_end [] [] l o are is = (is, tt)
+  unopened_end [] (y ∷ os) l o are is = absurd are
+  unopened_end (x ∷ ls) [] l o are is = absurd are
+  unopened_end (x ∷ ls) (y ∷ os) l o are is = (are.0, unopened_end ls os l o are.1 is)
+
+  -- these openers are of locks that stand at their indices
+  abbrev pub AreOpeners : List (TableId × Site) → List (TableId × View Site C) → Type 0
+  AreOpeners ls os = (i : ℕ) (o : TableId × View Site C) → slice_get os i ≡ Some o → (l : TableId × Site) × (slice_get ls i ≡ Some l) × (o.0 ≡ l.0)
+
+  pub openers_of : (ls : List (TableId × Site)) (os : List (TableId × View Site C)) → AllZip IsUnopened (map name_of ls) os → AreOpeners ls os
+  openers_of [] [] are i o e = absurd (none-some o e)
+  openers_of [] (y ∷ os) are i o e = absurd are
+  openers_of (x ∷ ls) [] are i o e = absurd are
+  openers_of (x ∷ ls) (y ∷ os) are zero o e = (x, refl, ap (λ (p : TableId × View Site C). p.0) (sym (same_Some y o e)) ∙ are.0.0)
+  openers_of (x ∷ ls) (y ∷ os) are (suc i) o e = openers_of ls os are.1 i o e
+
+  before_end : (os : List (TableId × View Site C)) (last : TableId × View Site C) (i : ℕ) (o : TableId × View Site C) → slice_get os i ≡ Some o → slice_get (os ++ last ∷ []) i ≡ Some o
+  before_end [] last i o e = absurd (none-some o e)
+  before_end (y ∷ os) last zero o e = e
+  before_end (y ∷ os) last (suc i) o e = before_end os last i o e
+
+  at_last : (os : List (TableId × View Site C)) (last : TableId × View Site C) → slice_get (os ++ last ∷ []) (length os) ≡ Some last
+  at_last [] last = refl
+  at_last (y ∷ os) last = at_last os last
+
+  -- the last is taken: its lock stands at the index that is left, and the others' stand where they stood
+  pub openers_left : (ls : List (TableId × Site)) (all os : List (TableId × View Site C)) (last : TableId × View Site C) → all ≡ os ++ last ∷ [] → AreOpeners ls all → AreOpeners ls os
+  openers_left ls all os last is are i o e = are i o (ap (λ (l : List (TableId × View Site C)). slice_get l i) is ∙ before_end os last i o e)
+
+  pub lock_of_last : (ls : List (TableId × Site)) (all os : List (TableId × View Site C)) (last : TableId × View Site C) → all ≡ os ++ last ∷ [] → AreOpeners ls all → (l : TableId × Site) × (slice_get ls (length os) ≡ Some l) × (last.0 ≡ l.0)
+  lock_of_last ls all os last is are = are (length os) last (ap (λ (l : List (TableId × View Site C)). slice_get l (length os)) is ∙ at_last os last)

@@ -1,35 +1,41 @@
 -- Orders, from what a turn does to one pass.
-use Rattle.std.proofs.Common.{◌≡◌, ℕ, List, Some, None, Result, Ok, Err, refl, sym, ap, ◌∙◌, subst, inl, inr}
+use Rattle.std.proofs.Common.{◌≡◌, ℕ, List, ◌∷◌, ◌++◌, Some, None, Result, Ok, Err, refl, sym, ap, ◌∙◌, subst, inl, inr}
 use Rattle.std.specs.Prelude.{slice_get, slice_set, All}
 use Rattle.ps_base.specs.declared.badge.Badge.{Badge}
 use Rattle.ps_lines.specs.declared.command.Command.{Command}
 use Rattle.ps_lines.specs.declared.command.HallCmd.{HallCmd}
 use Rattle.ps_lines.specs.declared.order.Order.TheVariants.{Room}
+use Rattle.ps_lines.specs.declared.command.HallCmd.TheVariants.{Open}
+use Rattle.ps_hall.specs.declared.entry.HallEntry.{HallEntry}
 use Rattle.ps_hall.specs.declared.outcome.HallOut.{HallOut}
 use Rattle.ps_histlock.specs.Histories.{commands}
+use Rattle.ps_histlock.specs.declared.view.Entry.{Entry as Made}
 use Rattle.server_places.specs.declared.site.Root.{Root}
 use Rattle.server_places.specs.Halls.{HallAnswers}
 use Rattle.ps_hub.specs.Hubs.{Hub, site_of}
 use Rattle.ps_hub.specs.Names.{Names}
-use Rattle.ps_hub.specs.Passes.{IsHallPass, IsRoomPass, numbers, IsRising, AreOf}
+use Rattle.ps_hub.specs.Passes.{Adds, IsHallPass, IsRoomPass, numbers, IsRising, AreOf}
 use Rattle.ps_hub.specs.Turns.{FallsShort}
 use Rattle.ps_hub.specs.Calls.{hall_entry, room_entry, badge_after, Held, EntersAt, HallGoes, HallOrdered, HallFails, HallTakes, RoomGoes, RoomTakes, Orders}
 use Rattle.ps_hub.specs.declared.out.HubFault.{HubFault}
-use Rattle.ps_hub.specs.declared.out.HubFault.TheVariants.{OwnLimit, NoSuchRoom, Busy, NoMemory}
+use Rattle.ps_hub.specs.declared.out.HubFault.TheVariants.{OwnLimit, Taken, NoSuchRoom, Busy, NoMemory}
 use Rattle.ps_hub.specs.declared.out.HubOut.{HubOut}
 use Rattle.ps_hub.specs.declared.pass.HallPass.{HallPass}
 use Rattle.ps_hub.specs.declared.pass.RoomPass.{RoomPass}
 use Rattle.ps_hub.specs.declared.passes.Passes.{Passes}
-use Rattle.ps_hub.proofs.PassListLemmas.{but_at}
+use Rattle.ps_hub.proofs.PassListLemmas.{but_at, said_of}
 
 -- ---- the hall
 
 -- the pass of the hall became another of the hub
-pub are_hall : (hub : Hub) (old new : Passes) (k : HallPass) → AreOf hub old → new.hall ≡ Some k → IsHallPass hub old.conn k → new.rooms.items ≡ old.rooms.items → new.conn ≡ old.conn → AreOf hub new
-are_hall hub old new k are is here pass_lists conn = record {
+pub are_hall : (hub : Hub) (old new : Passes) (h k : HallPass) → AreOf hub old → old.hall ≡ Some h → new.hall ≡ Some k → IsHallPass hub old.conn k → Adds h.pass.1 k.pass.1 → new.rooms.items ≡ old.rooms.items → new.conn ≡ old.conn → AreOf hub new
+are_hall hub old new h k are was is here adds pass_lists conn = record {
   hall_pass = k;
   hall = is;
   hall_is = subst (λ (c : ℕ). IsHallPass hub c k) (sym conn) here;
+  opened = are.opened;
+  is_open = subst (λ (c : ℕ). (moment : ℕ) × (are.opened.cmd ≡ record { conn = c; moment = moment; cmd = Open })) (sym conn) are.is_open;
+  said = adds.1 ∙ ap (λ (l : List (Made HallEntry)). l ++ adds.0) (said_of hub old h are was) ∙ ap (λ (l : List (Made HallEntry)). are.opened ∷ l) (sym adds.2);
   rooms = subst (λ (c : ℕ). All (IsRoomPass hub c) new.rooms.items) (sym conn) (subst (All (IsRoomPass hub old.conn)) (sym pass_lists) are.rooms);
   rising = subst (λ (l : List RoomPass). IsRising (numbers l)) (sym pass_lists) are.rising;
 }
@@ -53,6 +59,7 @@ hall_ordered hub cmd moment old new h k gave out p was is at pass_lists conn bad
 pub hall_failed : (hub : Hub) (cmd : HallCmd) (moment : ℕ) (old new : Passes) (h k : HallPass) (fault : HubFault) → IsHallPass hub old.conn h → old.hall ≡ Some h → new.hall ≡ Some k → k.at ≡ h.at → new.rooms.items ≡ old.rooms.items → new.conn ≡ old.conn → new.badge ≡ old.badge
     → HallTakes (hall_entry old.conn moment cmd) h (Err fault) k → HallFails hub cmd moment old fault new
 hall_failed hub cmd moment old new h k (OwnLimit room) p was is at pass_lists conn badge t = (t.0, badge, hall_goes _ old new h k was is at pass_lists conn (t.1, t.2))
+hall_failed hub cmd moment old new h k Taken p was is at pass_lists conn badge t = absurd t
 hall_failed hub cmd moment old new h k NoSuchRoom p was is at pass_lists conn badge t = absurd t
 hall_failed hub cmd moment old new h k (Busy word order) p was is at pass_lists conn badge t = (t.0, badge, hall_goes _ old new h k was is at pass_lists conn (t.1, t.2))
 hall_failed hub cmd moment old new h k NoMemory p was is at pass_lists conn badge t =
@@ -90,6 +97,8 @@ room_orders hub id cmd moment start mid pass_index h k new badge (Ok out) entere
 )
 room_orders hub id cmd moment start mid pass_index h k new badge (Err (OwnLimit room)) entered there named held rest pass_list same is t =
     inr (mid, entered, (t.0, room_goes hub id _ pass_index mid h k new there named held rest pass_list same (t.1, t.2)))
+room_orders hub id cmd moment start mid pass_index h k new badge (Err Taken) entered there named held rest pass_list same is t =
+    inr (mid, entered, (badge, is, room_goes hub id _ pass_index mid h k new there named held rest pass_list same t))
 room_orders hub id cmd moment start mid pass_index h k new badge (Err NoSuchRoom) entered there named held rest pass_list same is t = absurd t
 room_orders hub id cmd moment start mid pass_index h k new badge (Err (Busy word order)) entered there named held rest pass_list same is t =
     inr (mid, entered, (t.0, room_goes hub id _ pass_index mid h k new there named held rest pass_list same (t.1, t.2)))

@@ -1,6 +1,6 @@
 -- What keeps a pass one of a hub.
 use Rattle.std.proofs.Common.{◌≡◌, ℕ, ◌+◌, ◌<◌, ◌≤◌, true, false, List, [], ◌++◌, length, Option, Some, None, refl, sym, ap, ◌∙◌, subst, inl, inr, arith}
-use Rattle.std.specs.Prelude.{nat_lt}
+use Rattle.std.specs.Prelude.{nat_lt, All, IfSome}
 use Rattle.std.proofs.lemmas.Bool.Decides.{nat_tests}
 use Rattle.std.proofs.lemmas.Option.{none-some}
 use Rattle.ps_base.specs.declared.msg.Msg.{Msg}
@@ -13,28 +13,31 @@ use Rattle.ps_room.specs.Stories.{story, Story}
 use Rattle.ps_histlock.specs.declared.view.View.{View}
 use Rattle.ps_histlock.specs.Histories.{commands}
 use Rattle.ps_histlock.specs.Seated.{TableId}
-use Rattle.ps_histlock.specs.Views.{newcomer, IsAtRest}
+use Rattle.ps_histlock.specs.Views.{newcomer, heir_of, with_number, after_look, IsAtRest}
+use Rattle.ps_histlock.specs.Locks.{OwnSigns}
+use Rattle.ps_histlock.specs.Signs.{SignsAs, IsOf}
+use Rattle.ps_histlock.proofs.SignLemmas.{signs_nothing}
 use Rattle.server_places.specs.declared.command.RoomCmd.{RoomCmd}
 use Rattle.server_places.specs.declared.cursor.HallCursor.{HallCursor}
 use Rattle.server_places.specs.declared.cursor.RoomCursor.{RoomCursor}
 use Rattle.server_places.specs.declared.site.Root.{Root}
 use Rattle.server_places.specs.declared.site.Site.{Site}
-use Rattle.server_places.specs.Sites.{chat_at, plays, TellsBy, Tells, view_told, id_told}
+use Rattle.server_places.specs.Sites.{room_signer, chat_at, plays, TellsBy, Tells, view_told, id_told}
 use Rattle.server_places.specs.Rooms.{cursor_of, Answers, Pulls, Shows, StandsAt}
-use Rattle.server_places.specs.Halls.{HallAnswers, HallPulls, HallShows, HallStandsAt}
+use Rattle.server_places.specs.Halls.{hall_cursor, hall_signer, HallAnswers, HallPulls, HallShows, HallStandsAt}
 use Rattle.server_places.proofs.GoOnLemmas.{pulls_go_on}
 use Rattle.server_places.proofs.HallLemmas.{hall_goes_on}
 use Rattle.server_places.proofs.StandLemmas.{no_chat}
 use Rattle.server_places.proofs.TellLemmas.{tells_more, going_on}
 use Rattle.ps_hub.specs.Hubs.{Hub, root_of, site_of, lock_of}
 use Rattle.ps_hub.specs.Names.{IsChatId, Names}
-use Rattle.ps_hub.specs.Passes.{lines_of, IsTold, IsHallPass, HeldBy, IsRoomPass, IsNewPass}
+use Rattle.ps_hub.specs.Passes.{lines_of, IsTold, NeverFalls, IsHallPass, HeldBy, IsRoomPass, IsNewPass}
 use Rattle.ps_hub.specs.declared.pass.HallPass.{HallPass}
 use Rattle.ps_hub.specs.declared.pass.RoomPass.{RoomPass}
 use Rattle.ps_hub.specs.declared.taken.Taken.{Taken}
 use Rattle.ps_hub.specs.declared.taken.Taken.TheVariants.{Done}
 use Rattle.ps_hub.specs.Turns.{Takes, TakesAtLast}
-use Rattle.ps_hub.proofs.ToldLemmas.{GoesOn, told_new, told_after, told_handed, pulled_stands, Grows, grows_self, commands_grow, PullsOrNot, takes_grow, takes_pull, takes_grow_at_last, takes_pull_at_last}
+use Rattle.ps_hub.proofs.ToldLemmas.{GoesOn, told_new, told_after, told_handed, pulled_stands, Grows, grows_self, commands_grow, PullsOrNot, takes_grow, takes_pull, takes_grow_at_last, takes_pull_at_last, takes_say, takes_say_at_last, signs_after, said_after, never_falls}
 
 -- ---- the hall
 
@@ -45,32 +48,117 @@ pub hall_passed : (conn : ℕ) (r : Root) (cmds : List HallEntry) (x : HallCurso
 hall_passed conn r cmds x at = ap (λ (c : HallCursor). c.passed) at
 
 -- what follows for a pass from what a call left of it
-pub hall_stays : (hub : Hub) (conn : ℕ) (h k : HallPass) → k.pass.0 ≡ h.pass.0 → k.at ≡ h.at → IsAtRest k.pass.1 → Grows h.pass.1 k.pass.1 → PullsOrNot HallPulls h.pass.1 h.cursor (h.kept.items ++ h.fresh.items) k.pass.1 k.cursor (k.kept.items ++ k.fresh.items)
+pub hall_stays : (hub : Hub) (conn : ℕ) (h k : HallPass) → k.pass.0 ≡ h.pass.0 → k.at ≡ h.at → IsAtRest k.pass.1 → NeverFalls k.pass.1.looks → SignsAs hall_signer conn k.pass.1.said → OwnSigns hall_signer k.pass.1 k.pass.1.known → Grows h.pass.1 k.pass.1 → PullsOrNot HallPulls h.pass.1 h.cursor (h.kept.items ++ h.fresh.items) k.pass.1 k.cursor (k.kept.items ++ k.fresh.items)
     → IsHallPass hub conn h → IsHallPass hub conn k
-hall_stays hub conn h k lock at rest g pulls p = record {
+hall_stays hub conn h k lock at rest looks signs own g pulls p = record {
   lock = lock ∙ p.lock;
   origin = g.origin ∙ p.origin;
   rest = rest;
+  looks = looks;
+  signs = signs;
+  own = own;
   told = subst (λ (n : ℕ). IsTold (HallShows conn (root_of hub)) (HallStandsAt conn (root_of hub)) (commands k.pass.1.seen) k.cursor k.cursor.passed (lines_of (k.kept.items ++ k.fresh.items)) n) (sym at)
       (told_after HallPulls (HallShows conn (root_of hub)) (HallStandsAt conn (root_of hub)) (λ (x : HallCursor). x.passed) (root_of hub) (hall_law conn (root_of hub)) (hall_passed conn (root_of hub)) h.pass.1 h.cursor (h.kept.items ++ h.fresh.items) k.pass.1 k.cursor (k.kept.items ++ k.fresh.items) h.at p.origin p.told g pulls);
 }
 
 -- after a turn
 pub hall_taken : (hub : Hub) (conn : ℕ) (h k : HallPass) (cmd : Option HallEntry) (t : Taken HallEntry HallOut) → k.pass.0 ≡ h.pass.0 → k.at ≡ h.at → (IsAtRest h.pass.1 → IsAtRest k.pass.1)
+    → (OwnSigns hall_signer h.pass.1 h.pass.1.known → OwnSigns hall_signer k.pass.1 k.pass.1.known) → IfSome cmd (IsOf hall_signer conn)
     → Takes HallAnswers HallPulls h.pass.1 h.cursor (h.kept.items ++ h.fresh.items) cmd t k.pass.1 k.cursor (k.kept.items ++ k.fresh.items) → IsHallPass hub conn h → IsHallPass hub conn k
-hall_taken hub conn h k cmd t lock at rest told p = hall_stays hub conn h k lock at (rest p.rest)
+hall_taken hub conn h k cmd t lock at rest own of told p = hall_stays hub conn h k lock at (rest p.rest)
+    (subst NeverFalls (sym (takes_say HallAnswers HallPulls h.pass.1 h.cursor (h.kept.items ++ h.fresh.items) cmd t k.pass.1 k.cursor (k.kept.items ++ k.fresh.items) told).looks) p.looks)
+    (signs_after hall_signer conn h.pass.1 k.pass.1 cmd of (takes_say HallAnswers HallPulls h.pass.1 h.cursor (h.kept.items ++ h.fresh.items) cmd t k.pass.1 k.cursor (k.kept.items ++ k.fresh.items) told) p.signs)
+    (own p.own)
     (takes_grow HallAnswers HallPulls h.pass.1 h.cursor (h.kept.items ++ h.fresh.items) cmd t k.pass.1 k.cursor (k.kept.items ++ k.fresh.items) told)
     (takes_pull HallAnswers HallPulls h.pass.1 h.cursor (h.kept.items ++ h.fresh.items) cmd t k.pass.1 k.cursor (k.kept.items ++ k.fresh.items) told)
     p
 
 pub hall_taken_at_last : (hub : Hub) (conn : ℕ) (h k : HallPass) (cmd : Option HallEntry) (t : Taken HallEntry HallOut) → k.pass.0 ≡ h.pass.0 → k.at ≡ h.at → (IsAtRest h.pass.1 → IsAtRest k.pass.1)
+    → (OwnSigns hall_signer h.pass.1 h.pass.1.known → OwnSigns hall_signer k.pass.1 k.pass.1.known) → IfSome cmd (IsOf hall_signer conn)
     → TakesAtLast HallAnswers HallPulls h.pass.1 h.cursor (h.kept.items ++ h.fresh.items) cmd t k.pass.1 k.cursor (k.kept.items ++ k.fresh.items) → IsHallPass hub conn h → IsHallPass hub conn k
-hall_taken_at_last hub conn h k cmd t lock at rest told p = hall_stays hub conn h k lock at (rest p.rest)
+hall_taken_at_last hub conn h k cmd t lock at rest own of told p = hall_stays hub conn h k lock at (rest p.rest)
+    (subst NeverFalls (sym (takes_say_at_last HallAnswers HallPulls h.pass.1 h.cursor (h.kept.items ++ h.fresh.items) cmd t k.pass.1 k.cursor (k.kept.items ++ k.fresh.items) told).looks) p.looks)
+    (signs_after hall_signer conn h.pass.1 k.pass.1 cmd of (takes_say_at_last HallAnswers HallPulls h.pass.1 h.cursor (h.kept.items ++ h.fresh.items) cmd t k.pass.1 k.cursor (k.kept.items ++ k.fresh.items) told) p.signs)
+    (own p.own)
     (takes_grow_at_last HallAnswers HallPulls h.pass.1 h.cursor (h.kept.items ++ h.fresh.items) cmd t k.pass.1 k.cursor (k.kept.items ++ k.fresh.items) told)
     (takes_pull_at_last HallAnswers HallPulls h.pass.1 h.cursor (h.kept.items ++ h.fresh.items) cmd t k.pass.1 k.cursor (k.kept.items ++ k.fresh.items) told)
     p
 
+-- after a look
+pub hall_looked : (hub : Hub) (conn : ℕ) (h k : HallPass) (n : ℕ) → k ≡ record h { pass = (h.pass.0, after_look h.pass.1 n) } → All (λ (m : ℕ). m ≤ n) h.pass.1.looks → IsHallPass hub conn h → IsHallPass hub conn k
+hall_looked hub conn h k n is le p = subst (IsHallPass hub conn) (sym is) (record { lock = p.lock; origin = p.origin; rest = p.rest; looks = never_falls h.pass.1.looks n p.looks le; signs = p.signs; own = p.own; told = p.told })
+
+-- a new pass
+pub hall_new : (hub : Hub) (conn : ℕ) (k : HallPass) (lock : TableId) (by : ℕ) → lock ≡ hub.hall → k.pass ≡ (lock, newcomer (root_of hub) by) → k.cursor ≡ hall_cursor conn 0 → k.kept.items ++ k.fresh.items ≡ [] → k.at ≡ 0 → IsHallPass hub conn k
+hall_new hub conn k lock by same pass cursor none at =
+    let r : Root = root_of hub in
+    let empty : IsTold (HallShows conn r) (HallStandsAt conn r) [] (hall_cursor conn 0) 0 [] 0 = told_new (HallShows conn r) (HallStandsAt conn r) (hall_cursor conn 0) refl refl in
+    let moved : IsTold (HallShows conn r) (HallStandsAt conn r) [] k.cursor k.cursor.passed [] 0 = subst (λ (x : HallCursor). IsTold (HallShows conn r) (HallStandsAt conn r) [] x x.passed [] 0) (sym cursor) empty in
+    let kept : IsTold (HallShows conn r) (HallStandsAt conn r) [] k.cursor k.cursor.passed (lines_of (k.kept.items ++ k.fresh.items)) k.at = subst (λ (m : ℕ). IsTold (HallShows conn r) (HallStandsAt conn r) [] k.cursor k.cursor.passed (lines_of (k.kept.items ++ k.fresh.items)) m) (sym at) (subst (λ (ms : List Msg). IsTold (HallShows conn r) (HallStandsAt conn r) [] k.cursor k.cursor.passed (lines_of ms) 0) (sym none) moved) in
+    record {
+      lock = ap (λ (q : TableId × View Root HallEntry). q.0) pass ∙ same;
+      origin = ap (λ (q : TableId × View Root HallEntry). q.1.origin) pass;
+      rest = subst (λ (q : TableId × View Root HallEntry). IsAtRest q.1) (sym pass) (refl, refl, refl, refl, refl, ([], refl), refl);
+      looks = subst (λ (q : TableId × View Root HallEntry). NeverFalls q.1.looks) (sym pass) tt;
+      signs = subst (λ (q : TableId × View Root HallEntry). SignsAs hall_signer conn q.1.said) (sym pass) (signs_nothing hall_signer conn);
+      own = subst (λ (q : TableId × View Root HallEntry). OwnSigns hall_signer q.1 q.1.known) (sym pass) (λ d none_left. refl);
+      told = subst (λ (q : TableId × View Root HallEntry). IsTold (HallShows conn r) (HallStandsAt conn r) (commands q.1.seen) k.cursor k.cursor.passed (lines_of (k.kept.items ++ k.fresh.items)) k.at) (sym pass) kept;
+    }
+
+-- an heir, with the messages of the pass in whose place it is
+pub hall_heir : (hub : Hub) (conn : ℕ) (h k : HallPass) (n : ℕ) → k.pass ≡ (h.pass.0, with_number (heir_of h.pass.1) n) → IsAtRest k.pass.1 → OwnSigns hall_signer k.pass.1 k.pass.1.known → k.cursor ≡ h.cursor → k.kept.items ++ k.fresh.items ≡ h.kept.items ++ h.fresh.items → k.at ≡ h.at
+    → IsHallPass hub conn h → IsHallPass hub conn k
+hall_heir hub conn h k n pass rest own cursor kept at p =
+    let r : Root = root_of hub in
+    let moved : IsTold (HallShows conn r) (HallStandsAt conn r) (commands h.pass.1.seen) k.cursor k.cursor.passed (lines_of (h.kept.items ++ h.fresh.items)) h.at = subst (λ (x : HallCursor). IsTold (HallShows conn r) (HallStandsAt conn r) (commands h.pass.1.seen) x x.passed (lines_of (h.kept.items ++ h.fresh.items)) h.at) (sym cursor) p.told in
+    let given : IsTold (HallShows conn r) (HallStandsAt conn r) (commands h.pass.1.seen) k.cursor k.cursor.passed (lines_of (k.kept.items ++ k.fresh.items)) k.at = subst (λ (m : ℕ). IsTold (HallShows conn r) (HallStandsAt conn r) (commands h.pass.1.seen) k.cursor k.cursor.passed (lines_of (k.kept.items ++ k.fresh.items)) m) (sym at) (subst (λ (ms : List Msg). IsTold (HallShows conn r) (HallStandsAt conn r) (commands h.pass.1.seen) k.cursor k.cursor.passed (lines_of ms) h.at) (sym kept) moved) in
+    record {
+      lock = ap (λ (q : TableId × View Root HallEntry). q.0) pass ∙ p.lock;
+      origin = ap (λ (q : TableId × View Root HallEntry). q.1.origin) pass ∙ p.origin;
+      rest = rest;
+      looks = subst (λ (q : TableId × View Root HallEntry). NeverFalls q.1.looks) (sym pass) tt;
+      signs = subst (λ (q : TableId × View Root HallEntry). SignsAs hall_signer conn q.1.said) (sym pass) p.signs;
+      own = own;
+      told = subst (λ (q : TableId × View Root HallEntry). IsTold (HallShows conn r) (HallStandsAt conn r) (commands q.1.seen) k.cursor k.cursor.passed (lines_of (k.kept.items ++ k.fresh.items)) k.at) (sym pass) given;
+    }
+
+-- after all messages were handed out
+pub hall_handed : (hub : Hub) (conn : ℕ) (h k : HallPass) → k.pass ≡ h.pass → k.cursor ≡ h.cursor → k.kept.items ++ k.fresh.items ≡ [] → k.at ≡ k.cursor.passed → IsHallPass hub conn h → IsHallPass hub conn k
+hall_handed hub conn h k pass cursor none at p =
+    let moved : (q : TableId × View Root HallEntry) → q ≡ h.pass → IsAtRest q.1 × NeverFalls q.1.looks × SignsAs hall_signer conn q.1.said × OwnSigns hall_signer q.1 q.1.known = λ q same. subst (λ (u : TableId × View Root HallEntry). IsAtRest u.1 × NeverFalls u.1.looks × SignsAs hall_signer conn u.1.said × OwnSigns hall_signer u.1 u.1.known) (sym same) (p.rest, p.looks, p.signs, p.own) in
+    let m = moved k.pass pass in
+    record {
+      lock = ap (λ (q : TableId × View Root HallEntry). q.0) pass ∙ p.lock;
+      origin = ap (λ (q : TableId × View Root HallEntry). q.1.origin) pass ∙ p.origin;
+      rest = m.0;
+      looks = m.1;
+      signs = m.2;
+      own = m.3;
+      told = told_handed (HallShows conn (root_of hub)) (HallStandsAt conn (root_of hub)) (λ (x : HallCursor). x.passed) h.pass.1 k.pass.1 h.cursor k.cursor (h.kept.items ++ h.fresh.items) (k.kept.items ++ k.fresh.items) h.at k.at (ap (λ (q : TableId × View Root HallEntry). q.1) pass) cursor none at p.told;
+    }
+
 -- ---- a room
+
+held_looked : (hub : Hub) (h : RoomPass) (n : ℕ) (id : Option (List ℕ)) → HeldBy id hub h → HeldBy id hub (record h { pass = (h.pass.0, after_look h.pass.1 n) })
+held_looked hub h n None held = tt
+held_looked hub h n (Some id) held = held
+
+room_look : (hub : Hub) (conn : ℕ) (h : RoomPass) (n : ℕ) → All (λ (m : ℕ). m ≤ n) h.pass.1.looks → IsRoomPass hub conn h → IsRoomPass hub conn (record h { pass = (h.pass.0, after_look h.pass.1 n) })
+room_look hub conn h n le p = record {
+  lock = p.lock;
+  origin = p.origin;
+  rest = p.rest;
+  looks = never_falls h.pass.1.looks n p.looks le;
+  said = p.said;
+  signs = p.signs;
+  own = p.own;
+  told = p.told;
+  held = held_looked hub h n h.id p.held;
+}
+
+-- after a look
+pub room_looked : (hub : Hub) (conn : ℕ) (h k : RoomPass) (n : ℕ) → k ≡ record h { pass = (h.pass.0, after_look h.pass.1 n) } → All (λ (m : ℕ). m ≤ n) h.pass.1.looks → IsRoomPass hub conn h → IsRoomPass hub conn k
+room_looked hub conn h k n is le p = subst (IsRoomPass hub conn) (sym is) (room_look hub conn h n le p)
 
 pub room_law : (conn : ℕ) (site : Site) → GoesOn (Shows conn site) (StandsAt conn site) (Pulls site)
 room_law conn site before later x y ms msgs at shows p = pulls_go_on conn site before later x y ms msgs at shows p
@@ -96,12 +184,16 @@ held_on hub (Some id) h k number g held =
     let here : (more : Option Story) × Tells (site_of hub h.number) (commands k.pass.1.seen) more × (id_told more ≡ Some id) = subst (λ (l : List RoomCmd). (more : Option Story) × Tells (site_of hub h.number) l more × (id_told more ≡ Some id)) later.1 further in
     subst (λ (n : ℕ). (more : Option Story) × Tells (site_of hub n) (commands k.pass.1.seen) more × (id_told more ≡ Some id)) (sym number) here
 
-pub room_stays : (hub : Hub) (conn : ℕ) (h k : RoomPass) → k.pass.0 ≡ h.pass.0 → k.at ≡ h.at → k.number ≡ h.number → k.id ≡ h.id → IsAtRest k.pass.1 → Grows h.pass.1 k.pass.1 → PullsOrNot Pulls h.pass.1 h.cursor (h.kept.items ++ h.fresh.items) k.pass.1 k.cursor (k.kept.items ++ k.fresh.items)
+pub room_stays : (hub : Hub) (conn : ℕ) (h k : RoomPass) → k.pass.0 ≡ h.pass.0 → k.at ≡ h.at → k.number ≡ h.number → k.id ≡ h.id → IsAtRest k.pass.1 → NeverFalls k.pass.1.looks → k.pass.1.said ≡ k.pass.1.mine → SignsAs room_signer conn k.pass.1.said → OwnSigns room_signer k.pass.1 k.pass.1.known → Grows h.pass.1 k.pass.1 → PullsOrNot Pulls h.pass.1 h.cursor (h.kept.items ++ h.fresh.items) k.pass.1 k.cursor (k.kept.items ++ k.fresh.items)
     → IsRoomPass hub conn h → IsRoomPass hub conn k
-room_stays hub conn h k lock at number id rest g pulls p = record {
+room_stays hub conn h k lock at number id rest looks said signs own g pulls p = record {
   lock = ap (λ (n : ℕ). lock_of hub n) number ∙ p.lock ∙ ap (λ (t : TableId). Some t) (sym lock);
   origin = g.origin ∙ p.origin ∙ ap (λ (n : ℕ). site_of hub n) (sym number);
   rest = rest;
+  looks = looks;
+  said = said;
+  signs = signs;
+  own = own;
   told = subst (λ (n : ℕ). IsTold (Shows conn (site_of hub k.number)) (StandsAt conn (site_of hub k.number)) (commands k.pass.1.seen) k.cursor k.cursor.passed (lines_of (k.kept.items ++ k.fresh.items)) n) (sym at)
       (subst (λ (n : ℕ). IsTold (Shows conn (site_of hub n)) (StandsAt conn (site_of hub n)) (commands k.pass.1.seen) k.cursor k.cursor.passed (lines_of (k.kept.items ++ k.fresh.items)) h.at) (sym number)
       (told_after Pulls (Shows conn (site_of hub h.number)) (StandsAt conn (site_of hub h.number)) (λ (x : RoomCursor). x.passed) (site_of hub h.number) (room_law conn (site_of hub h.number)) (room_passed conn (site_of hub h.number)) h.pass.1 h.cursor (h.kept.items ++ h.fresh.items) k.pass.1 k.cursor (k.kept.items ++ k.fresh.items) h.at p.origin p.told g pulls));
@@ -110,15 +202,25 @@ room_stays hub conn h k lock at number id rest g pulls p = record {
 
 -- after a turn
 pub room_taken : (hub : Hub) (conn : ℕ) (h k : RoomPass) (cmd : Option RoomCmd) (t : Taken RoomCmd (Option RoomOut)) → k.pass.0 ≡ h.pass.0 → (k.at ≡ h.at) × (k.number ≡ h.number) × (k.id ≡ h.id) → (IsAtRest h.pass.1 → IsAtRest k.pass.1)
+    → (OwnSigns room_signer h.pass.1 h.pass.1.known → OwnSigns room_signer k.pass.1 k.pass.1.known) → IfSome cmd (IsOf room_signer conn)
     → Takes Answers Pulls h.pass.1 h.cursor (h.kept.items ++ h.fresh.items) cmd t k.pass.1 k.cursor (k.kept.items ++ k.fresh.items) → IsRoomPass hub conn h → IsRoomPass hub conn k
-room_taken hub conn h k cmd t lock same rest told p = room_stays hub conn h k lock same.0 same.1 same.2 (rest p.rest)
+room_taken hub conn h k cmd t lock same rest own of told p = room_stays hub conn h k lock same.0 same.1 same.2 (rest p.rest)
+    (subst NeverFalls (sym (takes_say Answers Pulls h.pass.1 h.cursor (h.kept.items ++ h.fresh.items) cmd t k.pass.1 k.cursor (k.kept.items ++ k.fresh.items) told).looks) p.looks)
+    (said_after h.pass.1 k.pass.1 cmd (takes_say Answers Pulls h.pass.1 h.cursor (h.kept.items ++ h.fresh.items) cmd t k.pass.1 k.cursor (k.kept.items ++ k.fresh.items) told) p.said)
+    (signs_after room_signer conn h.pass.1 k.pass.1 cmd of (takes_say Answers Pulls h.pass.1 h.cursor (h.kept.items ++ h.fresh.items) cmd t k.pass.1 k.cursor (k.kept.items ++ k.fresh.items) told) p.signs)
+    (own p.own)
     (takes_grow Answers Pulls h.pass.1 h.cursor (h.kept.items ++ h.fresh.items) cmd t k.pass.1 k.cursor (k.kept.items ++ k.fresh.items) told)
     (takes_pull Answers Pulls h.pass.1 h.cursor (h.kept.items ++ h.fresh.items) cmd t k.pass.1 k.cursor (k.kept.items ++ k.fresh.items) told)
     p
 
 pub room_taken_at_last : (hub : Hub) (conn : ℕ) (h k : RoomPass) (cmd : Option RoomCmd) (t : Taken RoomCmd (Option RoomOut)) → k.pass.0 ≡ h.pass.0 → (k.at ≡ h.at) × (k.number ≡ h.number) × (k.id ≡ h.id) → (IsAtRest h.pass.1 → IsAtRest k.pass.1)
+    → (OwnSigns room_signer h.pass.1 h.pass.1.known → OwnSigns room_signer k.pass.1 k.pass.1.known) → IfSome cmd (IsOf room_signer conn)
     → TakesAtLast Answers Pulls h.pass.1 h.cursor (h.kept.items ++ h.fresh.items) cmd t k.pass.1 k.cursor (k.kept.items ++ k.fresh.items) → IsRoomPass hub conn h → IsRoomPass hub conn k
-room_taken_at_last hub conn h k cmd t lock same rest told p = room_stays hub conn h k lock same.0 same.1 same.2 (rest p.rest)
+room_taken_at_last hub conn h k cmd t lock same rest own of told p = room_stays hub conn h k lock same.0 same.1 same.2 (rest p.rest)
+    (subst NeverFalls (sym (takes_say_at_last Answers Pulls h.pass.1 h.cursor (h.kept.items ++ h.fresh.items) cmd t k.pass.1 k.cursor (k.kept.items ++ k.fresh.items) told).looks) p.looks)
+    (said_after h.pass.1 k.pass.1 cmd (takes_say_at_last Answers Pulls h.pass.1 h.cursor (h.kept.items ++ h.fresh.items) cmd t k.pass.1 k.cursor (k.kept.items ++ k.fresh.items) told) p.said)
+    (signs_after room_signer conn h.pass.1 k.pass.1 cmd of (takes_say_at_last Answers Pulls h.pass.1 h.cursor (h.kept.items ++ h.fresh.items) cmd t k.pass.1 k.cursor (k.kept.items ++ k.fresh.items) told) p.signs)
+    (own p.own)
     (takes_grow_at_last Answers Pulls h.pass.1 h.cursor (h.kept.items ++ h.fresh.items) cmd t k.pass.1 k.cursor (k.kept.items ++ k.fresh.items) told)
     (takes_pull_at_last Answers Pulls h.pass.1 h.cursor (h.kept.items ++ h.fresh.items) cmd t k.pass.1 k.cursor (k.kept.items ++ k.fresh.items) told)
     p
@@ -128,6 +230,10 @@ room_handed hub conn h k pass cursor number id none at p = record {
   lock = ap (λ (n : ℕ). lock_of hub n) number ∙ p.lock ∙ ap (λ (q : TableId × View Site RoomCmd). Some q.0) (sym pass);
   origin = ap (λ (q : TableId × View Site RoomCmd). q.1.origin) pass ∙ p.origin ∙ ap (λ (n : ℕ). site_of hub n) (sym number);
   rest = subst (λ (q : TableId × View Site RoomCmd). IsAtRest q.1) (sym pass) p.rest;
+  looks = subst (λ (q : TableId × View Site RoomCmd). NeverFalls q.1.looks) (sym pass) p.looks;
+  said = subst (λ (q : TableId × View Site RoomCmd). q.1.said ≡ q.1.mine) (sym pass) p.said;
+  signs = subst (λ (q : TableId × View Site RoomCmd). SignsAs room_signer conn q.1.said) (sym pass) p.signs;
+  own = subst (λ (q : TableId × View Site RoomCmd). OwnSigns room_signer q.1 q.1.known) (sym pass) p.own;
   told = subst (λ (n : ℕ). IsTold (Shows conn (site_of hub n)) (StandsAt conn (site_of hub n)) (commands k.pass.1.seen) k.cursor k.cursor.passed (lines_of (k.kept.items ++ k.fresh.items)) k.at) (sym number)
       (told_handed (Shows conn (site_of hub h.number)) (StandsAt conn (site_of hub h.number)) (λ (x : RoomCursor). x.passed) h.pass.1 k.pass.1 h.cursor k.cursor (h.kept.items ++ h.fresh.items) (k.kept.items ++ k.fresh.items) h.at k.at (ap (λ (q : TableId × View Site RoomCmd). q.1) pass) cursor none at p.told);
   held = subst (λ (i : Option (List ℕ)). HeldBy i hub k) (sym id) (held_on hub h.id h k number (subst (λ (q : TableId × View Site RoomCmd). Grows h.pass.1 q.1) (sym pass) (grows_self h.pass.1)) p.held);
@@ -149,7 +255,11 @@ room_new hub conn number k new =
     record {
       lock = ap (λ (n : ℕ). lock_of hub n) new.number_is ∙ new.pass.2 ∙ ap (λ (q : TableId × View Site RoomCmd). Some q.0) (sym pass);
       origin = ap (λ (q : TableId × View Site RoomCmd). q.1.origin) pass ∙ ap (λ (n : ℕ). site_of hub n) (sym new.number_is);
-      rest = subst (λ (q : TableId × View Site RoomCmd). IsAtRest q.1) (sym pass) (refl, refl, refl);
+      rest = subst (λ (q : TableId × View Site RoomCmd). IsAtRest q.1) (sym pass) (refl, refl, refl, refl, refl, ([], refl), refl);
+      looks = subst (λ (q : TableId × View Site RoomCmd). NeverFalls q.1.looks) (sym pass) tt;
+      said = subst (λ (q : TableId × View Site RoomCmd). q.1.said ≡ q.1.mine) (sym pass) refl;
+      signs = subst (λ (q : TableId × View Site RoomCmd). SignsAs room_signer conn q.1.said) (sym pass) (signs_nothing room_signer conn);
+      own = subst (λ (q : TableId × View Site RoomCmd). OwnSigns room_signer q.1 q.1.known) (sym pass) (λ d none_left. refl);
       told = subst (λ (q : TableId × View Site RoomCmd). IsTold (Shows conn site) (StandsAt conn site) (commands q.1.seen) k.cursor k.cursor.passed (lines_of (k.kept.items ++ k.fresh.items)) k.at) (sym pass) kept;
       held = subst (λ (i : Option (List ℕ)). HeldBy i hub k) (sym new.id) tt;
     }
@@ -157,7 +267,7 @@ room_new hub conn number k new =
 -- ---- holding
 
 pub room_held : (hub : Hub) (conn : ℕ) (h k : RoomPass) (id : List ℕ) → k ≡ record h { id = Some id } → HeldBy (Some id) hub h → IsRoomPass hub conn h → IsRoomPass hub conn k
-room_held hub conn h k id is held p = subst (λ (q : RoomPass). IsRoomPass hub conn q) (sym is) (record { lock = p.lock; origin = p.origin; rest = p.rest; told = p.told; held = held })
+room_held hub conn h k id is held p = subst (λ (q : RoomPass). IsRoomPass hub conn q) (sym is) (record { lock = p.lock; origin = p.origin; rest = p.rest; looks = p.looks; said = p.said; signs = p.signs; own = p.own; told = p.told; held = held })
 
 -- the place of a chat room is that of the room with its id
 chat_named : (hub : Hub) (id : List ℕ) (number : ℕ) → IsChatId hub.config id number → number < 16 → (o : Opening) × (chat_at (site_of hub number) ≡ Some o) × (o.id ≡ id)

@@ -5,6 +5,12 @@ use Rattle.std.proofs.lemmas.Bool.Decides.{nat_tests}
 use Rattle.std.proofs.lemmas.List.{take_at, take_all, drop_at, drop_all, append-nil}
 use Rattle.std.proofs.lemmas.List.Elements.{All-nil, All-append, All-cons, All-head, All-tail, All-take, All-drop, All-set}
 use Rattle.std.proofs.lemmas.Option.{none-some, same_Some, get_or_from_slice_get}
+use Rattle.ps_lines.specs.declared.command.HallCmd.TheVariants.{Open}
+use Rattle.ps_hall.specs.declared.entry.HallEntry.{HallEntry}
+use Rattle.ps_histlock.specs.declared.view.Entry.{Entry}
+use Rattle.ps_histlock.specs.Signs.{Speaks}
+use Rattle.ps_histlock.proofs.SignLemmas.{speaks_first}
+use Rattle.server_places.specs.Halls.{hall_signer}
 use Rattle.ps_hub.specs.Hubs.{Hub}
 use Rattle.ps_hub.specs.Passes.{IsHallPass, IsRoomPass, numbers, IsRising, AreOf, IsAsBefore, IsGap, IsAdded, IsNewPass, Keeps, ButFor}
 use Rattle.ps_hub.specs.declared.pass.HallPass.{HallPass}
@@ -96,6 +102,9 @@ are_set hub old new i h k are there same rest pass_list here =
       hall_pass = are.hall_pass;
       hall = ap (λ (p : Passes). p.hall) rest ∙ are.hall;
       hall_is = subst (λ (c : ℕ). IsHallPass hub c are.hall_pass) (sym conn) are.hall_is;
+      opened = are.opened;
+      is_open = subst (λ (c : ℕ). (moment : ℕ) × (are.opened.cmd ≡ record { conn = c; moment = moment; cmd = Open })) (sym conn) are.is_open;
+      said = are.said;
       rooms = subst (λ (c : ℕ). All (IsRoomPass hub c) new.rooms.items) (sym conn) (subst (All (IsRoomPass hub old.conn)) (sym pass_list) (after_set (IsRoomPass hub old.conn) old.rooms.items i k here are.rooms));
       rising = subst IsRising (sym (ap (λ (l : List RoomPass). numbers l) pass_list ∙ numbers_set old.rooms.items i h k there same)) are.rising;
     }
@@ -108,6 +117,9 @@ are_rooms hub old new are rest rooms same =
       hall_pass = are.hall_pass;
       hall = ap (λ (p : Passes). p.hall) rest ∙ are.hall;
       hall_is = subst (λ (c : ℕ). IsHallPass hub c are.hall_pass) (sym conn) are.hall_is;
+      opened = are.opened;
+      is_open = subst (λ (c : ℕ). (moment : ℕ) × (are.opened.cmd ≡ record { conn = c; moment = moment; cmd = Open })) (sym conn) are.is_open;
+      said = are.said;
       rooms = subst (λ (c : ℕ). All (IsRoomPass hub c) new.rooms.items) (sym conn) rooms;
       rising = subst IsRising (sym same) are.rising;
     }
@@ -126,6 +138,9 @@ are_as_before hub old new are same =
       hall_pass = are.hall_pass;
       hall = ap (λ (p : Passes). p.hall) same.0 ∙ are.hall;
       hall_is = subst (λ (c : ℕ). IsHallPass hub c are.hall_pass) (sym conn) are.hall_is;
+      opened = are.opened;
+      is_open = subst (λ (c : ℕ). (moment : ℕ) × (are.opened.cmd ≡ record { conn = c; moment = moment; cmd = Open })) (sym conn) are.is_open;
+      said = are.said;
       rooms = subst (λ (c : ℕ). All (IsRoomPass hub c) new.rooms.items) (sym conn) (subst (All (IsRoomPass hub old.conn)) (sym same.1) are.rooms);
       rising = subst (λ (l : List RoomPass). IsRising (numbers l)) (sym same.1) are.rising;
     }
@@ -154,6 +169,9 @@ are_kept hub number pass_index old k new are keeps =
       hall_pass = are.hall_pass;
       hall = ap (λ (p : Passes). p.hall) keeps.rest ∙ are.hall;
       hall_is = subst (λ (c : ℕ). IsHallPass hub c are.hall_pass) (sym conn) are.hall_is;
+      opened = are.opened;
+      is_open = subst (λ (c : ℕ). (moment : ℕ) × (are.opened.cmd ≡ record { conn = c; moment = moment; cmd = Open })) (sym conn) are.is_open;
+      said = are.said;
       rooms = subst (λ (c : ℕ). All (IsRoomPass hub c) new.rooms.items) (sym conn) (kept_rooms hub number pass_index old k new are keeps);
       rising = keeps.rising are.rising;
     }
@@ -161,6 +179,15 @@ are_kept hub number pass_index old k new are keeps =
 -- the pass of the hall
 pub hall_of : (hub : Hub) (passes : Passes) (h : HallPass) → AreOf hub passes → passes.hall ≡ Some h → IsHallPass hub passes.conn h
 hall_of hub passes h are is = subst (IsHallPass hub passes.conn) (same_Some are.hall_pass h (sym are.hall ∙ is)) are.hall_is
+
+-- what its pass of the hall has said is the Open and its own entries
+pub said_of : (hub : Hub) (passes : Passes) (h : HallPass) (are : AreOf hub passes) → passes.hall ≡ Some h → h.pass.1.said ≡ are.opened ∷ h.pass.1.mine
+said_of hub passes h are is = subst (λ (q : HallPass). q.pass.1.said ≡ are.opened ∷ q.pass.1.mine) (same_Some are.hall_pass h (sym are.hall ∙ is)) are.said
+
+-- so it speaks for the connection's number
+pub speaks_of : (hub : Hub) (passes : Passes) (h : HallPass) → AreOf hub passes → passes.hall ≡ Some h → Speaks hall_signer passes.conn h.pass.1.said
+speaks_of hub passes h are is = subst (λ (l : List (Entry HallEntry)). Speaks hall_signer passes.conn l) (sym (said_of hub passes h are is))
+    (speaks_first hall_signer passes.conn are.opened h.pass.1.mine (ap (λ (e : HallEntry). Some e.conn) are.is_open.1))
 
 -- what is read at an index of the list is there, and one of the hub
 pub read_there : (rooms : List RoomPass) (pass_index : ℕ) (k x : RoomPass) → slice_get rooms pass_index ≡ Some k → x ≡ get_or rooms pass_index x → slice_get rooms pass_index ≡ Some x

@@ -1,8 +1,8 @@
 -- What was handed out and what is kept, when a pass sees more, pulls more and hands out.
-use Rattle.std.proofs.Common.{◌≡◌, ◌≢◌, ◌⊎◌, ℕ, ◌%◌, ◌<◌, ◌≤◌, List, [], ◌∷◌, ◌++◌, length, take, drop, Option, Some, None, refl, sym, ap, ◌∙◌, subst, inl, inr, ⊎_elim, arith, append_assoc}
+use Rattle.std.proofs.Common.{◌≡◌, ◌≢◌, ◌⊎◌, ℕ, zero, suc, ◌%◌, ◌<◌, ◌≤◌, List, [], ◌∷◌, ◌++◌, length, take, drop, Option, Some, None, refl, sym, ap, ◌∙◌, subst, inl, inr, ⊎_elim, arith, append_assoc}
 use Rattle.std.proofs.lemmas.List.{take-append-le, take-append-drop, take_all, length-append, length-map, map-append, append-nil}
 use Rattle.std.proofs.Math.Seq.{get_or-append_seam}
-use Rattle.std.specs.Prelude.{All}
+use Rattle.std.specs.Prelude.{All, IfSome}
 use mathlib.Core.List.{IsPrefix}
 use Rattle.ps_base.specs.declared.msg.Msg.{Msg}
 use Rattle.ps_base.specs.Messages.{msg_lines}
@@ -11,13 +11,16 @@ use Rattle.ps_histlock.specs.declared.view.View.{View}
 use Rattle.ps_histlock.specs.Histories.{commands, entry}
 use Rattle.ps_histlock.specs.Views.{after_meeting, after_look, Extends}
 use Rattle.ps_histlock.specs.Turns.{turned, IsBusy}
+use Rattle.ps_histlock.specs.Signs.{SignsAs, IsOf}
 use Rattle.ps_histlock.proofs.Lists.{prefix_self, prefix_more}
 use Rattle.ps_histlock.proofs.TurnLemmas.{commands-append}
-use Rattle.ps_hub.specs.Passes.{lines_of, IsTold}
-use Rattle.ps_hub.specs.Calls.{LooksAnd, LooksAtMost, HandsOut}
+use Rattle.ps_histlock.proofs.SignLemmas.{signs_more}
+use Rattle.std.proofs.lemmas.List.Elements.{All-append}
+use Rattle.ps_hub.specs.Passes.{lines_of, IsTold, Adds, NeverFalls}
+use Rattle.ps_hub.specs.Calls.{IsFresh, LooksAnd, LooksAtMost, HandsOut}
 use Rattle.ps_hub.specs.Turns.{Turns, TurnsAtLast, Takes, TakesAtLast}
 use Rattle.ps_hub.specs.declared.taken.Taken.{Taken}
-use Rattle.ps_hub.specs.declared.taken.Taken.TheVariants.{Done, Late, Busy, OwnLimit, NoMemory}
+use Rattle.ps_hub.specs.declared.taken.Taken.TheVariants.{Done, Late, Busy, OwnLimit, NameTaken, NoMemory}
 
 module _ {C X : Type 0} (shows : List C → List (List (List ℕ)) → Type 0) (stands_at : List C → X → Type 0) where
   pub told_new : (x : X) → stands_at [] x → shows [] [] → IsTold shows stands_at [] x 0 [] 0
@@ -90,30 +93,31 @@ module _ {C X : Type 0} (shows : List C → List (List (List ℕ)) → Type 0) (
 pub record Grows {O C : Type 0} (v w : View O C) : Type 0 where
   pub origin : w.origin ≡ v.origin
   pub seen : IsPrefix v.seen w.seen
+  pub adds : Adds v w
 
 module _ {O C : Type 0} where
   pub grows_self : (v : View O C) → Grows v v
-  grows_self v = record { origin = refl; seen = prefix_self v.seen }
+  grows_self v = record { origin = refl; seen = prefix_self v.seen; adds = ([], sym (append-nil v.said), sym (append-nil v.mine)) }
 
   pub grows_looked : (v : View O C) (n : ℕ) → Grows v (after_look v n)
-  grows_looked v n = record { origin = refl; seen = prefix_self v.seen }
+  grows_looked v n = record { origin = refl; seen = prefix_self v.seen; adds = ([], sym (append-nil v.said), sym (append-nil v.mine)) }
 
   turned_grows : (v : View O C) (log : List (Entry C)) (cmd : Option C) → Extends v log → Grows v (turned v log cmd)
-  turned_grows v log None found = record { origin = refl; seen = found.0 }
-  turned_grows v log (Some c) found = record { origin = refl; seen = prefix_more v.seen log (entry v.number c ∷ []) found.0 }
+  turned_grows v log None found = record { origin = refl; seen = found.0; adds = ([], sym (append-nil v.said), sym (append-nil v.mine)) }
+  turned_grows v log (Some c) found = record { origin = refl; seen = prefix_more v.seen log (entry v.number c ∷ []) found.0; adds = (entry v.number c ∷ [], refl, refl) }
 
   busy_grows : (v w : View O C) (word : ℕ) → IsBusy v word w → Grows v w
   busy_grows v w word busy =
       ⊎_elim
-      (λ (b : (word % 2 ≡ 1) × (w ≡ after_meeting v word)). subst (Grows v) (sym b.1) (record { origin = refl; seen = prefix_self v.seen }))
-      (λ (b : (first : ℕ) × (first ≢ word) × (w ≡ after_meeting (after_meeting v first) word)). subst (Grows v) (sym b.2) (record { origin = refl; seen = prefix_self v.seen }))
+      (λ (b : (word % 2 ≡ 1) × (w ≡ after_meeting v word)). subst (Grows v) (sym b.1) (record { origin = refl; seen = prefix_self v.seen; adds = ([], sym (append-nil v.said), sym (append-nil v.mine)) }))
+      (λ (b : (first : ℕ) × (first ≢ word) × (w ≡ after_meeting (after_meeting v first) word)). subst (Grows v) (sym b.2) (record { origin = refl; seen = prefix_self v.seen; adds = ([], sym (append-nil v.said), sym (append-nil v.mine)) }))
       busy
 
   pub turns_grow : (v : View O C) (cmd : Option C) (w : View O C) → Turns v cmd w → Grows v w
   turns_grow v cmd w t = subst (Grows v) (sym t.2) (turned_grows v t.0 cmd t.1)
 
   of_tries : (v w : View O C) (words : List ℕ) → Grows (record v { met = v.met ++ words }) w → Grows v w
-  of_tries v w words g = record { origin = g.origin; seen = g.seen }
+  of_tries v w words g = record { origin = g.origin; seen = g.seen; adds = g.adds }
 
   pub turns_grow_at_last : (v : View O C) (cmd : Option C) (w : View O C) → TurnsAtLast v cmd w → Grows v w
   turns_grow_at_last v cmd w t = of_tries v w t.0 (turns_grow (record v { met = v.met ++ t.0 }) cmd w t.1)
@@ -159,15 +163,15 @@ length-commands {C} l = length-map l (λ (e : Entry C). e.cmd)
 
 module _ {O C : Type 0} where
   -- a look that shows more, and a turn after it
-  pub looks_and_turns : (v m w : View O C) (n passed : ℕ) → m ≡ after_look v n → length v.seen ≤ n → passed < n → TurnsAtLast m None w → LooksAnd v passed w
-  looks_and_turns v m w n passed is seen more turns =
+  pub looks_and_turns : (v m w : View O C) (n passed : ℕ) → m ≡ after_look v n → length v.seen ≤ n → IsFresh v n → passed < n → TurnsAtLast m None w → LooksAnd v passed w
+  looks_and_turns v m w n passed is seen fresh more turns =
       let t : TurnsAtLast (after_look v n) None w = subst (λ (u : View O C). TurnsAtLast u None w) is turns in
       let shown : n ≤ length t.1.0 = all_last (λ (k : ℕ). k ≤ length t.1.0) v.looks n t.1.1.1 in
       let long : length w.seen ≡ length t.1.0 = ap (λ (u : View O C). length u.seen) t.1.2 in
-      (n, seen, omega arith, inr (more, t))
+      (n, seen, omega arith, inr (more, t), fresh)
 
   pub looks_and_less : (v w : View O C) (passed : ℕ) → LooksAnd v passed w → LooksAtMost v w
-  looks_and_less v w passed l = (l.0, l.1, ⊎_elim (λ (a : (l.0 ≤ passed) × (w ≡ after_look v l.0)). inl a.1) (λ (b : (passed < l.0) × TurnsAtLast (after_look v l.0) None w). inr b.1) l.3)
+  looks_and_less v w passed l = (l.0, l.1, ⊎_elim (λ (a : (l.0 ≤ passed) × (w ≡ after_look v l.0)). inl a.1) (λ (b : (passed < l.0) × TurnsAtLast (after_look v l.0) None w). inr b.1) l.3, l.4)
 
 module _ {O C X : Type 0} (shows : List C → List (List (List ℕ)) → Type 0) (stands_at : List C → X → Type 0) (passed : X → ℕ) where
   pub told_handed : (v w : View O C) (x y : X) (kept more : List Msg) (at now : ℕ) → w ≡ v → y ≡ x → more ≡ [] → now ≡ passed y → IsTold shows stands_at (commands v.seen) x (passed x) (lines_of kept) at
@@ -201,6 +205,7 @@ module _ {O C U X : Type 0} (answers : O → List C → C → U → Type 0) (pul
   takes_grow v x kept cmd (Late out) w y more told = turns_grow v cmd w (told.0, told.1, told.2)
   takes_grow v x kept cmd (Busy word back) w y more told = busy_grows v w word told.0
   takes_grow v x kept cmd (OwnLimit back) w y more told = subst (Grows v) (sym told.3) (grows_self v)
+  takes_grow v x kept cmd (NameTaken back) w y more told = turns_grow v None w told.1
   takes_grow v x kept cmd NoMemory w y more told = same_or_grows v w told.0
 
   pub takes_pull : (v : View O C) (x : X) (kept : List Msg) (cmd : Option C) (t : Taken C U) (w : View O C) (y : X) (more : List Msg) → Takes answers pulls v x kept cmd t w y more → PullsOrNot pulls v x kept w y more
@@ -208,6 +213,7 @@ module _ {O C U X : Type 0} (answers : O → List C → C → U → Type 0) (pul
   takes_pull v x kept cmd (Late out) w y more told = inr (told.4, told.5)
   takes_pull v x kept cmd (Busy word back) w y more told = inr (told.2, told.3)
   takes_pull v x kept cmd (OwnLimit back) w y more told = inr (told.4, told.5)
+  takes_pull v x kept cmd (NameTaken back) w y more told = inr (told.3, told.4)
   takes_pull v x kept cmd NoMemory w y more told = inr (told.1, told.2)
 
   pub takes_grow_at_last : (v : View O C) (x : X) (kept : List Msg) (cmd : Option C) (t : Taken C U) (w : View O C) (y : X) (more : List Msg) → TakesAtLast answers pulls v x kept cmd t w y more → Grows v w
@@ -215,6 +221,7 @@ module _ {O C U X : Type 0} (answers : O → List C → C → U → Type 0) (pul
   takes_grow_at_last v x kept cmd (Late out) w y more told = of_tries v w told.0 (takes_grow (record v { met = v.met ++ told.0 }) x kept cmd (Late out) w y more told.1)
   takes_grow_at_last v x kept cmd (Busy word back) w y more told = absurd told
   takes_grow_at_last v x kept cmd (OwnLimit back) w y more told = takes_grow v x kept cmd (OwnLimit back) w y more told
+  takes_grow_at_last v x kept cmd (NameTaken back) w y more told = turns_grow_at_last v None w told.1
   takes_grow_at_last v x kept cmd NoMemory w y more told = ⊎_elim (λ (e : w ≡ v). subst (Grows v) (sym e) (grows_self v)) (λ (t : TurnsAtLast v None w). turns_grow_at_last v None w t) told.0
 
   pub takes_pull_at_last : (v : View O C) (x : X) (kept : List Msg) (cmd : Option C) (t : Taken C U) (w : View O C) (y : X) (more : List Msg) → TakesAtLast answers pulls v x kept cmd t w y more → PullsOrNot pulls v x kept w y more
@@ -222,4 +229,86 @@ module _ {O C U X : Type 0} (answers : O → List C → C → U → Type 0) (pul
   takes_pull_at_last v x kept cmd (Late out) w y more told = takes_pull (record v { met = v.met ++ told.0 }) x kept cmd (Late out) w y more told.1
   takes_pull_at_last v x kept cmd (Busy word back) w y more told = absurd told
   takes_pull_at_last v x kept cmd (OwnLimit back) w y more told = takes_pull v x kept cmd (OwnLimit back) w y more told
+  takes_pull_at_last v x kept cmd (NameTaken back) w y more told = inr (told.3, told.4)
   takes_pull_at_last v x kept cmd NoMemory w y more told = inr (told.1, told.2)
+
+-- ---- what a turn lets its pass say
+
+-- It looks no more often. It makes no entry, or that of the command, and says so.
+pub record Says {O C : Type 0} (v : View O C) (cmd : Option C) (w : View O C) : Type 0 where
+  pub looks : w.looks ≡ v.looks
+  pub made : ((w.said ≡ v.said) × (w.mine ≡ v.mine)) ⊎ ((c : C) × (cmd ≡ Some c) × (w.said ≡ v.said ++ entry v.number c ∷ []) × (w.mine ≡ v.mine ++ entry v.number c ∷ []))
+
+module _ {O C : Type 0} where
+  silent : (v w : View O C) (cmd : Option C) → w.looks ≡ v.looks → w.said ≡ v.said → w.mine ≡ v.mine → Says v cmd w
+  silent v w cmd looks said mine = record { looks = looks; made = inl (said, mine) }
+
+  same_says : (v w : View O C) (cmd : Option C) → w ≡ v → Says v cmd w
+  same_says v w cmd is = silent v w cmd (ap (λ (u : View O C). u.looks) is) (ap (λ (u : View O C). u.said) is) (ap (λ (u : View O C). u.mine) is)
+
+  turned_says : (v : View O C) (log : List (Entry C)) (cmd : Option C) → Says v cmd (turned v log cmd)
+  turned_says v log None = silent v (turned v log None) None refl refl refl
+  turned_says v log (Some c) = record { looks = refl; made = inr (c, refl, refl, refl) }
+
+  turns_say : (v : View O C) (cmd : Option C) (w : View O C) → Turns v cmd w → Says v cmd w
+  turns_say v cmd w t = subst (Says v cmd) (sym t.2) (turned_says v t.0 cmd)
+
+  -- a turn without an entry
+  turns_silent : (v w : View O C) (cmd : Option C) → Turns v None w → Says v cmd w
+  turns_silent v w cmd t = silent v w cmd (ap (λ (u : View O C). u.looks) t.2) (ap (λ (u : View O C). u.said) t.2) (ap (λ (u : View O C). u.mine) t.2)
+
+  busy_silent : (v w : View O C) (word : ℕ) (cmd : Option C) → IsBusy v word w → Says v cmd w
+  busy_silent v w word cmd busy =
+      ⊎_elim
+      (λ (b : (word % 2 ≡ 1) × (w ≡ after_meeting v word)). silent v w cmd (ap (λ (u : View O C). u.looks) b.1) (ap (λ (u : View O C). u.said) b.1) (ap (λ (u : View O C). u.mine) b.1))
+      (λ (b : (first : ℕ) × (first ≢ word) × (w ≡ after_meeting (after_meeting v first) word)). silent v w cmd (ap (λ (u : View O C). u.looks) b.2) (ap (λ (u : View O C). u.said) b.2) (ap (λ (u : View O C). u.mine) b.2))
+      busy
+
+  of_more_tries : (v w : View O C) (cmd : Option C) (words : List ℕ) → Says (record v { met = v.met ++ words }) cmd w → Says v cmd w
+  of_more_tries v w cmd words t = record { looks = t.looks; made = t.made }
+
+module _ {O C U X : Type 0} (answers : O → List C → C → U → Type 0) (pulls : O → List C → X → List Msg → X → Type 0) where
+  pub takes_say : (v : View O C) (x : X) (kept : List Msg) (cmd : Option C) (t : Taken C U) (w : View O C) (y : X) (more : List Msg) → Takes answers pulls v x kept cmd t w y more → Says v cmd w
+  takes_say v x kept cmd (Done out) w y more told = turns_say v cmd w (told.0, told.1, told.2)
+  takes_say v x kept cmd (Late out) w y more told = turns_say v cmd w (told.0, told.1, told.2)
+  takes_say v x kept cmd (Busy word back) w y more told = busy_silent v w word cmd told.0
+  takes_say v x kept cmd (OwnLimit back) w y more told = same_says v w cmd told.3
+  takes_say v x kept cmd (NameTaken back) w y more told = turns_silent v w cmd told.1
+  takes_say v x kept cmd NoMemory w y more told = ⊎_elim (λ (e : w ≡ v). same_says v w cmd e) (λ (t : Turns v None w). turns_silent v w cmd t) told.0
+
+  pub takes_say_at_last : (v : View O C) (x : X) (kept : List Msg) (cmd : Option C) (t : Taken C U) (w : View O C) (y : X) (more : List Msg) → TakesAtLast answers pulls v x kept cmd t w y more → Says v cmd w
+  takes_say_at_last v x kept cmd (Done out) w y more told = of_more_tries v w cmd told.0 (takes_say (record v { met = v.met ++ told.0 }) x kept cmd (Done out) w y more told.1)
+  takes_say_at_last v x kept cmd (Late out) w y more told = of_more_tries v w cmd told.0 (takes_say (record v { met = v.met ++ told.0 }) x kept cmd (Late out) w y more told.1)
+  takes_say_at_last v x kept cmd (Busy word back) w y more told = absurd told
+  takes_say_at_last v x kept cmd (OwnLimit back) w y more told = takes_say v x kept cmd (OwnLimit back) w y more told
+  takes_say_at_last v x kept cmd (NameTaken back) w y more told = of_more_tries v w cmd told.1.0 (turns_silent (record v { met = v.met ++ told.1.0 }) w cmd told.1.1)
+  takes_say_at_last v x kept cmd NoMemory w y more told =
+      ⊎_elim (λ (e : w ≡ v). same_says v w cmd e) (λ (t : TurnsAtLast v None w). of_more_tries v w cmd t.0 (turns_silent (record v { met = v.met ++ t.0 }) w cmd t.1)) told.0
+
+module _ {O C : Type 0} where
+  -- all that it has said is signed as before
+  pub signs_after : (signer : C → Option ℕ) (conn : ℕ) (v w : View O C) (cmd : Option C) → IfSome cmd (IsOf signer conn) → Says v cmd w → SignsAs signer conn v.said → SignsAs signer conn w.said
+  signs_after signer conn v w cmd of s alone = ⊎_elim
+      (λ (same : (w.said ≡ v.said) × (w.mine ≡ v.mine)). subst (SignsAs signer conn) (sym same.0) alone)
+      (λ (one : (c : C) × (cmd ≡ Some c) × (w.said ≡ v.said ++ entry v.number c ∷ []) × (w.mine ≡ v.mine ++ entry v.number c ∷ [])).
+      subst (SignsAs signer conn) (sym one.2) (signs_more signer conn v.number v.said one.0 (subst (λ (o : Option C). IfSome o (IsOf signer conn)) one.1 of) alone))
+      s.made
+
+  -- who has said what it has made goes on so
+  pub said_after : (v w : View O C) (cmd : Option C) → Says v cmd w → v.said ≡ v.mine → w.said ≡ w.mine
+  said_after v w cmd s same = ⊎_elim
+      (λ (e : (w.said ≡ v.said) × (w.mine ≡ v.mine)). e.0 ∙ same ∙ sym e.1)
+      (λ (one : (c : C) × (cmd ≡ Some c) × (w.said ≡ v.said ++ entry v.number c ∷ []) × (w.mine ≡ v.mine ++ entry v.number c ∷ [])). one.2 ∙ ap (λ (l : List (Entry C)). l ++ entry v.number one.0 ∷ []) same ∙ sym one.3)
+      s.made
+
+one_of_all : (x n : ℕ) → x ≤ n → All (λ (m : ℕ). x ≤ m) (n ∷ [])
+one_of_all x n le zero d within = le
+one_of_all x n le (suc i) d within = absurd (omega arith)
+
+all_and_last : (x : ℕ) (xs : List ℕ) (n : ℕ) → All (λ (m : ℕ). x ≤ m) xs → x ≤ n → All (λ (m : ℕ). x ≤ m) (xs ++ n ∷ [])
+all_and_last x xs n all le = All-append (λ (m : ℕ). x ≤ m) xs (n ∷ []) all (one_of_all x n le)
+
+-- a look that shows no less than those before
+pub never_falls : (xs : List ℕ) (n : ℕ) → NeverFalls xs → All (λ (m : ℕ). m ≤ n) xs → NeverFalls (xs ++ n ∷ [])
+never_falls [] n up le = (λ i d within. absurd (omega arith), tt)
+never_falls (x ∷ xs) n up le = (all_and_last x xs n up.0 (le 0 n (omega arith)), never_falls xs n up.1 (λ i d within. le (suc i) d (omega arith)))

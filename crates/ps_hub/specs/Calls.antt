@@ -1,5 +1,5 @@
 -- What the calls of a hub do.
-use Rattle.std.specs.Prelude.{◌≡◌, ◌≢◌, ◌⊎◌, ℕ, ◌+◌, ◌<◌, ◌≤◌, List, [], ◌∷◌, ◌++◌, length, take, slice_get, slice_set, All, IsSome, Option, Some, None, Result, Ok, Err}
+use Rattle.std.specs.Prelude.{◌≡◌, ◌≢◌, ◌⊎◌, ℕ, ◌<◌, ◌≤◌, List, [], ◌∷◌, ◌++◌, length, take, slice_get, slice_set, All, IsSome, Option, Some, None, Result, Ok, Err}
 use Rattle.std.specs.List.{AllZip}
 use Rattle.std.specs.declared.vec.Vec.{Vec}
 use Rattle.std.specs.declared.alloc.Global.{Global}
@@ -23,17 +23,23 @@ use Rattle.ps_room.specs.Logs.{ended_in}
 use Rattle.ps_histlock.specs.declared.view.Entry.{Entry as Made}
 use Rattle.ps_histlock.specs.declared.view.View.{View}
 use Rattle.ps_histlock.specs.declared.lock.TheConstants.{OWN_LIMIT}
-use Rattle.ps_histlock.specs.Histories.{commands}
-use Rattle.ps_histlock.specs.Views.{after_look, newcomer, offspring, with_number, Extends}
+use Rattle.ps_histlock.specs.Histories.{commands, signed}
+use Rattle.ps_histlock.specs.Views.{after_look, newcomer, heir_of, with_number, Extends}
+use Rattle.ps_histlock.specs.Locks.{IsNameTaken}
+use Rattle.ps_histlock.specs.Signs.{Speaks}
 use Rattle.ps_histlock.specs.Turns.{turned, IsBusy}
 use Rattle.server_places.specs.declared.command.RoomCmd.{RoomCmd}
 use Rattle.server_places.specs.declared.command.RoomCmd.TheVariants.{Begin, Play}
 use Rattle.ps_users.specs.Refusals.{read_of}
 use Rattle.server_places.specs.declared.site.Root.{Root}
 use Rattle.server_places.specs.declared.site.Site.{Site}
-use Rattle.server_places.specs.Sites.{Tells, id_told}
+use Rattle.server_places.specs.Sites.{Tells, id_told, room_signer}
 use Rattle.server_places.specs.Rooms.{Answers, Shows}
-use Rattle.server_places.specs.Halls.{HallAnswers, HallShows}
+use Rattle.server_places.specs.Halls.{HallAnswers, HallShows, hall_signer}
+use Rattle.ps_hub.specs.declared.out.AdmitFault.{AdmitFault}
+use Rattle.ps_hub.specs.declared.out.AdmitFault.TheVariants as admit_faults
+use Rattle.ps_hub.specs.declared.out.QuitFault.{QuitFault}
+use Rattle.ps_hub.specs.declared.out.QuitFault.TheVariants as quit_faults
 use Rattle.ps_hub.specs.declared.out.EnterFault.{EnterFault}
 use Rattle.ps_hub.specs.declared.out.EnterFault.TheVariants as enter_faults
 use Rattle.ps_hub.specs.declared.out.HubFault.{HubFault}
@@ -44,7 +50,7 @@ use Rattle.ps_hub.specs.declared.pass.RoomPass.{RoomPass}
 use Rattle.ps_hub.specs.declared.passes.Passes.{Passes}
 use Rattle.ps_hub.specs.Hubs.{Hub, root_of, site_of}
 use Rattle.ps_hub.specs.Names.{IsNoChat, IsBattleId, Names}
-use Rattle.ps_hub.specs.Passes.{IsAsBefore, ButFor, lines_of}
+use Rattle.ps_hub.specs.Passes.{IsHallPass, IsAsBefore, ButFor, lines_of}
 use Rattle.ps_hub.specs.Turns.{Turns, TurnsAtLast, FallsShort, FallsShortAtLast}
 
 -- ---- entries
@@ -140,6 +146,7 @@ pub record HallOrdered (hub : Hub) (cmd : HallCmd) (moment : ℕ) (old : Passes)
 -- the badge is as before
 abbrev pub HallFails : Hub → HallCmd → ℕ → Passes → HubFault → Passes → Type 0
 HallFails hub cmd moment old (hub_faults.OwnLimit room) new = (room ≡ None) × (new.badge ≡ old.badge) × HallGoes (λ h k. (length h.pass.1.mine ≡ OWN_LIMIT) × (k.pass ≡ h.pass)) old new
+HallFails hub cmd moment old hub_faults.Taken new = ⊥
 HallFails hub cmd moment old hub_faults.NoSuchRoom new = ⊥
 HallFails hub cmd moment old (hub_faults.Busy word order) new = (order ≡ Hall cmd) × (new.badge ≡ old.badge) × HallGoes (λ h k. IsBusy h.pass.1 word k.pass.1 × (length h.pass.1.mine ≢ OWN_LIMIT)) old new
 HallFails hub cmd moment old hub_faults.NoMemory new = (new.badge ≡ old.badge) × HallGoes (λ h k. FallsShort (HallAnswers (root_of hub)) h.pass.1 h.cursor (hall_entry old.conn moment cmd) k.pass.1 k.cursor) old new
@@ -148,6 +155,7 @@ HallFails hub cmd moment old hub_faults.NoMemory new = (new.badge ≡ old.badge)
 abbrev pub HallTakes : HallEntry → HallPass → Result HallOut HubFault → HallPass → Type 0
 HallTakes e h (Ok gave) k = (log : List (Made HallEntry)) × Extends h.pass.1 log × (k.pass.1 ≡ turned h.pass.1 log (Some e)) × HallAnswers h.pass.1.origin (commands log) e gave × (length h.pass.1.mine ≢ OWN_LIMIT)
 HallTakes e h (Err (hub_faults.OwnLimit room)) k = (room ≡ None) × (length h.pass.1.mine ≡ OWN_LIMIT) × (k.pass ≡ h.pass)
+HallTakes e h (Err hub_faults.Taken) k = ⊥
 HallTakes e h (Err hub_faults.NoSuchRoom) k = ⊥
 HallTakes e h (Err (hub_faults.Busy word order)) k = (order ≡ Hall e.cmd) × IsBusy h.pass.1 word k.pass.1 × (length h.pass.1.mine ≢ OWN_LIMIT)
 HallTakes e h (Err hub_faults.NoMemory) k = FallsShort (HallAnswers h.pass.1.origin) h.pass.1 h.cursor e k.pass.1 k.cursor
@@ -183,11 +191,16 @@ pub record RoomOrdered (hub : Hub) (id : List ℕ) (cmd : Command) (moment : ℕ
   pub start : out.start ≡ None
   pub ended : out.ended ≡ ended_in gave
 
+-- a turn that made no entry, since one stands that is signed as the command is, and the pass has signed none so
+abbrev pub IsKeptOut : RoomCmd → RoomPass → RoomPass → Type 0
+IsKeptOut cmd h k = Turns h.pass.1 None k.pass.1 × (k.cursor ≡ h.cursor) × IsNameTaken room_signer h.pass.1.said k.pass.1.seen cmd
+
 -- what a turn with this entry does to the pass of a place that is held by this id
 abbrev pub RoomTakes : Site → List ℕ → Entry → RoomPass → Result HubOut HubFault → RoomPass → Type 0
 RoomTakes site id e h (Ok out) k =
     (log : List (Made RoomCmd)) × (gave : Option RoomOut) × Extends h.pass.1 log × (k.pass.1 ≡ turned h.pass.1 log (Some (Play e))) × Answers site (commands log) (Play e) gave × (out ≡ record { badge = None; start = None; ended = ended_in gave }) × (length h.pass.1.mine ≢ OWN_LIMIT)
 RoomTakes site id e h (Err (hub_faults.OwnLimit room)) k = (room ≡ Some id) × (length h.pass.1.mine ≡ OWN_LIMIT) × (k.pass ≡ h.pass)
+RoomTakes site id e h (Err hub_faults.Taken) k = IsKeptOut (Play e) h k
 RoomTakes site id e h (Err hub_faults.NoSuchRoom) k = ⊥
 RoomTakes site id e h (Err (hub_faults.Busy word order)) k = (order ≡ Room id e.cmd) × IsBusy h.pass.1 word k.pass.1 × (length h.pass.1.mine ≢ OWN_LIMIT)
 RoomTakes site id e h (Err hub_faults.NoMemory) k = FallsShort (Answers site) h.pass.1 h.cursor (Play e) k.pass.1 k.cursor
@@ -195,6 +208,8 @@ RoomTakes site id e h (Err hub_faults.NoMemory) k = FallsShort (Answers site) h.
 -- after the place is held
 abbrev pub RoomFails : Hub → List ℕ → Command → ℕ → Passes → HubFault → Passes → Type 0
 RoomFails hub id cmd moment old (hub_faults.OwnLimit room) new = (room ≡ Some id) × RoomGoes hub id (λ h k. (length h.pass.1.mine ≡ OWN_LIMIT) × (k.pass ≡ h.pass)) old new
+RoomFails hub id cmd moment old hub_faults.Taken new =
+    (badge : Badge) × (old.badge ≡ Some badge) × RoomGoes hub id (IsKeptOut (Play (room_entry old.conn badge moment cmd))) old new
 RoomFails hub id cmd moment old hub_faults.NoSuchRoom new = ⊥
 RoomFails hub id cmd moment old (hub_faults.Busy word order) new = (order ≡ Room id cmd) × RoomGoes hub id (λ h k. IsBusy h.pass.1 word k.pass.1 × (length h.pass.1.mine ≢ OWN_LIMIT)) old new
 RoomFails hub id cmd moment old hub_faults.NoMemory new =
@@ -203,6 +218,7 @@ RoomFails hub id cmd moment old hub_faults.NoMemory new =
 -- while the place isn't held
 abbrev pub EntryFails : Hub → List ℕ → Command → Passes → HubFault → Passes → Type 0
 EntryFails hub id cmd old (hub_faults.OwnLimit room) new = ⊥
+EntryFails hub id cmd old hub_faults.Taken new = ⊥
 EntryFails hub id cmd old hub_faults.NoSuchRoom new = EnterFails hub id old enter_faults.NoSuchRoom new
 EntryFails hub id cmd old (hub_faults.Busy word order) new = (order ≡ Room id cmd) × EnterFails hub id old (enter_faults.Busy word) new
 EntryFails hub id cmd old hub_faults.NoMemory new = EnterFails hub id old enter_faults.NoMemory new
@@ -236,8 +252,8 @@ Starts hub start old (Err fault) new = IsAsBefore old new ⊎ BeginsAt hub start
 
 -- ---- the begin of a connection
 
--- A new pass of the hall, the opener, made the Open by one turn, and nothing else. The connection's pass was split off from it
--- then: it has seen as much, and has made no entry.
+-- A new pass of the hall, the opener, made the Open by one turn, and nothing else. The connection's pass is its heir: it has seen
+-- as much, has made no entry, and speaks for what the opener has signed.
 pub record Admits (hub : Hub) (conn moment : ℕ) (new : Passes) : Type 0 where
   pub pass : HallPass
   pub hall : new.hall ≡ Some pass
@@ -245,11 +261,21 @@ pub record Admits (hub : Hub) (conn moment : ℕ) (new : Passes) : Type 0 where
   pub opener : View Root HallEntry
   pub opened : TurnsAtLast (newcomer (root_of hub) by) (Some (hall_entry conn moment hall_commands.Open)) opener
   pub number : ℕ
-  pub split : pass.pass.1 ≡ with_number (offspring opener) number
+  pub split : pass.pass.1 ≡ with_number (heir_of opener) number
   pub at : pass.at ≡ 0
   pub rooms : new.rooms.items ≡ []
   pub badge : new.badge ≡ None
   pub conn_is : new.conn ≡ conn
+
+-- an entry stands in the hall under the number of the connection, and the pass that met it has said nothing under it
+pub record IsStranger (hub : Hub) (conn : ℕ) (h : HallPass) : Type 0 where
+  pub of : IsHallPass hub conn h
+  pub silent : signed hall_signer conn (commands h.pass.1.said) ≡ []
+  pub stands : Speaks hall_signer conn h.pass.1.seen
+
+abbrev pub IsRefused : Hub → ℕ → AdmitFault → Type 0
+IsRefused hub conn (admit_faults.Taken opener) = IsStranger hub conn opener
+IsRefused hub conn admit_faults.NoMemory = Unit {0}
 
 -- what an order needs: one to a room a badge
 abbrev pub NeedsBadge : Order → Passes → Type 0
@@ -258,14 +284,18 @@ NeedsBadge (Room id cmd) passes = IsSome passes.badge
 
 -- ---- catching up
 
+-- a look shows at least all that the pass knew, and no less than any before
+abbrev pub IsFresh : {O C : Type 0} → View O C → ℕ → Type 0
+IsFresh v n = (length v.known ≤ n) × All (λ (m : ℕ). m ≤ n) v.looks
+
 -- A look, and a turn without an entry where it showed more than the cursor had passed. Then all of the history that the pass
 -- has seen was handed out.
 abbrev pub LooksAnd : {O C : Type 0} → View O C → ℕ → View O C → Type 0
-LooksAnd v passed w = (n : ℕ) × (length v.seen ≤ n) × (n ≤ length w.seen) × (((n ≤ passed) × (w ≡ after_look v n)) ⊎ ((passed < n) × TurnsAtLast (after_look v n) None w))
+LooksAnd v passed w = (n : ℕ) × (length v.seen ≤ n) × (n ≤ length w.seen) × (((n ≤ passed) × (w ≡ after_look v n)) ⊎ ((passed < n) × TurnsAtLast (after_look v n) None w)) × IsFresh v n
 
 -- a look, and at the most a turn without an entry
 abbrev pub LooksAtMost : {O C : Type 0} → View O C → View O C → Type 0
-LooksAtMost v w = (n : ℕ) × (length v.seen ≤ n) × ((w ≡ after_look v n) ⊎ TurnsAtLast (after_look v n) None w)
+LooksAtMost v w = (n : ℕ) × (length v.seen ≤ n) × ((w ≡ after_look v n) ⊎ TurnsAtLast (after_look v n) None w) × IsFresh v n
 
 -- The messages that are handed out are those past the place up to which they were; and that is now the end of what the pass has seen.
 module _ {C : Type 0} (shows : List C → List (List (List ℕ)) → Type 0) where
@@ -328,10 +358,10 @@ Catches hub (Some id) old result new =
 
 -- a look alone
 abbrev pub LooksHall : ℕ → HallPass → HallPass → Type 0
-LooksHall n h k = (length h.pass.1.seen ≤ n) × (k ≡ record h { pass = (h.pass.0, after_look h.pass.1 n) })
+LooksHall n h k = (length h.pass.1.seen ≤ n) × (k ≡ record h { pass = (h.pass.0, after_look h.pass.1 n) }) × IsFresh h.pass.1 n
 
 abbrev pub LooksRoom : ℕ → RoomPass → RoomPass → Type 0
-LooksRoom n h k = (length h.pass.1.seen ≤ n) × (k ≡ record h { pass = (h.pass.0, after_look h.pass.1 n) })
+LooksRoom n h k = (length h.pass.1.seen ≤ n) × (k ≡ record h { pass = (h.pass.0, after_look h.pass.1 n) }) × IsFresh h.pass.1 n
 
 abbrev pub Counts : Option (List ℕ) → Passes → ℕ → Passes → Type 0
 Counts None old n new = HallOnly (LooksHall n) old new
@@ -344,6 +374,21 @@ Counts (Some id) old n new =
 -- the entries of the end can be made: a badge is kept where a room is held
 abbrev pub MayQuit : Passes → Type 0
 MayQuit passes = All (λ (k : RoomPass). IsSome k.id → IsSome passes.badge) passes.rooms.items
+
+-- An entry stands in the room under the number of the connection, and its pass, as far as it has said anything, hasn't made it
+abbrev pub IsShutOut : ℕ → RoomPass → QuitFault → Type 0
+IsShutOut conn k quit_faults.Taken = (signed room_signer conn (commands k.pass.1.said) ≡ []) × Speaks room_signer conn k.pass.1.seen
+IsShutOut conn k quit_faults.NoMemory = Unit {0}
+
+-- it isn't that
+abbrev pub IsNotShutOut : QuitFault → Type 0
+IsNotShutOut quit_faults.Taken = ⊥
+IsNotShutOut quit_faults.NoMemory = Unit {0}
+
+-- so it is in one of the rooms
+abbrev pub IsShutOutAmong : ℕ → List RoomPass → QuitFault → Type 0
+IsShutOutAmong conn rooms quit_faults.Taken = (i : ℕ) × (k : RoomPass) × (slice_get rooms i ≡ Some k) × IsShutOut conn k quit_faults.Taken
+IsShutOutAmong conn rooms quit_faults.NoMemory = Unit {0}
 
 -- the Quit in the hall
 abbrev pub QuitsHall : ℕ → ℕ → HallPass → HallPass → Type 0

@@ -3,3 +3,4 @@ pub mod Names
 pub mod Passes
 pub mod Turns
 pub mod Calls
+pub mod Meetings

@@ -1,5 +1,5 @@
 -- Which place an id names.
-use Rattle.std.specs.Prelude.{◌≡◌, ◌⊎◌, ℕ, ◌+◌, ◌<◌, ◌≤◌, List, slice_get, Some}
+use Rattle.std.specs.Prelude.{◌≡◌, ◌⊎◌, ℕ, ◌<◌, ◌≤◌, List, slice_get, Some}
 use Rattle.rules_config.specs.declared.settings.ChatRoom.{ChatRoom}
 use Rattle.rules_config.specs.declared.settings.Settings.{Settings}
 use Rattle.ps_base.specs.Limits.{most_battles}

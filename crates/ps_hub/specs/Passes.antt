@@ -3,12 +3,18 @@ use Rattle.std.specs.Prelude.{◌≡◌, ◌≢◌, ◌⊎◌, ℕ, ◌<◌, ◌
 use Rattle.std.specs.List.{AllWithin}
 use Rattle.ps_base.specs.declared.msg.Msg.{Msg}
 use Rattle.ps_base.specs.Messages.{msg_lines}
+use Rattle.ps_lines.specs.declared.command.HallCmd.TheVariants.{Open}
+use Rattle.ps_hall.specs.declared.entry.HallEntry.{HallEntry}
 use Rattle.ps_histlock.specs.Histories.{commands}
 use Rattle.ps_histlock.specs.Seated.{TableId}
+use Rattle.ps_histlock.specs.Locks.{OwnSigns}
+use Rattle.ps_histlock.specs.declared.view.Entry.{Entry}
+use Rattle.ps_histlock.specs.declared.view.View.{View}
+use Rattle.ps_histlock.specs.Signs.{SignsAs}
 use Rattle.ps_histlock.specs.Views.{newcomer, IsAtRest}
-use Rattle.server_places.specs.Sites.{Tells, id_told}
+use Rattle.server_places.specs.Sites.{Tells, id_told, room_signer}
 use Rattle.server_places.specs.Rooms.{cursor_of, Shows, StandsAt}
-use Rattle.server_places.specs.Halls.{HallShows, HallStandsAt}
+use Rattle.server_places.specs.Halls.{HallShows, HallStandsAt, hall_signer}
 use Rattle.ps_hub.specs.Hubs.{Hub, root_of, site_of, lock_of}
 use Rattle.ps_hub.specs.declared.pass.HallPass.{HallPass}
 use Rattle.ps_hub.specs.declared.pass.RoomPass.{RoomPass}
@@ -30,11 +36,24 @@ module _ {C X : Type 0} (shows : List C → List (List (List ℕ)) → Type 0) (
     pub shown_before : shows (take at cmds) before
     pub shown : shows (take passed cmds) (before ++ kept)
 
--- a pass of the hall of this hub
+-- none is less than one before it
+abbrev pub NeverFalls : List ℕ → Type 0
+NeverFalls [] = Unit {0}
+NeverFalls (n ∷ ns) = All (λ (m : ℕ). n ≤ m) ns × NeverFalls ns
+
+-- a call let the pass make more entries, and say as much
+abbrev pub Adds : {O C : Type 0} → View O C → View O C → Type 0
+Adds {O} {C} v w = (more : List (Entry C)) × (w.said ≡ v.said ++ more) × (w.mine ≡ v.mine ++ more)
+
+-- A pass of the hall of this hub. No look shows less than one before it. All that it signs it signs by the connection's number, and what it knows to be signed so is
+-- what it has said.
 pub record IsHallPass (hub : Hub) (conn : ℕ) (h : HallPass) : Type 0 where
   pub lock : h.pass.0 ≡ hub.hall
   pub origin : h.pass.1.origin ≡ root_of hub
   pub rest : IsAtRest h.pass.1
+  pub looks : NeverFalls h.pass.1.looks
+  pub signs : SignsAs hall_signer conn h.pass.1.said
+  pub own : OwnSigns hall_signer h.pass.1 h.pass.1.known
   pub told : IsTold (HallShows conn (root_of hub)) (HallStandsAt conn (root_of hub)) (commands h.pass.1.seen) h.cursor h.cursor.passed (lines_of (h.kept.items ++ h.fresh.items)) h.at
 
 -- the room by whose id a place is held is that of the pass's history
@@ -42,11 +61,15 @@ abbrev pub HeldBy : Option (List ℕ) → Hub → RoomPass → Type 0
 HeldBy None hub k = Unit {0}
 HeldBy (Some id) hub k = (told : Option Story) × Tells (site_of hub k.number) (commands k.pass.1.seen) told × (id_told told ≡ Some id)
 
--- a pass of the place of a room of this hub
+-- a pass of the place of a room of this hub, in the same way; it has said what it has made
 pub record IsRoomPass (hub : Hub) (conn : ℕ) (k : RoomPass) : Type 0 where
   pub lock : lock_of hub k.number ≡ Some k.pass.0
   pub origin : k.pass.1.origin ≡ site_of hub k.number
   pub rest : IsAtRest k.pass.1
+  pub looks : NeverFalls k.pass.1.looks
+  pub said : k.pass.1.said ≡ k.pass.1.mine
+  pub signs : SignsAs room_signer conn k.pass.1.said
+  pub own : OwnSigns room_signer k.pass.1 k.pass.1.known
   pub told : IsTold (Shows conn (site_of hub k.number)) (StandsAt conn (site_of hub k.number)) (commands k.pass.1.seen) k.cursor k.cursor.passed (lines_of (k.kept.items ++ k.fresh.items)) k.at
   pub held : HeldBy k.id hub k
 
@@ -60,11 +83,14 @@ IsRising [] = Unit {0}
 IsRising (n ∷ ns) = All (λ (m : ℕ). n < m) ns × IsRising ns
 
 -- Passes that come from a hub: the hall is held, each is a pass of the lock that the hub has at that place, and those of rooms
--- stand by rising numbers.
+-- stand by rising numbers. What the pass of the hall has said is the connection's Open and then its own entries.
 pub record AreOf (hub : Hub) (passes : Passes) : Type 0 where
   pub hall_pass : HallPass
   pub hall : passes.hall ≡ Some hall_pass
   pub hall_is : IsHallPass hub passes.conn hall_pass
+  pub opened : Entry HallEntry
+  pub is_open : (moment : ℕ) × (opened.cmd ≡ record { conn = passes.conn; moment = moment; cmd = Open })
+  pub said : hall_pass.pass.1.said ≡ opened ∷ hall_pass.pass.1.mine
   pub rooms : All (IsRoomPass hub passes.conn) passes.rooms.items
   pub rising : IsRising (numbers passes.rooms.items)
 

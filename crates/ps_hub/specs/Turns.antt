@@ -8,7 +8,7 @@ use Rattle.ps_histlock.specs.Histories.{commands}
 use Rattle.ps_histlock.specs.Views.{Extends}
 use Rattle.ps_histlock.specs.Turns.{turned, IsBusy, Answered}
 use Rattle.ps_hub.specs.declared.taken.Taken.{Taken}
-use Rattle.ps_hub.specs.declared.taken.Taken.TheVariants.{Done, Late, Busy, OwnLimit, NoMemory}
+use Rattle.ps_hub.specs.declared.taken.Taken.TheVariants.{Done, Late, Busy, OwnLimit, NameTaken, NoMemory}
 
 module _ {O C : Type 0} where
   -- a turn that found a history, which begins with what the pass had seen
@@ -44,6 +44,7 @@ module _ {O C U X : Type 0} (answers : O → List C → C → U → Type 0) (pul
   Takes v x kept cmd (Late out) w y more = (log : List (Entry C)) × Extends v log × (w ≡ turned v log cmd) × Answered answers pulls v.origin log cmd out × (y ≡ x) × (more ≡ kept)
   Takes v x kept cmd (Busy word back) w y more = IsBusy v word w × (back ≡ cmd) × (y ≡ x) × (more ≡ kept)
   Takes v x kept cmd (OwnLimit back) w y more = IsSome cmd × (length v.mine ≡ OWN_LIMIT) × (back ≡ cmd) × (w ≡ v) × (y ≡ x) × (more ≡ kept)
+  Takes v x kept cmd (NameTaken back) w y more = IsSome cmd × Turns v None w × (back ≡ cmd) × (y ≡ x) × (more ≡ kept)
   Takes v x kept cmd NoMemory w y more = ((w ≡ v) ⊎ Turns v None w) × (y ≡ x) × (more ≡ kept)
 
   -- the same after tries in vain, which met these words. It isn't busy then; at its limit, or without memory at once, it tries nothing
@@ -52,9 +53,15 @@ module _ {O C U X : Type 0} (answers : O → List C → C → U → Type 0) (pul
   TakesAtLast v x kept cmd (Late out) w y more = (words : List ℕ) × Takes (record v { met = v.met ++ words }) x kept cmd (Late out) w y more
   TakesAtLast v x kept cmd (Busy word back) w y more = ⊥
   TakesAtLast v x kept cmd (OwnLimit back) w y more = Takes v x kept cmd (OwnLimit back) w y more
+  TakesAtLast v x kept cmd (NameTaken back) w y more = IsSome cmd × TurnsAtLast v None w × (back ≡ cmd) × (y ≡ x) × (more ≡ kept)
   TakesAtLast v x kept cmd NoMemory w y more = ((w ≡ v) ⊎ TurnsAtLast v None w) × (y ≡ x) × (more ≡ kept)
 
 module _ {C U : Type 0} where
+  -- where the command came back since an entry is signed as it is, this holds of the command
+  abbrev pub IfKeptOut : Option C → Taken C U → (C → Type 0) → Type 0
+  IfKeptOut (Some cmd) (NameTaken back) P = P cmd
+  IfKeptOut cmd other P = Unit {0}
+
   -- no entry was made, since the pass may make no more, or for being out of memory
   abbrev pub IsLimited : Taken C U → Type 0
   IsLimited (OwnLimit back) = Unit {0}

@@ -1,24 +1,25 @@
 //! The begin of a connection.
-ghost use Rattle.std.specs.Prelude.{◌≡◌, IfOk};
+ghost use Rattle.std.specs.Prelude.{◌≡◌, IfOk, IfErr};
 ghost use Rattle.ps_hub.specs.Passes.{AreOf};
-ghost use Rattle.ps_hub.specs.Calls.{Admits};
+ghost use Rattle.ps_hub.specs.Calls.{Admits, IsRefused};
 
 use crate::hub::Hub;
+use crate::out::AdmitFault;
 use crate::pass::HallPass;
 use crate::passes::Passes;
 use crate::taken::Taken;
 use ps_base::number::{ConnNo, Moment};
 use ps_hall::entry::HallEntry;
 use ps_lines::command::HallCmd;
-use std::alloc::AllocError;
 use std::sync::Wait;
 
 impl Hub {
-    /// Opens a connection: makes its Open in the hall by a new pass, which makes nothing else, and splits the connection's pass
-    /// from that one. What the Open tells stays in the passes until `catch_up` hands it out. `AllocError` if out of memory;
-    /// the Open may stand then.
-    pub fn admit<R: Wait>(&self, rt: &R, conn: ConnNo, moment: Moment) -> Result<Passes, AllocError>
+    /// Opens a connection: makes its Open in the hall by a new pass, which makes nothing else, and whose heir the connection's
+    /// pass is. What the Open tells stays in the passes until `catch_up` hands it out. `NoMemory` if out of memory; the Open
+    /// may stand then. `Taken` only where an entry stands under that number: then there is no Open.
+    pub fn admit<R: Wait>(&self, rt: &R, conn: ConnNo, moment: Moment) -> Result<Passes, AdmitFault>
         ensures of { IfOk result (λ p. AreOf self.now p) }
+        ensures taken { IfErr result (IsRefused self.now conn) }
         ensures does { IfOk result (λ p. Admits self.now conn moment p) }
     {
         let lock = self.hall_lock();
@@ -30,13 +31,14 @@ impl Hub {
         };
         match opener.turn(rt, lock, Some(entry)) {
             Taken::Done { out: _ } => {}
-            Taken::Late { out: _ } => return Err(AllocError),
+            Taken::Late { out: _ } => return Err(AdmitFault::NoMemory),
             Taken::Busy { word: _, cmd: _ } => unreachable!(),
             Taken::OwnLimit { cmd: _ } => unreachable!(),
-            Taken::NoMemory => return Err(AllocError),
+            Taken::NameTaken { cmd: _ } => return Err(AdmitFault::Taken { opener }),
+            Taken::NoMemory => return Err(AdmitFault::NoMemory),
         }
         let mut passes = Passes::none(self.alloc, conn);
-        passes.hall = Some(opener.split(lock));
+        passes.hall = Some(opener.heir(lock));
         Ok(passes)
     }
 }

@@ -3,7 +3,7 @@ ghost use Rattle.std.specs.Prelude.{◌≡◌, ◌<◌, ◌++◌, ℕ, IfOk, OnO
 ghost use Rattle.std.specs.Option.{option_copied};
 ghost use Rattle.ps_histlock.specs.Histories.{commands};
 ghost use Rattle.ps_hub.specs.Hubs.{Hub};
-ghost use Rattle.ps_hub.specs.Passes.{AreOf, IsHallPass, IsRoomPass};
+ghost use Rattle.ps_hub.specs.Passes.{Adds, AreOf, IsHallPass, IsRoomPass};
 ghost use Rattle.ps_hub.specs.Calls.{LooksAnd, LooksAtMost, HallCaught, Caught, CatchesUp, CatchesUpHall, IsHeldBy, Catches, LooksRoom, Counts};
 
 use crate::hub::Hub;
@@ -23,6 +23,7 @@ impl HallPass {
         requires of { (hub : Hub) × (conn : ℕ) × IsHallPass hub conn self.old }
         requires lock { self.old.pass.0 ≡ lock.now.0 }
         ensures of { (hub : Hub) (conn : ℕ) → IsHallPass hub conn self.old → IsHallPass hub conn self.new }
+        ensures adds { Adds self.old.pass.1 self.new.pass.1 }
         ensures ok { OnOk result (LooksAnd self.old.pass.1 self.old.cursor.passed self.new.pass.1 × (self.new.cursor.passed ≡ length (commands self.new.pass.1.seen))) }
         ensures err { OnErr result (LooksAtMost self.old.pass.1 self.new.pass.1) }
         ensures same { self.new.at ≡ self.old.at }
@@ -35,6 +36,7 @@ impl HallPass {
             Taken::Late { out: _ } => Err(AllocError),
             Taken::Busy { word: _, cmd: _ } => unreachable!(),
             Taken::OwnLimit { cmd: _ } => unreachable!(),
+            Taken::NameTaken { cmd: _ } => unreachable!(),
             Taken::NoMemory => Err(AllocError),
         }
     }
@@ -49,6 +51,7 @@ impl HallPass {
         requires of { (hub : Hub) × (conn : ℕ) × IsHallPass hub conn self.old }
         requires lock { self.old.pass.0 ≡ lock.now.0 }
         ensures of { (hub : Hub) (conn : ℕ) → IsHallPass hub conn self.old → IsHallPass hub conn self.new }
+        ensures adds { Adds self.old.pass.1 self.new.pass.1 }
         ensures ok { IfOk result (λ msgs. (hub : Hub) (conn : ℕ) → IsHallPass hub conn self.old → HallCaught hub conn msgs.items self.old self.new) }
         ensures err { OnErr result (LooksAtMost self.old.pass.1 self.new.pass.1 × (self.new.at ≡ self.old.at)) }
     {
@@ -75,6 +78,7 @@ impl RoomPass {
             Taken::Late { out: _ } => Err(AllocError),
             Taken::Busy { word: _, cmd: _ } => unreachable!(),
             Taken::OwnLimit { cmd: _ } => unreachable!(),
+            Taken::NameTaken { cmd: _ } => unreachable!(),
             Taken::NoMemory => Err(AllocError),
         }
     }

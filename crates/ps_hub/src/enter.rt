@@ -127,6 +127,7 @@ impl Hub {
             Taken::Late { out: _ } => return Err(EnterFault::NoMemory),
             Taken::Busy { word, cmd: _ } => return Err(EnterFault::Busy { word }),
             Taken::OwnLimit { cmd: _ } => unreachable!(),
+            Taken::NameTaken { cmd: _ } => unreachable!(),
             Taken::NoMemory => return Err(EnterFault::NoMemory),
         }
         if !is_found(&pass.cursor, name.as_str()) {

@@ -1,16 +1,17 @@
 //! The hub.
-ghost use Rattle.std.specs.Prelude.{◌≡◌, ◌≢◌, ◌+◌, ◌≤◌, None, Some, IfOk, IfSome, IfNone, length, slice_get};
+ghost use Rattle.std.specs.Prelude.{◌≡◌, ◌≢◌, ◌+◌, ◌≤◌, None, Some, IfOk, IfSome, IfNone, length, map, slice_get};
+ghost use Rattle.std.specs.List.{AllZip};
 ghost use Rattle.std.specs.Arc.{arc_value};
 ghost use Rattle.ps_base.specs.Limits.{most_battles};
 ghost use Rattle.ps_room.specs.Openings.{first_battle, room_of_battle};
-ghost use Rattle.ps_hub.specs.Hubs.{site_of, root_of, lock_of, AreAt};
+ghost use Rattle.ps_hub.specs.Hubs.{site_of, root_of, lock_of, name_of, AreAt, IsUnopened, IsEmpty};
 ghost use Rattle.ps_hub.specs.Names.{Names};
 ghost use Rattle.ps_hub.specs.Calls.{NamesNone};
 
 use crate::name::place_named;
 use ps_base::limit::MOST_BATTLES;
 use ps_dex::dex::Dex;
-use ps_histlock::HistLock;
+use ps_histlock::{HistLock, Opener};
 use ps_room::opening::{FIRST_BATTLE, room_of_battle};
 use rules_config::config::Config;
 use rules_config::settings::ChatRoom;
@@ -46,48 +47,91 @@ impl Model for Hub {
     ghost invariant = { λ h. (h.hall.1 ≡ record { config = arc_value h.config; dex = arc_value h.dex }) × AreAt (arc_value h.config) (arc_value h.dex) 0 h.chats.items × AreAt (arc_value h.config) (arc_value h.dex) first_battle h.battles.items × (length h.chats.items ≡ length (arc_value h.config).rooms) × (length h.battles.items ≡ most_battles) };
 }
 
+/// A hub that nobody can use yet: each of its locks has its opener here, so no place has an entry, and none can come before the
+/// hub is opened.
+#[derive(Drop)]
+pub struct NewHub {
+    hub: Hub,
+    hall: Opener<HallPlace>,
+    chats: Vec<Opener<RoomPlace>>,
+    battles: Vec<Opener<RoomPlace>>,
+}
+
+impl Model for NewHub {
+    ghost use Rattle.ps_hub.specs.Hubs.{NewHub as Seen, IsEmpty};
+
+    ghost Value = { Seen };
+
+    ghost view = { λ h. record { hub = h.hub; hall = h.hall; chats = h.chats.items; battles = h.battles.items } };
+
+    ghost invariant = { λ h. IsEmpty (record { hub = h.hub; hall = h.hall; chats = h.chats.items; battles = h.battles.items }) };
+}
+
+// Locks that aren't open yet, and their openers in the same order.
+#[derive(Drop)]
+struct Closed {
+    locks: Vec<HistLock<RoomPlace>>,
+    openers: Vec<Opener<RoomPlace>>,
+}
+
 // The locks of the chat rooms.
 fn chats(
     alloc: Global,
     config: &Arc<Config>,
     dex: &Arc<Dex>,
     rooms: &[ChatRoom],
-) -> Result<Vec<HistLock<RoomPlace>>, AllocError>
+) -> Result<Closed, AllocError>
     requires { (rooms.now ≡ (arc_value config.now).rooms) × (length rooms.now ≤ first_battle) }
-    ensures at { IfOk result (λ v. AreAt (arc_value config.now) (arc_value dex.now) 0 v.items) }
-    ensures count { IfOk result (λ v. length v.items ≡ length rooms.now) }
+    ensures at { IfOk result (λ v. AreAt (arc_value config.now) (arc_value dex.now) 0 v.locks.items) }
+    ensures count { IfOk result (λ v. length v.locks.items ≡ length rooms.now) }
+    ensures empty { IfOk result (λ v. AllZip IsUnopened (map name_of v.locks.items) v.openers.items) }
 {
     let mut locks = Vec::with_capacity(alloc, rooms.len())?;
+    let mut openers = Vec::with_capacity(alloc, rooms.len())?;
     for number in 0..rooms.len() {
-        let place = RoomPlace::chat(
+        let room = RoomPlace::chat(
             alloc,
             config.clone()?,
             dex.clone()?,
             number as u32,
             &rooms[number],
         )?;
-        let (lock, _) = HistLock::new(alloc, place)?;
+        let (lock, opener) = HistLock::closed(alloc, room)?;
         locks.push(lock)?;
+        openers.push(opener)?;
     }
-    Ok(locks)
+    Ok(Closed { locks, openers })
 }
 
 // The locks of all battles.
-fn battles(
-    alloc: Global,
-    config: &Arc<Config>,
-    dex: &Arc<Dex>,
-) -> Result<Vec<HistLock<RoomPlace>>, AllocError>
-    ensures at { IfOk result (λ v. AreAt (arc_value config.now) (arc_value dex.now) first_battle v.items) }
-    ensures count { IfOk result (λ v. length v.items ≡ most_battles) }
+fn battles(alloc: Global, config: &Arc<Config>, dex: &Arc<Dex>) -> Result<Closed, AllocError>
+    ensures at { IfOk result (λ v. AreAt (arc_value config.now) (arc_value dex.now) first_battle v.locks.items) }
+    ensures count { IfOk result (λ v. length v.locks.items ≡ most_battles) }
+    ensures empty { IfOk result (λ v. AllZip IsUnopened (map name_of v.locks.items) v.openers.items) }
 {
     let mut locks = Vec::with_capacity(alloc, MOST_BATTLES as usize)?;
+    let mut openers = Vec::with_capacity(alloc, MOST_BATTLES as usize)?;
     for n in 0..MOST_BATTLES {
         let place = RoomPlace::battle(alloc, config.clone()?, dex.clone()?, FIRST_BATTLE + n);
-        let (lock, _) = HistLock::new(alloc, place)?;
+        let (lock, opener) = HistLock::closed(alloc, place)?;
         locks.push(lock)?;
+        openers.push(opener)?;
     }
-    Ok(locks)
+    Ok(Closed { locks, openers })
+}
+
+// Opens all of these locks, the last first.
+fn open_rooms(locks: &[HistLock<RoomPlace>], mut openers: Vec<Opener<RoomPlace>>)
+    requires { AllZip IsUnopened (map name_of locks.now) openers.items }
+{
+    while let Some(opener) = openers.pop() {
+        match lock_at(locks, openers.len()) {
+            None => unreachable!(),
+            Some(lock) => {
+                lock.open(opener);
+            }
+        }
+    }
 }
 
 // The lock at this place of a list.
@@ -98,27 +142,72 @@ fn lock_at(locks: &[HistLock<RoomPlace>], pass_index: usize) -> Option<&HistLock
     locks.get(pass_index)
 }
 
+impl NewHub {
+    /// Opens the hub: from now on whoever shares it may make entries. Takes no memory.
+    pub fn open(self) -> Hub
+        ensures { result ≡ self.hub }
+    {
+        let NewHub {
+            hub,
+            hall,
+            chats,
+            battles,
+        } = self;
+        hub.open_all(hall, chats, battles);
+        hub
+    }
+}
+
 impl Hub {
-    /// The hub of a server with this configuration and this dex. Nobody is connected, the chat rooms are open and no battle
-    /// has begun. `AllocError` if out of memory.
-    pub fn new(alloc: Global, config: Arc<Config>, dex: Arc<Dex>) -> Result<Hub, AllocError>
-        ensures config { IfOk result (λ h. h.config ≡ arc_value config) }
-        ensures dex { IfOk result (λ h. h.dex ≡ arc_value dex) }
-        ensures chats { IfOk result (λ h. length h.chats ≡ length (arc_value config).rooms) }
-        ensures battles { IfOk result (λ h. length h.battles ≡ most_battles) }
+    /// The hub of a server with this configuration and this dex, which isn't open yet. Nobody is connected, no place has an
+    /// entry, and no battle has begun. `AllocError` if out of memory.
+    pub fn new(alloc: Global, config: Arc<Config>, dex: Arc<Dex>) -> Result<NewHub, AllocError>
+        ensures config { IfOk result (λ h. h.hub.config ≡ arc_value config) }
+        ensures dex { IfOk result (λ h. h.hub.dex ≡ arc_value dex) }
+        ensures chats { IfOk result (λ h. length h.hub.chats ≡ length (arc_value config).rooms) }
+        ensures battles { IfOk result (λ h. length h.hub.battles ≡ most_battles) }
+        ensures empty { IfOk result (λ h. IsEmpty h) }
     {
         let place = HallPlace::new(alloc, config.clone()?, dex.clone()?)?;
-        let (hall, _) = HistLock::new(alloc, place)?;
-        let chats = chats(alloc, &config, &dex, config.rooms())?;
-        let battles = battles(alloc, &config, &dex)?;
-        Ok(Hub {
+        let (hall, opener) = HistLock::closed(alloc, place)?;
+        let Closed {
+            locks: chats,
+            openers: chat_openers,
+        } = chats(alloc, &config, &dex, config.rooms())?;
+        let Closed {
+            locks: battles,
+            openers: battle_openers,
+        } = battles(alloc, &config, &dex)?;
+        let hub = Hub {
             alloc,
             config,
             dex,
             hall,
             chats,
             battles,
+        };
+        Ok(NewHub {
+            hub,
+            hall: opener,
+            chats: chat_openers,
+            battles: battle_openers,
         })
+    }
+
+    // Opens all its locks.
+    fn open_all(
+        &self,
+        hall: Opener<HallPlace>,
+        chats: Vec<Opener<RoomPlace>>,
+        battles: Vec<Opener<RoomPlace>>,
+    )
+        requires hall { IsUnopened self.now.hall hall }
+        requires chats { AllZip IsUnopened self.now.chats chats.items }
+        requires battles { AllZip IsUnopened self.now.battles battles.items }
+    {
+        self.hall.open(hall);
+        open_rooms(&self.chats, chats);
+        open_rooms(&self.battles, battles);
     }
 
     /// The lock of the hall.

@@ -8,6 +8,7 @@ mod admit;
 mod catch_up;
 mod enter;
 pub mod hub;
+mod meet;
 mod name;
 mod order;
 pub mod out;

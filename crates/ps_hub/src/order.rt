@@ -2,8 +2,10 @@
 ghost use Rattle.std.specs.Prelude.{◌≡◌, ℕ, IfOk, IsSome, Some};
 ghost use Rattle.ps_base.specs.declared.badge.Badge.{Badge};
 ghost use Rattle.ps_lines.specs.declared.order.Order.TheVariants.{Hall, Room};
+ghost use Rattle.ps_histlock.specs.Signs.{SignsAs, Speaks};
+ghost use Rattle.server_places.specs.Halls.{hall_signer};
 ghost use Rattle.ps_hub.specs.Hubs.{Hub, site_of};
-ghost use Rattle.ps_hub.specs.Passes.{AreOf, IsHallPass, IsRoomPass};
+ghost use Rattle.ps_hub.specs.Passes.{Adds, AreOf, IsHallPass, IsRoomPass};
 ghost use Rattle.ps_hub.specs.Calls.{Orders, HallTakes, RoomTakes, NeedsBadge, name_asked, badge_after};
 ghost use Rattle.ps_room.specs.Logs.{ended_in};
 
@@ -70,8 +72,10 @@ fn ended_in(gave: Option<RoomOut>) -> Option<Ending>
 impl HallPass {
     // One entry of the hall.
     fn enter(&mut self, lock: &HistLock<HallPlace>, entry: HallEntry) -> Result<HallOut, HubFault>
-        requires { self.old.pass.0 ≡ lock.now.0 }
-        ensures of { (hub : Hub) (conn : ℕ) → IsHallPass hub conn self.old → IsHallPass hub conn self.new }
+        requires lock { self.old.pass.0 ≡ lock.now.0 }
+        requires signs { SignsAs hall_signer entry.conn self.old.pass.1.said × Speaks hall_signer entry.conn self.old.pass.1.said }
+        ensures of { (hub : Hub) → IsHallPass hub entry.conn self.old → IsHallPass hub entry.conn self.new }
+        ensures adds { Adds self.old.pass.1 self.new.pass.1 }
         ensures does { HallTakes entry self.old result self.new }
         ensures at { self.new.at ≡ self.old.at }
     {
@@ -89,6 +93,7 @@ impl HallPass {
                 }),
             },
             Taken::OwnLimit { cmd: _ } => Err(HubFault::OwnLimit { room: None }),
+            Taken::NameTaken { cmd: _ } => unreachable!(),
             Taken::NoMemory => Err(HubFault::NoMemory),
         }
     }
@@ -103,7 +108,8 @@ impl Hub {
     ///
     /// `NoSuchRoom` and `Busy` come as of `enter`, and then there is no entry. `Busy` also comes where the turn of the entry
     /// met an odd word, or two words that differ; the order comes back. `OwnLimit` comes exactly where the connection's pass
-    /// has made `OWN_LIMIT` entries at the place. After `NoMemory` the entry stands only if memory ran out for its messages.
+    /// has made `OWN_LIMIT` entries at the place. `Taken` comes only where an entry stands in the room under the number of the
+    /// connection, which its pass hasn't made, and then there is no entry. After `NoMemory` the entry stands only if memory ran out for its messages.
     /// It waits for nobody.
     pub fn order(
         &self,
@@ -198,8 +204,8 @@ impl Hub {
 
     // One entry at a place that is held by this id.
     fn play(&self, pass: &mut RoomPass, id: Text, entry: Entry) -> Result<HubOut, HubFault>
-        requires { (conn : ℕ) × IsRoomPass self.now conn pass.old }
-        ensures of { (conn : ℕ) → IsRoomPass self.now conn pass.old → IsRoomPass self.now conn pass.new }
+        requires { IsRoomPass self.now entry.conn pass.old }
+        ensures of { IsRoomPass self.now entry.conn pass.new }
         ensures does { RoomTakes (site_of self.now pass.old.number) id entry pass.old result pass.new }
         ensures same { (pass.new.at ≡ pass.old.at) × (pass.new.number ≡ pass.old.number) × (pass.new.id ≡ pass.old.id) }
     {
@@ -225,6 +231,7 @@ impl Hub {
                 _ => unreachable!(),
             },
             Taken::OwnLimit { cmd: _ } => Err(HubFault::OwnLimit { room: Some(id) }),
+            Taken::NameTaken { cmd: _ } => Err(HubFault::Taken),
             Taken::NoMemory => Err(HubFault::NoMemory),
         }
     }

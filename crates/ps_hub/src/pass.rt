@@ -1,12 +1,16 @@
 //! What a connection has of one place.
-ghost use Rattle.std.specs.Prelude.{◌≡◌, ◌≢◌, ◌≤◌, None, Some, IsTrue, IsFalse, ◌++◌, ◌∷◌, ℕ, [], List, IfOk, OnErr, IsSome, length};
-ghost use Rattle.ps_histlock.specs.Views.{newcomer, offspring, with_number, after_look, IsAtRest};
+ghost use Rattle.std.specs.Prelude.{◌≡◌, ◌≢◌, ◌≤◌, None, Some, IsTrue, IsFalse, ◌++◌, ◌∷◌, ℕ, [], List, IfOk, IfSome, OnErr, IsSome, length};
+ghost use Rattle.ps_histlock.specs.Views.{newcomer, heir_of, with_number, after_look, IsAtRest};
+ghost use Rattle.ps_histlock.specs.Locks.{SignsOn, IsNameTaken, OwnSigns};
+ghost use Rattle.ps_histlock.specs.Signs.{IsOf};
 ghost use Rattle.ps_histlock.specs.declared.lock.TheConstants.{OWN_LIMIT};
-ghost use Rattle.server_places.specs.Halls.{hall_cursor, HallAnswers, HallPulls};
+ghost use Rattle.server_places.specs.Halls.{hall_cursor, hall_signer, HallAnswers, HallPulls};
+ghost use Rattle.server_places.specs.Sites.{room_signer};
 ghost use Rattle.server_places.specs.Rooms.{cursor_of, Answers, Pulls};
 ghost use Rattle.ps_hub.specs.Hubs.{Hub, root_of, lock_of, site_of};
-ghost use Rattle.ps_hub.specs.Turns.{Takes, TakesAtLast, IsLimited};
-ghost use Rattle.ps_hub.specs.Passes.{IsHallPass, IsRoomPass, IsNewPass};
+ghost use Rattle.ps_hub.specs.Turns.{Takes, TakesAtLast, IsLimited, IfKeptOut};
+ghost use Rattle.ps_hub.specs.Passes.{Adds, IsHallPass, IsRoomPass, IsNewPass};
+ghost use Rattle.ps_hub.specs.Calls.{IsFresh};
 
 use crate::taken::Taken;
 use ps_base::msg::Msg;
@@ -101,25 +105,25 @@ impl HallPass {
         }
     }
 
-    /// The pass of the connection, split off from this one: it has seen as much, and has made no entry. It has all messages.
-    pub(crate) fn split(self, lock: &HistLock<HallPlace>) -> HallPass
+    /// The heir of this pass: it has seen as much, has made no entry, and speaks for what this one has signed. It has all messages.
+    pub(crate) fn heir(self, lock: &HistLock<HallPlace>) -> HallPass
         requires { self.pass.0 ≡ lock.now.0 }
         ensures of { (hub : Hub) (conn : ℕ) → IsHallPass hub conn self → IsHallPass hub conn result }
-        ensures pass { (n : ℕ) × (result.pass ≡ (lock.now.0, with_number (offspring self.pass.1) n)) }
+        ensures pass { (n : ℕ) × (result.pass ≡ (lock.now.0, with_number (heir_of self.pass.1) n)) }
         ensures rest { IsAtRest result.pass.1 }
         ensures cursor { result.cursor ≡ self.cursor }
         ensures kept { result.kept.items ++ result.fresh.items ≡ self.kept.items ++ self.fresh.items }
         ensures at { result.at ≡ self.at }
     {
         let HallPass {
-            mut pass,
+            pass,
             cursor,
             kept,
             fresh,
             at,
         } = self;
         HallPass {
-            pass: lock.split(&mut pass),
+            pass: lock.heir(pass),
             cursor,
             kept,
             fresh,
@@ -133,11 +137,14 @@ impl HallPass {
         lock: &HistLock<HallPlace>,
         cmd: Option<HallEntry>,
     ) -> Taken<HallEntry, HallOut>
-        requires { self.old.pass.0 ≡ lock.now.0 }
+        requires lock { self.old.pass.0 ≡ lock.now.0 }
+        requires sign { IfSome cmd (SignsOn hall_signer self.old.pass.1.said) }
         ensures lock { self.new.pass.0 ≡ self.old.pass.0 }
         ensures does { Takes HallAnswers HallPulls self.old.pass.1 self.old.cursor (self.old.kept.items ++ self.old.fresh.items) cmd result self.new.pass.1 self.new.cursor (self.new.kept.items ++ self.new.fresh.items) }
         ensures limit { IsSome cmd → length self.old.pass.1.mine ≡ OWN_LIMIT → IsLimited result }
-        ensures of { (hub : Hub) (conn : ℕ) → IsHallPass hub conn self.old → IsHallPass hub conn self.new }
+        ensures taken { IfKeptOut cmd result (IsNameTaken hall_signer self.old.pass.1.said self.new.pass.1.seen) }
+        ensures of { (hub : Hub) (conn : ℕ) → IfSome cmd (IsOf hall_signer conn) → IsHallPass hub conn self.old → IsHallPass hub conn self.new }
+        ensures adds { Adds self.old.pass.1 self.new.pass.1 }
         ensures at { self.new.at ≡ self.old.at }
     {
         self.take(lock, cmd)
@@ -149,11 +156,14 @@ impl HallPass {
         lock: &HistLock<HallPlace>,
         cmd: Option<HallEntry>,
     ) -> Taken<HallEntry, HallOut>
-        requires { self.old.pass.0 ≡ lock.now.0 }
+        requires lock { self.old.pass.0 ≡ lock.now.0 }
+        requires sign { IfSome cmd (SignsOn hall_signer self.old.pass.1.said) }
         ensures lock { self.new.pass.0 ≡ self.old.pass.0 }
         ensures does { Takes HallAnswers HallPulls self.old.pass.1 self.old.cursor (self.old.kept.items ++ self.old.fresh.items) cmd result self.new.pass.1 self.new.cursor (self.new.kept.items ++ self.new.fresh.items) }
         ensures limit { IsSome cmd → length self.old.pass.1.mine ≡ OWN_LIMIT → IsLimited result }
+        ensures taken { IfKeptOut cmd result (IsNameTaken hall_signer self.old.pass.1.said self.new.pass.1.seen) }
         ensures rest { IsAtRest self.old.pass.1 → IsAtRest self.new.pass.1 }
+        ensures own { OwnSigns hall_signer self.old.pass.1 self.old.pass.1.known → OwnSigns hall_signer self.new.pass.1 self.new.pass.1.known }
         ensures at { self.new.at ≡ self.old.at }
     {
         if self.kept.append(&mut self.fresh).is_err() {
@@ -167,6 +177,7 @@ impl HallPass {
             TurnOf::Late { out } => Taken::Late { out },
             TurnOf::Busy { word, cmd } => Taken::Busy { word, cmd },
             TurnOf::OwnLimit { cmd } => Taken::OwnLimit { cmd },
+            TurnOf::Taken { cmd } => Taken::NameTaken { cmd },
             TurnOf::NoMemory => Taken::NoMemory,
         }
     }
@@ -178,11 +189,14 @@ impl HallPass {
         lock: &HistLock<HallPlace>,
         cmd: Option<HallEntry>,
     ) -> Taken<HallEntry, HallOut>
-        requires { self.old.pass.0 ≡ lock.now.0 }
+        requires lock { self.old.pass.0 ≡ lock.now.0 }
+        requires sign { IfSome cmd (SignsOn hall_signer self.old.pass.1.said) }
         ensures lock { self.new.pass.0 ≡ self.old.pass.0 }
         ensures does { TakesAtLast HallAnswers HallPulls self.old.pass.1 self.old.cursor (self.old.kept.items ++ self.old.fresh.items) cmd result self.new.pass.1 self.new.cursor (self.new.kept.items ++ self.new.fresh.items) }
         ensures limit { IsSome cmd → length self.old.pass.1.mine ≡ OWN_LIMIT → IsLimited result }
-        ensures of { (hub : Hub) (conn : ℕ) → IsHallPass hub conn self.old → IsHallPass hub conn self.new }
+        ensures taken { IfKeptOut cmd result (IsNameTaken hall_signer self.old.pass.1.said self.new.pass.1.seen) }
+        ensures of { (hub : Hub) (conn : ℕ) → IfSome cmd (IsOf hall_signer conn) → IsHallPass hub conn self.old → IsHallPass hub conn self.new }
+        ensures adds { Adds self.old.pass.1 self.new.pass.1 }
         ensures at { self.new.at ≡ self.old.at }
     {
         self.take_at_last(rt, lock, cmd)
@@ -195,11 +209,14 @@ impl HallPass {
         lock: &HistLock<HallPlace>,
         cmd: Option<HallEntry>,
     ) -> Taken<HallEntry, HallOut>
-        requires { self.old.pass.0 ≡ lock.now.0 }
+        requires lock { self.old.pass.0 ≡ lock.now.0 }
+        requires sign { IfSome cmd (SignsOn hall_signer self.old.pass.1.said) }
         ensures lock { self.new.pass.0 ≡ self.old.pass.0 }
         ensures does { TakesAtLast HallAnswers HallPulls self.old.pass.1 self.old.cursor (self.old.kept.items ++ self.old.fresh.items) cmd result self.new.pass.1 self.new.cursor (self.new.kept.items ++ self.new.fresh.items) }
         ensures limit { IsSome cmd → length self.old.pass.1.mine ≡ OWN_LIMIT → IsLimited result }
+        ensures taken { IfKeptOut cmd result (IsNameTaken hall_signer self.old.pass.1.said self.new.pass.1.seen) }
         ensures rest { IsAtRest self.old.pass.1 → IsAtRest self.new.pass.1 }
+        ensures own { OwnSigns hall_signer self.old.pass.1 self.old.pass.1.known → OwnSigns hall_signer self.new.pass.1 self.new.pass.1.known }
         ensures at { self.new.at ≡ self.old.at }
     {
         if self.kept.append(&mut self.fresh).is_err() {
@@ -213,6 +230,7 @@ impl HallPass {
             TurnOf::Late { out } => Taken::Late { out },
             TurnOf::Busy { word: _, cmd: _ } => unreachable!(),
             TurnOf::OwnLimit { cmd } => Taken::OwnLimit { cmd },
+            TurnOf::Taken { cmd } => Taken::NameTaken { cmd },
             TurnOf::NoMemory => Taken::NoMemory,
         }
     }
@@ -222,6 +240,8 @@ impl HallPass {
         requires { self.old.pass.0 ≡ lock.now.0 }
         ensures does { self.new ≡ record self.old { pass = (self.old.pass.0, after_look self.old.pass.1 result) } }
         ensures seen { length self.old.pass.1.seen ≤ result }
+        ensures fresh { IsFresh self.old.pass.1 result }
+        ensures adds { Adds self.old.pass.1 self.new.pass.1 }
         ensures of { (hub : Hub) (conn : ℕ) → IsHallPass hub conn self.old → IsHallPass hub conn self.new }
     {
         lock.look(&mut self.pass)
@@ -269,11 +289,14 @@ impl RoomPass {
         lock: &HistLock<RoomPlace>,
         cmd: Option<RoomCmd>,
     ) -> Taken<RoomCmd, Option<RoomOut>>
-        requires { self.old.pass.0 ≡ lock.now.0 }
+        requires lock { self.old.pass.0 ≡ lock.now.0 }
+        requires sign { IfSome cmd (SignsOn room_signer self.old.pass.1.said) }
         ensures lock { self.new.pass.0 ≡ self.old.pass.0 }
         ensures does { Takes Answers Pulls self.old.pass.1 self.old.cursor (self.old.kept.items ++ self.old.fresh.items) cmd result self.new.pass.1 self.new.cursor (self.new.kept.items ++ self.new.fresh.items) }
         ensures limit { IsSome cmd → length self.old.pass.1.mine ≡ OWN_LIMIT → IsLimited result }
-        ensures of { (hub : Hub) (conn : ℕ) → IsRoomPass hub conn self.old → IsRoomPass hub conn self.new }
+        ensures taken { IfKeptOut cmd result (IsNameTaken room_signer self.old.pass.1.said self.new.pass.1.seen) }
+        ensures of { (hub : Hub) (conn : ℕ) → IfSome cmd (IsOf room_signer conn) → IsRoomPass hub conn self.old → IsRoomPass hub conn self.new }
+        ensures adds { Adds self.old.pass.1 self.new.pass.1 }
         ensures same { (self.new.at ≡ self.old.at) × (self.new.number ≡ self.old.number) × (self.new.id ≡ self.old.id) }
     {
         self.take(lock, cmd)
@@ -285,11 +308,14 @@ impl RoomPass {
         lock: &HistLock<RoomPlace>,
         cmd: Option<RoomCmd>,
     ) -> Taken<RoomCmd, Option<RoomOut>>
-        requires { self.old.pass.0 ≡ lock.now.0 }
+        requires lock { self.old.pass.0 ≡ lock.now.0 }
+        requires sign { IfSome cmd (SignsOn room_signer self.old.pass.1.said) }
         ensures lock { self.new.pass.0 ≡ self.old.pass.0 }
         ensures does { Takes Answers Pulls self.old.pass.1 self.old.cursor (self.old.kept.items ++ self.old.fresh.items) cmd result self.new.pass.1 self.new.cursor (self.new.kept.items ++ self.new.fresh.items) }
         ensures limit { IsSome cmd → length self.old.pass.1.mine ≡ OWN_LIMIT → IsLimited result }
+        ensures taken { IfKeptOut cmd result (IsNameTaken room_signer self.old.pass.1.said self.new.pass.1.seen) }
         ensures rest { IsAtRest self.old.pass.1 → IsAtRest self.new.pass.1 }
+        ensures own { OwnSigns room_signer self.old.pass.1 self.old.pass.1.known → OwnSigns room_signer self.new.pass.1 self.new.pass.1.known }
         ensures same { (self.new.at ≡ self.old.at) × (self.new.number ≡ self.old.number) × (self.new.id ≡ self.old.id) }
     {
         if self.kept.append(&mut self.fresh).is_err() {
@@ -303,6 +329,7 @@ impl RoomPass {
             TurnOf::Late { out } => Taken::Late { out },
             TurnOf::Busy { word, cmd } => Taken::Busy { word, cmd },
             TurnOf::OwnLimit { cmd } => Taken::OwnLimit { cmd },
+            TurnOf::Taken { cmd } => Taken::NameTaken { cmd },
             TurnOf::NoMemory => Taken::NoMemory,
         }
     }
@@ -314,11 +341,14 @@ impl RoomPass {
         lock: &HistLock<RoomPlace>,
         cmd: Option<RoomCmd>,
     ) -> Taken<RoomCmd, Option<RoomOut>>
-        requires { self.old.pass.0 ≡ lock.now.0 }
+        requires lock { self.old.pass.0 ≡ lock.now.0 }
+        requires sign { IfSome cmd (SignsOn room_signer self.old.pass.1.said) }
         ensures lock { self.new.pass.0 ≡ self.old.pass.0 }
         ensures does { TakesAtLast Answers Pulls self.old.pass.1 self.old.cursor (self.old.kept.items ++ self.old.fresh.items) cmd result self.new.pass.1 self.new.cursor (self.new.kept.items ++ self.new.fresh.items) }
         ensures limit { IsSome cmd → length self.old.pass.1.mine ≡ OWN_LIMIT → IsLimited result }
-        ensures of { (hub : Hub) (conn : ℕ) → IsRoomPass hub conn self.old → IsRoomPass hub conn self.new }
+        ensures taken { IfKeptOut cmd result (IsNameTaken room_signer self.old.pass.1.said self.new.pass.1.seen) }
+        ensures of { (hub : Hub) (conn : ℕ) → IfSome cmd (IsOf room_signer conn) → IsRoomPass hub conn self.old → IsRoomPass hub conn self.new }
+        ensures adds { Adds self.old.pass.1 self.new.pass.1 }
         ensures same { (self.new.at ≡ self.old.at) × (self.new.number ≡ self.old.number) × (self.new.id ≡ self.old.id) }
     {
         self.take_at_last(rt, lock, cmd)
@@ -331,11 +361,14 @@ impl RoomPass {
         lock: &HistLock<RoomPlace>,
         cmd: Option<RoomCmd>,
     ) -> Taken<RoomCmd, Option<RoomOut>>
-        requires { self.old.pass.0 ≡ lock.now.0 }
+        requires lock { self.old.pass.0 ≡ lock.now.0 }
+        requires sign { IfSome cmd (SignsOn room_signer self.old.pass.1.said) }
         ensures lock { self.new.pass.0 ≡ self.old.pass.0 }
         ensures does { TakesAtLast Answers Pulls self.old.pass.1 self.old.cursor (self.old.kept.items ++ self.old.fresh.items) cmd result self.new.pass.1 self.new.cursor (self.new.kept.items ++ self.new.fresh.items) }
         ensures limit { IsSome cmd → length self.old.pass.1.mine ≡ OWN_LIMIT → IsLimited result }
+        ensures taken { IfKeptOut cmd result (IsNameTaken room_signer self.old.pass.1.said self.new.pass.1.seen) }
         ensures rest { IsAtRest self.old.pass.1 → IsAtRest self.new.pass.1 }
+        ensures own { OwnSigns room_signer self.old.pass.1 self.old.pass.1.known → OwnSigns room_signer self.new.pass.1 self.new.pass.1.known }
         ensures same { (self.new.at ≡ self.old.at) × (self.new.number ≡ self.old.number) × (self.new.id ≡ self.old.id) }
     {
         if self.kept.append(&mut self.fresh).is_err() {
@@ -349,6 +382,7 @@ impl RoomPass {
             TurnOf::Late { out } => Taken::Late { out },
             TurnOf::Busy { word: _, cmd: _ } => unreachable!(),
             TurnOf::OwnLimit { cmd } => Taken::OwnLimit { cmd },
+            TurnOf::Taken { cmd } => Taken::NameTaken { cmd },
             TurnOf::NoMemory => Taken::NoMemory,
         }
     }
@@ -358,6 +392,7 @@ impl RoomPass {
         requires { self.old.pass.0 ≡ lock.now.0 }
         ensures does { self.new ≡ record self.old { pass = (self.old.pass.0, after_look self.old.pass.1 result) } }
         ensures seen { length self.old.pass.1.seen ≤ result }
+        ensures fresh { IsFresh self.old.pass.1 result }
         ensures of { (hub : Hub) (conn : ℕ) → IsRoomPass hub conn self.old → IsRoomPass hub conn self.new }
     {
         lock.look(&mut self.pass)

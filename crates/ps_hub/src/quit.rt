@@ -1,10 +1,11 @@
 //! The end of a connection.
-ghost use Rattle.std.specs.Prelude.{◌≡◌, ℕ, All, IsSome, OnOk, OnErr};
+ghost use Rattle.std.specs.Prelude.{◌≡◌, ℕ, All, IsSome, IfErr, OnOk, OnErr};
 ghost use Rattle.std.specs.List.{AllZip};
 ghost use Rattle.ps_hub.specs.Passes.{AreOf, IsRoomPass};
-ghost use Rattle.ps_hub.specs.Calls.{Quits, MayQuit, QuitsRoom, QuitsRoomAtMost, QuitsUpTo, QuitsHall, QuitsHallAtMost, HallOnly};
+ghost use Rattle.ps_hub.specs.Calls.{Quits, MayQuit, QuitsRoom, QuitsRoomAtMost, QuitsUpTo, QuitsHall, QuitsHallAtMost, HallOnly, IsShutOut, IsShutOutAmong, IsNotShutOut};
 
 use crate::hub::Hub;
+use crate::out::QuitFault;
 use crate::pass::RoomPass;
 use crate::passes::Passes;
 use crate::taken::Taken;
@@ -14,27 +15,30 @@ use ps_hall::entry::HallEntry;
 use ps_lines::command::{Command, HallCmd};
 use ps_room::entry::Entry;
 use server_places::command::RoomCmd;
-use std::alloc::AllocError;
 use std::sync::Wait;
 
 impl Hub {
     /// Makes the entries of the end of a connection: a Quit in each room that it holds, by rising numbers, and then one in the
-    /// hall. `AllocError` if out of memory, or a pass has made as many entries as it may: then the Quits before that one
-    /// stand, and there is none behind it. That one stands only if memory ran out for its messages.
+    /// hall. `NoMemory` if out of memory, or a pass has made as many entries as it may; `Taken` where an entry stands in a room
+    /// under the number of the connection that its pass there hasn't made. Then the Quits before that one stand, and there is
+    /// none behind it. That one stands only if memory ran out for its messages.
     pub fn quit<R: Wait>(
         &self,
         rt: &R,
         passes: &mut Passes,
         moment: Moment,
-    ) -> Result<(), AllocError>
+    ) -> Result<(), QuitFault>
         requires of { AreOf self.now passes.old }
         requires may { MayQuit passes.old }
         ensures of { AreOf self.now passes.new }
+        ensures taken { IfErr result (IsShutOutAmong passes.old.conn passes.new.rooms.items) }
         ensures does { Quits self.now moment passes.old result passes.new }
     {
         let conn = passes.conn;
-        self.quit_rooms(rt, &mut passes.rooms, conn, &passes.badge, moment)?;
-        self.quit_hall(rt, passes, moment)
+        match self.quit_rooms(rt, &mut passes.rooms, conn, &passes.badge, moment) {
+            Ok(()) => self.quit_hall(rt, passes, moment),
+            Err(fault) => Err(fault),
+        }
     }
 
     // The Quits in the rooms that are held.
@@ -45,15 +49,19 @@ impl Hub {
         conn: ConnNo,
         badge: &Option<Badge>,
         moment: Moment,
-    ) -> Result<(), AllocError>
+    ) -> Result<(), QuitFault>
         requires of { All (IsRoomPass self.now conn) rooms.old }
         requires may { All (λ k. IsSome k.id → IsSome badge.now) rooms.old }
         ensures of { All (IsRoomPass self.now conn) rooms.new }
+        ensures taken { IfErr result (IsShutOutAmong conn rooms.new) }
         ensures ok { OnOk result (AllZip (QuitsRoom badge.now conn moment) rooms.old rooms.new) }
         ensures err { OnErr result (QuitsUpTo self.now badge.now conn moment rooms.old rooms.new) }
     {
         for pass_index in 0..rooms.len() {
-            self.quit_room(rt, &mut rooms[pass_index], conn, badge, moment)?;
+            match self.quit_room(rt, &mut rooms[pass_index], conn, badge, moment) {
+                Ok(()) => {}
+                Err(fault) => return Err(fault),
+            }
         }
         Ok(())
     }
@@ -66,10 +74,11 @@ impl Hub {
         conn: ConnNo,
         badge: &Option<Badge>,
         moment: Moment,
-    ) -> Result<(), AllocError>
-        requires of { (conn : ℕ) × IsRoomPass self.now conn pass.old }
+    ) -> Result<(), QuitFault>
+        requires of { IsRoomPass self.now conn pass.old }
         requires may { IsSome pass.old.id → IsSome badge.now }
-        ensures of { (conn : ℕ) → IsRoomPass self.now conn pass.old → IsRoomPass self.now conn pass.new }
+        ensures of { IsRoomPass self.now conn pass.new }
+        ensures taken { IfErr result (IsShutOut conn pass.new) }
         ensures ok { OnOk result (QuitsRoom badge.now conn moment pass.old pass.new) }
         ensures err { OnErr result (QuitsRoomAtMost self.now badge.now conn moment pass.old pass.new) }
     {
@@ -79,7 +88,10 @@ impl Hub {
         }
         let badge = match badge {
             None => unreachable!(),
-            Some(badge) => badge.copy(self.alloc)?,
+            Some(badge) => match badge.copy(self.alloc) {
+                Ok(badge) => badge,
+                Err(_) => return Err(QuitFault::NoMemory),
+            },
         };
         let entry = Entry {
             conn,
@@ -93,10 +105,11 @@ impl Hub {
         };
         match pass.turn(rt, lock, Some(RoomCmd::Play(entry))) {
             Taken::Done { out: _ } => Ok(()),
-            Taken::Late { out: _ } => Err(AllocError),
+            Taken::Late { out: _ } => Err(QuitFault::NoMemory),
             Taken::Busy { word: _, cmd: _ } => unreachable!(),
-            Taken::OwnLimit { cmd: _ } => Err(AllocError),
-            Taken::NoMemory => Err(AllocError),
+            Taken::OwnLimit { cmd: _ } => Err(QuitFault::NoMemory),
+            Taken::NameTaken { cmd: _ } => Err(QuitFault::Taken),
+            Taken::NoMemory => Err(QuitFault::NoMemory),
         }
     }
 
@@ -106,9 +119,10 @@ impl Hub {
         rt: &R,
         passes: &mut Passes,
         moment: Moment,
-    ) -> Result<(), AllocError>
+    ) -> Result<(), QuitFault>
         requires { AreOf self.now passes.old }
         ensures of { AreOf self.now passes.new }
+        ensures taken { IfErr result IsNotShutOut }
         ensures ok { OnOk result (HallOnly (QuitsHall passes.old.conn moment) passes.old passes.new) }
         ensures err { OnErr result (HallOnly (QuitsHallAtMost self.now passes.old.conn moment) passes.old passes.new) }
     {
@@ -123,10 +137,11 @@ impl Hub {
         };
         match hall.turn(rt, self.hall_lock(), Some(entry)) {
             Taken::Done { out: _ } => Ok(()),
-            Taken::Late { out: _ } => Err(AllocError),
+            Taken::Late { out: _ } => Err(QuitFault::NoMemory),
             Taken::Busy { word: _, cmd: _ } => unreachable!(),
-            Taken::OwnLimit { cmd: _ } => Err(AllocError),
-            Taken::NoMemory => Err(AllocError),
+            Taken::OwnLimit { cmd: _ } => Err(QuitFault::NoMemory),
+            Taken::NameTaken { cmd: _ } => unreachable!(),
+            Taken::NoMemory => Err(QuitFault::NoMemory),
         }
     }
 }

@@ -53,6 +53,7 @@ impl Hub {
             Taken::Late { out: _ } => Err(AllocError),
             Taken::Busy { word: _, cmd: _ } => unreachable!(),
             Taken::OwnLimit { cmd: _ } => Err(AllocError),
+            Taken::NameTaken { cmd: _ } => unreachable!(),
             Taken::NoMemory => Err(AllocError),
         }
     }

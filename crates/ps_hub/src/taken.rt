@@ -11,6 +11,8 @@ pub(crate) enum Taken<C, U> {
     Busy { word: u64, cmd: Option<C> },
     /// The pass has made as many entries as it may. The command comes back.
     OwnLimit { cmd: Option<C> },
+    /// An entry of somebody else is signed as the command is. The command comes back.
+    NameTaken { cmd: Option<C> },
     /// Out of memory: there is no entry.
     NoMemory,
 }

@@ -14,7 +14,7 @@ use Rattle.server_places.specs.declared.site.Root.{Root}
 use Rattle.server_places.specs.Halls.{HallShows}
 use Rattle.ps_hub.specs.Hubs.{Hub, root_of}
 use Rattle.ps_hub.specs.Names.{Names}
-use Rattle.ps_hub.specs.Passes.{AreOf}
+use Rattle.ps_hub.specs.Passes.{AreOf, NeverFalls}
 use Rattle.ps_hub.specs.Calls.{hall_entry, Admits}
 use Rattle.ps_hub.specs.declared.pass.HallPass.{HallPass}
 use Rattle.ps_hub.specs.declared.pass.RoomPass.{RoomPass}
@@ -101,7 +101,11 @@ unserved hub conn moment p talk counts start hours conn_is no_badge no_hall no_r
         answers = record { made = at_none (AreAnswers true hub conn t p.rooms.items) p no_hall; rightly = tt; asked = of_none (IsAsked ends.NoMemory hub t) p.rooms.items no_rooms };
         opened = subst (IsOpen true conn t p) (sym no_hall) (no_rooms, refl, refl, refl);
         moments = subst (λ (o : Option HallPass). TellsMoments ends.NoMemory conn t o start hours) (sym no_hall) (now, later);
-        looks = record { hall = at_none (HallLooks true hub conn t) p no_hall; rooms = of_none (RoomLooks true hub conn t) p.rooms.items no_rooms };
+        looks = record {
+          hall = at_none (HallLooks true hub conn t) p no_hall;
+          rooms = of_none (RoomLooks true hub conn t) p.rooms.items no_rooms;
+          fresh = record { hall = at_none (λ (h : HallPass). NeverFalls h.pass.1.looks) p no_hall; rooms = of_none (λ (k : RoomPass). NeverFalls k.pass.1.looks) p.rooms.items no_rooms };
+        };
         of = record { of = λ some. absurd (true≢false (sym (subst IsSome no_hall some))); named = of_none (λ (k : RoomPass). IfSome k.id (λ id. Names hub.config id k.number)) p.rooms.items no_rooms };
         history = record { conn_is = conn_is; hall = at_none (IsHallOf hub) p no_hall; rooms = of_none (IsRoomOf hub) p.rooms.items no_rooms; apart = subst AreApart (sym no_rooms) tt };
         begin = record {

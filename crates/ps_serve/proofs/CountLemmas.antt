@@ -177,6 +177,7 @@ few_within hub conn t rooms old new k f = record { readable = f.readable; few = 
 ends_well : (end : End) (hub : Hub) (conn : ℕ) (t : Account) (rooms : List RoomPass) (old new : Talk) (counts0 counts : LinkCounts) → IsTalk t old new → HasCause end hub conn t rooms (Some new) counts0 counts → IsWithin hub conn t rooms old.inbox → (Rose counts0.faults counts.faults → ⊥) → EndsWell end
 ends_well ends.Closed hub conn t rooms old new counts0 counts k cause w sound = tt
 ends_well ends.NoMemory hub conn t rooms old new counts0 counts k cause w sound = tt
+ends_well ends.Taken hub conn t rooms old new counts0 counts k cause w sound = tt
 ends_well ends.LinkFault hub conn t rooms old new counts0 counts k cause w sound = sound cause.counts.0
 ends_well (ends.BadText bytes) hub conn t rooms old new counts0 counts k cause w sound = readable (after_acts (begun conn) t.acts) bytes.items (rest_read t old new bytes.items k w.readable cause.text.0) cause.text.1
 ends_well (ends.OwnLimit room) hub conn t rooms old new counts0 counts k cause w sound =

@@ -1,6 +1,7 @@
 pub mod ActLemmas
 pub mod Actions
 pub mod AdmitLemmas
+pub mod AgreeLemmas
 pub mod BarLemmas
 pub mod BeginLemmas
 pub mod CallLemmas
@@ -32,6 +33,7 @@ pub mod Sides
 pub mod StandLemmas
 pub mod Stopped
 pub mod TakeLemmas
+pub mod TakenLemmas
 pub mod TellingLemmas
 pub mod TellingRooms
 pub mod Tries

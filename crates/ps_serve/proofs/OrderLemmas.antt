@@ -1,5 +1,5 @@
 -- What one try of an order tells.
-use Rattle.std.proofs.Common.{◌≡◌, ℕ, suc, Bool, true, false, if◌then◌else◌, List, refl, sym, ap, ◌∙◌, subst, ⊎_elim, Option, Some, None, Result, Ok, Err, is_some, is_ok, true≢false}
+use Rattle.std.proofs.Common.{◌≡◌, ℕ, suc, Bool, true, false, if◌then◌else◌, List, refl, sym, ap, ◌∙◌, subst, inl, inr, ⊎_elim, Option, Some, None, Result, Ok, Err, is_some, is_ok, true≢false}
 use Rattle.ps_base.specs.declared.badge.Badge.{Badge}
 use Rattle.ps_lines.specs.Clients.{client}
 use Rattle.ps_lines.specs.Commands.{command}
@@ -99,3 +99,28 @@ needs_of badge (Room id cmd) passes e has = subst IsSome (sym e) has
 
 pub taken_needs : (r : Record) (bytes : List ℕ) (order : Order) (passes : Passes) → taken r bytes ≡ Ok order → passes.badge ≡ r.badge → NeedsBadge order passes
 taken_needs r bytes order passes t e = needs_of r.badge order passes e (within_badge r.badge r (order_of r.badge r bytes) order (order_badge r.badge r bytes) t)
+
+-- a name that is taken leaves no more than want of memory
+pub taken_short : (hub : Hub) (order : Order) (moment : ℕ) (old new : Passes) → Orders hub order moment old (Err hub_faults.Taken) new → Orders hub order moment old (Err hub_faults.NoMemory) new
+taken_short hub (Hall cmd) moment old new t = absurd t
+taken_short hub (Room id cmd) moment old new (inl none) = absurd none
+taken_short hub (Room id cmd) moment old new (inr t) =
+    let goes = t.2.2 in
+    inr (
+      t.0,
+      t.1,
+      (
+        t.2.0,
+        t.2.1,
+        record {
+          before = goes.before;
+          behind = goes.behind;
+          named = goes.named;
+          held = goes.held;
+          held_on = goes.held_on;
+          at = goes.at;
+          but = goes.but;
+          done = (goes.done.1, inr (inl goes.done.0));
+        },
+      ),
+    )

@@ -269,6 +269,7 @@ waits_of (Some id) hub conn t k s = tt
 
 pub asked_so : (end : End) (hub : Hub) (t : Account) (k : RoomPass) → IsAskedBy k.id hub t k → IsAsked end hub t k
 asked_so ends.NoMemory hub t k a = tt
+asked_so ends.Taken hub t k a = tt
 asked_so (ends.OwnLimit room) hub t k a = tt
 asked_so ends.Closed hub t k a = a
 asked_so ends.LinkFault hub t k a = a

@@ -16,7 +16,7 @@ use Rattle.ps_hub.specs.Hubs.{Hub, root_of, site_of}
 use Rattle.server_places.specs.Rooms.{Shows}
 use Rattle.server_places.specs.Halls.{HallShows}
 use Rattle.ps_hub.specs.Names.{Names}
-use Rattle.ps_hub.specs.Passes.{AreOf, IsRoomPass}
+use Rattle.ps_hub.specs.Passes.{AreOf, IsRoomPass, NeverFalls}
 use Rattle.ps_hub.specs.Calls.{QuitsHall, QuitsRoom, QuitsWith, Quits}
 use Rattle.ps_hub.specs.declared.pass.HallPass.{HallPass}
 use Rattle.ps_hub.specs.declared.pass.RoomPass.{RoomPass}
@@ -145,6 +145,7 @@ tells_of ends.LinkFault conn t h old new extra asked = (extra, asked)
 tells_of (ends.OwnLimit room) conn t h old new extra asked = (extra, asked)
 tells_of (ends.BadText bytes) conn t h old new extra asked = (extra, asked)
 tells_of ends.NoMemory conn t h old new extra asked = (extra, asked)
+tells_of ends.Taken conn t h old new extra asked = absurd extra
 
 moments_all : (t : Account) (start hours0 hours1 hours2 : Hours) → IsNow start t.opened → hours0 ≡ after_now start → Asked hours0 (moments_of t.acts ++ t.extra) hours1 → IsNow hours1 t.left → hours2 ≡ after_now hours1 → Asked start (moments_in t) hours2
 moments_all t start hours0 hours1 hours2 first begun_at asked last end =
@@ -191,6 +192,7 @@ text_on ends.LinkFault hub conn t h k old new grew kept c = c
 text_on (ends.OwnLimit room) hub conn t h k old new grew kept c = (c.0, c.1, many_on room hub conn t h k old new c.0 grew kept c.2)
 text_on (ends.BadText bytes) hub conn t h k old new grew kept c = c
 text_on ends.NoMemory hub conn t h k old new grew kept c = c
+text_on ends.Taken hub conn t h k old new grew kept c = c
 
 -- a session with its Quits
 pub served : (end : End) (hub : Hub) (conn : ℕ) (t : Account) (old new : Passes) (talk0 talk : Option Talk) (counts0 counts : LinkCounts) (start hours0 hours1 hours2 : Hours)
@@ -230,6 +232,7 @@ served end hub conn t old new talk0 talk counts0 counts start hours0 hours1 hour
       looks = record {
         hall = at_hall (HallLooks b hub conn t) new k q.hall q.keeps.looks;
         rooms = room_facts b s hub conn t old new (RoomLooks b hub conn t) (λ h x rq. rq.keeps.looks) q.rooms;
+        fresh = record { hall = at_hall (λ (h : HallPass). NeverFalls h.pass.1.looks) new k q.hall (hall_of hub new k q.are q.hall).looks; rooms = λ i d lt. (q.are.rooms i d lt).looks };
       };
       of = record { of = λ some. q.are; named = named };
       history = history_of hub conn new q.are q.conn_is apart;
@@ -305,6 +308,7 @@ rest_few ends.LinkFault hub conn t rooms c = no_texts t.rest c
 rest_few (ends.OwnLimit room) hub conn t rooms c = one_text t.rest c.0 c.1
 rest_few (ends.BadText bytes) hub conn t rooms c = one_text t.rest bytes.items c.0
 rest_few ends.NoMemory hub conn t rooms c = c
+rest_few ends.Taken hub conn t rooms c = c
 
 extra_weak : (end : End) (conn : ℕ) (t : Account) → HasExtraAt end conn t → HasExtra conn t
 extra_weak ends.Closed conn t e = inl e
@@ -312,6 +316,7 @@ extra_weak ends.LinkFault conn t e = inl e
 extra_weak (ends.OwnLimit room) conn t e = e
 extra_weak (ends.BadText bytes) conn t e = inl e
 extra_weak ends.NoMemory conn t e = e
+extra_weak ends.Taken conn t e = absurd e
 
 -- what holds at any end holds if out of memory then
 pub rests_weak : (end : End) (hub : Hub) (conn : ℕ) (t : Account) (passes : Passes) (talk0 talk : Option Talk) (counts0 counts : LinkCounts) (hours0 hours1 : Hours) → Rests end hub conn t passes talk0 talk counts0 counts hours0 hours1 → Rests ends.NoMemory hub conn t passes talk0 talk counts0 counts hours0 hours1

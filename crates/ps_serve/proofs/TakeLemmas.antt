@@ -323,6 +323,7 @@ module _ (hub : Hub) (conn open_at left : ℕ) (acts : List Act) (ss : List Send
     rests_short hub conn acts (a ∷ []) (told_with a t.more) p2 talk0 new counts0 c2 hours0 h1 t.left refl (omega arith) (broke_with s0 p0 p2 a was mid new c0 h h1 st moves ends.NoMemory t, t.left.way)
         (record { counts = tt; inbox = tt; text = omega arith }) (inl refl) (asked_with s0 p0 a was c0 h h1 st asked),
   )
+  rest_broke ends.Taken s0 p0 p2 a was mid new c0 c1 c2 h h1 st moves asked faults ended broke t = absurd broke
   rest_broke ends.Closed s0 p0 p2 a was mid new c0 c1 c2 h h1 st moves asked faults ended broke t = absurd broke
   rest_broke (ends.OwnLimit room) s0 p0 p2 a was mid new c0 c1 c2 h h1 st moves asked faults ended broke t = absurd broke
   rest_broke (ends.BadText bytes) s0 p0 p2 a was mid new c0 c1 c2 h h1 st moves asked faults ended broke t = absurd broke

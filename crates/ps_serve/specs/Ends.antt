@@ -51,6 +51,7 @@ use Rattle.ps_serve.specs.Acts.{nowhere, Act, heard, after_acts, AreActs, arriva
 use Rattle.ps_serve.specs.Sendings.{Sending, sent_text, texts_from, message_texts, AreLooksAnswered}
 use Rattle.ps_serve.specs.Sittings.{IsSent, HasOpen, IsPartSent, AreAlmostAnswered, IsNowhere, AreGiven, AreAlmostGiven, RoomWaits, AreApart}
 use Rattle.ps_serve.specs.Steps.{Hours, Asked}
+use Rattle.ps_serve.specs.Names.{AreLooksFresh}
 
 -- What a session did and sent: of each answer of the link, in order, what came of it; what was sent; the text that ended the
 -- session and became nothing, if there was one; and the moments of its Open, of such a text, if one was asked for it, and of its
@@ -63,15 +64,17 @@ pub record Account : Type 0 where
   pub extra : List ℕ
   pub left : ℕ
 
--- memory ran out
+-- memory ran out, or the number was taken
 abbrev pub is_short : End → Bool
 is_short ends.NoMemory = true
+is_short ends.Taken = true
 is_short other = false
 
 -- or the link failed: what was going on broke off
 abbrev pub is_broken : End → Bool
 is_broken ends.LinkFault = true
 is_broken ends.NoMemory = true
+is_broken ends.Taken = true
 is_broken other = false
 
 -- ---- the link
@@ -205,6 +208,7 @@ IsAskedBy (Some id) hub t k = Unit {0}
 
 abbrev pub IsAsked : End → Hub → Account → RoomPass → Type 0
 IsAsked ends.NoMemory hub t k = Unit {0}
+IsAsked ends.Taken hub t k = Unit {0}
 IsAsked (ends.OwnLimit room) hub t k = Unit {0}
 IsAsked end hub t k = IsAskedBy k.id hub t k
 
@@ -249,6 +253,8 @@ HasExtra conn t = (t.extra ≡ []) ⊎ ((bytes : List ℕ) × (order : Order) ×
 abbrev pub TellsMoments : End → ℕ → Account → Option HallPass → Hours → Hours → Type 0
 TellsMoments ends.NoMemory conn t None old new = Asked old (t.opened ∷ []) new
 TellsMoments ends.NoMemory conn t (Some h) old new = HasExtra conn t × Asked old (moments_in t) new
+TellsMoments ends.Taken conn t None old new = Asked old (t.opened ∷ []) new
+TellsMoments ends.Taken conn t (Some h) old new = HasExtra conn t × Asked old (moments_in t) new
 TellsMoments (ends.OwnLimit room) conn t hall old new = HasExtra conn t × Asked old (moments_in t) new
 TellsMoments end conn t hall old new = (t.extra ≡ []) × Asked old (moments_in t) new
 
@@ -275,12 +281,17 @@ RoomLooks broken hub conn t k = RoomLooksBy k.id broken hub conn t k
 pub record LooksAreAnswered (end : End) (hub : Hub) (conn : ℕ) (t : Account) (passes : Passes) : Type 0 where
   pub hall : IfSome passes.hall (HallLooks (is_broken end) hub conn t)
   pub rooms : All (RoomLooks (is_broken end) hub conn t) passes.rooms.items
+  pub fresh : AreLooksFresh passes
 
 -- ---- of the hub
 
--- the passes come from this hub, where the hall is held; and each id by which a place is held names it
+-- the passes come from this hub, where the hall is held
+abbrev pub ComeFrom : Hub → Passes → Type 0
+ComeFrom hub passes = IsSome passes.hall → AreOf hub passes
+
+-- so they do, and each id by which a place is held names it
 pub record AreOfHub (hub : Hub) (passes : Passes) : Type 0 where
-  pub of : IsSome passes.hall → AreOf hub passes
+  pub of : ComeFrom hub passes
   pub named : All (λ (k : RoomPass). IfSome k.id (λ id. Names hub.config id k.number)) passes.rooms.items
 
 -- ---- one history
@@ -377,6 +388,7 @@ abbrev pub HasCountCause : End → LinkCounts → LinkCounts → Type 0
 HasCountCause ends.Closed old new = Rose old.ends new.ends × (new.faults ≡ old.faults)
 HasCountCause ends.LinkFault old new = Rose old.faults new.faults × (new.ends ≡ old.ends)
 HasCountCause ends.NoMemory old new = Unit {0}
+HasCountCause ends.Taken old new = Unit {0}
 HasCountCause other old new = (new.faults ≡ old.faults) × (new.ends ≡ old.ends)
 
 -- where it is told, Closed only at an empty inbox
@@ -396,6 +408,7 @@ abbrev pub HasTextCause : End → Hub → ℕ → Account → List RoomPass → 
 HasTextCause (ends.BadText bytes) hub conn t rooms = (t.rest ≡ bytes.items ∷ []) × (taken (after_acts (begun conn) t.acts) bytes.items ≡ Err take_faults.BadText)
 HasTextCause (ends.OwnLimit room) hub conn t rooms = (bytes : List ℕ) × (t.rest ≡ bytes ∷ []) × IsTooMany room hub conn t rooms bytes
 HasTextCause ends.NoMemory hub conn t rooms = length t.rest ≤ 1
+HasTextCause ends.Taken hub conn t rooms = length t.rest ≤ 1
 HasTextCause end hub conn t rooms = t.rest ≡ []
 
 pub record HasCause (end : End) (hub : Hub) (conn : ℕ) (t : Account) (rooms : List RoomPass) (talk : Option Talk) (old new : LinkCounts) : Type 0 where
@@ -417,10 +430,11 @@ texts_in inbox = filter_map text_in inbox
 abbrev pub IsReadable : List ℕ → Type 0
 IsReadable bytes = (client bytes ≢ Err client_faults.NotUtf8) × ((size : ℕ) → client bytes ≢ Err (client_faults.Long size))
 
--- the client ended the session, or memory ran out
+-- the client ended the session, or its number was taken, or memory ran out
 abbrev pub EndsWell : End → Type 0
 EndsWell ends.Closed = Unit {0}
 EndsWell ends.NoMemory = Unit {0}
+EndsWell ends.Taken = Unit {0}
 EndsWell other = ⊥
 
 -- The texts are within the limits: each that the link holds can be read, and the one that came last, if it is no act, wasn't one

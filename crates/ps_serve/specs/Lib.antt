@@ -6,3 +6,5 @@ pub mod Ends
 pub mod Tellings
 pub mod Obeys
 pub mod Rests
+pub mod Names
+pub mod Sessions

@@ -51,9 +51,10 @@ pub record RoomRests (broken short : Bool) (hub : Hub) (conn : ℕ) (t : Account
   pub sent : RoomSent broken hub conn t k
   pub named : IfSome k.id (λ id. Names hub.config id k.number)
 
--- the moments that were asked for a text which is no act
+-- the moments that were asked for a text which is no act; before its Quits no session ends by a number that is taken
 abbrev pub HasExtraAt : End → ℕ → Account → Type 0
 HasExtraAt ends.NoMemory conn t = HasExtra conn t
+HasExtraAt ends.Taken conn t = ⊥
 HasExtraAt (ends.OwnLimit room) conn t = HasExtra conn t
 HasExtraAt end conn t = t.extra ≡ []
 

@@ -1,5 +1,6 @@
 //! How a session ended.
 use ps_base::text::Text;
+use ps_hub::pass::HallPass;
 use ps_hub::passes::Passes;
 
 /// Why a session ended.
@@ -13,6 +14,9 @@ pub enum End {
     OwnLimit { room: Option<Text> },
     /// A text of more than 8,192 bytes, or one that is no UTF-8, came: its bytes.
     BadText { bytes: Vec<u8> },
+    /// At the hall or a room stood an entry under the number of the connection that none of its passes had made. It breaks the
+    /// session off as want of memory does.
+    Taken,
     /// Memory was wanting.
     NoMemory,
 }
@@ -24,4 +28,6 @@ pub struct Closed {
     pub end: End,
     /// What the connection had of the hub, after its Quits.
     pub passes: Passes,
+    /// The pass that was to make its Open, where an entry stood under its number already.
+    pub refused: Option<HallPass>,
 }

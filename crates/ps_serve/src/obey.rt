@@ -37,7 +37,8 @@ pub(crate) enum Stop {
     NoMemory,
 }
 
-// Why an order made no entry.
+// Why an order made no entry: there is no such room; or memory was wanting, or the room had an entry under the number of the
+// connection already.
 #[derive(Clone, Copy, Debug, PartialEq, Eq)]
 enum Unmade {
     NoSuchRoom,
@@ -113,6 +114,8 @@ impl Sitting {
                 Err(HubFault::NoSuchRoom) => return Err(Unmade::NoSuchRoom),
                 // A pass has room for all texts of a connection, the Reports of its battles and its Quit.
                 Err(HubFault::OwnLimit { room: _ }) => return Err(Unmade::NoMemory),
+                // Its Quit in that room meets the same entry, and tells of it.
+                Err(HubFault::Taken) => return Err(Unmade::NoMemory),
                 Err(HubFault::NoMemory) => return Err(Unmade::NoMemory),
             }
         }

@@ -8,12 +8,15 @@ ghost use Rattle.ps_serve.specs.Sendings.{Sending};
 ghost use Rattle.ps_serve.specs.Sittings.{Sits};
 ghost use Rattle.ps_serve.specs.Steps.{Hours, Stands};
 ghost use Rattle.ps_serve.specs.Ends.{Account, IsAccount, SentIsView, IsLabelled, EntriesAreMade, AnswersAreKept, IsOpen, TellsMoments, LooksAreAnswered, AreOfHub, OneHistory, OneBegin, LosesNothing, TwoWorlds, HasCause, EndsWell, EndsWellWithin, AreFew, Served, is_short};
+ghost use Rattle.ps_serve.specs.Names.{IfTaken, IsTaken, HasOwnNames};
+ghost use Rattle.ps_serve.specs.Sessions.{IsSession};
 ghost use Rattle.ps_serve.specs.Rests.{end_after, IsSitting, GoesOn, ComesToRest};
 
 use crate::closed::{Closed, End};
 use crate::obey::Stop;
 use ps_base::number::ConnNo;
 use ps_hub::hub::Hub;
+use ps_hub::out::{AdmitFault, QuitFault};
 use ps_hub::passes::Passes;
 use ps_outside::clock::Clock;
 use ps_outside::link::{Link, Next};
@@ -99,12 +102,24 @@ fn serve<R: Wait, L: Link, C: Clock>(
     clock: &mut C,
 ) -> Closed
     ensures served { (t : Account) × Served result.end hub.now conn t result.passes (L.talk link.old) (L.talk link.new) (L.counts link.old) (L.counts link.new) (C.hours clock.old) (C.hours clock.new) }
+    ensures taken { IfTaken result.end (IsTaken hub.now conn result.passes result.refused) }
 {
-    let Ok(passes) = hub.admit(rt, conn, clock.now()) else {
-        return Closed {
-            end: End::NoMemory,
-            passes: Passes::none(alloc, conn),
-        };
+    let passes = match hub.admit(rt, conn, clock.now()) {
+        Ok(passes) => passes,
+        Err(AdmitFault::Taken { opener }) => {
+            return Closed {
+                end: End::Taken,
+                passes: Passes::none(alloc, conn),
+                refused: Some(opener),
+            };
+        }
+        Err(AdmitFault::NoMemory) => {
+            return Closed {
+                end: End::NoMemory,
+                passes: Passes::none(alloc, conn),
+                refused: None,
+            };
+        }
     };
     let mut sitting = Sitting {
         session: Session::new(alloc, conn),
@@ -116,10 +131,20 @@ fn serve<R: Wait, L: Link, C: Clock>(
         mut passes,
     } = sitting;
     match hub.quit(rt, &mut passes, clock.now()) {
-        Ok(()) => Closed { end, passes },
-        Err(_) => Closed {
+        Ok(()) => Closed {
+            end,
+            passes,
+            refused: None,
+        },
+        Err(QuitFault::Taken) => Closed {
+            end: End::Taken,
+            passes,
+            refused: None,
+        },
+        Err(QuitFault::NoMemory) => Closed {
             end: End::NoMemory,
             passes,
+            refused: None,
         },
     }
 }
@@ -128,11 +153,12 @@ fn serve<R: Wait, L: Link, C: Clock>(
 /// the link what happened in the hall and in the rooms that it holds, and makes its Quits at the end.
 ///
 /// `served` says all that follows of one and the same account of the session: what came of each answer of the link, what was
-/// sent, and the moments. The passes come from the hub if they hold the hall, as they do unless memory ran
-/// out for the Open; so its calls take them. `LinkFault` and `Closed` come only where the link's count of them rose, `BadText` and `OwnLimit` only
-/// by the text that came last, and `NoMemory` if out of memory, for the Quits too. A link that doesn't fail, and whose
-/// texts are UTF-8 and within the limits of bytes and of texts for a place, gives `Closed` or `NoMemory`; with `MOST_TEXTS` texts in all
-/// they are within the latter whatever becomes of them.
+/// sent, and the moments. The passes come from the hub if they hold the hall, as they do unless memory ran out for the Open, or
+/// its number was taken; so the hub's calls take them. `LinkFault` and `Closed` come only where the link's count of them rose,
+/// `BadText` and `OwnLimit` only by the text that came last, `Taken` only where an entry stood under the number of the connection
+/// that none of its passes had made, and `NoMemory` if out of memory, for the Quits too. A link that doesn't fail, and whose
+/// texts are UTF-8 and within the limits of bytes and of texts for a place, gives `Closed`, `Taken` or `NoMemory`; with
+/// `MOST_TEXTS` texts in all they are within the latter whatever becomes of them.
 pub fn serve_session<R: Wait, L: Link, C: Clock>(
     alloc: Global,
     rt: &R,
@@ -156,6 +182,9 @@ pub fn serve_session<R: Wait, L: Link, C: Clock>(
     ensures two_worlds { (t : Account) × IsAccount conn t (L.talk link.old) (L.talk link.new) × TwoWorlds result.end hub.now conn t result.passes }
     ensures cause { (t : Account) × IsAccount conn t (L.talk link.old) (L.talk link.new) × HasCause result.end hub.now conn t result.passes.rooms.items (L.talk link.new) (L.counts link.old) (L.counts link.new) }
     ensures complete { (t : Account) × IsAccount conn t (L.talk link.old) (L.talk link.new) × EndsWellWithin result.end hub.now conn t result.passes.rooms.items (L.talk link.old) (L.counts link.old) (L.counts link.new) }
+    ensures taken { IfTaken result.end (IsTaken hub.now conn result.passes result.refused) }
+    ensures own_names { HasOwnNames conn result.passes }
+    ensures session { IsSession hub.now conn result }
     ensures few_texts { (talk : Talk) → L.talk link.old ≡ Some talk → AreFew talk.inbox → (Rose (L.counts link.old).faults (L.counts link.new).faults → ⊥) → EndsWell result.end }
 {
     serve(alloc, rt, hub, conn, link, clock)

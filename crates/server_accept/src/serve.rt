@@ -1,14 +1,16 @@
 //! All that a server does.
-ghost use Rattle.std.specs.Prelude.{◌≡◌, ◌≤◌, ℕ, map, string_bytes, None, OnOk};
+ghost use Rattle.std.specs.Prelude.{◌≡◌, ◌≤◌, ℕ, map, string_bytes, length, None, OnOk, IfOk};
 ghost use Rattle.ps_outside.specs.Causes.{Rose};
 ghost use Rattle.ps_outside.specs.Counts.{one_more};
 ghost use Rattle.ps_outside.specs.Doors.{HasAcceptCause};
 ghost use Rattle.program_commands.specs.Words.{options_of, serve_words_in};
 ghost use Rattle.program_commands.specs.Steps.{dex_in};
 ghost use Rattle.program_commands.specs.Setups.{serve_usage_of, usage_reported, Stands};
+ghost use Rattle.ps_hub.specs.Hubs.{Hub};
+ghost use Rattle.server_accept.specs.Journals.{AreSessions};
 ghost use Rattle.server_accept.specs.Servers.{IfServe, given_by, ServeCause, KeepsDoor, SettlesServe, IsOfDoor};
 
-use crate::ended::Ended;
+use crate::journal::{Journal, Serving};
 use program_commands::config::config_or_standard;
 use program_commands::dex::dex_or_none;
 use program_commands::status::Status;
@@ -21,30 +23,73 @@ use ps_outside::door::{Door, DoorEnd};
 use ps_outside::files::Files;
 use ps_outside::link::Link;
 use ps_outside::spawner::{Spawner, start};
+use ps_serve::closed::Closed;
 use ps_serve::session::serve_session;
 use rules_config::config::Config;
 use std::alloc::{AllocError, Global};
+use std::marker::Brand;
 use std::sync::{Arc, Wait};
 use std::thread::Threads;
 
+/// How a server ended.
+#[derive(Drop)]
+pub struct Finished {
+    /// Its status.
+    pub status: Status,
+    /// What each session ended with, by the numbers of their connections from 1. No place is empty.
+    pub sessions: Vec<Option<Closed>>,
+}
+
+impl Finished {
+    /// The status alone.
+    pub fn into_status(self) -> Status
+        ensures { result ≡ self.status }
+    {
+        self.status
+    }
+}
+
 /// What the sessions of a server share.
 #[derive(Drop)]
-struct Shared {
+struct Shared<S: Serving> {
     hub: Hub,
-    ended: Ended,
+    journal: Journal<S>,
+    ghost hub_is: { hub ≡ S.hub },
+}
+
+// The session of a link. Its last step hands in what it ended with.
+fn run<S, R, L, C>(
+    rt: &R,
+    alloc: Global,
+    shared: &Shared<S>,
+    conn: ConnNo,
+    mut link: L,
+    mut clock: C,
+)
+where
+    S: Serving,
+    R: Wait,
+    L: Link + Drop,
+    C: Clock + Drop,
+{
+    let closed = serve_session(alloc, rt, &shared.hub, conn, &mut link, &mut clock);
+    // Its client sees the end of the connection before the server counts it.
+    drop(link);
+    shared.journal.hand_in(rt, conn, closed);
 }
 
 // Begins the session of a link: as a job of the spawner, or here where the job comes back.
-fn begin<R, L, C, P>(
+fn begin<S, R, L, C, P>(
     rt: R,
     alloc: Global,
-    shared: &Arc<Shared>,
+    shared: &Arc<Shared<S>>,
     conn: ConnNo,
     link: L,
     clock: &C,
     spawner: &mut P,
 ) -> Result<(), AllocError>
 where
+    S: Serving + Send + Sync + 'static,
     R: Threads + Wait + Copy + Send + Drop + 'static,
     L: Link + Send + Drop + 'static,
     C: Clock + Send + Drop + 'static,
@@ -53,12 +98,9 @@ where
     let shared = shared.clone()?;
     let clock = clock.another()?;
     let job = move || {
-        let mut link = link;
-        let mut clock = clock;
-        drop(serve_session(alloc, &rt, &shared.hub, conn, &mut link, &mut clock));
-        // Its client sees the end of the connection before the server counts it.
-        drop(link);
-        shared.ended.rise(&rt);
+        let link = link;
+        let clock = clock;
+        run(&rt, alloc, &*shared, conn, link, clock);
     };
     match start(&rt, spawner, job) {
         Ok(()) => {}
@@ -68,16 +110,17 @@ where
 }
 
 // Accepts a link, and begins its session.
-fn accept<R, D, C, P>(
+fn accept<S, R, D, C, P>(
     rt: R,
     alloc: Global,
-    shared: &Arc<Shared>,
+    shared: &Arc<Shared<S>>,
     conn: ConnNo,
     door: &mut D,
     clock: &C,
     spawner: &mut P,
 ) -> Result<(), DoorEnd>
 where
+    S: Serving + Send + Sync + 'static,
     R: Threads + Wait + Copy + Send + Drop + 'static,
     D: Door,
     D::Link: Send + Drop + 'static,
@@ -96,78 +139,119 @@ where
     }
 }
 
-// Gives so many links a session each, and answers after these have ended: why there was no further link, if it is so.
-fn serve_links<R, D, C, P>(
+// Gives so many links a session each, and answers after these have ended; or fewer, where there was no further link.
+fn serve_links<S, R, D, C, P>(
     rt: R,
     alloc: Global,
-    shared: &Arc<Shared>,
+    shared: &Arc<Shared<S>>,
     count: u32,
     door: &mut D,
     clock: &C,
     spawner: &mut P,
-) -> Result<(), DoorEnd>
+) -> Finished
 where
+    S: Serving + Send + Sync + 'static,
     R: Threads + Wait + Copy + Send + Drop + 'static,
     D: Door,
     D::Link: Send + Drop + 'static,
     C: Clock + Send + Drop + 'static,
     P: Spawner,
     requires { count ≤ 1024 }
-    ensures given { OnOk result (D.given door.new ≡ given_by count (D.given door.old)) }
-    ensures cause { HasAcceptCause (D.faults door.old) (D.faults door.new) result }
+    ensures of { IsOfDoor result.status }
+    ensures given { result.status ≡ Status.Done → D.given door.new ≡ given_by count (D.given door.old) }
+    ensures door_fault { result.status ≡ Status.DoorFault → Rose (D.faults door.old) (D.faults door.new) }
+    ensures sessions { AreSessions S.hub result.sessions.items }
+    ensures all { result.status ≡ Status.Done → length result.sessions.items ≡ count }
 {
     for begun in 0..count {
         match accept(rt, alloc, shared, ConnNo(begun + 1), door, clock, spawner) {
             Ok(()) => {}
-            Err(end) => {
-                shared.ended.wait_for(&rt, begun);
-                return Err(end);
+            Err(DoorEnd::Failed) => {
+                let sessions = shared.journal.wait_for(&rt, alloc, begun);
+                return Finished {
+                    status: Status::DoorFault,
+                    sessions,
+                };
+            }
+            Err(DoorEnd::NoMemory) => {
+                let sessions = shared.journal.wait_for(&rt, alloc, begun);
+                return Finished {
+                    status: Status::NoMemory,
+                    sessions,
+                };
             }
         }
     }
-    shared.ended.wait_for(&rt, count);
-    Ok(())
+    let sessions = shared.journal.wait_for(&rt, alloc, count);
+    Finished {
+        status: Status::Done,
+        sessions,
+    }
 }
 
-// What the sessions share: a hub in which nobody is connected.
-fn make_shared(alloc: Global, config: Config, dex: Dex) -> Result<Arc<Shared>, AllocError> {
+// A hub in which nobody is connected.
+fn make_hub(alloc: Global, config: Config, dex: Dex) -> Result<Hub, AllocError> {
     let config = Arc::new(alloc, config)?;
     let dex = Arc::new(alloc, dex)?;
-    let hub = Hub::new(alloc, config, dex)?;
-    let ended = Ended::new();
-    Ok(Arc::new(alloc, Shared { hub, ended })?)
+    Ok(Hub::new(alloc, config, dex)?.open())
 }
 
-// Listens, and serves so many links.
-fn serve_door<R, D, C, P>(
+// What the sessions of this hub share, with room for the ends of so many.
+fn make_shared<S: Serving>(
+    alloc: Global,
+    hub: Hub,
+    count: u32,
+) -> Result<Arc<Shared<S>>, AllocError>
+    requires { hub ≡ S.hub }
+{
+    let journal = Journal::new(alloc, count)?;
+    Ok(Arc::new(alloc, Shared { hub, journal })?)
+}
+
+// Listens, and serves so many links. There is room for all ends before it listens.
+fn serve_door<S, R, D, C, P>(
     rt: R,
     alloc: Global,
-    shared: &Arc<Shared>,
+    hub: Hub,
     words: ServeWords<'_>,
     door: &mut D,
     clock: &C,
     spawner: &mut P,
-) -> Status
+) -> Finished
 where
+    S: Serving + Send + Sync + 'static,
     R: Threads + Wait + Copy + Send + Drop + 'static,
     D: Door,
     D::Link: Send + Drop + 'static,
     C: Clock + Send + Drop + 'static,
     P: Spawner,
-    requires { words.count ≤ 1024 }
-    ensures of { IsOfDoor result }
-    ensures given { result ≡ Status.Done → D.given door.new ≡ given_by words.entry.count (D.given door.old) }
-    ensures door_fault { result ≡ Status.DoorFault → Rose (D.faults door.old) (D.faults door.new) }
+    requires few { words.count ≤ 1024 }
+    requires hub { hub ≡ S.hub }
+    ensures of { IsOfDoor result.status }
+    ensures given { result.status ≡ Status.Done → D.given door.new ≡ given_by words.entry.count (D.given door.old) }
+    ensures door_fault { result.status ≡ Status.DoorFault → Rose (D.faults door.old) (D.faults door.new) }
+    ensures sessions { AreSessions S.hub result.sessions.items }
+    ensures all { result.status ≡ Status.Done → length result.sessions.items ≡ words.entry.count }
 {
+    let shared = match make_shared::<S>(alloc, hub, words.count) {
+        Ok(shared) => shared,
+        Err(_) => {
+            return Finished {
+                status: Status::NoMemory,
+                sessions: Vec::new(alloc),
+            };
+        }
+    };
     match door.open(words.address) {
-        Err(_) => return Status::DoorFault,
+        Err(_) => {
+            return Finished {
+                status: Status::DoorFault,
+                sessions: Vec::new(alloc),
+            };
+        }
         Ok(()) => {}
     }
-    match serve_links(rt, alloc, shared, words.count, door, clock, spawner) {
-        Ok(()) => Status::Done,
-        Err(DoorEnd::Failed) => Status::DoorFault,
-        Err(DoorEnd::NoMemory) => Status::NoMemory,
-    }
+    serve_links(rt, alloc, &shared, words.count, door, clock, spawner)
 }
 
 // Reads the configuration, and serves under it.
@@ -180,7 +264,7 @@ fn serve_config<R, F, D, C, P>(
     door: &mut D,
     clock: &C,
     spawner: &mut P,
-) -> Status
+) -> Finished
 where
     R: Threads + Wait + Copy + Send + Drop + 'static,
     F: Files,
@@ -190,20 +274,30 @@ where
     P: Spawner,
     requires few { words.count ≤ 1024 }
     requires stands { Stands (F.contents files.old) (options_of words.options).dex (λ lookup. dex_in lookup (options_of words.options).dex) dex }
-    ensures usage { usage_reported result ≡ None }
-    ensures cause { ServeCause (F.contents files.old) (options_of words.entry.options) (F.counts files.old) (F.counts files.new) result }
-    ensures door_fault { result ≡ Status.DoorFault → Rose (D.faults door.old) (D.faults door.new) }
-    ensures untouched { KeepsDoor (D.faults door.old) (D.faults door.new) (D.given door.old) (D.given door.new) result }
-    ensures given { result ≡ Status.Done → D.given door.new ≡ given_by words.entry.count (D.given door.old) }
-    ensures complete { SettlesServe (F.contents files.old) (options_of words.entry.options) (Rose (F.counts files.old).faults (F.counts files.new).faults) (Rose (D.faults door.old) (D.faults door.new)) result }
+    ensures usage { usage_reported result.status ≡ None }
+    ensures cause { ServeCause (F.contents files.old) (options_of words.entry.options) (F.counts files.old) (F.counts files.new) result.status }
+    ensures door_fault { result.status ≡ Status.DoorFault → Rose (D.faults door.old) (D.faults door.new) }
+    ensures untouched { KeepsDoor (D.faults door.old) (D.faults door.new) (D.given door.old) (D.given door.new) result.status }
+    ensures given { result.status ≡ Status.Done → D.given door.new ≡ given_by words.entry.count (D.given door.old) }
+    ensures sessions { (hub : Hub) × AreSessions hub result.sessions.items }
+    ensures all { result.status ≡ Status.Done → length result.sessions.items ≡ words.entry.count }
+    ensures complete { SettlesServe (F.contents files.old) (options_of words.entry.options) (Rose (F.counts files.old).faults (F.counts files.new).faults) (Rose (D.faults door.old) (D.faults door.new)) result.status }
 {
     let config = match config_or_standard(alloc, files, &dex, words.options.config) {
-        Err(status) => return status,
+        Err(status) => {
+            return Finished {
+                status,
+                sessions: Vec::new(alloc),
+            };
+        }
         Ok(config) => config,
     };
-    match make_shared(alloc, config, dex) {
-        Err(_) => Status::NoMemory,
-        Ok(shared) => serve_door(rt, alloc, &shared, words, door, clock, spawner),
+    match make_hub(alloc, config, dex) {
+        Err(_) => Finished {
+            status: Status::NoMemory,
+            sessions: Vec::new(alloc),
+        },
+        Ok(hub) => serve_door::<Brand, R, D, C, P>(rt, alloc, hub, words, door, clock, spawner),
     }
 }
 
@@ -216,7 +310,7 @@ fn serve_files<R, F, D, C, P>(
     door: &mut D,
     clock: &C,
     spawner: &mut P,
-) -> Status
+) -> Finished
 where
     R: Threads + Wait + Copy + Send + Drop + 'static,
     F: Files,
@@ -225,15 +319,20 @@ where
     C: Clock + Send + Drop + 'static,
     P: Spawner,
     requires { words.count ≤ 1024 }
-    ensures usage { usage_reported result ≡ None }
-    ensures cause { ServeCause (F.contents files.old) (options_of words.entry.options) (F.counts files.old) (F.counts files.new) result }
-    ensures door_fault { result ≡ Status.DoorFault → Rose (D.faults door.old) (D.faults door.new) }
-    ensures untouched { KeepsDoor (D.faults door.old) (D.faults door.new) (D.given door.old) (D.given door.new) result }
-    ensures given { result ≡ Status.Done → D.given door.new ≡ given_by words.entry.count (D.given door.old) }
-    ensures complete { SettlesServe (F.contents files.old) (options_of words.entry.options) (Rose (F.counts files.old).faults (F.counts files.new).faults) (Rose (D.faults door.old) (D.faults door.new)) result }
+    ensures usage { usage_reported result.status ≡ None }
+    ensures cause { ServeCause (F.contents files.old) (options_of words.entry.options) (F.counts files.old) (F.counts files.new) result.status }
+    ensures door_fault { result.status ≡ Status.DoorFault → Rose (D.faults door.old) (D.faults door.new) }
+    ensures untouched { KeepsDoor (D.faults door.old) (D.faults door.new) (D.given door.old) (D.given door.new) result.status }
+    ensures given { result.status ≡ Status.Done → D.given door.new ≡ given_by words.entry.count (D.given door.old) }
+    ensures sessions { (hub : Hub) × AreSessions hub result.sessions.items }
+    ensures all { result.status ≡ Status.Done → length result.sessions.items ≡ words.entry.count }
+    ensures complete { SettlesServe (F.contents files.old) (options_of words.entry.options) (Rose (F.counts files.old).faults (F.counts files.new).faults) (Rose (D.faults door.old) (D.faults door.new)) result.status }
 {
     match dex_or_none(alloc, files, words.options.dex) {
-        Err(status) => status,
+        Err(status) => Finished {
+            status,
+            sessions: Vec::new(alloc),
+        },
         Ok(dex) => serve_config(rt, alloc, dex, words, files, door, clock, spawner),
     }
 }
@@ -242,7 +341,7 @@ where
 /// the words, and gives each of the next COUNT links that it hands out a session of its own (`serve_session`), in a thread
 /// where the spawner gives leave, and else here, before the next link. Connections count from 1, in the order in which the door
 /// hands out their links, and each has a clock of its own, made by `another` of this one. It answers after every session that
-/// it began has ended, each link let go.
+/// it began has ended, each link let go, with what each ended with. There is room for that before the door is asked.
 ///
 /// `Usage` tells the first word that can't stand in `serve ADDRESS COUNT [--dex NAME] [--config NAME]`. The statuses of files,
 /// of a dex and of a configuration are those of `run`, and come before the door is asked. `DoorFault` comes only where the
@@ -256,7 +355,7 @@ pub fn serve<R, F, D, C, P>(
     door: &mut D,
     clock: &mut C,
     spawner: &mut P,
-) -> Status
+) -> Finished
 where
     R: Threads + Wait + Copy + Send + Drop + 'static,
     F: Files,
@@ -265,22 +364,30 @@ where
     C: Clock + Send + Drop + 'static,
     P: Spawner,
     // The words are at fault exactly where this is reported.
-    ensures usage { usage_reported result ≡ serve_usage_of (map string_bytes words.now) }
+    ensures usage { usage_reported result.status ≡ serve_usage_of (map string_bytes words.now) }
 
     // It ends with a status that has its cause: the dex file and the configuration are read and found good before the door is
     // asked.
-    ensures cause { IfServe (serve_words_in (map string_bytes words.now)) (λ asked. ServeCause (F.contents files.old) asked.options (F.counts files.old) (F.counts files.new) result) }
-    ensures door_fault { result ≡ Status.DoorFault → Rose (D.faults door.old) (D.faults door.new) }
-    ensures untouched { KeepsDoor (D.faults door.old) (D.faults door.new) (D.given door.old) (D.given door.new) result }
+    ensures cause { IfServe (serve_words_in (map string_bytes words.now)) (λ asked. ServeCause (F.contents files.old) asked.options (F.counts files.old) (F.counts files.new) result.status) }
+    ensures door_fault { result.status ≡ Status.DoorFault → Rose (D.faults door.old) (D.faults door.new) }
+    ensures untouched { KeepsDoor (D.faults door.old) (D.faults door.new) (D.given door.old) (D.given door.new) result.status }
 
-    // At Done the door has handed out as many links as were asked for.
-    ensures given { IfServe (serve_words_in (map string_bytes words.now)) (λ asked. result ≡ Status.Done → D.given door.new ≡ given_by asked.count (D.given door.old)) }
+    // What lies at each place of the sessions is the end of the session of that connection, with all that a session promises, and
+    // all are of one hub.
+    ensures sessions { (hub : Hub) × AreSessions hub result.sessions.items }
+
+    // At Done there is one for each connection from 1 to COUNT, and the door has handed out as many links.
+    ensures all { IfServe (serve_words_in (map string_bytes words.now)) (λ asked. result.status ≡ Status.Done → length result.sessions.items ≡ asked.count) }
+    ensures given { IfServe (serve_words_in (map string_bytes words.now)) (λ asked. result.status ≡ Status.Done → D.given door.new ≡ given_by asked.count (D.given door.old)) }
 
     // Faultless words and good files, known and without faults of the outside, end in Done or NoMemory.
-    ensures complete { IfServe (serve_words_in (map string_bytes words.now)) (λ asked. SettlesServe (F.contents files.old) asked.options (Rose (F.counts files.old).faults (F.counts files.new).faults) (Rose (D.faults door.old) (D.faults door.new)) result) }
+    ensures complete { IfServe (serve_words_in (map string_bytes words.now)) (λ asked. SettlesServe (F.contents files.old) asked.options (Rose (F.counts files.old).faults (F.counts files.new).faults) (Rose (D.faults door.old) (D.faults door.new)) result.status) }
 {
     match read_serve_words(words) {
-        Err(word) => Status::Usage { word },
+        Err(word) => Finished {
+            status: Status::Usage { word },
+            sessions: Vec::new(alloc),
+        },
         Ok(asked) => serve_files(rt, alloc, asked, files, door, clock, spawner),
     }
 }

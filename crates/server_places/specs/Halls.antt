@@ -1,5 +1,5 @@
 -- The hall, as it stands behind a lock.
-use Rattle.std.specs.Prelude.{◌≡◌, ◌≤◌, ℕ, List, ◌++◌, map, length, IfSome}
+use Rattle.std.specs.Prelude.{◌≡◌, ◌≤◌, ℕ, List, ◌++◌, map, length, Option, Some, IfSome}
 use Rattle.std.specs.FinMap.{empty}
 use Rattle.ps_base.specs.declared.msg.Msg.{Msg}
 use Rattle.rules_start.specs.Fits.{IsFit}
@@ -11,6 +11,7 @@ use Rattle.ps_base.specs.Messages.{msg_lines}
 use Rattle.ps_hall.specs.Halls.{Seen, seen_opened, run_seen, run_record, out_of, view, pulled_past, cursor_past}
 use Rattle.server_places.specs.declared.cursor.HallCursor.{HallCursor}
 use Rattle.server_places.specs.declared.site.Root.{Root}
+use Rattle.server_places.specs.Sites.{no_settings, no_tables}
 
 -- the hall before the first entry: no rank goes before those of registered names
 abbrev pub hall_opened : Root → Record
@@ -23,6 +24,10 @@ hall_after r es = run_record (hall_opened r) es
 -- with what it keeps for those who look later
 abbrev pub hall_seen : Root → List HallEntry → Seen
 hall_seen r es = run_seen (seen_opened (hall_opened r)) es
+
+-- a root without anything
+abbrev pub no_root : Root
+no_root = record { config = no_settings; dex = no_tables }
 
 pub record HallHome : Type 0 where
   pub root : Root
@@ -49,6 +54,10 @@ pub record HallPulls (r : Root) (es : List HallEntry) (x : HallCursor) (msgs : L
 -- the cursor of a connection behind so many entries
 abbrev pub hall_cursor : ℕ → ℕ → HallCursor
 hall_cursor conn count = record { hall = record { conn = conn; at = count }; passed = count }
+
+-- by whose number an entry is signed: each is one of a connection's own session
+abbrev pub hall_signer : HallEntry → Option ℕ
+hall_signer e = Some e.conn
 
 -- ---- what a connection is told
 

@@ -2,6 +2,9 @@
 use Rattle.std.specs.Prelude.{◌≡◌, ◌⊎◌, ◌≤◌, ℕ, ◌+◌, List, [], ◌∷◌, ◌++◌, slice_get, nat_lt, Option, Some, None, if◌then◌else◌}
 use Rattle.std.specs.Option.{option_map}
 use Rattle.std.specs.List.{filter_map}
+use Rattle.ps_dex.specs.declared.item.Tables.{Tables}
+use Rattle.ps_rules.specs.declared.version.Version.TheVariants.{First}
+use Rattle.rules_config.specs.declared.settings.Settings.{Settings}
 use Rattle.rules_start.specs.declared.start.Start.{Start}
 use Rattle.rules_start.specs.Fits.{IsFit}
 use Rattle.ps_base.specs.Limits.{most_battles}
@@ -29,6 +32,21 @@ pub record Opens (site : Site) (start : Start) : Type 0 where
   pub above : 1 ≤ start.number
   pub below : start.number ≤ most_battles
   pub fit : IsFit start site.config site.dex
+
+-- by whose number a command is signed: an entry by that of the connection whose session made it, a Begin by none
+abbrev pub room_signer : RoomCmd → Option ℕ
+room_signer (Begin start) = None
+room_signer (Play e) = Some e.conn
+
+-- a configuration, a dex and a place without anything
+abbrev pub no_settings : Settings
+no_settings = record { groups = []; staff = 0; rooms = []; users = []; formats = record { version = First; rulesets = []; formats = [] }; nonce = []; seed = 0; seeds = [] }
+
+abbrev pub no_tables : Tables
+no_tables = record { types = []; factors = []; moves = []; species = []; aliases = [] }
+
+abbrev pub no_site : Site
+no_site = record { number = 0; config = no_settings; dex = no_tables }
 
 -- ---- stories
 

@@ -63,7 +63,7 @@ impl HallPlace {
 }
 
 impl Kept for HallPlace {
-    ghost use Rattle.server_places.specs.Halls.{HallStands, HallAnswers, HallPulls};
+    ghost use Rattle.server_places.specs.Halls.{HallStands, HallAnswers, HallPulls, no_root, hall_signer};
 
     type Origin = Root;
 
@@ -77,11 +77,19 @@ impl Kept for HallPlace {
 
     ghost origin = { λ p. p.root };
 
+    ghost nowhere = { no_root };
+
+    ghost signer = { hall_signer };
+
     ghost stands = { HallStands };
 
     ghost answers = { HallAnswers };
 
     ghost pulls = { HallPulls };
+
+    fn signed_by(entry: &HallEntry) -> Option<u64> {
+        Some(entry.conn.0 as u64)
+    }
 
     fn apply(&mut self, entry: HallEntry) -> Result<HallOut, AllocError> {
         if self.count >= MOST_COMMANDS {

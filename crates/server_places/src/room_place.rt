@@ -188,6 +188,7 @@ fn read_on(
 }
 
 impl Kept for RoomPlace {
+    ghost use Rattle.server_places.specs.Sites.{no_site, room_signer};
     ghost use Rattle.server_places.specs.Rooms.{Stands, Answers, Pulls};
 
     type Origin = Site;
@@ -202,11 +203,22 @@ impl Kept for RoomPlace {
 
     ghost origin = { λ p. p.site };
 
+    ghost nowhere = { no_site };
+
+    ghost signer = { room_signer };
+
     ghost stands = { Stands };
 
     ghost answers = { Answers };
 
     ghost pulls = { Pulls };
+
+    fn signed_by(cmd: &RoomCmd) -> Option<u64> {
+        match cmd {
+            RoomCmd::Begin(_) => None,
+            RoomCmd::Play(entry) => Some(entry.conn.0 as u64),
+        }
+    }
 
     fn apply(&mut self, cmd: RoomCmd) -> Result<Option<RoomOut>, AllocError> {
         if self.count >= MOST_COMMANDS {

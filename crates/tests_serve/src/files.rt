@@ -1,16 +1,18 @@
 //! The server that the tests run on, its sessions, and what a test is told of them.
+ghost use Rattle.ps_serve.specs.Ends.{ComeFrom};
+
+use crate::hub_files::{Files, read_files};
 use ps_base::list::List;
 use ps_base::number::{ConnNo, Moment};
 use ps_hub::hub::Hub;
 use ps_outside::clock::MemClock;
-use ps_outside::link::{Arrival, Link};
+use ps_outside::link::{Arrival, Link, SentText};
 use ps_serve::closed::{Closed, End};
 use ps_serve::session::serve_session;
 use std::alloc::Global;
 use std::process::Abort;
 use std::sync::Wait;
 use test_data::SMALL_DEX;
-use test_hub::files::{Files, read_files};
 
 /// Ann is staff, and logs in by her secret.
 const CONFIG: &str = r#"{"users":[{"id":"ann","secret":"s","group":"%"}],
@@ -27,7 +29,9 @@ pub(crate) const BOB: &str = "|/trn Bob,0,";
 // be that ends beside others: each kind of them has one function in which it ends alone.
 
 fn hub_of(rt: &impl Abort, alloc: Global, files: Files) -> Hub {
-    Hub::new(alloc, files.config, files.dex).expect(rt, "memory")
+    Hub::new(alloc, files.config, files.dex)
+        .expect(rt, "memory")
+        .open()
 }
 
 /// A hub over the small dex.
@@ -46,7 +50,7 @@ fn clock(alloc: Global) -> MemClock {
     MemClock::new(alloc, Moment(0), Vec::new(alloc))
 }
 
-// A session of which nothing is promised.
+// A session of which no more is promised than that its passes come from the hub.
 fn session<R: Wait, L: Link>(
     rt: &R,
     alloc: Global,
@@ -54,11 +58,28 @@ fn session<R: Wait, L: Link>(
     conn: u32,
     link: &mut L,
     clock: &mut MemClock,
-) -> Closed {
+) -> Closed
+    ensures { ComeFrom hub.now result.passes }
+{
     serve_session(alloc, rt, hub, ConnNo(conn), link, clock)
 }
 
-fn cause_of(closed: Closed) -> End {
+/// What the session of a connection ended with.
+pub(crate) fn closed_of<R: Wait, L: Link>(
+    rt: &R,
+    alloc: Global,
+    hub: &Hub,
+    conn: u32,
+    link: &mut L,
+) -> Closed
+    ensures { ComeFrom hub.now result.passes }
+{
+    let mut clock = clock(alloc);
+    session(rt, alloc, hub, conn, link, &mut clock)
+}
+
+/// Why a session ended.
+pub(crate) fn cause_of(closed: Closed) -> End {
     closed.end
 }
 
@@ -70,9 +91,7 @@ pub(crate) fn end_of<R: Wait, L: Link>(
     conn: u32,
     link: &mut L,
 ) -> End {
-    let mut clock = clock(alloc);
-    let closed = session(rt, alloc, hub, conn, link, &mut clock);
-    cause_of(closed)
+    cause_of(closed_of(rt, alloc, hub, conn, link))
 }
 
 fn word_of(end: &End) -> &'static str {
@@ -81,6 +100,7 @@ fn word_of(end: &End) -> &'static str {
         End::LinkFault => "LinkFault",
         End::OwnLimit { .. } => "OwnLimit",
         End::BadText { .. } => "BadText",
+        End::Taken => "Taken",
         End::NoMemory => "NoMemory",
     }
 }
@@ -108,4 +128,14 @@ pub(crate) fn inbox_of(rt: &impl Abort, alloc: Global, texts: &[&str]) -> Vec<Ar
         push_text(rt, alloc, &mut inbox, text.as_bytes());
     }
     inbox
+}
+
+/// Whether a text that begins so was sent.
+pub(crate) fn was_sent(sent: &[SentText], begin: &str) -> bool {
+    for text in sent {
+        if text.text.as_str().starts_with(begin) {
+            return true;
+        }
+    }
+    false
 }

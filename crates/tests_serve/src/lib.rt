@@ -1,10 +1,24 @@
-//! Tests of sessions over links in memory, worked by hand: links that are quiet or fail, and texts that are too long or too many.
-//! Sessions in several threads are in `data/cases/server.talk`. It has tests alone, and no crate stands on it.
+//! Tests of locks and their passes, and of sessions over links in memory, worked by hand: links that are quiet or fail, texts that are
+//! too long or too many, and threads that meet. It has tests alone, and no crate stands on it.
 #![tactic(auto)]
 
 #[cfg(test)]
+mod connection;
+#[cfg(test)]
 mod files;
 #[cfg(test)]
+mod gate_tests;
+#[cfg(test)]
+mod hub_files;
+#[cfg(test)]
 mod link_tests;
+#[cfg(test)]
+mod lock_tests;
+#[cfg(test)]
+mod meet_tests;
+#[cfg(test)]
+mod thread_tests;
+#[cfg(test)]
+mod waiting;
 #[cfg(test)]
 mod watching;

@@ -66,6 +66,25 @@ fn quiet_marks(rt: HostRuntime) {
     close(hub);
 }
 
+fn is_refused<R: Abort + Wait>(rt: &R, alloc: Global, hub: &Hub) {
+    let mut link = two_quiets(rt, alloc);
+    let end = end_of(rt, alloc, hub, 1, &mut link);
+    assert_ended(rt, end, "Taken");
+    assert_eq!(rt; link.sent().len(), 0);
+    hang_up(link);
+}
+
+/// A second session under the number of another is refused at its Open: nothing is sent, and in the hall are the Open and the Quit
+/// of the first, and the Open of who looks.
+#[test]
+fn a_number_twice(rt: HostRuntime) {
+    let hub = make_hub(&rt, rt.alloc());
+    is_quiet_twice(&rt, rt.alloc(), &hub);
+    is_refused(&rt, rt.alloc(), &hub);
+    assert_eq!(rt; count_in_hall(&rt, &hub), 3);
+    close(hub);
+}
+
 /// A link over which Bob joins the lobby and says hi, and of whose answers and sends the ones of these numbers fail.
 fn failing(rt: &impl Abort, alloc: Global, next: u64, send: u64) -> MemLink {
     let inbox = inbox_of(rt, alloc, &[BOB, "|/join lobby", "lobby|hi"]);

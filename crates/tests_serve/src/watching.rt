@@ -1,6 +1,7 @@
 //! Connections of a test's own thread, which see what sessions left.
 ghost use Rattle.ps_hub.specs.Passes.{AreOf};
 
+use crate::connection::{count, joins, say};
 use ps_base::msg::Msg;
 use ps_base::number::{ConnNo, Moment};
 use ps_hub::hub::Hub;
@@ -8,12 +9,19 @@ use ps_hub::passes::Passes;
 use std::alloc::Global;
 use std::process::Abort;
 use std::sync::Wait;
-use test_hub::connection::{count, joins, say};
 
-fn admit<R: Abort + Wait>(rt: &R, hub: &Hub) -> Passes
+/// The connection that counts, and the one that watches. No session of a test has these numbers.
+const COUNTER: u32 = 101;
+
+const WATCHER: u32 = 102;
+
+fn admit<R: Abort + Wait>(rt: &R, hub: &Hub, conn: u32) -> Passes
     ensures { AreOf hub.now result }
 {
-    hub.admit(rt, ConnNo(9), Moment(0)).expect(rt, "memory")
+    match hub.admit(rt, ConnNo(conn), Moment(0)) {
+        Ok(passes) => passes,
+        Err(_) => rt.abort(),
+    }
 }
 
 /// Ends what a connection had of a hub, which makes no entry.
@@ -35,9 +43,9 @@ fn enter_and_count(rt: &impl Abort, hub: &Hub, passes: &mut Passes, id: &str) ->
     count(hub, passes, id).expect(rt, "a room that is held")
 }
 
-/// How many entries a room has, as a further connection counts them, which makes none there.
+/// How many entries a room has, as a further connection counts them, which makes none there. Of a hub once.
 pub(crate) fn count_at<R: Abort + Wait>(rt: &R, hub: &Hub, id: &str) -> u64 {
-    let mut passes = admit(rt, hub);
+    let mut passes = admit(rt, hub, COUNTER);
     let count = enter_and_count(rt, hub, &mut passes, id);
     leave(passes);
     count
@@ -49,9 +57,9 @@ fn look_at_hall(hub: &Hub, passes: &mut Passes) -> u64
     hub.count(passes, None)
 }
 
-/// How many entries the hall has, with the Open of the further connection that counts them.
+/// How many entries the hall has, with the Open of the further connection that counts them. Of a hub once.
 pub(crate) fn count_in_hall<R: Abort + Wait>(rt: &R, hub: &Hub) -> u64 {
-    let mut passes = admit(rt, hub);
+    let mut passes = admit(rt, hub, COUNTER);
     let count = look_at_hall(hub, &mut passes);
     leave(passes);
     count
@@ -94,7 +102,7 @@ fn is_told_of_its_join<R: Abort + Wait>(rt: &R, hub: &Hub, passes: &mut Passes)
 pub(crate) fn watcher<R: Abort + Wait>(rt: &R, alloc: Global, hub: &Hub) -> Passes
     ensures { AreOf hub.now result }
 {
-    let mut passes = admit(rt, hub);
+    let mut passes = admit(rt, hub, WATCHER);
     take_name(rt, alloc, hub, &mut passes);
     join_lobby(rt, alloc, hub, &mut passes);
     is_told_of_its_join(rt, hub, &mut passes);

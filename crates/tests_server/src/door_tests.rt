@@ -1,7 +1,7 @@
 //! Doors that fail, a spawner that gives no leave, and words that are no server's.
 use crate::flags::Flags;
 use crate::gate::{GateLink, Wait};
-use crate::served::{status_of, words};
+use crate::served::{are_closed, finished_of, words};
 use ps_outside::door::MemDoor;
 use ps_outside::spawner::MemSpawner;
 use std::alloc::Global;
@@ -46,17 +46,19 @@ const FAULTS: &[Fault] = &[
     ("0", 0, 0, 0, 2, 0),
 ];
 
-/// The number of the status that a server ends with.
-fn number_of<R>(rt: R, alloc: Global, flags: &Arc<Flags>, fault: Fault) -> u8
+/// The number of the status that a server ends with, and whether it tells of the sessions that it served, and of no others.
+fn end_of<R>(rt: R, alloc: Global, flags: &Arc<Flags>, fault: Fault) -> (u8, bool)
 where
     R: Threads + std::sync::Wait + Abort + Copy + Send + Drop + 'static,
 {
-    let (count, open, accept, leave, _, _) = fault;
+    let (count, open, accept, leave, _, served) = fault;
     let links = quiet_links(&rt, alloc, flags);
     let mut door = MemDoor::new(links, calls(&rt, alloc, open), calls(&rt, alloc, accept));
     let words = words(&rt, alloc, count);
     let mut spawner = MemSpawner::new(calls(&rt, alloc, leave));
-    status_of(rt, alloc, words.as_slice(), &mut door, &mut spawner).number()
+    let finished = finished_of(rt, alloc, words.as_slice(), &mut door, &mut spawner);
+    let is_told = are_closed(finished.sessions.as_slice(), served);
+    (finished.into_status().number(), is_told)
 }
 
 /// Asserts that as many links were served, those that the door hands out first.
@@ -71,7 +73,9 @@ fn each_call_fails_once(rt: HostRuntime) -> Result<(), Fail> {
     let alloc = rt.alloc();
     for fault in FAULTS {
         let flags = Arc::new(alloc, Flags::new())?;
-        assert_eq!(rt; number_of(rt, alloc, &flags, *fault), fault.4);
+        let (number, is_told) = end_of(rt, alloc, &flags, *fault);
+        assert_eq!(rt; number, fault.4);
+        assert!(rt; is_told);
         are_served(&rt, &flags, fault.5);
     }
     Ok(())

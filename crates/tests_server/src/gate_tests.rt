@@ -2,7 +2,7 @@
 //! links, doesn't pass.
 use crate::flags::{Flags, LINKS};
 use crate::gate::{GateLink, Wait};
-use crate::served::{status_of, words};
+use crate::served::{are_closed, finished_of, words};
 use program_commands::status::Status;
 use ps_outside::door::MemDoor;
 use ps_outside::spawner::ThreadSpawner;
@@ -34,7 +34,7 @@ fn links(rt: &impl Abort, alloc: Global, flags: &Arc<Flags>) -> Vec<GateLink> {
     links
 }
 
-/// Every link is sent its challenge, and has answered End when the server answers.
+/// Every link is sent its challenge, and has answered End when the server answers, which tells how each session ended.
 #[test]
 fn two_links_wait_for_each_other(rt: HostRuntime) -> Result<(), Fail> {
     let alloc = rt.alloc();
@@ -43,8 +43,9 @@ fn two_links_wait_for_each_other(rt: HostRuntime) -> Result<(), Fail> {
     let mut door = MemDoor::new(links, Vec::new(alloc), Vec::new(alloc));
     let words = words(&rt, alloc, "8");
     let mut spawner = ThreadSpawner::new();
-    let status = status_of(rt, alloc, words.as_slice(), &mut door, &mut spawner);
-    assert!(rt; matches!(status, Status::Done));
+    let finished = finished_of(rt, alloc, words.as_slice(), &mut door, &mut spawner);
+    assert!(rt; are_closed(finished.sessions.as_slice(), LINKS));
+    assert!(rt; matches!(finished.into_status(), Status::Done));
     assert!(rt; flags.are_all_set());
     Ok(())
 }

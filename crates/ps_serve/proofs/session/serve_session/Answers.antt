@@ -1,5 +1,6 @@
 use Rattle.ps_serve.proofs.CountLemmas.{few_complete}
 use Rattle.ps_serve.proofs.WorldLemmas.{loses_nothing}
+use Rattle.ps_serve.proofs.TakenLemmas.{own_names_of}
 use Rattle.ps_serve.proofs.session.serve_session.Goals as goal
 
 pub returns-clause-sent_is_the_view : goal.returns-clause-sent_is_the_view
@@ -46,3 +47,22 @@ returns-clause-complete g c = let s = c.serve.ensures.served in (s.0, s.1.told, 
 
 pub returns-clause-few_texts : goal.returns-clause-few_texts
 returns-clause-few_texts g c = λ talk is few sound. (let s = c.serve.ensures.served in few_complete c.serve.result.end c.args.hub.now c.args.conn s.0 c.serve.result.passes.rooms.items talk (g.L.Link.talk c.args.link.now) (g.L.Link.talk c.serve.new.link) (g.L.Link.counts c.args.link.now) (g.L.Link.counts c.serve.new.link) is s.1.told s.1.complete few sound)
+
+pub returns-clause-own_names : goal.returns-clause-own_names
+returns-clause-own_names g c = let s = c.serve.ensures.served in own_names_of c.serve.result.end c.args.hub.now c.args.conn s.0 c.serve.result.passes _ _ _ _ _ _ s.1
+
+pub returns-clause-session : goal.returns-clause-session
+returns-clause-session g c =
+    let s = c.serve.ensures.served in
+    record {
+      account = s.0;
+      talk_before = g.L.Link.talk c.args.link.now;
+      talk = g.L.Link.talk c.serve.new.link;
+      counts_before = g.L.Link.counts c.args.link.now;
+      counts = g.L.Link.counts c.serve.new.link;
+      hours_before = g.C.Clock.hours c.args.clock.now;
+      hours = g.C.Clock.hours c.serve.new.clock;
+      served = s.1;
+      taken = c.serve.ensures.taken;
+      names = own_names_of c.serve.result.end c.args.hub.now c.args.conn s.0 c.serve.result.passes _ _ _ _ _ _ s.1;
+    }

@@ -7,10 +7,10 @@ use Rattle.ps_hub.proofs.CallLemmas.{counted_hall, counted_room}
 use Rattle.ps_hub.proofs.hub.Hub.count.Goals as goal
 
 pub returns-in-Some-hall-clause-of : goal.returns-in-Some-hall-clause-of
-returns-in-Some-hall-clause-of c = are_hall c.args.self.now c.args.passes.now _ c.look.new.self c.requires.of refl (c.look.ensures.of c.args.self.now c.args.passes.now.conn (hall_of c.args.self.now c.args.passes.now c.in-Some-hall.hall c.requires.of c.in-Some-hall.is)) refl refl
+returns-in-Some-hall-clause-of c = are_hall c.args.self.now c.args.passes.now _ c.in-Some-hall.hall c.look.new.self c.requires.of c.in-Some-hall.is refl (c.look.ensures.of c.args.self.now c.args.passes.now.conn (hall_of c.args.self.now c.args.passes.now c.in-Some-hall.hall c.requires.of c.in-Some-hall.is)) c.look.ensures.adds refl refl
 
 pub returns-in-Some-hall-clause-does : goal.returns-in-Some-hall-clause-does
-returns-in-Some-hall-clause-does c = counted_hall c.args.passes.now _ c.in-Some-hall.hall c.look.new.self c.look.result c.in-Some-hall.is refl refl refl refl (c.look.ensures.seen, c.look.ensures.does) (option_copied c.args.room) (ap (λ (o : Option (Bor (List ℕ))). option_copied o) c.in-None.is)
+returns-in-Some-hall-clause-does c = counted_hall c.args.passes.now _ c.in-Some-hall.hall c.look.new.self c.look.result c.in-Some-hall.is refl refl refl refl (c.look.ensures.seen, c.look.ensures.does, c.look.ensures.fresh) (option_copied c.args.room) (ap (λ (o : Option (Bor (List ℕ))). option_copied o) c.in-None.is)
 
 pub returns-in-Some-position_of-clause-of : goal.returns-in-Some-position_of-clause-of
 returns-in-Some-position_of-clause-of c =

@@ -1,19 +1,23 @@
 use Rattle.std.proofs.Common.{refl}
-use Rattle.ps_hub.proofs.PassListLemmas.{hall_of}
+use Rattle.ps_hub.proofs.PassListLemmas.{hall_of, speaks_of}
 use Rattle.ps_hub.proofs.OrderLemmas.{are_hall, hall_ordered, hall_failed, hall_untried}
 use Rattle.ps_hub.proofs.hub.Hub.order_hall.Goals as goal
 
 pub returns-in_default-clause-does : goal.returns-in_default-clause-does
 returns-in_default-clause-does c = hall_untried c.args.self.now c.args.cmd c.args.moment c.args.passes.now c.requires
 
+pub enter-requires-clause-signs : goal.enter-requires-clause-signs
+enter-requires-clause-signs c =
+    ((hall_of c.args.self.now c.args.passes.now c.in-Some.hall c.requires c.in-Some.is).signs, speaks_of c.args.self.now c.args.passes.now c.in-Some.hall c.requires c.in-Some.is)
+
 pub returns-in-Err-clause-of : goal.returns-in-Err-clause-of
-returns-in-Err-clause-of c = are_hall c.args.self.now c.args.passes.now _ c.enter.new.self c.requires refl (c.enter.ensures.of c.args.self.now c.args.passes.now.conn (hall_of c.args.self.now c.args.passes.now c.in-Some.hall c.requires c.in-Some.is)) refl refl
+returns-in-Err-clause-of c = are_hall c.args.self.now c.args.passes.now _ c.in-Some.hall c.enter.new.self c.requires c.in-Some.is refl (c.enter.ensures.of c.args.self.now (hall_of c.args.self.now c.args.passes.now c.in-Some.hall c.requires c.in-Some.is)) c.enter.ensures.adds refl refl
 
 pub returns-in-Err-clause-does : goal.returns-in-Err-clause-does
 returns-in-Err-clause-does c = hall_failed c.args.self.now c.args.cmd c.args.moment c.args.passes.now _ c.in-Some.hall c.enter.new.self c.in-Err.fault (hall_of c.args.self.now c.args.passes.now c.in-Some.hall c.requires c.in-Some.is) c.in-Some.is refl c.enter.ensures.at refl refl refl c.in-Err.ensures.does
 
 pub returns-clause-of : goal.returns-clause-of
-returns-clause-of c = are_hall c.args.self.now c.args.passes.now _ c.enter.new.self c.requires refl (c.enter.ensures.of c.args.self.now c.args.passes.now.conn (hall_of c.args.self.now c.args.passes.now c.in-Some.hall c.requires c.in-Some.is)) refl refl
+returns-clause-of c = are_hall c.args.self.now c.args.passes.now _ c.in-Some.hall c.enter.new.self c.requires c.in-Some.is refl (c.enter.ensures.of c.args.self.now (hall_of c.args.self.now c.args.passes.now c.in-Some.hall c.requires c.in-Some.is)) c.enter.ensures.adds refl refl
 
 pub returns-clause-does : goal.returns-clause-does
 returns-clause-does c = hall_ordered c.args.self.now c.args.cmd c.args.moment c.args.passes.now _ c.in-Some.hall c.enter.new.self c.in-Ok-enter.gave _ (hall_of c.args.self.now c.args.passes.now c.in-Some.hall c.requires c.in-Some.is) c.in-Some.is refl c.enter.ensures.at refl refl c.keep_badge.ensures refl c.in-Ok-enter.ensures.does

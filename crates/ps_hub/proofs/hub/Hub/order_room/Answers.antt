@@ -26,13 +26,13 @@ pub play-requires : goal.play-requires
 play-requires c =
     let here = c.in-Ok-enter_at.ensures.here in
     let there = read_there c.enter_at.new.passes.rooms.items c.in-Ok-enter_at.pass_index here.0 c.index_mut.result.now here.1 c.index_mut.ensures.value in
-    (c.enter_at.new.passes.conn, read_pass c.args.self.now c.enter_at.new.passes c.in-Ok-enter_at.pass_index c.index_mut.result.now c.enter_at.ensures.of there)
+    read_pass c.args.self.now c.enter_at.new.passes c.in-Ok-enter_at.pass_index c.index_mut.result.now c.enter_at.ensures.of there
 
 pub returns-clause-of : goal.returns-clause-of
 returns-clause-of c =
     let here = c.in-Ok-enter_at.ensures.here in
     let there = read_there c.enter_at.new.passes.rooms.items c.in-Ok-enter_at.pass_index here.0 c.index_mut.result.now here.1 c.index_mut.ensures.value in
-    are_set c.args.self.now c.enter_at.new.passes _ c.in-Ok-enter_at.pass_index c.index_mut.result.now c.play.new.pass c.enter_at.ensures.of there c.play.ensures.same.1 refl refl (c.play.ensures.of c.enter_at.new.passes.conn (read_pass c.args.self.now c.enter_at.new.passes c.in-Ok-enter_at.pass_index c.index_mut.result.now c.enter_at.ensures.of there))
+    are_set c.args.self.now c.enter_at.new.passes _ c.in-Ok-enter_at.pass_index c.index_mut.result.now c.play.new.pass c.enter_at.ensures.of there c.play.ensures.same.1 refl refl c.play.ensures.of
 
 pub returns-clause-does : goal.returns-clause-does
 returns-clause-does c =

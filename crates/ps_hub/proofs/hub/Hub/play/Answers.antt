@@ -1,13 +1,23 @@
+use Rattle.ps_histlock.proofs.SignLemmas.{signs_on}
+use Rattle.server_places.specs.declared.command.RoomCmd.TheVariants.{Play}
+use Rattle.server_places.specs.Sites.{room_signer}
+use Rattle.ps_hub.proofs.OfLemmas.{of_room}
 use Rattle.ps_hub.proofs.hub.Hub.play.Goals as goal
 
+pub try_turn-requires-clause-sign : goal.try_turn-requires-clause-sign
+try_turn-requires-clause-sign c = signs_on room_signer c.args.entry.conn c.args.pass.now.pass.1.said (Play c.args.entry) (of_room c.args.entry.conn c.args.entry.badge c.args.entry.moment c.args.entry.cmd) c.requires.signs
+
 pub returns-in-Some-out-clause-of : goal.returns-in-Some-out-clause-of
-returns-in-Some-out-clause-of c = λ conn p. c.try_turn.ensures.of c.args.self.now conn p
+returns-in-Some-out-clause-of c = c.try_turn.ensures.of c.args.self.now c.args.entry.conn (of_room c.args.entry.conn c.args.entry.badge c.args.entry.moment c.args.entry.cmd) c.requires
 
 pub returns-in-Late-clause-of : goal.returns-in-Late-clause-of
-returns-in-Late-clause-of c = λ conn p. c.try_turn.ensures.of c.args.self.now conn p
+returns-in-Late-clause-of c = c.try_turn.ensures.of c.args.self.now c.args.entry.conn (of_room c.args.entry.conn c.args.entry.badge c.args.entry.moment c.args.entry.cmd) c.requires
 
 pub returns-in-Some-Play-clause-of : goal.returns-in-Some-Play-clause-of
-returns-in-Some-Play-clause-of c = λ conn p. c.try_turn.ensures.of c.args.self.now conn p
+returns-in-Some-Play-clause-of c = c.try_turn.ensures.of c.args.self.now c.args.entry.conn (of_room c.args.entry.conn c.args.entry.badge c.args.entry.moment c.args.entry.cmd) c.requires
 
 pub returns-in-NoMemory-clause-of : goal.returns-in-NoMemory-clause-of
-returns-in-NoMemory-clause-of c = λ conn p. c.try_turn.ensures.of c.args.self.now conn p
+returns-in-NoMemory-clause-of c = c.try_turn.ensures.of c.args.self.now c.args.entry.conn (of_room c.args.entry.conn c.args.entry.badge c.args.entry.moment c.args.entry.cmd) c.requires
+
+pub returns-in-NameTaken-clause-of : goal.returns-in-NameTaken-clause-of
+returns-in-NameTaken-clause-of c = c.try_turn.ensures.of c.args.self.now c.args.entry.conn (of_room c.args.entry.conn c.args.entry.badge c.args.entry.moment c.args.entry.cmd) c.requires

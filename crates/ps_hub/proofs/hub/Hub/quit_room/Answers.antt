@@ -1,35 +1,64 @@
 use Rattle.std.proofs.Common.{◌≡◌, Some, sym, ap, ◌∙◌}
 use Rattle.ps_base.specs.declared.badge.Badge.{Badge}
+use Rattle.ps_histlock.proofs.SignLemmas.{signs_on}
+use Rattle.server_places.specs.declared.command.RoomCmd.TheVariants.{Play}
+use Rattle.server_places.specs.Sites.{room_signer}
 use Rattle.server_places.specs.Rooms.{Answers, Pulls}
+use Rattle.ps_hub.specs.Calls.{room_entry}
 use Rattle.ps_hub.specs.Hubs.{site_of}
-use Rattle.ps_hub.proofs.CallLemmas.{quits_by, quits_short}
-use Rattle.ps_hub.proofs.ShortLemmas.{last_short_at_late, last_short_at_limit, last_short_at_no_memory}
+use Rattle.ps_lines.specs.declared.command.Command.TheVariants.{Quit}
+use Rattle.ps_hub.proofs.OfLemmas.{of_room}
+use Rattle.ps_hub.proofs.CallLemmas.{quits_by, quits_short, shut_out}
+use Rattle.ps_hub.proofs.ShortLemmas.{last_short_at_late, last_short_at_limit, last_short_at_name, last_short_at_no_memory}
 use Rattle.ps_hub.proofs.hub.Hub.quit_room.Goals as goal
-use Rattle.ps_hub.proofs.hub.Hub.quit_room.Goals.{in-Done, in-Late, in-OwnLimit, in-NoMemory}
+
+pub turn-requires-clause-sign : goal.turn-requires-clause-sign
+turn-requires-clause-sign g c = signs_on room_signer c.args.conn c.args.pass.now.pass.1.said (Play (room_entry c.args.conn c.in-Ok.badge c.args.moment Quit)) (of_room c.args.conn c.in-Ok.badge c.args.moment Quit) c.requires.of.signs
+
+pub returns-in-Done-clause-of : goal.returns-in-Done-clause-of
+returns-in-Done-clause-of g c = c.turn.ensures.of c.args.self.now c.args.conn (of_room c.args.conn c.in-Ok.badge c.args.moment Quit) c.requires.of
+
+pub returns-in-Done-clause-ok : goal.returns-in-Done-clause-ok
+returns-in-Done-clause-ok g c =
+    let badge : c.args.badge.now ≡ Some c.in-Ok.badge = c.in-Some-badge.is ∙ ap (λ (b : Badge). Some b) (sym c.in-Ok.ensures) in
+    let told = c.in-Done.ensures.does in
+    quits_by c.args.badge.now c.args.conn c.args.moment c.args.pass.now c.turn.new.self c.in-Some.field-0 c.in-Ok.badge c.in-Some.is badge (told.0, (told.1.0, told.1.1, told.1.2)) c.turn.ensures.same
+
+pub returns-in-Late-clause-of : goal.returns-in-Late-clause-of
+returns-in-Late-clause-of g c = c.turn.ensures.of c.args.self.now c.args.conn (of_room c.args.conn c.in-Ok.badge c.args.moment Quit) c.requires.of
+
+pub returns-in-Late-clause-err : goal.returns-in-Late-clause-err
+returns-in-Late-clause-err g c =
+    let badge : c.args.badge.now ≡ Some c.in-Ok.badge = c.in-Some-badge.is ∙ ap (λ (b : Badge). Some b) (sym c.in-Ok.ensures) in
+    quits_short c.args.self.now c.args.badge.now c.args.conn c.args.moment c.args.pass.now c.turn.new.self c.in-Some.field-0 c.in-Ok.badge c.in-Some.is badge c.turn.ensures.same
+    (last_short_at_late Answers Pulls (site_of c.args.self.now c.args.pass.now.number) c.args.pass.now.pass.1 c.args.pass.now.cursor _ _ c.in-Late.out c.turn.new.self.pass.1 c.turn.new.self.cursor _ c.requires.of.origin c.in-Late.ensures.does)
+
+pub returns-in-OwnLimit-clause-of : goal.returns-in-OwnLimit-clause-of
+returns-in-OwnLimit-clause-of g c = c.turn.ensures.of c.args.self.now c.args.conn (of_room c.args.conn c.in-Ok.badge c.args.moment Quit) c.requires.of
+
+pub returns-in-OwnLimit-clause-err : goal.returns-in-OwnLimit-clause-err
+returns-in-OwnLimit-clause-err g c =
+    let badge : c.args.badge.now ≡ Some c.in-Ok.badge = c.in-Some-badge.is ∙ ap (λ (b : Badge). Some b) (sym c.in-Ok.ensures) in
+    quits_short c.args.self.now c.args.badge.now c.args.conn c.args.moment c.args.pass.now c.turn.new.self c.in-Some.field-0 c.in-Ok.badge c.in-Some.is badge c.turn.ensures.same
+    (last_short_at_limit Answers Pulls (site_of c.args.self.now c.args.pass.now.number) c.args.pass.now.pass.1 c.args.pass.now.cursor _ _ c.in-OwnLimit.cmd c.turn.new.self.pass.1 c.turn.new.self.cursor _ c.in-OwnLimit.ensures.does)
+
+pub returns-in-NameTaken-clause-of : goal.returns-in-NameTaken-clause-of
+returns-in-NameTaken-clause-of g c = c.turn.ensures.of c.args.self.now c.args.conn (of_room c.args.conn c.in-Ok.badge c.args.moment Quit) c.requires.of
+
+pub returns-in-NameTaken-clause-err : goal.returns-in-NameTaken-clause-err
+returns-in-NameTaken-clause-err g c =
+    let badge : c.args.badge.now ≡ Some c.in-Ok.badge = c.in-Some-badge.is ∙ ap (λ (b : Badge). Some b) (sym c.in-Ok.ensures) in
+    quits_short c.args.self.now c.args.badge.now c.args.conn c.args.moment c.args.pass.now c.turn.new.self c.in-Some.field-0 c.in-Ok.badge c.in-Some.is badge c.turn.ensures.same
+    (last_short_at_name Answers Pulls (site_of c.args.self.now c.args.pass.now.number) c.args.pass.now.pass.1 c.args.pass.now.cursor _ _ c.in-NameTaken.cmd c.turn.new.self.pass.1 c.turn.new.self.cursor _ c.in-NameTaken.ensures.does)
+
+pub returns-in-NameTaken-clause-taken : goal.returns-in-NameTaken-clause-taken
+returns-in-NameTaken-clause-taken g c = shut_out c.args.conn c.args.moment c.in-Ok.badge c.args.pass.now c.turn.new.self _ _ c.in-NameTaken.cmd c.in-NameTaken.ensures.does c.in-NameTaken.ensures.taken
 
 pub returns-clause-of : goal.returns-clause-of
-returns-clause-of g c = λ conn p. c.turn.ensures.of c.args.self.now conn p
-
-pub returns-clause-ok : goal.returns-clause-ok
-returns-clause-ok g c =
-    let badge : c.args.badge.now ≡ Some c.in_ok-badge-in-Some-badge.badge = c.in-Some-badge.is ∙ ap (λ (b : Badge). Some b) (sym c.in_ok-badge-in-Some-badge.ensures) in
-    elim c.match-turn.branch [
-      | in-Done w ↦ rw w.result-is (let told = w.in-Done.ensures.does in
-          quits_by c.args.badge.now c.args.conn c.args.moment c.args.pass.now c.turn.new.self c.in-Some.field-0 c.in_ok-badge-in-Some-badge.badge c.in-Some.is badge (told.0, (told.1.0, told.1.1, told.1.2)) c.turn.ensures.same)
-      | in-Late w ↦ rw w.result-is tt
-      | in-OwnLimit w ↦ rw w.result-is tt
-      | in-NoMemory w ↦ rw w.result-is tt
-    ]
+returns-clause-of g c = c.turn.ensures.of c.args.self.now c.args.conn (of_room c.args.conn c.in-Ok.badge c.args.moment Quit) c.requires.of
 
 pub returns-clause-err : goal.returns-clause-err
 returns-clause-err g c =
-    let badge : c.args.badge.now ≡ Some c.in_ok-badge-in-Some-badge.badge = c.in-Some-badge.is ∙ ap (λ (b : Badge). Some b) (sym c.in_ok-badge-in-Some-badge.ensures) in
-    elim c.match-turn.branch [
-      | in-Done w ↦ rw w.result-is tt
-      | in-Late w ↦ rw w.result-is (quits_short c.args.self.now c.args.badge.now c.args.conn c.args.moment c.args.pass.now c.turn.new.self c.in-Some.field-0 c.in_ok-badge-in-Some-badge.badge c.in-Some.is badge c.turn.ensures.same
-          (last_short_at_late Answers Pulls (site_of c.args.self.now c.args.pass.now.number) c.args.pass.now.pass.1 c.args.pass.now.cursor _ _ w.in-Late.out c.turn.new.self.pass.1 c.turn.new.self.cursor _ c.requires.of.1.origin w.in-Late.ensures.does))
-      | in-OwnLimit w ↦ rw w.result-is (quits_short c.args.self.now c.args.badge.now c.args.conn c.args.moment c.args.pass.now c.turn.new.self c.in-Some.field-0 c.in_ok-badge-in-Some-badge.badge c.in-Some.is badge c.turn.ensures.same
-          (last_short_at_limit Answers Pulls (site_of c.args.self.now c.args.pass.now.number) c.args.pass.now.pass.1 c.args.pass.now.cursor _ _ w.in-OwnLimit.cmd c.turn.new.self.pass.1 c.turn.new.self.cursor _ w.in-OwnLimit.ensures.does))
-      | in-NoMemory w ↦ rw w.result-is (quits_short c.args.self.now c.args.badge.now c.args.conn c.args.moment c.args.pass.now c.turn.new.self c.in-Some.field-0 c.in_ok-badge-in-Some-badge.badge c.in-Some.is badge c.turn.ensures.same
-          (last_short_at_no_memory Answers Pulls (site_of c.args.self.now c.args.pass.now.number) c.args.pass.now.pass.1 c.args.pass.now.cursor _ _ c.turn.new.self.pass.1 c.turn.new.self.cursor _ w.in-NoMemory.ensures.does))
-    ]
+    let badge : c.args.badge.now ≡ Some c.in-Ok.badge = c.in-Some-badge.is ∙ ap (λ (b : Badge). Some b) (sym c.in-Ok.ensures) in
+    quits_short c.args.self.now c.args.badge.now c.args.conn c.args.moment c.args.pass.now c.turn.new.self c.in-Some.field-0 c.in-Ok.badge c.in-Some.is badge c.turn.ensures.same
+    (last_short_at_no_memory Answers Pulls (site_of c.args.self.now c.args.pass.now.number) c.args.pass.now.pass.1 c.args.pass.now.cursor _ _ c.turn.new.self.pass.1 c.turn.new.self.cursor _ c.in-NoMemory.ensures.does)

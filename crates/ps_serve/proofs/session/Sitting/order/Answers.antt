@@ -1,7 +1,7 @@
 use Rattle.std.proofs.Common.{inl, inr, ◌∙◌, sym, subst}
 use Rattle.ps_lines.specs.declared.order.Order.{Order}
 use Rattle.ps_hub.specs.Calls.{NeedsBadge}
-use Rattle.ps_serve.proofs.OrderLemmas.{at_last, back_is, badge_stays, tried_more}
+use Rattle.ps_serve.proofs.OrderLemmas.{at_last, back_is, badge_stays, taken_short, tried_more}
 use Rattle.ps_serve.proofs.session.Sitting.order.Goals as goal
 
 pub returns-in-Ok-clause-made : goal.returns-in-Ok-clause-made
@@ -37,3 +37,9 @@ pub returns-in-Err-NoMemory-clause-made : goal.returns-in-Err-NoMemory-clause-ma
 returns-in-Err-NoMemory-clause-made g c =
     let i = c.loop.invariant in
     inl (at_last c.args.hub.now c.loop.left c.args.order c.args.moment c.args.self.now.passes c.loop.self.passes _ c.order.new.passes i.2 i.6.0 i.6.1 (rw c.in-Err-NoMemory.field-0-is at c.in-Err-NoMemory.ensures.does))
+
+pub returns-in-Err-Taken-clause-made : goal.returns-in-Err-Taken-clause-made
+returns-in-Err-Taken-clause-made g c =
+    let i = c.loop.invariant in
+    inl (at_last c.args.hub.now c.loop.left c.args.order c.args.moment c.args.self.now.passes c.loop.self.passes _ c.order.new.passes i.2 i.6.0 i.6.1
+    (taken_short c.args.hub.now c.loop.left c.args.moment c.loop.self.passes c.order.new.passes (rw c.in-Err-Taken.field-0-is at c.in-Err-Taken.ensures.does)))

@@ -1,0 +1,10 @@
+use Rattle.std.proofs.Common.{ap, is_some}
+use Rattle.ps_serve.proofs.AgreeLemmas.{rooms_agree}
+use Rattle.ps_serve.proofs.closed.Closed.meet_in_room.Goals as goal
+
+pub meet_in_room-requires : goal.meet_in_room-requires
+meet_in_room-requires c = (c.requires.0 (ap is_some c.in-Some.is), c.requires.1 (ap is_some c.in-Some-hall.is))
+
+pub returns-clause-agree : goal.returns-clause-agree
+returns-clause-agree c = λ done.
+    rooms_agree c.args.hub.now c.args.number c.args.self.now.passes c.meet_in_room.new.passes c.args.other.now.passes c.meet_in_room.new.other (c.requires.0 (ap is_some c.in-Some.is)) (c.requires.1 (ap is_some c.in-Some-hall.is)) c.meet_in_room.ensures.met

@@ -1,0 +1,46 @@
+-- Whose the number of a connection is.
+use Rattle.std.specs.Prelude.{◌≡◌, ◌⊎◌, ℕ, ◌∷◌, All, IfSome, Option, Some}
+use Rattle.ps_lines.specs.declared.command.HallCmd.TheVariants.{Open}
+use Rattle.ps_hall.specs.declared.entry.HallEntry.{HallEntry}
+use Rattle.ps_histlock.specs.declared.view.Entry.{Entry}
+use Rattle.ps_histlock.specs.Histories.{commands, signed}
+use Rattle.ps_histlock.specs.Signs.{Speaks}
+use Rattle.server_places.specs.Sites.{room_signer}
+use Rattle.server_places.specs.Halls.{hall_signer}
+use Rattle.ps_hub.specs.Hubs.{Hub}
+use Rattle.ps_hub.specs.Passes.{NeverFalls}
+use Rattle.ps_hub.specs.Calls.{hall_entry, IsStranger, IsShutOutAmong}
+use Rattle.ps_hub.specs.declared.out.QuitFault.TheVariants as quit_faults
+use Rattle.ps_hub.specs.declared.pass.HallPass.{HallPass}
+use Rattle.ps_hub.specs.declared.pass.RoomPass.{RoomPass}
+use Rattle.ps_hub.specs.declared.passes.Passes.{Passes}
+use Rattle.ps_serve.specs.declared.closed.End.{End}
+use Rattle.ps_serve.specs.declared.closed.End.TheVariants as ends
+
+-- this, if the number was taken
+abbrev pub IfTaken : End → Type 0 → Type 0
+IfTaken ends.Taken P = P
+IfTaken other P = Unit {0}
+
+-- Under the number of the connection stands an entry in the hall, which the pass that was to make its Open met; or one in a room,
+-- which its pass there hasn't made.
+abbrev pub IsTaken : Hub → ℕ → Passes → Option HallPass → Type 0
+IsTaken hub conn passes refused = ((h : HallPass) × (refused ≡ Some h) × IsStranger hub conn h) ⊎ IsShutOutAmong conn passes.rooms.items quit_faults.Taken
+
+-- Of all that the pass knows of the hall, what stands under the number of the connection is its Open and its own entries, in order.
+abbrev pub HallName : ℕ → HallPass → Type 0
+HallName conn h = (opened : Entry HallEntry) × ((moment : ℕ) × (opened.cmd ≡ hall_entry conn moment Open)) × (signed hall_signer conn (commands h.pass.1.known) ≡ signed hall_signer conn (commands (opened ∷ h.pass.1.mine)))
+
+-- the same of a room where it has made an entry
+abbrev pub RoomName : ℕ → RoomPass → Type 0
+RoomName conn k = Speaks room_signer conn k.pass.1.mine → signed room_signer conn (commands k.pass.1.known) ≡ signed room_signer conn (commands k.pass.1.mine)
+
+-- nobody else has spoken under the number of the connection
+pub record HasOwnNames (conn : ℕ) (passes : Passes) : Type 0 where
+  pub hall : IfSome passes.hall (HallName conn)
+  pub rooms : All (RoomName conn) passes.rooms.items
+
+-- no look shows less than one before it
+pub record AreLooksFresh (passes : Passes) : Type 0 where
+  pub hall : IfSome passes.hall (λ h. NeverFalls h.pass.1.looks)
+  pub rooms : All (λ (k : RoomPass). NeverFalls k.pass.1.looks) passes.rooms.items
