@@ -1,5 +1,5 @@
-//! Tests of battles, worked by hand: numbers, the effects of moves, choices, requests, and the lines of events. Openings, plain turns
-//! and ends are in the run of `psd`. It has tests alone, and no crate stands on it.
+//! Tests of battles, worked by hand: numbers, choices, requests, and lines of events that no stored run has. Openings, plain turns and
+//! ends are in the run of `psd`, effects of moves in `data/cases`. It has tests alone, and no crate stands on it.
 #![tactic(auto)]
 
 #[cfg(test)]
@@ -8,10 +8,6 @@ mod arena;
 mod calc_tests;
 #[cfg(test)]
 mod choice_tests;
-#[cfg(test)]
-mod effects_tests;
-#[cfg(test)]
-mod long_tests;
 #[cfg(test)]
 mod request_tests;
 #[cfg(test)]

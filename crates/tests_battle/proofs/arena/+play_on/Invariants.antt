@@ -1,5 +1,0 @@
-use Rattle.std.proofs.Common.{length}
-use Rattle.tests_battle.proofs.arena.+play_on.Given as goal
-
-abbrev pub decreases-play_on : goal.decreases-play_on
-decreases-play_on l = length l.turns.now
