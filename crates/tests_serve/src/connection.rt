@@ -9,53 +9,53 @@ use ps_hub::hub::Hub;
 use ps_hub::out::{HubFault, HubOut};
 use ps_hub::pass::RoomPass;
 use ps_hub::passes::Passes;
-use ps_lines::command::{Command, HallCmd, Parsed};
+use ps_lines::command::{Command, HallCmd};
 use ps_lines::order::Order;
-use ps_lines::read::read_command;
 use std::alloc::Global;
 
 // ---- orders
 
-fn hall_command(alloc: Global, text: &str) -> Option<HallCmd> {
-    match read_command(alloc, text).ok()? {
-        Parsed::Hall(cmd) => Some(cmd),
-        Parsed::Room(_) => None,
-    }
+// Made, and not read of a text: what reads one may answer any command, each of which would be dropped here.
+
+fn name_command(alloc: Global, name: &str) -> Option<HallCmd> {
+    let name = Text::copy_of(alloc, name).ok()?;
+    let assertion = Text::copy_of(alloc, "").ok()?;
+    Some(HallCmd::Name { name, assertion })
 }
 
-fn room_command(alloc: Global, text: &str) -> Option<Command> {
-    match read_command(alloc, text).ok()? {
-        Parsed::Room(cmd) => Some(cmd),
-        Parsed::Hall(_) => None,
-    }
+fn join_order(alloc: Global, room: &str) -> Option<Order> {
+    let id = Text::copy_of(alloc, room).ok()?;
+    let room = Text::copy_of(alloc, room).ok()?;
+    Some(Order::Room {
+        id,
+        cmd: Command::Join { room },
+    })
 }
 
-/// One text to the hall; None if no entry comes of it.
-pub(crate) fn say(alloc: Global, hub: &Hub, passes: &mut Passes, text: &str) -> Option<HubOut>
+/// Takes a name that nobody has registered; None if no entry comes of it.
+pub(crate) fn take_name(alloc: Global, hub: &Hub, passes: &mut Passes, name: &str) -> Option<HubOut>
     requires { AreOf hub.now passes.old }
     ensures { AreOf hub.now passes.new }
 {
-    let cmd = hall_command(alloc, text)?;
+    let cmd = name_command(alloc, name)?;
     hub.order(passes, Order::Hall(cmd), Moment(0)).ok()
 }
 
-/// One text to a room, by a connection that has a name; None if the text is no command of a room, or if memory runs out.
-fn say_at(
+/// The Join of a connection that has a name; None if it has none, or if memory runs out.
+fn join(
     alloc: Global,
     hub: &Hub,
     passes: &mut Passes,
     room: &str,
-    text: &str,
 ) -> Option<Result<HubOut, HubFault>>
     requires { AreOf hub.now passes.old }
     ensures { AreOf hub.now passes.new }
 {
-    let id = Text::copy_of(alloc, room).ok()?;
-    let cmd = room_command(alloc, text)?;
+    let order = join_order(alloc, room)?;
     if passes.badge.is_none() {
         return None;
     }
-    Some(hub.order(passes, Order::Room { id, cmd }, Moment(0)))
+    Some(hub.order(passes, order, Moment(0)))
 }
 
 /// Whether an entry comes of a connection's Join.
@@ -63,7 +63,7 @@ pub(crate) fn joins(alloc: Global, hub: &Hub, passes: &mut Passes, room: &str) -
     requires { AreOf hub.now passes.old }
     ensures { AreOf hub.now passes.new }
 {
-    match say_at(alloc, hub, passes, room, "/join room") {
+    match join(alloc, hub, passes, room) {
         Some(Ok(_)) => true,
         _ => false,
     }

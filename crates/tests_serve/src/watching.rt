@@ -1,7 +1,7 @@
 //! Connections of a test's own thread, which see what sessions left.
 ghost use Rattle.ps_hub.specs.Passes.{AreOf};
 
-use crate::connection::{count, joins, say};
+use crate::connection::{count, joins, take_name};
 use ps_base::msg::Msg;
 use ps_base::number::{ConnNo, Moment};
 use ps_hub::hub::Hub;
@@ -67,11 +67,11 @@ pub(crate) fn count_in_hall<R: Abort + Wait>(rt: &R, hub: &Hub) -> u64 {
 
 // ---- being told
 
-fn take_name(rt: &impl Abort, alloc: Global, hub: &Hub, passes: &mut Passes)
+fn be_eve(rt: &impl Abort, alloc: Global, hub: &Hub, passes: &mut Passes)
     requires { AreOf hub.now passes.old }
     ensures { AreOf hub.now passes.new }
 {
-    assert!(rt; say(alloc, hub, passes, "/trn Eve,0,").is_some());
+    assert!(rt; take_name(alloc, hub, passes, "Eve").is_some());
 }
 
 fn join_lobby(rt: &impl Abort, alloc: Global, hub: &Hub, passes: &mut Passes)
@@ -103,7 +103,7 @@ pub(crate) fn watcher<R: Abort + Wait>(rt: &R, alloc: Global, hub: &Hub) -> Pass
     ensures { AreOf hub.now result }
 {
     let mut passes = admit(rt, hub, WATCHER);
-    take_name(rt, alloc, hub, &mut passes);
+    be_eve(rt, alloc, hub, &mut passes);
     join_lobby(rt, alloc, hub, &mut passes);
     is_told_of_its_join(rt, hub, &mut passes);
     passes
