@@ -77,5 +77,5 @@ def check(copy, crate, *words, seconds=None):
 
 
 def errors(said):
-    """The prover's errors: the place of each, and what it says."""
-    return re.findall(r"^(\S+\.(?:antt|rt)\S*): error: (.*)$", said, re.M)
+    """The prover's errors: the place of each, and what it says, which goes on in the lines behind it that begin with a blank."""
+    return re.findall(r"^(\S+\.(?:antt|rt)\S*): error: (.*(?:\n .*)*)$", said, re.M)
