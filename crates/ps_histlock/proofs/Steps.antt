@@ -14,7 +14,7 @@ use Rattle.atomic_table.proofs.Lists.{at_set, at_longer, set_again, set_here, se
 use Rattle.ps_histlock.specs.declared.view.Entry.{Entry}
 use Rattle.ps_histlock.specs.declared.view.View.{View}
 use Rattle.ps_histlock.specs.Histories.{entries_of, entry, commands, longer, says, signed}
-use Rattle.ps_histlock.specs.Views.{newcomer, offspring, with_number, after_look, after_meeting, holder, after_entry, after_turn, informed, hearing, comparing, compared, counted, knowing, heir_of, silent, letter_of, spent, IsAtRest}
+use Rattle.ps_histlock.specs.Views.{newcomer, offspring, with_number, after_look, after_meeting, holder, after_entry, after_turn, informed, hearing, comparing, compared, counted, knowing, heir_of, silent, letter_of, spent, HasGrown, HasLooked, IsStoodFor, IsAtRest}
 use Rattle.ps_histlock.specs.Locks.{Fits, Written, Nobody, AtHome, IsOut, IsKept, Signs, MaySign, Mine, Arrives, Names, Looks, Learns, Counts, Differs, Meets, Seizes, Appends, Releases}
 use Rattle.ps_histlock.proofs.Lists.{prefix_self, prefix_more, prefix_trans, empty, says_some, signed-append, signed_other, signed_prefix, own_signs, longer_begins, own_between, prefix_length, all_one, all_more, at_lt, at_end, entries_of-append, own_more, other_entry, none_before}
 
@@ -46,14 +46,15 @@ module _ {O C : Type 0} where
       (λ (x : (j ≢ id) × (get_elem? views j ≡ some u)). others j u x.0 x.1 h)
       (at_set views id j w u e)
 
-module _ {O C : Type 0} where
+module _ {K O C : Type 0} (origin : K → O) (stands : List C → K → Type 0) where
   -- a pass between two calls that is told of more
-  pub rest_knowing : (v : View O C) (k : List (Entry C)) → IsAtRest v → IsPrefix v.known k → IsAtRest (knowing v k)
-  rest_knowing v k r p = (r.0, r.1, r.2, r.3, r.4, prefix_trans v.seen v.known k r.5 p, r.6)
+  pub rest_knowing : (v : View O C) (k : List (Entry C)) → IsAtRest origin stands v → IsPrefix v.known k → IsAtRest origin stands (knowing v k)
+  rest_knowing v k r p = (r.0, r.1, r.2, r.3, r.4, prefix_trans v.seen v.known k r.5 p, r.6, r.7, r.8, r.9)
 
   -- a pass that has released the lock without an entry
-  pub rest_turned : (v : View O C) → v.named ≡ true → v.mine ≡ entries_of v.number v.seen → v.letter ≡ false → v.heard ≡ [] → v.known ≡ v.seen → v.speaks ≡ true → IsAtRest (after_turn v)
-  rest_turned v named own letter heard all speaks = (named, refl, own, letter, heard, ([], append-nil v.seen ∙ sym all), speaks)
+  pub rest_turned : (v : View O C) → v.named ≡ true → v.mine ≡ entries_of v.number v.seen → v.letter ≡ false → v.heard ≡ [] → v.known ≡ v.seen → v.speaks ≡ true → HasGrown (v.turns + 1) v → IsStoodFor origin stands v → HasLooked v
+      → IsAtRest origin stands (after_turn v)
+  rest_turned v named own letter heard all speaks grown stood looked = (named, refl, own, letter, heard, ([], append-nil v.seen ∙ sym all), speaks, grown, λ some. stood, looked)
 
 -- who has the names of a pass, once it has an heir
 abbrev passed_on : ℕ → ℕ → (ℕ → ℕ) → ℕ → ℕ

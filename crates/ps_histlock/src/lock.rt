@@ -1,8 +1,8 @@
 //! The lock, its passes, and the calls.
-ghost use Rattle.std.specs.Prelude.{All, ◌≡◌, ◌≢◌, ◌+◌, ◌≤◌, ◌<◌, ◌^◌, ◌*◌, ◌++◌, ℕ, List, true, false, [], ◌∷◌, length, Option, IfOk, IfErr, IsTrue, IsFalse, None, Some, IsSome, IfSome};
+ghost use Rattle.std.specs.Prelude.{All, ◌≡◌, ◌≢◌, ◌+◌, ◌≤◌, ◌<◌, ◌^◌, ◌*◌, ◌/◌, ◌++◌, ℕ, List, true, false, [], ◌∷◌, length, Option, IfOk, IfErr, IsTrue, IsFalse, None, Some, IsSome, IfSome};
 ghost use mathlib.Core.List.{IsPrefix};
 ghost use Rattle.ps_histlock.specs.Histories.{commands, entry, entries_of, longer, AreOneList};
-ghost use Rattle.ps_histlock.specs.Views.{newcomer, offspring, heir_of, with_number, after_look, after_meeting, after_entry, after_turn, holder, hearing, informed, comparing, compared, counted, knowing, IsAtRest, Extends};
+ghost use Rattle.ps_histlock.specs.Views.{newcomer, offspring, heir_of, with_number, after_look, after_meeting, after_entry, after_turn, holder, hearing, informed, comparing, compared, counted, knowing, HasGrown, HasLooked, IsAtRest, Extends};
 ghost use Rattle.ps_histlock.specs.Openers.{unopened};
 ghost use mathlib.Core.Option.{none};
 ghost use Rattle.atomic_table.specs.Table.{step, Allows};
@@ -73,7 +73,7 @@ impl<K: Kept> Model for Pass<K> {
 
     ghost view = { λ p. (p.seat.table_id, p.seat.me.0) };
 
-    ghost invariant = { λ p. (p.seat.me.1 ≡ []) × IsAtRest p.seat.me.0 × (p.own ≡ length p.seat.me.0.mine) × (p.own ≤ OWN_LIMIT) × OwnSigns K.signer p.seat.me.0 p.seat.me.0.known × HasSigned K.signer p.has_signed p.seat.me.0.said };
+    ghost invariant = { λ p. (p.seat.me.1 ≡ []) × IsAtRest K.origin K.stands p.seat.me.0 × (p.own ≡ length p.seat.me.0.mine) × (p.own ≤ OWN_LIMIT) × OwnSigns K.signer p.seat.me.0 p.seat.me.0.known × HasSigned K.signer p.has_signed p.seat.me.0.said };
 }
 
 /// The turn of a lock that isn't open yet. Who has it has the value too, so nobody else makes an entry or reads. Contracts see
@@ -179,7 +179,7 @@ impl<K: Kept> HistLock<K> {
         requires { opener.0 ≡ self.now.0 }
         ensures pass { result ≡ (self.now.0, after_turn opener.1) }
         ensures none { (result.1.seen ≡ []) × (result.1.mine ≡ []) × (result.1.said ≡ []) }
-        ensures rest { IsAtRest result.1 }
+        ensures rest { IsAtRest K.origin K.stands result.1 }
     {
         let Opener { mut seat, home } = opener;
         self.release(&mut seat, home);
@@ -207,7 +207,7 @@ impl<K: Kept> HistLock<K> {
         requires { pass.old.0 ≡ self.now.0 }
         ensures same { pass.new ≡ pass.old }
         ensures new { (n : ℕ) × (result ≡ (self.now.0, with_number (offspring pass.old.1) n)) }
-        ensures rest { IsAtRest result.1 }
+        ensures rest { IsAtRest K.origin K.stands result.1 }
     {
         let mut seat = self.table.shared.split_seat::<Cut>(&mut pass.seat);
         self.table.shared.load::<Name>(&mut seat, 0);
@@ -224,7 +224,7 @@ impl<K: Kept> HistLock<K> {
         requires { pass.0 ≡ self.now.0 }
         ensures new { (n : ℕ) × (result ≡ (self.now.0, with_number (heir_of pass.1) n)) }
         ensures signed { OwnSigns K.signer result.1 result.1.known }
-        ensures rest { IsAtRest result.1 }
+        ensures rest { IsAtRest K.origin K.stands result.1 }
     {
         let Pass {
             mut seat,
@@ -248,26 +248,26 @@ impl<K: Kept> HistLock<K> {
         ensures seen { length pass.old.1.known ≤ result }
         ensures rises { All (λ n. n ≤ result) pass.old.1.looks }
         ensures signed { OwnSigns K.signer pass.new.1 pass.new.1.known }
-        ensures rest { IsAtRest pass.new.1 }
+        ensures rest { IsAtRest K.origin K.stands pass.new.1 }
     {
         let _ = &pass.seat;
         self.glance::<Look>(pass) / 2
     }
 
-    /// One load of the word, which tells what the caller's own `Play` says: whatever the lock is at that moment, the pass may
-    /// take the view that M gives for the word, if that keeps the rule. Since M is the caller's, no other number than the
-    /// word's at one moment of this call can be answered. Takes no memory and waits for nobody.
+    /// A look by one load of the word, of which the caller's own `Play` says what it tells beside: whatever the lock is at that
+    /// moment, M gives what holds of the word and of the view after the look, if that keeps the rule. Since M is the caller's, no
+    /// other number than the word's at one moment of this call can be answered. Takes no memory and waits for nobody.
     pub fn glance<M: Play<Option<Home<K>>, View<K::Origin, K::Cmd>>>(
         &self,
         pass: &mut Pass<K>,
     ) -> u64
         requires lock { pass.old.0 ≡ self.now.0 }
         requires allowed { (id : ℕ) → Allows (IsKept (home_origin K.origin) (HomeStands K.stands K.signer) K.signer self.now.1) 1 id (pass.old.1, []) 0 (λ n. n) (M.then (step 1 0 0 0 none) (pass.old.1, [])) }
-        requires rest { (n : ℕ) (v : View K.Origin K.Cmd) (out : List (ℕ × Option (Home K))) → M.then (step 1 0 0 0 none) (pass.old.1, []) n (v, out) → IsAtRest v × (v.mine ≡ pass.old.1.mine) × (v.said ≡ pass.old.1.said) × (out ≡ []) × OwnSigns K.signer v v.known }
+        requires rest { (n : ℕ) (v : View K.Origin K.Cmd) (out : List (ℕ × Option (Home K))) → M.then (step 1 0 0 0 none) (pass.old.1, []) n (v, out) → (v ≡ after_look pass.old.1 (n / 2)) × (out ≡ []) × (length pass.old.1.known ≤ n / 2) }
         ensures lock { pass.new.0 ≡ pass.old.0 }
         ensures does { M.then (step 1 0 0 0 none) (pass.old.1, []) result (pass.new.1, []) }
         ensures signed { OwnSigns K.signer pass.new.1 pass.new.1.known }
-        ensures rest { IsAtRest pass.new.1 }
+        ensures rest { IsAtRest K.origin K.stands pass.new.1 }
     {
         self.table.shared.load::<M>(&mut pass.seat, 0)
     }
@@ -325,7 +325,7 @@ impl<K: Kept> HistLock<K> {
         ensures one_list { AreOneList pass.old.1.seen other.old.1.seen }
         ensures own { (pass.new.1.mine ≡ entries_of pass.new.1.number pass.new.1.known) × (other.new.1.mine ≡ entries_of other.new.1.number pass.new.1.known) }
         ensures signed { OwnSigns K.signer pass.new.1 pass.new.1.known × OwnSigns K.signer other.new.1 pass.new.1.known }
-        ensures rest { IsAtRest pass.new.1 × IsAtRest other.new.1 }
+        ensures rest { IsAtRest K.origin K.stands pass.new.1 × IsAtRest K.origin K.stands other.new.1 }
     {
         self.tell(&mut other.seat, &mut pass.seat);
         self.tell(&mut pass.seat, &mut other.seat);
@@ -355,12 +355,14 @@ impl<K: Kept> HistLock<K> {
         requires seat_state { (seat.old.table_id ≡ self.now.0) × (seat.old.me.1 ≡ (0, None) ∷ []) }
         requires turn { (seat.old.me.0.holds ≡ true) × (seat.old.me.0.named ≡ true) × (seat.old.me.0.letter ≡ false) × (seat.old.me.0.heard ≡ []) × (seat.old.me.0.speaks ≡ true) }
         requires own { seat.old.me.0.mine ≡ entries_of seat.old.me.0.number seat.old.me.0.seen }
+        requires grown { HasGrown (seat.old.me.0.turns + 1) seat.old.me.0 }
+        requires looked { HasLooked seat.old.me.0 }
         requires value { K.origin home.kept ≡ seat.old.me.0.origin }
         requires entry { (c : K.Cmd) × (W.written ≡ Some c) × HomeStands K.stands K.signer (commands seat.old.me.0.seen ++ c ∷ []) home × (length (commands seat.old.me.0.seen ++ c ∷ []) < 2 ^ 62) × MaySign K.signer seat.old.me.0 seat.old.me.0.seen c }
         ensures same { (seat.new.table_id ≡ seat.old.table_id) × (seat.new.id ≡ seat.old.id) }
         ensures entry { (c : K.Cmd) × (W.written ≡ Some c) × (seat.new.me ≡ (after_entry seat.old.me.0 c, [])) }
         ensures signed { OwnSigns K.signer seat.new.me.0 seat.new.me.0.known }
-        ensures rest { IsAtRest seat.new.me.0 }
+        ensures rest { IsAtRest K.origin K.stands seat.new.me.0 }
     {
         let shared = &self.table.shared;
         drop(shared.exchange(seat, 0, Some(home)));
@@ -408,6 +410,8 @@ impl<K: Kept> HistLock<K> {
         requires seat_state { (seat.old.table_id ≡ self.now.0) × (seat.old.me.1 ≡ (0, None) ∷ []) }
         requires turn { (seat.old.me.0.holds ≡ true) × (seat.old.me.0.named ≡ true) × (seat.old.me.0.letter ≡ false) × (seat.old.me.0.heard ≡ []) × (seat.old.me.0.speaks ≡ true) }
         requires own { (seat.old.me.0.mine ≡ entries_of seat.old.me.0.number seat.old.me.0.seen) × (seat.old.me.0.known ≡ seat.old.me.0.seen) }
+        requires grown { HasGrown (seat.old.me.0.turns + 1) seat.old.me.0 }
+        requires looked { HasLooked seat.old.me.0 }
         requires signed { OwnSigns K.signer seat.old.me.0 seat.old.me.0.known }
         requires value { (K.origin home.kept ≡ seat.old.me.0.origin) × HomeStands K.stands K.signer (commands seat.old.me.0.seen) home }
         requires entry { W.written ≡ Some cmd }
@@ -415,7 +419,7 @@ impl<K: Kept> HistLock<K> {
         ensures same { (seat.new.table_id ≡ seat.old.table_id) × (seat.new.id ≡ seat.old.id) × (seat.new.me.1 ≡ []) }
         ensures does { Written K.answers K.pulls seat.old.me.0 cursor.old cmd result seat.new.me.0 cursor.new }
         ensures signed { OwnSigns K.signer seat.new.me.0 seat.new.me.0.known }
-        ensures rest { IsAtRest seat.new.me.0 }
+        ensures rest { IsAtRest K.origin K.stands seat.new.me.0 }
     {
         match home.apply(cmd) {
             Ok(out) => {
@@ -456,7 +460,7 @@ impl<K: Kept> HistLock<K> {
         ensures limit { IsSome cmd → length pass.old.1.mine ≡ OWN_LIMIT → (result ≡ OwnLimit cmd) × (pass.new ≡ pass.old) × (cursor.new ≡ cursor.old) }
         ensures taken { (back : Option K.Cmd) → result ≡ Taken back → IfSome cmd (IsNameTaken K.signer pass.old.1.said pass.new.1.seen) }
         ensures signed { OwnSigns K.signer pass.new.1 pass.new.1.known }
-        ensures rest { IsAtRest pass.new.1 }
+        ensures rest { IsAtRest K.origin K.stands pass.new.1 }
     {
         if cmd.is_some() && pass.own >= OWN_LIMIT {
             return TurnOf::OwnLimit { cmd };
@@ -499,7 +503,7 @@ impl<K: Kept> HistLock<K> {
         ensures named { (back : Option K.Cmd) → result ≡ Taken back → IfSome cmd (IsNameTaken K.signer pass.old.1.said pass.new.1.seen) }
         ensures limit { IsSome cmd → length pass.old.1.mine ≡ OWN_LIMIT → (result ≡ OwnLimit cmd) × (pass.new ≡ pass.old) × (cursor.new ≡ cursor.old) }
         ensures signed { OwnSigns K.signer pass.new.1 pass.new.1.known }
-        ensures rest { IsAtRest pass.new.1 }
+        ensures rest { IsAtRest K.origin K.stands pass.new.1 }
     {
         let mut left = cmd;
         for _ in rt.forever() {

@@ -1,4 +1,5 @@
-//! The rule of a lock, and what each kind of atomic step tells its pass. There are no other steps.
+//! The rule of a lock, and what each kind of atomic step tells its pass. There are no other steps, but the look of which a
+//! caller of `glance` says itself what it tells.
 use crate::home::Home;
 use crate::kept::Kept;
 use crate::view::View;

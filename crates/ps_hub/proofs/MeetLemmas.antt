@@ -8,10 +8,11 @@ use Rattle.ps_histlock.specs.Histories.{commands, entries_of, signed, longer, Ar
 use Rattle.ps_histlock.specs.Locks.{OwnSigns}
 use Rattle.ps_histlock.specs.Seated.{TableId}
 use Rattle.ps_histlock.specs.Signs.{SignsAs}
-use Rattle.ps_histlock.specs.Views.{IsAtRest, compared, counted, knowing}
+use Rattle.ps_histlock.specs.Views.{compared, counted, knowing}
 use Rattle.ps_histlock.proofs.Lists.{prefix_self, signed_seen}
 use Rattle.server_places.specs.Sites.{room_signer}
-use Rattle.server_places.specs.Halls.{hall_signer}
+use Rattle.server_places.specs.Halls.{hall_signer, IsAtRestInHall}
+use Rattle.server_places.specs.Rooms.{IsAtRestInRoom}
 use Rattle.ps_hub.specs.Hubs.{Hub, lock_of}
 use Rattle.ps_hub.specs.Passes.{NeverFalls, Adds, IsHallPass, IsRoomPass}
 use Rattle.ps_hub.specs.Meetings.{IsAsItWas, Met, IsHeardRightly}
@@ -47,14 +48,15 @@ module _ {O C : Type 0} where
     said = ap (λ (x : View O C). x.said) is ∙ same.said;
     looks = ap (λ (x : View O C). x.looks) is ∙ same.looks;
     turns = ap (λ (x : View O C). x.turns) is ∙ same.turns;
+    earlier = ap (λ (x : View O C). x.earlier) is ∙ same.earlier;
     met = ap (λ (x : View O C). x.met) is ∙ same.met;
   }
 
   was_compared : (v u : View O C) → u ≡ compared v → IsAsItWas v u
-  was_compared v u is = subst (IsAsItWas v) (sym is) (record { origin = refl; number = refl; seen = refl; mine = refl; said = refl; looks = refl; turns = refl; met = refl })
+  was_compared v u is = subst (IsAsItWas v) (sym is) (record { origin = refl; number = refl; seen = refl; mine = refl; said = refl; looks = refl; turns = refl; earlier = refl; met = refl })
 
   was_counted : (v u : View O C) (n : ℕ) → u ≡ counted v n → IsAsItWas v u
-  was_counted v u n is = subst (IsAsItWas v) (sym is) (record { origin = refl; number = refl; seen = refl; mine = refl; said = refl; looks = refl; turns = refl; met = refl })
+  was_counted v u n is = subst (IsAsItWas v) (sym is) (record { origin = refl; number = refl; seen = refl; mine = refl; said = refl; looks = refl; turns = refl; earlier = refl; met = refl })
 
   -- two passes that were told apart, and then met
   pub they_met : (signer : C → Option ℕ) (v u v' w x w' : View O C) (n : ℕ) → u ≡ compared v → x ≡ counted w n → v.number ≢ w.number → v' ≡ knowing u (longer u.known x.known) → w' ≡ knowing x (longer u.known x.known)
@@ -88,22 +90,22 @@ module _ {O C : Type 0} where
   pub signs_known : (signer : C → Option ℕ) (v v' w w' : View O C) → Met signer v v' w w' → OwnSigns signer w' v'.known → OwnSigns signer w' w'.known
   signs_known signer v v' w w' m signs = subst (λ (l : List (Entry C)). OwnSigns signer w' l) (sym m.known) signs
 
-  pub both_heard : (signer : C → Option ℕ) (v v' w w' : View O C) → Met signer v v' w w' → IsAtRest v' × IsAtRest w' → IsHeardRightly signer v w × IsHeardRightly signer w v
-  both_heard signer v v' w w' m rest = (
-    heard_rightly signer v w v'.known (subst (λ (l : List (Entry C)). IsPrefix l v'.known) m.other.seen (subst (λ (l : List (Entry C)). IsPrefix w'.seen l) m.known rest.1.5)) m.signs,
-    heard_rightly signer w v v'.known (subst (λ (l : List (Entry C)). IsPrefix l v'.known) m.one.seen rest.0.5) m.signs_other,
+  pub both_heard : (signer : C → Option ℕ) (v v' w w' : View O C) → Met signer v v' w w' → IsPrefix v'.seen v'.known × IsPrefix w'.seen w'.known → IsHeardRightly signer v w × IsHeardRightly signer w v
+  both_heard signer v v' w w' m begin = (
+    heard_rightly signer v w v'.known (subst (λ (l : List (Entry C)). IsPrefix l v'.known) m.other.seen (subst (λ (l : List (Entry C)). IsPrefix w'.seen l) m.known begin.1)) m.signs,
+    heard_rightly signer w v v'.known (subst (λ (l : List (Entry C)). IsPrefix l v'.known) m.one.seen begin.0) m.signs_other,
   )
 
 -- the pass of a place has the lock of that place
 pub at_lock : (hub : Hub) (at number : ℕ) (own lock : TableId) → lock_of hub at ≡ Some own → at ≡ number → lock_of hub number ≡ Some lock → own ≡ lock
 at_lock hub at number own lock is same found = same_Some own lock (sym is ∙ ap (λ (n : ℕ). lock_of hub n) same ∙ found)
 
-pub hall_met : (hub : Hub) (conn : ℕ) (h k : HallPass) → k ≡ record h { pass = k.pass } → k.pass.0 ≡ h.pass.0 → IsAsItWas h.pass.1 k.pass.1 → IsAtRest k.pass.1 → OwnSigns hall_signer k.pass.1 k.pass.1.known → IsHallPass hub conn h → IsHallPass hub conn k
+pub hall_met : (hub : Hub) (conn : ℕ) (h k : HallPass) → k ≡ record h { pass = k.pass } → k.pass.0 ≡ h.pass.0 → IsAsItWas h.pass.1 k.pass.1 → IsAtRestInHall k.pass.1 → OwnSigns hall_signer k.pass.1 k.pass.1.known → IsHallPass hub conn h → IsHallPass hub conn k
 hall_met hub conn h k is lock same rest own p =
     hall_stays hub conn h k lock (ap (λ (q : HallPass). q.at) is) rest (subst NeverFalls (sym same.looks) p.looks) (subst (SignsAs hall_signer conn) (sym same.said) p.signs) own (grows_met h.pass.1 k.pass.1 same)
     (inr (ap (λ (q : HallPass). q.cursor) is, ap (λ (q : HallPass). q.kept.items ++ q.fresh.items) is)) p
 
-pub room_met : (hub : Hub) (conn : ℕ) (h k : RoomPass) → k ≡ record h { pass = k.pass } → k.pass.0 ≡ h.pass.0 → IsAsItWas h.pass.1 k.pass.1 → IsAtRest k.pass.1 → OwnSigns room_signer k.pass.1 k.pass.1.known → IsRoomPass hub conn h → IsRoomPass hub conn k
+pub room_met : (hub : Hub) (conn : ℕ) (h k : RoomPass) → k ≡ record h { pass = k.pass } → k.pass.0 ≡ h.pass.0 → IsAsItWas h.pass.1 k.pass.1 → IsAtRestInRoom k.pass.1 → OwnSigns room_signer k.pass.1 k.pass.1.known → IsRoomPass hub conn h → IsRoomPass hub conn k
 room_met hub conn h k is lock same rest own p =
     room_stays hub conn h k lock (ap (λ (q : RoomPass). q.at) is) (ap (λ (q : RoomPass). q.number) is) (ap (λ (q : RoomPass). q.id) is) rest (subst NeverFalls (sym same.looks) p.looks) (same.said ∙ p.said ∙ sym same.mine)
     (subst (SignsAs room_signer conn) (sym same.said) p.signs) own (grows_met h.pass.1 k.pass.1 same)

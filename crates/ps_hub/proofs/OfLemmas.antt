@@ -1,5 +1,5 @@
 -- By whose number the commands of a connection are signed.
-use Rattle.std.proofs.Common.{◌≡◌, ℕ, Option, Some, None, sym}
+use Rattle.std.proofs.Common.{ℕ, sym}
 use Rattle.std.proofs.lemmas.Option.{same_Some, none-some}
 use Rattle.ps_base.specs.declared.badge.Badge.{Badge}
 use Rattle.ps_lines.specs.declared.command.Command.{Command}

@@ -1,5 +1,5 @@
 -- What keeps a pass one of a hub.
-use Rattle.std.proofs.Common.{◌≡◌, ℕ, ◌+◌, ◌<◌, ◌≤◌, true, false, List, [], ◌++◌, length, Option, Some, None, refl, sym, ap, ◌∙◌, subst, inl, inr, arith}
+use Rattle.std.proofs.Common.{◌≡◌, ℕ, ◌+◌, ◌<◌, ◌≤◌, true, List, [], ◌++◌, length, Option, Some, None, refl, sym, ap, ◌∙◌, subst, inl, inr, arith}
 use Rattle.std.specs.Prelude.{nat_lt, All, IfSome}
 use Rattle.std.proofs.lemmas.Bool.Decides.{nat_tests}
 use Rattle.std.proofs.lemmas.Option.{none-some}
@@ -13,18 +13,19 @@ use Rattle.ps_room.specs.Stories.{story, Story}
 use Rattle.ps_histlock.specs.declared.view.View.{View}
 use Rattle.ps_histlock.specs.Histories.{commands}
 use Rattle.ps_histlock.specs.Seated.{TableId}
-use Rattle.ps_histlock.specs.Views.{newcomer, heir_of, with_number, after_look, IsAtRest}
+use Rattle.ps_histlock.specs.Views.{newcomer, heir_of, with_number, after_look}
 use Rattle.ps_histlock.specs.Locks.{OwnSigns}
 use Rattle.ps_histlock.specs.Signs.{SignsAs, IsOf}
 use Rattle.ps_histlock.proofs.SignLemmas.{signs_nothing}
+use Rattle.ps_histlock.proofs.TurnLemmas.{rest_looked}
 use Rattle.server_places.specs.declared.command.RoomCmd.{RoomCmd}
 use Rattle.server_places.specs.declared.cursor.HallCursor.{HallCursor}
 use Rattle.server_places.specs.declared.cursor.RoomCursor.{RoomCursor}
 use Rattle.server_places.specs.declared.site.Root.{Root}
 use Rattle.server_places.specs.declared.site.Site.{Site}
 use Rattle.server_places.specs.Sites.{room_signer, chat_at, plays, TellsBy, Tells, view_told, id_told}
-use Rattle.server_places.specs.Rooms.{cursor_of, Answers, Pulls, Shows, StandsAt}
-use Rattle.server_places.specs.Halls.{hall_cursor, hall_signer, HallAnswers, HallPulls, HallShows, HallStandsAt}
+use Rattle.server_places.specs.Rooms.{cursor_of, Answers, Pulls, Shows, Stands, StandsAt, site_in, IsAtRestInRoom}
+use Rattle.server_places.specs.Halls.{hall_cursor, hall_signer, HallAnswers, HallPulls, HallShows, HallStands, HallStandsAt, root_in, IsAtRestInHall}
 use Rattle.server_places.proofs.GoOnLemmas.{pulls_go_on}
 use Rattle.server_places.proofs.HallLemmas.{hall_goes_on}
 use Rattle.server_places.proofs.StandLemmas.{no_chat}
@@ -48,7 +49,7 @@ pub hall_passed : (conn : ℕ) (r : Root) (cmds : List HallEntry) (x : HallCurso
 hall_passed conn r cmds x at = ap (λ (c : HallCursor). c.passed) at
 
 -- what follows for a pass from what a call left of it
-pub hall_stays : (hub : Hub) (conn : ℕ) (h k : HallPass) → k.pass.0 ≡ h.pass.0 → k.at ≡ h.at → IsAtRest k.pass.1 → NeverFalls k.pass.1.looks → SignsAs hall_signer conn k.pass.1.said → OwnSigns hall_signer k.pass.1 k.pass.1.known → Grows h.pass.1 k.pass.1 → PullsOrNot HallPulls h.pass.1 h.cursor (h.kept.items ++ h.fresh.items) k.pass.1 k.cursor (k.kept.items ++ k.fresh.items)
+pub hall_stays : (hub : Hub) (conn : ℕ) (h k : HallPass) → k.pass.0 ≡ h.pass.0 → k.at ≡ h.at → IsAtRestInHall k.pass.1 → NeverFalls k.pass.1.looks → SignsAs hall_signer conn k.pass.1.said → OwnSigns hall_signer k.pass.1 k.pass.1.known → Grows h.pass.1 k.pass.1 → PullsOrNot HallPulls h.pass.1 h.cursor (h.kept.items ++ h.fresh.items) k.pass.1 k.cursor (k.kept.items ++ k.fresh.items)
     → IsHallPass hub conn h → IsHallPass hub conn k
 hall_stays hub conn h k lock at rest looks signs own g pulls p = record {
   lock = lock ∙ p.lock;
@@ -62,7 +63,7 @@ hall_stays hub conn h k lock at rest looks signs own g pulls p = record {
 }
 
 -- after a turn
-pub hall_taken : (hub : Hub) (conn : ℕ) (h k : HallPass) (cmd : Option HallEntry) (t : Taken HallEntry HallOut) → k.pass.0 ≡ h.pass.0 → k.at ≡ h.at → (IsAtRest h.pass.1 → IsAtRest k.pass.1)
+pub hall_taken : (hub : Hub) (conn : ℕ) (h k : HallPass) (cmd : Option HallEntry) (t : Taken HallEntry HallOut) → k.pass.0 ≡ h.pass.0 → k.at ≡ h.at → (IsAtRestInHall h.pass.1 → IsAtRestInHall k.pass.1)
     → (OwnSigns hall_signer h.pass.1 h.pass.1.known → OwnSigns hall_signer k.pass.1 k.pass.1.known) → IfSome cmd (IsOf hall_signer conn)
     → Takes HallAnswers HallPulls h.pass.1 h.cursor (h.kept.items ++ h.fresh.items) cmd t k.pass.1 k.cursor (k.kept.items ++ k.fresh.items) → IsHallPass hub conn h → IsHallPass hub conn k
 hall_taken hub conn h k cmd t lock at rest own of told p = hall_stays hub conn h k lock at (rest p.rest)
@@ -73,7 +74,7 @@ hall_taken hub conn h k cmd t lock at rest own of told p = hall_stays hub conn h
     (takes_pull HallAnswers HallPulls h.pass.1 h.cursor (h.kept.items ++ h.fresh.items) cmd t k.pass.1 k.cursor (k.kept.items ++ k.fresh.items) told)
     p
 
-pub hall_taken_at_last : (hub : Hub) (conn : ℕ) (h k : HallPass) (cmd : Option HallEntry) (t : Taken HallEntry HallOut) → k.pass.0 ≡ h.pass.0 → k.at ≡ h.at → (IsAtRest h.pass.1 → IsAtRest k.pass.1)
+pub hall_taken_at_last : (hub : Hub) (conn : ℕ) (h k : HallPass) (cmd : Option HallEntry) (t : Taken HallEntry HallOut) → k.pass.0 ≡ h.pass.0 → k.at ≡ h.at → (IsAtRestInHall h.pass.1 → IsAtRestInHall k.pass.1)
     → (OwnSigns hall_signer h.pass.1 h.pass.1.known → OwnSigns hall_signer k.pass.1 k.pass.1.known) → IfSome cmd (IsOf hall_signer conn)
     → TakesAtLast HallAnswers HallPulls h.pass.1 h.cursor (h.kept.items ++ h.fresh.items) cmd t k.pass.1 k.cursor (k.kept.items ++ k.fresh.items) → IsHallPass hub conn h → IsHallPass hub conn k
 hall_taken_at_last hub conn h k cmd t lock at rest own of told p = hall_stays hub conn h k lock at (rest p.rest)
@@ -85,8 +86,8 @@ hall_taken_at_last hub conn h k cmd t lock at rest own of told p = hall_stays hu
     p
 
 -- after a look
-pub hall_looked : (hub : Hub) (conn : ℕ) (h k : HallPass) (n : ℕ) → k ≡ record h { pass = (h.pass.0, after_look h.pass.1 n) } → All (λ (m : ℕ). m ≤ n) h.pass.1.looks → IsHallPass hub conn h → IsHallPass hub conn k
-hall_looked hub conn h k n is le p = subst (IsHallPass hub conn) (sym is) (record { lock = p.lock; origin = p.origin; rest = p.rest; looks = never_falls h.pass.1.looks n p.looks le; signs = p.signs; own = p.own; told = p.told })
+pub hall_looked : (hub : Hub) (conn : ℕ) (h k : HallPass) (n : ℕ) → k ≡ record h { pass = (h.pass.0, after_look h.pass.1 n) } → length h.pass.1.known ≤ n → All (λ (m : ℕ). m ≤ n) h.pass.1.looks → IsHallPass hub conn h → IsHallPass hub conn k
+hall_looked hub conn h k n is knows le p = subst (IsHallPass hub conn) (sym is) (record { lock = p.lock; origin = p.origin; rest = rest_looked root_in HallStands h.pass.1 n p.rest knows; looks = never_falls h.pass.1.looks n p.looks le; signs = p.signs; own = p.own; told = p.told })
 
 -- a new pass
 pub hall_new : (hub : Hub) (conn : ℕ) (k : HallPass) (lock : TableId) (by : ℕ) → lock ≡ hub.hall → k.pass ≡ (lock, newcomer (root_of hub) by) → k.cursor ≡ hall_cursor conn 0 → k.kept.items ++ k.fresh.items ≡ [] → k.at ≡ 0 → IsHallPass hub conn k
@@ -98,7 +99,7 @@ hall_new hub conn k lock by same pass cursor none at =
     record {
       lock = ap (λ (q : TableId × View Root HallEntry). q.0) pass ∙ same;
       origin = ap (λ (q : TableId × View Root HallEntry). q.1.origin) pass;
-      rest = subst (λ (q : TableId × View Root HallEntry). IsAtRest q.1) (sym pass) (refl, refl, refl, refl, refl, ([], refl), refl);
+      rest = subst (λ (q : TableId × View Root HallEntry). IsAtRestInHall q.1) (sym pass) (refl, refl, refl, refl, refl, ([], refl), refl, (refl, λ n d none. absurd (omega arith), λ n d none. absurd (omega arith)), λ none. absurd (omega arith), tt);
       looks = subst (λ (q : TableId × View Root HallEntry). NeverFalls q.1.looks) (sym pass) tt;
       signs = subst (λ (q : TableId × View Root HallEntry). SignsAs hall_signer conn q.1.said) (sym pass) (signs_nothing hall_signer conn);
       own = subst (λ (q : TableId × View Root HallEntry). OwnSigns hall_signer q.1 q.1.known) (sym pass) (λ d none_left. refl);
@@ -106,7 +107,7 @@ hall_new hub conn k lock by same pass cursor none at =
     }
 
 -- an heir, with the messages of the pass in whose place it is
-pub hall_heir : (hub : Hub) (conn : ℕ) (h k : HallPass) (n : ℕ) → k.pass ≡ (h.pass.0, with_number (heir_of h.pass.1) n) → IsAtRest k.pass.1 → OwnSigns hall_signer k.pass.1 k.pass.1.known → k.cursor ≡ h.cursor → k.kept.items ++ k.fresh.items ≡ h.kept.items ++ h.fresh.items → k.at ≡ h.at
+pub hall_heir : (hub : Hub) (conn : ℕ) (h k : HallPass) (n : ℕ) → k.pass ≡ (h.pass.0, with_number (heir_of h.pass.1) n) → IsAtRestInHall k.pass.1 → OwnSigns hall_signer k.pass.1 k.pass.1.known → k.cursor ≡ h.cursor → k.kept.items ++ k.fresh.items ≡ h.kept.items ++ h.fresh.items → k.at ≡ h.at
     → IsHallPass hub conn h → IsHallPass hub conn k
 hall_heir hub conn h k n pass rest own cursor kept at p =
     let r : Root = root_of hub in
@@ -125,7 +126,7 @@ hall_heir hub conn h k n pass rest own cursor kept at p =
 -- after all messages were handed out
 pub hall_handed : (hub : Hub) (conn : ℕ) (h k : HallPass) → k.pass ≡ h.pass → k.cursor ≡ h.cursor → k.kept.items ++ k.fresh.items ≡ [] → k.at ≡ k.cursor.passed → IsHallPass hub conn h → IsHallPass hub conn k
 hall_handed hub conn h k pass cursor none at p =
-    let moved : (q : TableId × View Root HallEntry) → q ≡ h.pass → IsAtRest q.1 × NeverFalls q.1.looks × SignsAs hall_signer conn q.1.said × OwnSigns hall_signer q.1 q.1.known = λ q same. subst (λ (u : TableId × View Root HallEntry). IsAtRest u.1 × NeverFalls u.1.looks × SignsAs hall_signer conn u.1.said × OwnSigns hall_signer u.1 u.1.known) (sym same) (p.rest, p.looks, p.signs, p.own) in
+    let moved : (q : TableId × View Root HallEntry) → q ≡ h.pass → IsAtRestInHall q.1 × NeverFalls q.1.looks × SignsAs hall_signer conn q.1.said × OwnSigns hall_signer q.1 q.1.known = λ q same. subst (λ (u : TableId × View Root HallEntry). IsAtRestInHall u.1 × NeverFalls u.1.looks × SignsAs hall_signer conn u.1.said × OwnSigns hall_signer u.1 u.1.known) (sym same) (p.rest, p.looks, p.signs, p.own) in
     let m = moved k.pass pass in
     record {
       lock = ap (λ (q : TableId × View Root HallEntry). q.0) pass ∙ p.lock;
@@ -143,11 +144,11 @@ held_looked : (hub : Hub) (h : RoomPass) (n : ℕ) (id : Option (List ℕ)) → 
 held_looked hub h n None held = tt
 held_looked hub h n (Some id) held = held
 
-room_look : (hub : Hub) (conn : ℕ) (h : RoomPass) (n : ℕ) → All (λ (m : ℕ). m ≤ n) h.pass.1.looks → IsRoomPass hub conn h → IsRoomPass hub conn (record h { pass = (h.pass.0, after_look h.pass.1 n) })
-room_look hub conn h n le p = record {
+room_look : (hub : Hub) (conn : ℕ) (h : RoomPass) (n : ℕ) → length h.pass.1.known ≤ n → All (λ (m : ℕ). m ≤ n) h.pass.1.looks → IsRoomPass hub conn h → IsRoomPass hub conn (record h { pass = (h.pass.0, after_look h.pass.1 n) })
+room_look hub conn h n knows le p = record {
   lock = p.lock;
   origin = p.origin;
-  rest = p.rest;
+  rest = rest_looked site_in Stands h.pass.1 n p.rest knows;
   looks = never_falls h.pass.1.looks n p.looks le;
   said = p.said;
   signs = p.signs;
@@ -157,8 +158,8 @@ room_look hub conn h n le p = record {
 }
 
 -- after a look
-pub room_looked : (hub : Hub) (conn : ℕ) (h k : RoomPass) (n : ℕ) → k ≡ record h { pass = (h.pass.0, after_look h.pass.1 n) } → All (λ (m : ℕ). m ≤ n) h.pass.1.looks → IsRoomPass hub conn h → IsRoomPass hub conn k
-room_looked hub conn h k n is le p = subst (IsRoomPass hub conn) (sym is) (room_look hub conn h n le p)
+pub room_looked : (hub : Hub) (conn : ℕ) (h k : RoomPass) (n : ℕ) → k ≡ record h { pass = (h.pass.0, after_look h.pass.1 n) } → length h.pass.1.known ≤ n → All (λ (m : ℕ). m ≤ n) h.pass.1.looks → IsRoomPass hub conn h → IsRoomPass hub conn k
+room_looked hub conn h k n is knows le p = subst (IsRoomPass hub conn) (sym is) (room_look hub conn h n knows le p)
 
 pub room_law : (conn : ℕ) (site : Site) → GoesOn (Shows conn site) (StandsAt conn site) (Pulls site)
 room_law conn site before later x y ms msgs at shows p = pulls_go_on conn site before later x y ms msgs at shows p
@@ -184,7 +185,7 @@ held_on hub (Some id) h k number g held =
     let here : (more : Option Story) × Tells (site_of hub h.number) (commands k.pass.1.seen) more × (id_told more ≡ Some id) = subst (λ (l : List RoomCmd). (more : Option Story) × Tells (site_of hub h.number) l more × (id_told more ≡ Some id)) later.1 further in
     subst (λ (n : ℕ). (more : Option Story) × Tells (site_of hub n) (commands k.pass.1.seen) more × (id_told more ≡ Some id)) (sym number) here
 
-pub room_stays : (hub : Hub) (conn : ℕ) (h k : RoomPass) → k.pass.0 ≡ h.pass.0 → k.at ≡ h.at → k.number ≡ h.number → k.id ≡ h.id → IsAtRest k.pass.1 → NeverFalls k.pass.1.looks → k.pass.1.said ≡ k.pass.1.mine → SignsAs room_signer conn k.pass.1.said → OwnSigns room_signer k.pass.1 k.pass.1.known → Grows h.pass.1 k.pass.1 → PullsOrNot Pulls h.pass.1 h.cursor (h.kept.items ++ h.fresh.items) k.pass.1 k.cursor (k.kept.items ++ k.fresh.items)
+pub room_stays : (hub : Hub) (conn : ℕ) (h k : RoomPass) → k.pass.0 ≡ h.pass.0 → k.at ≡ h.at → k.number ≡ h.number → k.id ≡ h.id → IsAtRestInRoom k.pass.1 → NeverFalls k.pass.1.looks → k.pass.1.said ≡ k.pass.1.mine → SignsAs room_signer conn k.pass.1.said → OwnSigns room_signer k.pass.1 k.pass.1.known → Grows h.pass.1 k.pass.1 → PullsOrNot Pulls h.pass.1 h.cursor (h.kept.items ++ h.fresh.items) k.pass.1 k.cursor (k.kept.items ++ k.fresh.items)
     → IsRoomPass hub conn h → IsRoomPass hub conn k
 room_stays hub conn h k lock at number id rest looks said signs own g pulls p = record {
   lock = ap (λ (n : ℕ). lock_of hub n) number ∙ p.lock ∙ ap (λ (t : TableId). Some t) (sym lock);
@@ -201,7 +202,7 @@ room_stays hub conn h k lock at number id rest looks said signs own g pulls p = 
 }
 
 -- after a turn
-pub room_taken : (hub : Hub) (conn : ℕ) (h k : RoomPass) (cmd : Option RoomCmd) (t : Taken RoomCmd (Option RoomOut)) → k.pass.0 ≡ h.pass.0 → (k.at ≡ h.at) × (k.number ≡ h.number) × (k.id ≡ h.id) → (IsAtRest h.pass.1 → IsAtRest k.pass.1)
+pub room_taken : (hub : Hub) (conn : ℕ) (h k : RoomPass) (cmd : Option RoomCmd) (t : Taken RoomCmd (Option RoomOut)) → k.pass.0 ≡ h.pass.0 → (k.at ≡ h.at) × (k.number ≡ h.number) × (k.id ≡ h.id) → (IsAtRestInRoom h.pass.1 → IsAtRestInRoom k.pass.1)
     → (OwnSigns room_signer h.pass.1 h.pass.1.known → OwnSigns room_signer k.pass.1 k.pass.1.known) → IfSome cmd (IsOf room_signer conn)
     → Takes Answers Pulls h.pass.1 h.cursor (h.kept.items ++ h.fresh.items) cmd t k.pass.1 k.cursor (k.kept.items ++ k.fresh.items) → IsRoomPass hub conn h → IsRoomPass hub conn k
 room_taken hub conn h k cmd t lock same rest own of told p = room_stays hub conn h k lock same.0 same.1 same.2 (rest p.rest)
@@ -213,7 +214,7 @@ room_taken hub conn h k cmd t lock same rest own of told p = room_stays hub conn
     (takes_pull Answers Pulls h.pass.1 h.cursor (h.kept.items ++ h.fresh.items) cmd t k.pass.1 k.cursor (k.kept.items ++ k.fresh.items) told)
     p
 
-pub room_taken_at_last : (hub : Hub) (conn : ℕ) (h k : RoomPass) (cmd : Option RoomCmd) (t : Taken RoomCmd (Option RoomOut)) → k.pass.0 ≡ h.pass.0 → (k.at ≡ h.at) × (k.number ≡ h.number) × (k.id ≡ h.id) → (IsAtRest h.pass.1 → IsAtRest k.pass.1)
+pub room_taken_at_last : (hub : Hub) (conn : ℕ) (h k : RoomPass) (cmd : Option RoomCmd) (t : Taken RoomCmd (Option RoomOut)) → k.pass.0 ≡ h.pass.0 → (k.at ≡ h.at) × (k.number ≡ h.number) × (k.id ≡ h.id) → (IsAtRestInRoom h.pass.1 → IsAtRestInRoom k.pass.1)
     → (OwnSigns room_signer h.pass.1 h.pass.1.known → OwnSigns room_signer k.pass.1 k.pass.1.known) → IfSome cmd (IsOf room_signer conn)
     → TakesAtLast Answers Pulls h.pass.1 h.cursor (h.kept.items ++ h.fresh.items) cmd t k.pass.1 k.cursor (k.kept.items ++ k.fresh.items) → IsRoomPass hub conn h → IsRoomPass hub conn k
 room_taken_at_last hub conn h k cmd t lock same rest own of told p = room_stays hub conn h k lock same.0 same.1 same.2 (rest p.rest)
@@ -229,7 +230,7 @@ pub room_handed : (hub : Hub) (conn : ℕ) (h k : RoomPass) → k.pass ≡ h.pas
 room_handed hub conn h k pass cursor number id none at p = record {
   lock = ap (λ (n : ℕ). lock_of hub n) number ∙ p.lock ∙ ap (λ (q : TableId × View Site RoomCmd). Some q.0) (sym pass);
   origin = ap (λ (q : TableId × View Site RoomCmd). q.1.origin) pass ∙ p.origin ∙ ap (λ (n : ℕ). site_of hub n) (sym number);
-  rest = subst (λ (q : TableId × View Site RoomCmd). IsAtRest q.1) (sym pass) p.rest;
+  rest = subst (λ (q : TableId × View Site RoomCmd). IsAtRestInRoom q.1) (sym pass) p.rest;
   looks = subst (λ (q : TableId × View Site RoomCmd). NeverFalls q.1.looks) (sym pass) p.looks;
   said = subst (λ (q : TableId × View Site RoomCmd). q.1.said ≡ q.1.mine) (sym pass) p.said;
   signs = subst (λ (q : TableId × View Site RoomCmd). SignsAs room_signer conn q.1.said) (sym pass) p.signs;
@@ -255,7 +256,7 @@ room_new hub conn number k new =
     record {
       lock = ap (λ (n : ℕ). lock_of hub n) new.number_is ∙ new.pass.2 ∙ ap (λ (q : TableId × View Site RoomCmd). Some q.0) (sym pass);
       origin = ap (λ (q : TableId × View Site RoomCmd). q.1.origin) pass ∙ ap (λ (n : ℕ). site_of hub n) (sym new.number_is);
-      rest = subst (λ (q : TableId × View Site RoomCmd). IsAtRest q.1) (sym pass) (refl, refl, refl, refl, refl, ([], refl), refl);
+      rest = subst (λ (q : TableId × View Site RoomCmd). IsAtRestInRoom q.1) (sym pass) (refl, refl, refl, refl, refl, ([], refl), refl, (refl, λ n d none. absurd (omega arith), λ n d none. absurd (omega arith)), λ none. absurd (omega arith), tt);
       looks = subst (λ (q : TableId × View Site RoomCmd). NeverFalls q.1.looks) (sym pass) tt;
       said = subst (λ (q : TableId × View Site RoomCmd). q.1.said ≡ q.1.mine) (sym pass) refl;
       signs = subst (λ (q : TableId × View Site RoomCmd). SignsAs room_signer conn q.1.said) (sym pass) (signs_nothing room_signer conn);

@@ -1,5 +1,5 @@
 -- What connections that met can be sure of.
-use Rattle.std.specs.Prelude.{◌≡◌, ◌≢◌, ◌⊎◌, ℕ, List, slice_get, slice_set, All, Option, Some}
+use Rattle.std.specs.Prelude.{◌≡◌, ◌≢◌, ◌⊎◌, ℕ, slice_get, slice_set, All, Option, Some}
 use mathlib.Core.List.{IsPrefix}
 use Rattle.ps_histlock.specs.declared.view.View.{View}
 use Rattle.ps_histlock.specs.Histories.{commands, entries_of, signed, AreOneList}
@@ -11,7 +11,7 @@ use Rattle.ps_hub.specs.declared.pass.HallPass.{HallPass}
 use Rattle.ps_hub.specs.declared.pass.RoomPass.{RoomPass}
 use Rattle.ps_hub.specs.declared.passes.Passes.{Passes}
 
--- a pass that met another is as it was, but for what it knows
+-- a pass that met another is as it was, but for what it knows, and what it may have counted
 pub record IsAsItWas {O C : Type 0} (v w : View O C) : Type 0 where
   pub origin : w.origin ≡ v.origin
   pub number : w.number ≡ v.number
@@ -20,6 +20,7 @@ pub record IsAsItWas {O C : Type 0} (v w : View O C) : Type 0 where
   pub said : w.said ≡ v.said
   pub looks : w.looks ≡ v.looks
   pub turns : w.turns ≡ v.turns
+  pub earlier : w.earlier ≡ v.earlier
   pub met : w.met ≡ v.met
 
 -- Two passes of one lock, before and after they met. Both know one and the same beginning of the one history. What each has seen
@@ -56,6 +57,8 @@ pub record HallsMeet (old new other after : Passes) : Type 0 where
   pub met : Met hall_signer one.pass.1 one_after.pass.1 another.pass.1 another_after.pass.1
   pub heard : IsHeardRightly hall_signer one.pass.1 another.pass.1
   pub heard_back : IsHeardRightly hall_signer another.pass.1 one.pass.1
+  pub same : one_after ≡ record one { pass = one_after.pass }
+  pub other_same : another_after ≡ record another { pass = another_after.pass }
   pub rest : new ≡ record old { hall = new.hall }
   pub other_rest : after ≡ record other { hall = after.hall }
 
@@ -76,6 +79,8 @@ pub record RoomsMet (number : ℕ) (old new other after : Passes) : Type 0 where
   pub met : Met room_signer one.pass.1 one_after.pass.1 another.pass.1 another_after.pass.1
   pub heard : IsHeardRightly room_signer one.pass.1 another.pass.1
   pub heard_back : IsHeardRightly room_signer another.pass.1 one.pass.1
+  pub same : one_after ≡ record one { pass = one_after.pass }
+  pub other_same : another_after ≡ record another { pass = another_after.pass }
   pub rest : new ≡ record old { rooms = new.rooms }
   pub other_rest : after ≡ record other { rooms = after.rooms }
 

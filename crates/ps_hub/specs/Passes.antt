@@ -11,10 +11,10 @@ use Rattle.ps_histlock.specs.Locks.{OwnSigns}
 use Rattle.ps_histlock.specs.declared.view.Entry.{Entry}
 use Rattle.ps_histlock.specs.declared.view.View.{View}
 use Rattle.ps_histlock.specs.Signs.{SignsAs}
-use Rattle.ps_histlock.specs.Views.{newcomer, IsAtRest}
+use Rattle.ps_histlock.specs.Views.{newcomer}
 use Rattle.server_places.specs.Sites.{Tells, id_told, room_signer}
-use Rattle.server_places.specs.Rooms.{cursor_of, Shows, StandsAt}
-use Rattle.server_places.specs.Halls.{HallShows, HallStandsAt, hall_signer}
+use Rattle.server_places.specs.Rooms.{cursor_of, Shows, StandsAt, IsAtRestInRoom}
+use Rattle.server_places.specs.Halls.{HallShows, HallStandsAt, IsAtRestInHall, hall_signer}
 use Rattle.ps_hub.specs.Hubs.{Hub, root_of, site_of, lock_of}
 use Rattle.ps_hub.specs.declared.pass.HallPass.{HallPass}
 use Rattle.ps_hub.specs.declared.pass.RoomPass.{RoomPass}
@@ -50,7 +50,7 @@ Adds {O} {C} v w = (more : List (Entry C)) × (w.said ≡ v.said ++ more) × (w.
 pub record IsHallPass (hub : Hub) (conn : ℕ) (h : HallPass) : Type 0 where
   pub lock : h.pass.0 ≡ hub.hall
   pub origin : h.pass.1.origin ≡ root_of hub
-  pub rest : IsAtRest h.pass.1
+  pub rest : IsAtRestInHall h.pass.1
   pub looks : NeverFalls h.pass.1.looks
   pub signs : SignsAs hall_signer conn h.pass.1.said
   pub own : OwnSigns hall_signer h.pass.1 h.pass.1.known
@@ -65,7 +65,7 @@ HeldBy (Some id) hub k = (told : Option Story) × Tells (site_of hub k.number) (
 pub record IsRoomPass (hub : Hub) (conn : ℕ) (k : RoomPass) : Type 0 where
   pub lock : lock_of hub k.number ≡ Some k.pass.0
   pub origin : k.pass.1.origin ≡ site_of hub k.number
-  pub rest : IsAtRest k.pass.1
+  pub rest : IsAtRestInRoom k.pass.1
   pub looks : NeverFalls k.pass.1.looks
   pub said : k.pass.1.said ≡ k.pass.1.mine
   pub signs : SignsAs room_signer conn k.pass.1.said

@@ -1,12 +1,12 @@
 //! What a connection has of one place.
 ghost use Rattle.std.specs.Prelude.{◌≡◌, ◌≢◌, ◌≤◌, None, Some, IsTrue, IsFalse, ◌++◌, ◌∷◌, ℕ, [], List, IfOk, IfSome, OnErr, IsSome, length};
-ghost use Rattle.ps_histlock.specs.Views.{newcomer, heir_of, with_number, after_look, IsAtRest};
+ghost use Rattle.ps_histlock.specs.Views.{newcomer, heir_of, with_number, after_look};
 ghost use Rattle.ps_histlock.specs.Locks.{SignsOn, IsNameTaken, OwnSigns};
 ghost use Rattle.ps_histlock.specs.Signs.{IsOf};
 ghost use Rattle.ps_histlock.specs.declared.lock.TheConstants.{OWN_LIMIT};
-ghost use Rattle.server_places.specs.Halls.{hall_cursor, hall_signer, HallAnswers, HallPulls};
+ghost use Rattle.server_places.specs.Halls.{hall_cursor, hall_signer, HallAnswers, HallPulls, IsAtRestInHall};
 ghost use Rattle.server_places.specs.Sites.{room_signer};
-ghost use Rattle.server_places.specs.Rooms.{cursor_of, Answers, Pulls};
+ghost use Rattle.server_places.specs.Rooms.{cursor_of, Answers, Pulls, IsAtRestInRoom};
 ghost use Rattle.ps_hub.specs.Hubs.{Hub, root_of, lock_of, site_of};
 ghost use Rattle.ps_hub.specs.Turns.{Takes, TakesAtLast, IsLimited, IfKeptOut};
 ghost use Rattle.ps_hub.specs.Passes.{Adds, IsHallPass, IsRoomPass, IsNewPass};
@@ -110,7 +110,7 @@ impl HallPass {
         requires { self.pass.0 ≡ lock.now.0 }
         ensures of { (hub : Hub) (conn : ℕ) → IsHallPass hub conn self → IsHallPass hub conn result }
         ensures pass { (n : ℕ) × (result.pass ≡ (lock.now.0, with_number (heir_of self.pass.1) n)) }
-        ensures rest { IsAtRest result.pass.1 }
+        ensures rest { IsAtRestInHall result.pass.1 }
         ensures cursor { result.cursor ≡ self.cursor }
         ensures kept { result.kept.items ++ result.fresh.items ≡ self.kept.items ++ self.fresh.items }
         ensures at { result.at ≡ self.at }
@@ -162,7 +162,7 @@ impl HallPass {
         ensures does { Takes HallAnswers HallPulls self.old.pass.1 self.old.cursor (self.old.kept.items ++ self.old.fresh.items) cmd result self.new.pass.1 self.new.cursor (self.new.kept.items ++ self.new.fresh.items) }
         ensures limit { IsSome cmd → length self.old.pass.1.mine ≡ OWN_LIMIT → IsLimited result }
         ensures taken { IfKeptOut cmd result (IsNameTaken hall_signer self.old.pass.1.said self.new.pass.1.seen) }
-        ensures rest { IsAtRest self.old.pass.1 → IsAtRest self.new.pass.1 }
+        ensures rest { IsAtRestInHall self.old.pass.1 → IsAtRestInHall self.new.pass.1 }
         ensures own { OwnSigns hall_signer self.old.pass.1 self.old.pass.1.known → OwnSigns hall_signer self.new.pass.1 self.new.pass.1.known }
         ensures at { self.new.at ≡ self.old.at }
     {
@@ -215,7 +215,7 @@ impl HallPass {
         ensures does { TakesAtLast HallAnswers HallPulls self.old.pass.1 self.old.cursor (self.old.kept.items ++ self.old.fresh.items) cmd result self.new.pass.1 self.new.cursor (self.new.kept.items ++ self.new.fresh.items) }
         ensures limit { IsSome cmd → length self.old.pass.1.mine ≡ OWN_LIMIT → IsLimited result }
         ensures taken { IfKeptOut cmd result (IsNameTaken hall_signer self.old.pass.1.said self.new.pass.1.seen) }
-        ensures rest { IsAtRest self.old.pass.1 → IsAtRest self.new.pass.1 }
+        ensures rest { IsAtRestInHall self.old.pass.1 → IsAtRestInHall self.new.pass.1 }
         ensures own { OwnSigns hall_signer self.old.pass.1 self.old.pass.1.known → OwnSigns hall_signer self.new.pass.1 self.new.pass.1.known }
         ensures at { self.new.at ≡ self.old.at }
     {
@@ -314,7 +314,7 @@ impl RoomPass {
         ensures does { Takes Answers Pulls self.old.pass.1 self.old.cursor (self.old.kept.items ++ self.old.fresh.items) cmd result self.new.pass.1 self.new.cursor (self.new.kept.items ++ self.new.fresh.items) }
         ensures limit { IsSome cmd → length self.old.pass.1.mine ≡ OWN_LIMIT → IsLimited result }
         ensures taken { IfKeptOut cmd result (IsNameTaken room_signer self.old.pass.1.said self.new.pass.1.seen) }
-        ensures rest { IsAtRest self.old.pass.1 → IsAtRest self.new.pass.1 }
+        ensures rest { IsAtRestInRoom self.old.pass.1 → IsAtRestInRoom self.new.pass.1 }
         ensures own { OwnSigns room_signer self.old.pass.1 self.old.pass.1.known → OwnSigns room_signer self.new.pass.1 self.new.pass.1.known }
         ensures same { (self.new.at ≡ self.old.at) × (self.new.number ≡ self.old.number) × (self.new.id ≡ self.old.id) }
     {
@@ -367,7 +367,7 @@ impl RoomPass {
         ensures does { TakesAtLast Answers Pulls self.old.pass.1 self.old.cursor (self.old.kept.items ++ self.old.fresh.items) cmd result self.new.pass.1 self.new.cursor (self.new.kept.items ++ self.new.fresh.items) }
         ensures limit { IsSome cmd → length self.old.pass.1.mine ≡ OWN_LIMIT → IsLimited result }
         ensures taken { IfKeptOut cmd result (IsNameTaken room_signer self.old.pass.1.said self.new.pass.1.seen) }
-        ensures rest { IsAtRest self.old.pass.1 → IsAtRest self.new.pass.1 }
+        ensures rest { IsAtRestInRoom self.old.pass.1 → IsAtRestInRoom self.new.pass.1 }
         ensures own { OwnSigns room_signer self.old.pass.1 self.old.pass.1.known → OwnSigns room_signer self.new.pass.1 self.new.pass.1.known }
         ensures same { (self.new.at ≡ self.old.at) × (self.new.number ≡ self.old.number) × (self.new.id ≡ self.old.id) }
     {

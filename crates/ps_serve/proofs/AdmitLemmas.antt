@@ -14,12 +14,13 @@ use Rattle.server_places.specs.declared.site.Root.{Root}
 use Rattle.server_places.specs.Halls.{HallShows}
 use Rattle.ps_hub.specs.Hubs.{Hub, root_of}
 use Rattle.ps_hub.specs.Names.{Names}
-use Rattle.ps_hub.specs.Passes.{AreOf, NeverFalls}
+use Rattle.ps_hub.specs.Passes.{AreOf}
 use Rattle.ps_hub.specs.Calls.{hall_entry, Admits}
 use Rattle.ps_hub.specs.declared.pass.HallPass.{HallPass}
 use Rattle.ps_hub.specs.declared.pass.RoomPass.{RoomPass}
 use Rattle.ps_hub.specs.declared.passes.Passes.{Passes}
 use Rattle.ps_hub.proofs.AdmitLemmas.{admit_seen, admit_other}
+use Rattle.ps_serve.specs.Names.{LooksFreshly}
 use Rattle.ps_serve.specs.declared.closed.End.TheVariants as ends
 use Rattle.ps_serve.specs.Acts.{since}
 use Rattle.ps_serve.specs.Sendings.{Sending, AreLooksAnswered}
@@ -104,7 +105,7 @@ unserved hub conn moment p talk counts start hours conn_is no_badge no_hall no_r
         looks = record {
           hall = at_none (HallLooks true hub conn t) p no_hall;
           rooms = of_none (RoomLooks true hub conn t) p.rooms.items no_rooms;
-          fresh = record { hall = at_none (λ (h : HallPass). NeverFalls h.pass.1.looks) p no_hall; rooms = of_none (λ (k : RoomPass). NeverFalls k.pass.1.looks) p.rooms.items no_rooms };
+          fresh = record { hall = at_none (λ (h : HallPass). LooksFreshly h.pass.1) p no_hall; rooms = of_none (λ (k : RoomPass). LooksFreshly k.pass.1) p.rooms.items no_rooms };
         };
         of = record { of = λ some. absurd (true≢false (sym (subst IsSome no_hall some))); named = of_none (λ (k : RoomPass). IfSome k.id (λ id. Names hub.config id k.number)) p.rooms.items no_rooms };
         history = record { conn_is = conn_is; hall = at_none (IsHallOf hub) p no_hall; rooms = of_none (IsRoomOf hub) p.rooms.items no_rooms; apart = subst AreApart (sym no_rooms) tt };

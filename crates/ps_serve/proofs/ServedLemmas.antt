@@ -16,13 +16,14 @@ use Rattle.ps_hub.specs.Hubs.{Hub, root_of, site_of}
 use Rattle.server_places.specs.Rooms.{Shows}
 use Rattle.server_places.specs.Halls.{HallShows}
 use Rattle.ps_hub.specs.Names.{Names}
-use Rattle.ps_hub.specs.Passes.{AreOf, IsRoomPass, NeverFalls}
+use Rattle.ps_hub.specs.Passes.{AreOf, IsRoomPass}
 use Rattle.ps_hub.specs.Calls.{QuitsHall, QuitsRoom, QuitsWith, Quits}
 use Rattle.ps_hub.specs.declared.pass.HallPass.{HallPass}
 use Rattle.ps_hub.specs.declared.pass.RoomPass.{RoomPass}
 use Rattle.ps_hub.specs.declared.passes.Passes.{Passes}
 use Rattle.ps_hub.proofs.CallLemmas.{RoomEndsAtMost, HallEndsAtMost, quits_each}
 use Rattle.ps_hub.proofs.PassListLemmas.{hall_of}
+use Rattle.ps_serve.specs.Names.{LooksFreshly}
 use Rattle.ps_serve.specs.declared.closed.End.{End}
 use Rattle.ps_serve.specs.declared.closed.End.TheVariants as ends
 use Rattle.ps_serve.specs.Acts.{Act, moments_of, hall_entries, room_cmds, since, begins, all_begun}
@@ -176,8 +177,8 @@ one_begin end hub conn t old new talk0 talk counts0 counts hours0 hours1 r q = r
 history_of : (hub : Hub) (conn : ℕ) (passes : Passes) → AreOf hub passes → passes.conn ≡ conn → AreApart passes.rooms.items → OneHistory hub conn passes
 history_of hub conn passes are conn_is apart = record {
   conn_is = conn_is;
-  hall = at_hall (IsHallOf hub) passes are.hall_pass are.hall (record { lock_is = are.hall_is.lock; origin_is = are.hall_is.origin; own = are.hall_is.rest });
-  rooms = All-weaker (IsRoomPass hub passes.conn) (IsRoomOf hub) (λ k is. (k.pass.0, is.lock, record { lock_is = refl; origin_is = is.origin; own = is.rest })) passes.rooms.items are.rooms;
+  hall = at_hall (IsHallOf hub) passes are.hall_pass are.hall (record { lock_is = are.hall_is.lock; origin_is = are.hall_is.origin; at_rest = are.hall_is.rest });
+  rooms = All-weaker (IsRoomPass hub passes.conn) (IsRoomOf hub) (λ k is. (k.pass.0, is.lock, record { lock_is = refl; origin_is = is.origin; at_rest = is.rest })) passes.rooms.items are.rooms;
   apart = apart;
 }
 
@@ -232,7 +233,7 @@ served end hub conn t old new talk0 talk counts0 counts start hours0 hours1 hour
       looks = record {
         hall = at_hall (HallLooks b hub conn t) new k q.hall q.keeps.looks;
         rooms = room_facts b s hub conn t old new (RoomLooks b hub conn t) (λ h x rq. rq.keeps.looks) q.rooms;
-        fresh = record { hall = at_hall (λ (h : HallPass). NeverFalls h.pass.1.looks) new k q.hall (hall_of hub new k q.are q.hall).looks; rooms = λ i d lt. (q.are.rooms i d lt).looks };
+        fresh = record { hall = at_hall (λ (h : HallPass). LooksFreshly h.pass.1) new k q.hall ((hall_of hub new k q.are q.hall).looks, (hall_of hub new k q.are q.hall).rest.9); rooms = λ i d lt. ((q.are.rooms i d lt).looks, (q.are.rooms i d lt).rest.9) };
       };
       of = record { of = λ some. q.are; named = named };
       history = history_of hub conn new q.are q.conn_is apart;

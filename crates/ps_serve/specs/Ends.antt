@@ -14,7 +14,6 @@ use Rattle.rules_start.specs.declared.start.Start.{Start}
 use Rattle.ps_hall.specs.declared.entry.HallEntry.{HallEntry}
 use Rattle.ps_histlock.specs.Histories.{commands, entries_of}
 use Rattle.ps_histlock.specs.Seated.{TableId}
-use Rattle.ps_histlock.specs.Views.{IsAtRest}
 use Rattle.ps_histlock.specs.declared.view.View.{View}
 use Rattle.ps_session.specs.declared.session.TheConstants.{MOST_TEXTS}
 use Rattle.ps_session.specs.Sessions.{begun, is_full, counted}
@@ -35,8 +34,8 @@ use Rattle.ps_laws.specs.HallStories.{HallStory, hall_story, hall_view_of}
 use Rattle.server_places.specs.declared.command.RoomCmd.{RoomCmd}
 use Rattle.server_places.specs.declared.command.RoomCmd.TheVariants.{Begin, Play}
 use Rattle.server_places.specs.Sites.{battle_at, Tells}
-use Rattle.server_places.specs.Rooms.{Shows}
-use Rattle.server_places.specs.Halls.{HallShows}
+use Rattle.server_places.specs.Rooms.{Shows, IsAtRestInRoom}
+use Rattle.server_places.specs.Halls.{HallShows, IsAtRestInHall}
 use Rattle.std.specs.FinMap.{empty}
 use Rattle.ps_hub.specs.Hubs.{Hub, root_of, site_of, lock_of}
 use Rattle.ps_hub.specs.Names.{IsNoChat, Names}
@@ -296,17 +295,19 @@ pub record AreOfHub (hub : Hub) (passes : Passes) : Type 0 where
 
 -- ---- one history
 
--- a pass of this lock, whose own entries are all that stand with its number in the history that it has seen
-pub record IsOfLock {O C : Type 0} (lock : TableId) (origin : O) (pass : TableId × View O C) : Type 0 where
+-- A pass of this lock, at rest: its own entries are all that stand with its number in the history that it has seen. That is a list
+-- that a value of the place stands for, if it took a turn, begins with what it had seen before each, and was behind no look at the
+-- last one.
+pub record IsOfLock {O C : Type 0} (IsResting : View O C → Type 0) (lock : TableId) (origin : O) (pass : TableId × View O C) : Type 0 where
   pub lock_is : pass.0 ≡ lock
   pub origin_is : pass.1.origin ≡ origin
-  pub own : IsAtRest pass.1
+  pub at_rest : IsResting pass.1
 
 abbrev pub IsHallOf : Hub → HallPass → Type 0
-IsHallOf hub h = IsOfLock hub.hall (root_of hub) h.pass
+IsHallOf hub h = IsOfLock IsAtRestInHall hub.hall (root_of hub) h.pass
 
 abbrev pub IsRoomOf : Hub → RoomPass → Type 0
-IsRoomOf hub k = (lock : TableId) × (lock_of hub k.number ≡ Some lock) × IsOfLock lock (site_of hub k.number) k.pass
+IsRoomOf hub k = (lock : TableId) × (lock_of hub k.number ≡ Some lock) × IsOfLock IsAtRestInRoom lock (site_of hub k.number) k.pass
 
 pub record OneHistory (hub : Hub) (conn : ℕ) (passes : Passes) : Type 0 where
   pub conn_is : passes.conn ≡ conn

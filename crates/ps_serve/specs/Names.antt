@@ -5,6 +5,8 @@ use Rattle.ps_hall.specs.declared.entry.HallEntry.{HallEntry}
 use Rattle.ps_histlock.specs.declared.view.Entry.{Entry}
 use Rattle.ps_histlock.specs.Histories.{commands, signed}
 use Rattle.ps_histlock.specs.Signs.{Speaks}
+use Rattle.ps_histlock.specs.Views.{HasLooked}
+use Rattle.ps_histlock.specs.declared.view.View.{View}
 use Rattle.server_places.specs.Sites.{room_signer}
 use Rattle.server_places.specs.Halls.{hall_signer}
 use Rattle.ps_hub.specs.Hubs.{Hub}
@@ -40,7 +42,10 @@ pub record HasOwnNames (conn : ℕ) (passes : Passes) : Type 0 where
   pub hall : IfSome passes.hall (HallName conn)
   pub rooms : All (RoomName conn) passes.rooms.items
 
--- no look shows less than one before it
+-- no look of a pass shows less than one before it, or than what the pass knew then
+abbrev pub LooksFreshly : {O C : Type 0} → View O C → Type 0
+LooksFreshly v = NeverFalls v.looks × HasLooked v
+
 pub record AreLooksFresh (passes : Passes) : Type 0 where
-  pub hall : IfSome passes.hall (λ h. NeverFalls h.pass.1.looks)
-  pub rooms : All (λ (k : RoomPass). NeverFalls k.pass.1.looks) passes.rooms.items
+  pub hall : IfSome passes.hall (λ h. LooksFreshly h.pass.1)
+  pub rooms : All (λ (k : RoomPass). LooksFreshly k.pass.1) passes.rooms.items

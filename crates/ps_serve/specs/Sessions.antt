@@ -35,8 +35,8 @@ pub record IsSession (hub : Hub) (conn : ℕ) (closed : Closed) : Type 0 where
 
 -- ---- sessions that met
 
--- What the second has seen in the hall under the number of the first begins with the Open of the first, and goes on with the entries
--- that the first made, in order and with nothing left out before them.
+-- What the second has seen in the hall under the number of the first is a beginning of this: the Open of the first, and the entries
+-- that the first made, in order.
 abbrev pub IsHeardInHall : ℕ → HallPass → HallPass → Type 0
 IsHeardInHall conn h k =
     (opened : Entry HallEntry) × ((moment : ℕ) × (opened.cmd ≡ hall_entry conn moment Open)) × IsPrefix (signed hall_signer conn (commands k.pass.1.seen)) (signed hall_signer conn (commands (opened ∷ h.pass.1.mine)))

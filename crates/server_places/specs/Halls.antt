@@ -9,6 +9,8 @@ use Rattle.ps_hall.specs.Records.{Record, opened}
 use Rattle.ps_base.specs.Limits.{most_battles}
 use Rattle.ps_base.specs.Messages.{msg_lines}
 use Rattle.ps_hall.specs.Halls.{Seen, seen_opened, run_seen, run_record, out_of, view, pulled_past, cursor_past}
+use Rattle.ps_histlock.specs.Views.{IsAtRest}
+use Rattle.ps_histlock.specs.declared.view.View.{View}
 use Rattle.server_places.specs.declared.cursor.HallCursor.{HallCursor}
 use Rattle.server_places.specs.declared.site.Root.{Root}
 use Rattle.server_places.specs.Sites.{no_settings, no_tables}
@@ -38,6 +40,13 @@ pub record HallHome : Type 0 where
 pub record HallStands (es : List HallEntry) (p : HallHome) : Type 0 where
   pub hall : p.hall ≡ hall_seen p.root es
   pub count : p.count ≡ length es
+
+abbrev pub root_in : HallHome → Root
+root_in p = p.root
+
+-- a pass of the hall between two calls: after its last turn a hall stood for what it has seen
+abbrev pub IsAtRestInHall : View Root HallEntry → Type 0
+IsAtRestInHall v = IsAtRest root_in HallStands v
 
 -- what an entry is answered after these; a battle that it starts can start, and has a number of a battle
 pub record HallAnswers (r : Root) (es : List HallEntry) (e : HallEntry) (out : HallOut) : Type 0 where

@@ -14,6 +14,8 @@ use Rattle.ps_room.specs.Records.{opened}
 use Rattle.ps_room.specs.Rooms.{run_record}
 use Rattle.ps_room.specs.Logs.{Seen, record_in, seen_opened, seen_after, out_of, cursor_at}
 use Rattle.ps_room.specs.Stories.{Story, seen_of}
+use Rattle.ps_histlock.specs.Views.{IsAtRest}
+use Rattle.ps_histlock.specs.declared.view.View.{View}
 use Rattle.server_places.specs.declared.command.RoomCmd.{RoomCmd}
 use Rattle.server_places.specs.declared.command.RoomCmd.TheVariants.{Begin, Play}
 use Rattle.server_places.specs.declared.cursor.RoomCursor.{RoomCursor}
@@ -32,6 +34,13 @@ pub record Stands (cmds : List RoomCmd) (p : Place) : Type 0 where
   pub tells : Tells p.site cmds told
   pub room : p.room ≡ option_map seen_of told
   pub count : p.count ≡ length cmds
+
+abbrev pub site_in : Place → Site
+site_in p = p.site
+
+-- a pass of a room's place between two calls: after its last turn a place stood for what it has seen
+abbrev pub IsAtRestInRoom : View Site RoomCmd → Type 0
+IsAtRestInRoom v = IsAtRest site_in Stands v
 
 -- what comes of a command: of an entry of a room what the room answers; nothing of a Begin, and nothing where there is no room
 abbrev pub out_after : Option Story → RoomCmd → Option RoomOut

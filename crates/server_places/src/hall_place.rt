@@ -63,7 +63,7 @@ impl HallPlace {
 }
 
 impl Kept for HallPlace {
-    ghost use Rattle.server_places.specs.Halls.{HallStands, HallAnswers, HallPulls, no_root, hall_signer};
+    ghost use Rattle.server_places.specs.Halls.{root_in, HallStands, HallAnswers, HallPulls, no_root, hall_signer};
 
     type Origin = Root;
 
@@ -75,7 +75,7 @@ impl Kept for HallPlace {
 
     type Msg = Msg;
 
-    ghost origin = { λ p. p.root };
+    ghost origin = { root_in };
 
     ghost nowhere = { no_root };
 

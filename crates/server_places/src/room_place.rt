@@ -189,7 +189,7 @@ fn read_on(
 
 impl Kept for RoomPlace {
     ghost use Rattle.server_places.specs.Sites.{no_site, room_signer};
-    ghost use Rattle.server_places.specs.Rooms.{Stands, Answers, Pulls};
+    ghost use Rattle.server_places.specs.Rooms.{site_in, Stands, Answers, Pulls};
 
     type Origin = Site;
 
@@ -201,7 +201,7 @@ impl Kept for RoomPlace {
 
     type Msg = Msg;
 
-    ghost origin = { λ p. p.site };
+    ghost origin = { site_in };
 
     ghost nowhere = { no_site };
 

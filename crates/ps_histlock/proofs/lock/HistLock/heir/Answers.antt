@@ -1,4 +1,4 @@
-use Rattle.std.proofs.Common.{◌≡◌, [], length, refl, sym, ap, subst, arith, ◌∙◌}
+use Rattle.std.proofs.Common.{◌≡◌, length, refl, sym, ap, subst, arith, ◌∙◌}
 use Rattle.ps_histlock.specs.declared.view.View.{View}
 use Rattle.ps_histlock.specs.Histories.{entries_of}
 use Rattle.ps_histlock.specs.Views.{with_number, IsAtRest}
@@ -27,7 +27,7 @@ invariant_of-result g c =
     let is = t.1 ∙ ap (λ m. (with_number m.0 t.0, m.1)) here in
     let none = subst (λ m. m.0.mine ≡ entries_of t.0 m.0.seen) here t.2 in (
       ap (λ m. m.1) is,
-      subst IsAtRest (sym (ap (λ m. m.0) is)) (refl, refl, none, refl, refl, r.1.5, refl),
+      subst (IsAtRest g.K.Kept.origin g.K.Kept.stands) (sym (ap (λ m. m.0) is)) (refl, refl, none, refl, refl, r.1.5, refl, (refl, λ k d h. absurd (omega arith), λ k d h. absurd (omega arith)), λ some. absurd (omega arith), tt),
       sym (ap (λ m. length m.0.mine) is),
       omega arith,
       subst (λ (u : View g.row.K-Origin.Denot g.row.K-Cmd.Denot). OwnSigns g.K.Kept.signer u u.known) (sym (ap (λ m. m.0) is)) r.4,

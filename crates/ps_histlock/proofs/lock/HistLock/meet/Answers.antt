@@ -41,13 +41,13 @@ pub invariant_of-pass : goal.invariant_of-pass
 invariant_of-pass g c =
     let is = pass_is g c in
     let r = c.pass.invariant in
-    (ap (λ m. m.1) is, subst IsAtRest (sym (ap (λ m. m.0) is)) (rest_knowing c.pass.inside.seat.me.0 _ r.1 c.tell.ensures.one.0), r.2 ∙ sym (ap (λ m. length m.0.mine) is), r.3, pass_signs g c, subst (HasSigned g.K.Kept.signer c.pass.inside.has_signed) (sym (ap (λ m. m.0.said) is)) r.5)
+    (ap (λ m. m.1) is, subst (IsAtRest g.K.Kept.origin g.K.Kept.stands) (sym (ap (λ m. m.0) is)) (rest_knowing g.K.Kept.origin g.K.Kept.stands c.pass.inside.seat.me.0 _ r.1 c.tell.ensures.one.0), r.2 ∙ sym (ap (λ m. length m.0.mine) is), r.3, pass_signs g c, subst (HasSigned g.K.Kept.signer c.pass.inside.has_signed) (sym (ap (λ m. m.0.said) is)) r.5)
 
 pub invariant_of-other : goal.invariant_of-other
 invariant_of-other g c =
     let is = other_is g c in
     let r = c.other.invariant in
-    (ap (λ m. m.1) is, subst IsAtRest (sym (ap (λ m. m.0) is)) (rest_knowing c.other.inside.seat.me.0 _ r.1 c.tell.ensures.one.1), r.2 ∙ sym (ap (λ m. length m.0.mine) is), r.3, other_signs g c, subst (HasSigned g.K.Kept.signer c.other.inside.has_signed) (sym (ap (λ m. m.0.said) is)) r.5)
+    (ap (λ m. m.1) is, subst (IsAtRest g.K.Kept.origin g.K.Kept.stands) (sym (ap (λ m. m.0) is)) (rest_knowing g.K.Kept.origin g.K.Kept.stands c.other.inside.seat.me.0 _ r.1 c.tell.ensures.one.1), r.2 ∙ sym (ap (λ m. length m.0.mine) is), r.3, other_signs g c, subst (HasSigned g.K.Kept.signer c.other.inside.has_signed) (sym (ap (λ m. m.0.said) is)) r.5)
 
 pub returns-clause-rest : goal.returns-clause-rest
 returns-clause-rest g c = ((invariant_of-pass g c).1, (invariant_of-other g c).1)

@@ -23,7 +23,7 @@ invariant_of-pass g c =
     let is = c.split_seat-seat.ensures.2 in
     let r = c.pass.invariant in (
       ap (λ m. m.1) is ∙ r.0,
-      subst IsAtRest (sym (ap (λ m. m.0) is)) r.1,
+      subst (IsAtRest g.K.Kept.origin g.K.Kept.stands) (sym (ap (λ m. m.0) is)) r.1,
       r.2 ∙ sym (ap (λ m. length m.0.mine) is),
       r.3,
       subst (λ (u : View g.row.K-Origin.Denot g.row.K-Cmd.Denot). OwnSigns g.K.Kept.signer u u.known) (sym (ap (λ m. m.0) is)) r.4,

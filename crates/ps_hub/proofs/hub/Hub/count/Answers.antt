@@ -23,3 +23,8 @@ returns-in-Some-position_of-clause-does c =
     let found = c.in-Some-position_of.ensures.found in
     let there = read_there c.args.passes.now.rooms.items c.in-Some-position_of.pass_index found.0 c.index_mut.result.now found.1 c.index_mut.ensures.value in
     counted_room c.in-Some-position_of.pass_index c.args.passes.now _ c.index_mut.result.now c.count_at.new.pass c.count_at.result c.in-Some.id.now (found.0, found.1, found.2) there refl refl c.count_at.ensures.does (option_copied c.args.room) (ap (λ (o : Option (Bor (List ℕ))). option_copied o) c.in-Some.is)
+
+pub count_at-requires : goal.count_at-requires
+count_at-requires c =
+    let found = c.in-Some-position_of.ensures.found in
+    (c.args.passes.now.conn, read_pass c.args.self.now c.args.passes.now c.in-Some-position_of.pass_index c.index_mut.result.now c.requires.of (read_there c.args.passes.now.rooms.items c.in-Some-position_of.pass_index found.0 c.index_mut.result.now found.1 c.index_mut.ensures.value))

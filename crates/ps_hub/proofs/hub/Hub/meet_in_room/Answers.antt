@@ -72,6 +72,8 @@ returns-clause-met c =
       met = c.meet.ensures.met;
       heard = c.meet.ensures.heard.0;
       heard_back = c.meet.ensures.heard.1;
+      same = c.meet.ensures.same;
+      other_same = c.meet.ensures.same_other;
       rest = refl;
       other_rest = refl;
     }

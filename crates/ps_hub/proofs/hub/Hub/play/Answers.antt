@@ -21,3 +21,6 @@ returns-in-NoMemory-clause-of c = c.try_turn.ensures.of c.args.self.now c.args.e
 
 pub returns-in-NameTaken-clause-of : goal.returns-in-NameTaken-clause-of
 returns-in-NameTaken-clause-of c = c.try_turn.ensures.of c.args.self.now c.args.entry.conn (of_room c.args.entry.conn c.args.entry.badge c.args.entry.moment c.args.entry.cmd) c.requires
+
+pub returns-in-OwnLimit-clause-of : goal.returns-in-OwnLimit-clause-of
+returns-in-OwnLimit-clause-of c = c.try_turn.ensures.of c.args.self.now c.args.entry.conn (of_room c.args.entry.conn c.args.entry.badge c.args.entry.moment c.args.entry.cmd) c.requires

@@ -9,3 +9,9 @@ returns-in-Late-clause-of c = λ hub p. c.try_turn.ensures.of hub c.args.entry.c
 
 pub returns-clause-of : goal.returns-clause-of
 returns-clause-of c = λ hub p. c.try_turn.ensures.of hub c.args.entry.conn (of_hall c.args.entry.conn c.args.entry.moment c.args.entry.cmd) p
+
+pub returns-in-Busy-clause-of : goal.returns-in-Busy-clause-of
+returns-in-Busy-clause-of c = λ hub p. c.try_turn.ensures.of hub c.args.entry.conn (of_hall c.args.entry.conn c.args.entry.moment c.args.entry.cmd) p
+
+pub returns-in-OwnLimit-clause-of : goal.returns-in-OwnLimit-clause-of
+returns-in-OwnLimit-clause-of c = λ hub p. c.try_turn.ensures.of hub c.args.entry.conn (of_hall c.args.entry.conn c.args.entry.moment c.args.entry.cmd) p

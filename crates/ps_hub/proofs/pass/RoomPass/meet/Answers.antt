@@ -17,7 +17,7 @@ returns-clause-met c = passes_met room_signer c.args.self.now.pass c.differ.new.
 pub returns-clause-heard : goal.returns-clause-heard
 returns-clause-heard c =
     let m : Met room_signer c.args.self.now.pass.1 c.meet.new.pass.1 c.args.other.now.pass.1 c.meet.new.other.1 = passes_met room_signer c.args.self.now.pass c.differ.new.pass c.meet.new.pass c.args.other.now.pass c.differ.new.other c.meet.new.other c.differ.ensures.pass c.differ.ensures.other c.differ.ensures.two c.meet.ensures.pass c.meet.ensures.other c.meet.ensures.one c.meet.ensures.one_list c.meet.ensures.own c.meet.ensures.signed in
-    both_heard room_signer c.args.self.now.pass.1 c.meet.new.pass.1 c.args.other.now.pass.1 c.meet.new.other.1 m c.meet.ensures.rest
+    both_heard room_signer c.args.self.now.pass.1 c.meet.new.pass.1 c.args.other.now.pass.1 c.meet.new.other.1 m (c.meet.ensures.rest.0.5, c.meet.ensures.rest.1.5)
 
 pub returns-clause-of : goal.returns-clause-of
 returns-clause-of c =
