@@ -7,7 +7,7 @@ use Rattle.std.proofs.lemmas.Option.{none-some, same_Some}
 use Rattle.ps_hub.specs.Hubs.{Hub}
 use Rattle.ps_serve.specs.declared.closed.Closed.{Closed}
 use Rattle.ps_serve.specs.Sessions.{IsSession}
-use Rattle.server_accept.specs.Journals.{AreSessions, AreEnds, AreFilled, no_hub}
+use Rattle.server_accept.specs.Journals.{AreSessions, AreEnds, AreFilled}
 
 -- ---- lists
 
@@ -88,10 +88,3 @@ taken_sessions hub begun ends filled are = λ place lt.
     let within : place < begun = omega arith in
     let f = filled place within in
     (f.0, get_take ends begun place within ∙ f.1, are place f.0 f.1)
-
-no_sessions : (hub : Hub) → AreSessions hub []
-no_sessions hub = λ place lt. absurd (omega arith)
-
--- there are none
-pub none_served : (ends : List (Option Closed)) → ends ≡ [] → (hub : Hub) × AreSessions hub ends
-none_served ends none = (no_hub, subst (λ (l : List (Option Closed)). AreSessions no_hub l) (sym none) (no_sessions no_hub))

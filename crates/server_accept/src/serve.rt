@@ -1,13 +1,12 @@
 //! All that a server does.
-ghost use Rattle.std.specs.Prelude.{◌≡◌, ◌≤◌, ℕ, map, string_bytes, length, None, OnOk, IfOk};
+ghost use Rattle.std.specs.Prelude.{◌≡◌, ◌≤◌, ℕ, [], map, string_bytes, length, None, OnOk, IfOk, IsSome};
 ghost use Rattle.ps_outside.specs.Causes.{Rose};
 ghost use Rattle.ps_outside.specs.Counts.{one_more};
 ghost use Rattle.ps_outside.specs.Doors.{HasAcceptCause};
 ghost use Rattle.program_commands.specs.Words.{options_of, serve_words_in};
 ghost use Rattle.program_commands.specs.Steps.{dex_in};
 ghost use Rattle.program_commands.specs.Setups.{serve_usage_of, usage_reported, Stands};
-ghost use Rattle.ps_hub.specs.Hubs.{Hub};
-ghost use Rattle.server_accept.specs.Journals.{AreSessions};
+ghost use Rattle.server_accept.specs.Journals.{AreSessions, AreServed};
 ghost use Rattle.server_accept.specs.Servers.{IfServe, given_by, ServeCause, KeepsDoor, SettlesServe, IsOfDoor};
 
 use crate::journal::{Journal, Serving};
@@ -190,7 +189,9 @@ where
 }
 
 // A hub in which nobody is connected.
-fn make_hub(alloc: Global, config: Config, dex: Dex) -> Result<Hub, AllocError> {
+fn make_hub(alloc: Global, config: Config, dex: Dex) -> Result<Hub, AllocError>
+    ensures { IfOk result (λ h. (h.config ≡ config) × (h.dex ≡ dex)) }
+{
     let config = Arc::new(alloc, config)?;
     let dex = Arc::new(alloc, dex)?;
     Ok(Hub::new(alloc, config, dex)?.open())
@@ -279,7 +280,7 @@ where
     ensures door_fault { result.status ≡ Status.DoorFault → Rose (D.faults door.old) (D.faults door.new) }
     ensures untouched { KeepsDoor (D.faults door.old) (D.faults door.new) (D.given door.old) (D.given door.new) result.status }
     ensures given { result.status ≡ Status.Done → D.given door.new ≡ given_by words.entry.count (D.given door.old) }
-    ensures sessions { (hub : Hub) × AreSessions hub result.sessions.items }
+    ensures sessions { AreServed (F.contents files.old) (options_of words.entry.options) result.sessions.items }
     ensures all { result.status ≡ Status.Done → length result.sessions.items ≡ words.entry.count }
     ensures complete { SettlesServe (F.contents files.old) (options_of words.entry.options) (Rose (F.counts files.old).faults (F.counts files.new).faults) (Rose (D.faults door.old) (D.faults door.new)) result.status }
 {
@@ -324,7 +325,7 @@ where
     ensures door_fault { result.status ≡ Status.DoorFault → Rose (D.faults door.old) (D.faults door.new) }
     ensures untouched { KeepsDoor (D.faults door.old) (D.faults door.new) (D.given door.old) (D.given door.new) result.status }
     ensures given { result.status ≡ Status.Done → D.given door.new ≡ given_by words.entry.count (D.given door.old) }
-    ensures sessions { (hub : Hub) × AreSessions hub result.sessions.items }
+    ensures sessions { AreServed (F.contents files.old) (options_of words.entry.options) result.sessions.items }
     ensures all { result.status ≡ Status.Done → length result.sessions.items ≡ words.entry.count }
     ensures complete { SettlesServe (F.contents files.old) (options_of words.entry.options) (Rose (F.counts files.old).faults (F.counts files.new).faults) (Rose (D.faults door.old) (D.faults door.new)) result.status }
 {
@@ -372,9 +373,10 @@ where
     ensures door_fault { result.status ≡ Status.DoorFault → Rose (D.faults door.old) (D.faults door.new) }
     ensures untouched { KeepsDoor (D.faults door.old) (D.faults door.new) (D.given door.old) (D.given door.new) result.status }
 
-    // What lies at each place of the sessions is the end of the session of that connection, with all that a session promises, and
-    // all are of one hub.
-    ensures sessions { (hub : Hub) × AreSessions hub result.sessions.items }
+    // What lies at each place of the sessions is an end that a session of that connection may have had. All are of one hub, under
+    // the dex and the configuration of the files.
+    ensures sessions { IfServe (serve_words_in (map string_bytes words.now)) (λ asked. AreServed (F.contents files.old) asked.options result.sessions.items) }
+    ensures unserved { IsSome (usage_reported result.status) → result.sessions.items ≡ [] }
 
     // At Done there is one for each connection from 1 to COUNT, and the door has handed out as many links.
     ensures all { IfServe (serve_words_in (map string_bytes words.now)) (λ asked. result.status ≡ Status.Done → length result.sessions.items ≡ asked.count) }

@@ -1,7 +1,7 @@
+use Rattle.std.proofs.Common.{inl, inr}
 use Rattle.program_commands.specs.Words.{options_of}
 use Rattle.program_commands.specs.Setups.{HasSetup, IsGood}
 use Rattle.program_commands.proofs.SetupLemmas.{files_settle}
-use Rattle.server_accept.proofs.JournalLemmas.{none_served}
 use Rattle.server_accept.proofs.ServerLemmas.{door_cause}
 use Rattle.server_accept.proofs.serve.serve_config.Goals as goal
 
@@ -16,7 +16,11 @@ returns-in-Ok-make_hub-clause-cause g c =
     door_cause (g.F.Files.contents c.args.files.now) (options_of c.args.words.options) (g.F.Files.counts c.args.files.now) (g.F.Files.counts c.config_or_standard.new.files) c.serve_door.result.status setup c.serve_door.ensures.of
 
 pub returns-in-Err-clause-sessions : goal.returns-in-Err-clause-sessions
-returns-in-Err-clause-sessions g c = none_served c.new.result.items c.new.ensures.items
+returns-in-Err-clause-sessions g c = inl c.new.ensures.items
 
 pub returns-in-Err-make_hub-clause-sessions : goal.returns-in-Err-make_hub-clause-sessions
-returns-in-Err-make_hub-clause-sessions g c = none_served c.new-in-Err-make_hub.result.items c.new-in-Err-make_hub.ensures.items
+returns-in-Err-make_hub-clause-sessions g c = inl c.new-in-Err-make_hub.ensures.items
+
+pub returns-in-Ok-make_hub-clause-sessions : goal.returns-in-Ok-make_hub-clause-sessions
+returns-in-Ok-make_hub-clause-sessions g c =
+    inr (c.in-Ok.config, c.args.dex, record { dex_is = c.requires.stands; config_is = c.in-Ok.ensures.stands }, (c.in-Ok-make_hub.hub, c.in-Ok-make_hub.ensures.0, c.in-Ok-make_hub.ensures.1, c.serve_door.ensures.sessions))
