@@ -12,7 +12,9 @@ use ps_serve::session::serve_session;
 use std::alloc::Global;
 use std::process::Abort;
 use std::sync::Wait;
-use test_data::SMALL_DEX;
+
+/// No move and no species: no session of a test begins a battle.
+const DEX: &str = "{}";
 
 /// Ann is staff, and logs in by her secret.
 const CONFIG: &str = r#"{"users":[{"id":"ann","secret":"s","group":"%"}],
@@ -34,9 +36,9 @@ fn hub_of(rt: &impl Abort, alloc: Global, files: Files) -> Hub {
         .open()
 }
 
-/// A hub over the small dex.
+/// A hub.
 pub(crate) fn make_hub(rt: &impl Abort, alloc: Global) -> Hub {
-    let files = read_files(alloc, CONFIG, SMALL_DEX).expect(rt, "files");
+    let files = read_files(alloc, CONFIG, DEX).expect(rt, "files");
     hub_of(rt, alloc, files)
 }
 

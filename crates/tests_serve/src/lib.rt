@@ -1,13 +1,11 @@
 //! Tests of locks and their passes, and of sessions over links in memory, worked by hand: links that are quiet or fail, texts that are
-//! too long or too many, and threads that meet. It has tests alone, and no crate stands on it.
+//! too many, and threads that meet. It has tests alone, and no crate stands on it.
 #![tactic(auto)]
 
 #[cfg(test)]
 mod connection;
 #[cfg(test)]
 mod files;
-#[cfg(test)]
-mod gate_tests;
 #[cfg(test)]
 mod hub_files;
 #[cfg(test)]
@@ -18,7 +16,5 @@ mod lock_tests;
 mod meet_tests;
 #[cfg(test)]
 mod thread_tests;
-#[cfg(test)]
-mod waiting;
 #[cfg(test)]
 mod watching;

@@ -199,22 +199,6 @@ fn a_closed_lock_is_busy_until_it_opens(rt: HostRuntime) -> Result<(), Fail> {
     Ok(())
 }
 
-#[test]
-fn passes_see_one_history(rt: HostRuntime) -> Result<(), Fail> {
-    let (lock, mut first) = lock_of_numbers(rt.alloc())?;
-    let mut cursor = 0;
-    let wrote = try_one(&lock, &mut first, &mut cursor, Some(5));
-    assert_eq!(rt; wrote, done(Some(0), 1));
-    let mut second = lock.split(&mut first);
-    let mut other = cursor;
-    let wrote = try_one(&lock, &mut second, &mut other, Some(6));
-    assert_eq!(rt; wrote, done(Some(1), 1));
-    let read = try_one(&lock, &mut first, &mut cursor, None);
-    assert_eq!(rt; read, done(None, 1));
-    assert_eq!(rt; lock.look(&mut lock.fresh()), 2);
-    Ok(())
-}
-
 /// Makes as many entries as one pass may, and says how many of its turns were Done.
 fn fill(lock: &HistLock<Numbers>, pass: &mut Pass<Numbers>, cursor: &mut usize) -> u64
     requires { pass.old.0 ≡ lock.now.0 }
@@ -229,6 +213,7 @@ fn fill(lock: &HistLock<Numbers>, pass: &mut Pass<Numbers>, cursor: &mut usize) 
     done
 }
 
+/// A pass that made as many entries as one may makes no more, and reads what one that is split off it makes.
 #[test]
 fn own_limit_counts_each_pass(rt: HostRuntime) -> Result<(), Fail> {
     let (lock, mut pass) = lock_of_numbers(rt.alloc())?;
@@ -236,10 +221,12 @@ fn own_limit_counts_each_pass(rt: HostRuntime) -> Result<(), Fail> {
     assert_eq!(rt; fill(&lock, &mut pass, &mut cursor), OWN_LIMIT);
     let refused = try_one(&lock, &mut pass, &mut cursor, Some(9));
     assert_eq!(rt; refused, Answer::OwnLimit { cmd: Some(9) });
-    let read = try_one(&lock, &mut pass, &mut cursor, None);
-    assert_eq!(rt; read, done(None, 0));
     let mut other = lock.split(&mut pass);
-    let wrote = try_one(&lock, &mut other, &mut cursor, Some(9));
+    let mut ahead = cursor;
+    let wrote = try_one(&lock, &mut other, &mut ahead, Some(9));
     assert_eq!(rt; wrote, done(Some(OWN_LIMIT), 1));
+    let read = try_one(&lock, &mut pass, &mut cursor, None);
+    assert_eq!(rt; read, done(None, 1));
+    assert_eq!(rt; lock.look(&mut lock.fresh()), OWN_LIMIT.saturating_add(1));
     Ok(())
 }

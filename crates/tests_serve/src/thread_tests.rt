@@ -5,7 +5,6 @@ ghost use Rattle.ps_serve.specs.Ends.{ComeFrom};
 use crate::files::{
     ANN, BOB, assert_ended, cause_of, close, closed_of, inbox_of, make_hub, was_sent,
 };
-use crate::waiting::{Steps, Waiting};
 use crate::watching::count_at;
 use ps_hub::hub::Hub;
 use ps_outside::link::{Link, MemLink, SentText};
@@ -13,7 +12,6 @@ use ps_serve::closed::Closed;
 use std::alloc::Global;
 use std::process::Abort;
 use std::sync::Wait;
-use std::sync::atomic::AtomicBool;
 use std::thread;
 use std::thread::Threads;
 
@@ -47,18 +45,16 @@ fn serve_both<R: Threads + Wait + Sync, L: Link + Send + Drop>(
     )
 }
 
-/// Two sessions that have ended meet in the hall and in a room: then it is proved that they agree on both.
-fn agree(rt: &impl Abort, hub: &Hub, one: &mut Closed, other: &mut Closed, number: u32)
+/// Two sessions that have ended meet in the hall and in the lobby: then it is proved that they agree on both.
+fn agree(rt: &impl Abort, hub: &Hub, one: &mut Closed, other: &mut Closed)
     requires { ComeFrom hub.now one.old.passes × ComeFrom hub.now other.old.passes }
 {
     assert!(rt; one.meet_in_hall(hub, other));
-    assert!(rt; one.meet_in_room(hub, other, number));
+    assert!(rt; one.meet_in_room(hub, other, LOBBY));
 }
 
-/// The numbers of the places of the lobby, and of battle 1.
+/// The number of the lobby's place.
 const LOBBY: u32 = 0;
-
-const FIRST_BATTLE: u32 = 16;
 
 fn link(rt: &impl Abort, alloc: Global, texts: &[&str]) -> MemLink {
     let inbox = inbox_of(rt, alloc, texts);
@@ -106,7 +102,7 @@ fn meet_in_the_lobby<R: Threads + Wait + Sync + Abort>(rt: &R, alloc: Global, hu
     let ann = link(rt, alloc, &[ANN, "|/join lobby", "lobby|/modnote watch"]);
     let bob = link(rt, alloc, &[BOB, "|/join lobby", "lobby|hi"]);
     let (mut ann, mut bob) = serve_both(rt, alloc, hub, ann, bob);
-    agree(rt, hub, &mut ann.0, &mut bob.0, LOBBY);
+    agree(rt, hub, &mut ann.0, &mut bob.0);
     ann_holds(rt, ann);
     bob_holds(rt, bob);
 }
@@ -117,71 +113,5 @@ fn two_users_in_the_lobby(rt: HostRuntime) {
     let hub = make_hub(&rt, rt.alloc());
     meet_in_the_lobby(&rt, rt.alloc(), &hub);
     assert_eq!(rt; count_at(&rt, &hub, "lobby"), 6);
-    close(hub);
-}
-
-/// What both are sent when the challenge was accepted.
-const ACCEPTED: &str =
-    "|updatechallenges|{\"challengeTo\":null,\"challengesFrom\":{}}\n|updatesearch|{\"games\":{\"battle-gen1ou-1\":\"Ann vs. Bob\"}";
-
-/// What both are sent when their join was applied.
-const JOINED: &str = ">battle-gen1ou-1\n|init|battle\n";
-
-const ANN_STEPS: Steps = &[
-    ("|challstr|0-1\n", ANN),
-    (
-        "|updateuser|%Ann|",
-        "|/utm Tauros||||bodyslam,hyperbeam,blizzard,earthquake|||||||",
-    ),
-    ("", "|/challenge Bob, gen1ou"),
-    (ACCEPTED, "|/join battle-gen1ou-1"),
-    (JOINED, ""),
-];
-
-const BOB_STEPS: Steps = &[
-    ("|challstr|0-2\n", BOB),
-    ("|updateuser| Bob|", "|/utm Snorlax||||bodyslam,rest|||||||"),
-    (
-        "|updatechallenges|{\"challengeTo\":null,\"challengesFrom\":{\"ann\":\"gen1ou\"}}",
-        "|/accept Ann",
-    ),
-    (ACCEPTED, "|/join battle-gen1ou-1"),
-    (JOINED, ""),
-];
-
-fn was_told_all(rt: &impl Abort, ended: (Closed, Waiting)) {
-    let (closed, link) = ended;
-    assert_ended(rt, cause_of(closed), "Closed");
-    assert!(rt; link.was_told_all());
-}
-
-/// Ann challenges Bob, and each has a flag that says whether the name is taken.
-fn meet_in_a_battle<'a, R: Threads + Wait + Sync + Abort>(
-    rt: &R,
-    alloc: Global,
-    hub: &Hub,
-    ann_is_named: &'a AtomicBool,
-    bob_is_named: &'a AtomicBool,
-) {
-    let ann = Waiting::new(alloc, ANN_STEPS, ann_is_named, bob_is_named);
-    let bob = Waiting::new(alloc, BOB_STEPS, bob_is_named, ann_is_named);
-    let (mut ann, mut bob) = serve_both(rt, alloc, hub, ann, bob);
-    agree(rt, hub, &mut ann.0, &mut bob.0, FIRST_BATTLE);
-    was_told_all(rt, ann);
-    was_told_all(rt, bob);
-}
-
-fn challenge<R: Threads + Wait + Sync + Abort>(rt: &R, alloc: Global, hub: &Hub) {
-    let ann_is_named = AtomicBool::new(false);
-    let bob_is_named = AtomicBool::new(false);
-    meet_in_a_battle(rt, alloc, hub, &ann_is_named, &bob_is_named);
-}
-
-/// The battle has its Begin, two joins and two Quits.
-#[test]
-fn a_challenge_in_two_threads(rt: HostRuntime) {
-    let hub = make_hub(&rt, rt.alloc());
-    challenge(&rt, rt.alloc(), &hub);
-    assert_eq!(rt; count_at(&rt, &hub, "battle-gen1ou-1"), 5);
     close(hub);
 }
