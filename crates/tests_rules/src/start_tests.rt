@@ -1,6 +1,8 @@
 //! What a battle can start with, and what it can't.
 use crate::made;
 use crate::made::Setup;
+use crate::members::{BODY_SLAM, TAUROS};
+use crate::texts::{ONE_MOVE_DEX, SMALL_CONFIG};
 use ps_base::list::List;
 use ps_base::name::Name;
 use ps_base::text::Text;
@@ -11,8 +13,6 @@ use rules_start::fit::is_fit;
 use rules_start::start::Start;
 use std::alloc::{AllocError, Global};
 use std::process::Abort;
-use test_data::members::{BODY_SLAM, TAUROS};
-use test_data::{ONE_MOVE_DEX, SMALL_CONFIG};
 
 const FAINTED: Member = Member { hp: 0, ..TAUROS };
 
@@ -111,12 +111,6 @@ fn tell_starts(rt: &impl Abort, alloc: Global, setup: &Setup) {
     }
 }
 
-#[test]
-fn starts(rt: HostRuntime) {
-    let setup = made::set_up(&rt, rt.alloc(), ONE_MOVE_DEX, SMALL_CONFIG);
-    tell_starts(&rt, rt.alloc(), &setup);
-}
-
 fn report_unfit(rt: &impl Abort, alloc: Global, setup: &Setup) {
     let unfit = [FAINTED, BURNT, SPENT, UNKNOWN_MOVE, UNKNOWN_SPECIES];
     for (index, member) in unfit.iter().enumerate() {
@@ -126,7 +120,8 @@ fn report_unfit(rt: &impl Abort, alloc: Global, setup: &Setup) {
 }
 
 #[test]
-fn members_that_do_not_fit(rt: HostRuntime) {
+fn starts(rt: HostRuntime) {
     let setup = made::set_up(&rt, rt.alloc(), ONE_MOVE_DEX, SMALL_CONFIG);
+    tell_starts(&rt, rt.alloc(), &setup);
     report_unfit(&rt, rt.alloc(), &setup);
 }

@@ -3,14 +3,14 @@ use ps_mon::status::Status;
 use ps_mon::team::{Member, MoveSlot};
 
 /// Body Slam, the first move of each dex, with all its PP.
-pub const BODY_SLAM: MoveSlot = MoveSlot {
+pub(crate) const BODY_SLAM: MoveSlot = MoveSlot {
     mv: 0,
     pp: 24,
     max_pp: 24,
 };
 
 /// Tauros of level 100 with all IVs and EVs, which knows Body Slam alone.
-pub const TAUROS: Member = Member {
+pub(crate) const TAUROS: Member = Member {
     species: 0,
     level: 100,
     types: [0, 0],
@@ -26,7 +26,7 @@ pub const TAUROS: Member = Member {
 };
 
 /// Snorlax of level 100 with all IVs and EVs, which knows Body Slam alone.
-pub const SNORLAX: Member = Member {
+pub(crate) const SNORLAX: Member = Member {
     species: 1,
     level: 100,
     types: [0, 0],

@@ -1,12 +1,8 @@
-//! What tests of several crates run on: texts of dexes, a configuration and packed teams, and members of teams. Only crates of
-//! tests stand on it.
-#![tactic(auto)]
-
-pub mod members;
+//! The data files that tests run on.
 
 /// The moves and species of `data/small/dex.json`, over the types that they have: Body Slam, Hyper Beam, Blizzard, Earthquake,
 /// Quick Attack, Tackle, Rest and Soft-Boiled are 0 to 7, and Tauros, Snorlax, Chansey and Jynx 0 to 3.
-pub const SMALL_DEX: &str =
+pub(crate) const SMALL_DEX: &str =
     r#"{"types":[{"name":"Normal","special":false},{"name":"Ground","special":false},
 {"name":"Ghost","special":false},{"name":"Psychic","special":true},{"name":"Ice","special":true}],
 "factors":[["Ghost","Normal",0],["Normal","Ghost",0],["Ice","Ice",5]],"moves":[
@@ -25,13 +21,10 @@ pub const SMALL_DEX: &str =
 {"name":"Jynx","types":["Ice","Psychic"],"stats":[65,50,35,95,95],"learns":["blizzard","rest"]}]}"#;
 
 /// The configuration of `data/small/config.json`: one format, of which the first battle has the seed 0.
-pub const SMALL_CONFIG: &str =
+pub(crate) const SMALL_CONFIG: &str =
     r#"{"formats":[{"name":"[Gen 1] OU","rules":["speciesclause"]}],"seeds":[0]}"#;
 
 /// One move, Body Slam, and one species that learns it, Tauros.
-pub const ONE_MOVE_DEX: &str = r#"{"types":[{"name":"Normal","special":false}],
+pub(crate) const ONE_MOVE_DEX: &str = r#"{"types":[{"name":"Normal","special":false}],
 "moves":[{"name":"Body Slam","type":"Normal","power":85,"accuracy":100,"pp":24,"priority":0}],
 "species":[{"name":"Tauros","types":["Normal"],"stats":[75,100,95,70,110],"learns":["bodyslam"]}]}"#;
-
-/// Tauros with its first four moves of the small dex, as a packed team.
-pub const TAUROS_TEAM: &str = "Tauros||||bodyslam,hyperbeam,blizzard,earthquake|||||||";

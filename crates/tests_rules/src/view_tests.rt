@@ -1,5 +1,7 @@
 //! Lines of events of a battle, for each role: those that no stored run has.
-use crate::arena::{ANN, ANN_2, BOB, nicks, small_dex, text_of};
+use crate::arena::{ANN, ANN_2, BOB, nicks, text_of};
+use crate::made;
+use crate::texts::SMALL_DEX;
 use ps_base::name::Name;
 use ps_base::text::Text;
 use ps_dex::dex::Dex;
@@ -10,7 +12,6 @@ use ps_view::names::Names;
 use ps_view::role::Role;
 use std::alloc::{AllocError, Global};
 use std::process::Abort;
-use std::test::Fail;
 
 const BODY_SLAM: u16 = 0;
 
@@ -33,12 +34,9 @@ struct Stage {
 /// An event, and its line.
 type Case = (Event, &'static str);
 
-/// Health, the greatest health and the number of a status, and how its owner reads it, and all others: in hundredths under
-/// HP Percentage Mod, and in 48ths without it.
-type HealthCase = (u16, u16, u8, &'static str, &'static str, &'static str);
-
-/// A number of an event, and its line with exact health and in hundredths.
-type SplitCase = (u8, &'static str, &'static str);
+/// An event that tells health, its line for who owns it, and that for all others: in hundredths under HP Percentage Mod, and in
+/// 48ths without it.
+type HealthCase = (Event, &'static str, &'static str, &'static str);
 
 fn player(rt: &impl Abort, alloc: Global, name: &str) -> Name {
     Name::new(alloc, name).expect(rt, "memory")
@@ -315,246 +313,296 @@ const NUMBERED: &[Case] = &[
 const TABLES: [&[Case]; 4] = [PLAIN, MOVES, NAMED, NUMBERED];
 
 fn make_stage(rt: &impl Abort, alloc: Global, percent: bool) -> Stage {
-    let dex = small_dex(rt, alloc);
+    let dex = made::dex(rt, alloc, SMALL_DEX);
     Stage {
         names: names(rt, alloc, percent),
         dex,
     }
 }
 
-/// With HP Percentage Mod.
-fn new_stage(rt: &impl Abort, alloc: Global) -> Stage {
-    make_stage(rt, alloc, true)
-}
+/// 331 of 353 are 94 hundredths, rounded up, and 45 48ths, rounded down.
+const HURT: Health = Health {
+    hp: 331,
+    max: 353,
+    status: 0,
+};
 
-/// Without HP Percentage Mod.
-fn stage_in_pixels(rt: &impl Abort, alloc: Global) -> Stage {
-    make_stage(rt, alloc, false)
-}
+const ALMOST_GONE: Health = Health {
+    hp: 1,
+    max: 703,
+    status: 6,
+};
 
-/// All members read the same line of what tells no health, and who is outside nothing.
-#[test]
-fn events_have_the_lines_of_the_table(rt: HostRuntime) -> Result<(), Fail> {
-    let stage = new_stage(&rt, rt.alloc());
-    for cases in TABLES {
-        cases_hold(&rt, rt.alloc(), &stage, cases);
-    }
-    Ok(())
-}
-
-/// The player of the side reads the one line, the other player, spectators and staff the other one, and who is outside
-/// nothing.
-fn splits(
-    rt: &impl Abort,
-    alloc: Global,
-    stage: &Stage,
-    event: Event,
-    exact: &'static str,
-    public: &'static str,
-) {
-    shows(rt, alloc, stage, Role::Outside, &(event, "nothing"));
-    shows(rt, alloc, stage, PLAYER_1, &(event, exact));
-    let others = [SPECTATOR, STAFF, PLAYER_2, PLAYER_2_AND_STAFF];
-    shows_each(rt, alloc, stage, &others, &(event, public));
-}
-
-/// A loss of health that leaves 331 of 353, by what has that number.
-fn hurt(from: u8) -> Event {
-    let health = Health {
-        hp: 331,
-        max: 353,
-        status: 0,
-    };
-    Event::Damage {
-        who: ANN,
-        health,
-        from,
-    }
-}
-
-/// 331 of 353 are 94 hundredths, rounded up.
-const LOSSES: &[SplitCase] = &[
+/// Losses of Ann's member name what they are from.
+const LOSSES: &[HealthCase] = &[
     (
-        0,
+        Event::Damage {
+            who: ANN,
+            health: HURT,
+            from: 0,
+        },
         "|-damage|p1a: Tauros|331/353",
         "|-damage|p1a: Tauros|94/100",
+        "|-damage|p1a: Tauros|45/48",
     ),
     (
-        1,
+        Event::Damage {
+            who: ANN,
+            health: HURT,
+            from: 1,
+        },
         "|-damage|p1a: Tauros|331/353|[from] psn",
         "|-damage|p1a: Tauros|94/100|[from] psn",
+        "|-damage|p1a: Tauros|45/48|[from] psn",
     ),
     (
-        2,
+        Event::Damage {
+            who: ANN,
+            health: HURT,
+            from: 2,
+        },
         "|-damage|p1a: Tauros|331/353|[from] brn",
         "|-damage|p1a: Tauros|94/100|[from] brn",
+        "|-damage|p1a: Tauros|45/48|[from] brn",
     ),
     (
-        3,
+        Event::Damage {
+            who: ANN,
+            health: HURT,
+            from: 3,
+        },
         "|-damage|p1a: Tauros|331/353|[from] Leech Seed",
         "|-damage|p1a: Tauros|94/100|[from] Leech Seed",
+        "|-damage|p1a: Tauros|45/48|[from] Leech Seed",
     ),
     (
-        4,
+        Event::Damage {
+            who: ANN,
+            health: HURT,
+            from: 4,
+        },
         "|-damage|p1a: Tauros|331/353|[from] Recoil",
         "|-damage|p1a: Tauros|94/100|[from] Recoil",
+        "|-damage|p1a: Tauros|45/48|[from] Recoil",
     ),
     (
-        5,
+        Event::Damage {
+            who: ANN,
+            health: HURT,
+            from: 5,
+        },
         "|-damage|p1a: Tauros|331/353|[from] confusion",
         "|-damage|p1a: Tauros|94/100|[from] confusion",
+        "|-damage|p1a: Tauros|45/48|[from] confusion",
     ),
     (
-        6,
+        Event::Damage {
+            who: ANN,
+            health: HURT,
+            from: 6,
+        },
         "|-damage|p1a: Tauros|331/353|[from] crash",
         "|-damage|p1a: Tauros|94/100|[from] crash",
+        "|-damage|p1a: Tauros|45/48|[from] crash",
     ),
 ];
 
-#[test]
-fn losses_name_what_they_are_from(rt: HostRuntime) -> Result<(), Fail> {
-    let stage = new_stage(&rt, rt.alloc());
-    for (from, exact, public) in LOSSES {
-        splits(&rt, rt.alloc(), &stage, hurt(*from), *exact, *public);
-    }
-    Ok(())
-}
-
-/// Ann's second member comes in at a level.
-fn comes_in(level: u8) -> Event {
-    let health = Health {
-        hp: 1,
-        max: 703,
-        status: 6,
-    };
-    Event::Switch {
-        who: ANN_2,
-        species: 0,
-        level,
-        health,
-    }
-}
-
-/// The level is told where it isn't 100.
-const SWITCHES: &[SplitCase] = &[
+/// Ann's second member comes in. The level is told where it isn't 100.
+const SWITCHES: &[HealthCase] = &[
     (
-        100,
+        Event::Switch {
+            who: ANN_2,
+            species: 0,
+            level: 100,
+            health: ALMOST_GONE,
+        },
         "|switch|p1a: Bull|Tauros|1/703 frz",
         "|switch|p1a: Bull|Tauros|1/100 frz",
+        "|switch|p1a: Bull|Tauros|1/48 frz",
     ),
     (
-        50,
+        Event::Switch {
+            who: ANN_2,
+            species: 0,
+            level: 50,
+            health: ALMOST_GONE,
+        },
         "|switch|p1a: Bull|Tauros, L50|1/703 frz",
         "|switch|p1a: Bull|Tauros, L50|1/100 frz",
+        "|switch|p1a: Bull|Tauros, L50|1/48 frz",
     ),
     (
-        1,
+        Event::Switch {
+            who: ANN_2,
+            species: 0,
+            level: 1,
+            health: ALMOST_GONE,
+        },
         "|switch|p1a: Bull|Tauros, L1|1/703 frz",
         "|switch|p1a: Bull|Tauros, L1|1/100 frz",
+        "|switch|p1a: Bull|Tauros, L1|1/48 frz",
     ),
 ];
 
-#[test]
-fn switches_tell_species_and_level(rt: HostRuntime) -> Result<(), Fail> {
-    let stage = new_stage(&rt, rt.alloc());
-    for (level, exact, public) in SWITCHES {
-        splits(&rt, rt.alloc(), &stage, comes_in(*level), *exact, *public);
-    }
-    Ok(())
-}
-
 /// Bob's member gains health.
-const HEALTHS: &[HealthCase] = &[
+const GAINS: &[HealthCase] = &[
     (
-        523,
-        523,
-        0,
+        Event::Heal {
+            who: BOB,
+            health: Health {
+                hp: 523,
+                max: 523,
+                status: 0,
+            },
+        },
         "|-heal|p2a: Snorlax|523/523",
         "|-heal|p2a: Snorlax|100/100",
         "|-heal|p2a: Snorlax|48/48",
     ),
     (
-        382,
-        523,
-        0,
+        Event::Heal {
+            who: BOB,
+            health: Health {
+                hp: 382,
+                max: 523,
+                status: 0,
+            },
+        },
         "|-heal|p2a: Snorlax|382/523",
         "|-heal|p2a: Snorlax|74/100",
         "|-heal|p2a: Snorlax|35/48",
     ),
     (
-        403,
-        523,
-        5,
+        Event::Heal {
+            who: BOB,
+            health: Health {
+                hp: 403,
+                max: 523,
+                status: 5,
+            },
+        },
         "|-heal|p2a: Snorlax|403/523 tox",
         "|-heal|p2a: Snorlax|78/100 tox",
         "|-heal|p2a: Snorlax|36/48 tox",
     ),
     (
-        352,
-        353,
-        4,
+        Event::Heal {
+            who: BOB,
+            health: Health {
+                hp: 352,
+                max: 353,
+                status: 4,
+            },
+        },
         "|-heal|p2a: Snorlax|352/353 psn",
         "|-heal|p2a: Snorlax|99/100 psn",
         "|-heal|p2a: Snorlax|47/48 psn",
     ),
     (
-        1,
-        703,
-        2,
+        Event::Heal {
+            who: BOB,
+            health: Health {
+                hp: 1,
+                max: 703,
+                status: 2,
+            },
+        },
         "|-heal|p2a: Snorlax|1/703 par",
         "|-heal|p2a: Snorlax|1/100 par",
         "|-heal|p2a: Snorlax|1/48 par",
     ),
     (
-        0,
-        353,
-        0,
+        Event::Heal {
+            who: BOB,
+            health: Health {
+                hp: 0,
+                max: 353,
+                status: 0,
+            },
+        },
         "|-heal|p2a: Snorlax|0 fnt",
         "|-heal|p2a: Snorlax|0 fnt",
         "|-heal|p2a: Snorlax|0 fnt",
     ),
     (
-        0,
-        353,
-        3,
+        Event::Heal {
+            who: BOB,
+            health: Health {
+                hp: 0,
+                max: 353,
+                status: 3,
+            },
+        },
         "|-heal|p2a: Snorlax|0 fnt",
         "|-heal|p2a: Snorlax|0 fnt",
         "|-heal|p2a: Snorlax|0 fnt",
     ),
 ];
 
-fn heals(hp: u16, max: u16, status: u8) -> Event {
-    let health = Health { hp, max, status };
-    Event::Heal { who: BOB, health }
-}
+/// Who owns members, all others in the room, and events of these members.
+type HealthTable = (&'static [Role], &'static [Role], &'static [HealthCase]);
 
-/// What is split is read exactly by the player of its side, of whatever rank, and by nobody else.
-fn health_holds(rt: &impl Abort, alloc: Global, stage: &Stage, case: &HealthCase) {
-    let (hp, max, status, exact, percent, pixels) = case;
+const OWN_1: &[Role] = &[PLAYER_1];
+
+const OTHERS_1: &[Role] = &[SPECTATOR, STAFF, PLAYER_2, PLAYER_2_AND_STAFF];
+
+const OWN_2: &[Role] = &[PLAYER_2, PLAYER_2_AND_STAFF];
+
+const OTHERS_2: &[Role] = &[SPECTATOR, STAFF, PLAYER_1];
+
+const HEALTHS: &[HealthTable] = &[
+    (OWN_1, OTHERS_1, LOSSES),
+    (OWN_1, OTHERS_1, SWITCHES),
+    (OWN_2, OTHERS_2, GAINS),
+];
+
+/// What is split is read exactly by the player of its side, of whatever rank, and by nobody else; who is outside is shown nothing.
+fn splits(
+    rt: &impl Abort,
+    alloc: Global,
+    stage: &Stage,
+    own: &[Role],
+    others: &[Role],
+    case: &HealthCase,
+) {
+    let (event, exact, percent, pixels) = case;
     let public = if stage.names.percent { percent } else { pixels };
-    let event = heals(*hp, *max, *status);
-    let own = [PLAYER_2, PLAYER_2_AND_STAFF];
-    shows_each(rt, alloc, stage, &own, &(event, *exact));
-    let others = [SPECTATOR, STAFF, PLAYER_1];
-    shows_each(rt, alloc, stage, &others, &(event, *public));
+    shows(rt, alloc, stage, Role::Outside, &(*event, "nothing"));
+    shows_each(rt, alloc, stage, own, &(*event, *exact));
+    shows_each(rt, alloc, stage, others, &(*event, *public));
 }
 
-fn healths_hold(rt: &impl Abort, alloc: Global, stage: &Stage) {
-    for case in HEALTHS {
-        health_holds(rt, alloc, stage, case);
+fn table_splits(rt: &impl Abort, alloc: Global, stage: &Stage, table: &HealthTable) {
+    let (own, others, cases) = table;
+    for case in *cases {
+        splits(rt, alloc, stage, own, others, case);
     }
 }
 
-#[test]
-fn health_is_read_exactly_by_its_side(rt: HostRuntime) -> Result<(), Fail> {
-    let stage = new_stage(&rt, rt.alloc());
-    healths_hold(&rt, rt.alloc(), &stage);
-    Ok(())
+fn health_is_read_exactly_by_its_side(rt: &impl Abort, alloc: Global, stage: &Stage) {
+    for table in HEALTHS {
+        table_splits(rt, alloc, stage, table);
+    }
 }
 
+/// All members read the same line of what tells no health, and who is outside nothing.
+fn all_read_the_same(rt: &impl Abort, alloc: Global, stage: &Stage) {
+    for cases in TABLES {
+        cases_hold(rt, alloc, stage, cases);
+    }
+}
+
+/// Under HP Percentage Mod.
 #[test]
-fn health_is_read_in_48ths_without_the_clause(rt: HostRuntime) -> Result<(), Fail> {
-    let stage = stage_in_pixels(&rt, rt.alloc());
-    healths_hold(&rt, rt.alloc(), &stage);
-    Ok(())
+fn lines_in_hundredths(rt: HostRuntime) {
+    let stage = make_stage(&rt, rt.alloc(), true);
+    all_read_the_same(&rt, rt.alloc(), &stage);
+    health_is_read_exactly_by_its_side(&rt, rt.alloc(), &stage);
+}
+
+/// Without the clause.
+#[test]
+fn lines_in_48ths(rt: HostRuntime) {
+    let stage = make_stage(&rt, rt.alloc(), false);
+    health_is_read_exactly_by_its_side(&rt, rt.alloc(), &stage);
 }

@@ -5,6 +5,7 @@ ghost use Rattle.ps_mon.specs.Facts.{AreFair, figures};
 ghost use Rattle.ps_mon.specs.Teams.{IsFresh, IsFreshMember};
 ghost use Rattle.ps_mon.specs.Valid.{IsSound};
 
+use crate::members;
 use ps_battle::open;
 use ps_copy::copies::copy;
 use ps_event::event::Events;
@@ -14,7 +15,6 @@ use ps_mon::facts::Facts;
 use ps_mon::record::{Battle, Disabled, Lock, LockKind, Phase};
 use ps_mon::status::Status;
 use ps_mon::team::{BattleTeam, Member, MoveSlot};
-use test_data::members;
 
 const BODY_SLAM: u16 = 0;
 

@@ -5,7 +5,6 @@ use ps_calc::formula::{Hit, damage};
 use ps_calc::health::{hundredths, pixels};
 use ps_calc::stages::staged;
 use ps_calc::stats::{dv, hp_dv, hp_stat, stat};
-use std::test::Fail;
 
 /// Power 85 of a member's own type, 298 Attack against 228 Defense, at level 100.
 const BODY_SLAM: Hit = Hit {
@@ -20,13 +19,12 @@ const BODY_SLAM: Hit = Hit {
 };
 
 #[test]
-fn dvs(rt: HostRuntime) -> Result<(), Fail> {
+fn dvs(rt: HostRuntime) {
     assert_eq!(rt; (dv(31), dv(30), dv(1)), (15, 15, 0));
-    Ok(())
 }
 
 #[test]
-fn dvs_of_hp(rt: HostRuntime) -> Result<(), Fail> {
+fn dvs_of_hp(rt: HostRuntime) {
     assert_eq!(rt;
         (
             hp_dv([15, 15, 15, 15]),
@@ -35,30 +33,27 @@ fn dvs_of_hp(rt: HostRuntime) -> Result<(), Fail> {
         ),
         (15, 8, 2)
     );
-    Ok(())
 }
 
 #[test]
-fn a_member_of_level_100(rt: HostRuntime) -> Result<(), Fail> {
+fn a_member_of_level_100(rt: HostRuntime) {
     assert_eq!(rt; hp_stat(75, 15, 252, 100), 353);
     let stats = [(100, 298), (95, 288), (70, 238), (110, 318)];
     for (base, number) in &stats {
         assert_eq!(rt; stat(*base, 15, 252, 100), *number);
     }
-    Ok(())
 }
 
 #[test]
-fn the_greatest_stats(rt: HostRuntime) -> Result<(), Fail> {
+fn the_greatest_stats(rt: HostRuntime) {
     assert_eq!(rt;
         (hp_stat(255, 15, 255, 100), stat(255, 15, 255, 100)),
         (713, 608)
     );
-    Ok(())
 }
 
 #[test]
-fn hits(rt: HostRuntime) -> Result<(), Fail> {
+fn hits(rt: HostRuntime) {
     let weak = Hit {
         roll: 217,
         ..BODY_SLAM
@@ -71,11 +66,10 @@ fn hits(rt: HostRuntime) -> Result<(), Fail> {
         (damage(&BODY_SLAM), damage(&weak), damage(&sharp)),
         (141, 119, 273)
     );
-    Ok(())
 }
 
 #[test]
-fn stages(rt: HostRuntime) -> Result<(), Fail> {
+fn stages(rt: HostRuntime) {
     assert_eq!(rt;
         (
             staged(100, -6),
@@ -85,11 +79,10 @@ fn stages(rt: HostRuntime) -> Result<(), Fail> {
         ),
         (25, 150, 999, 1)
     );
-    Ok(())
 }
 
 #[test]
-fn chances(rt: HostRuntime) -> Result<(), Fail> {
+fn chances(rt: HostRuntime) {
     assert_eq!(rt;
         (
             accuracy_byte(100, 0, 0),
@@ -106,11 +99,10 @@ fn chances(rt: HostRuntime) -> Result<(), Fail> {
         ),
         (55, 255, 13)
     );
-    Ok(())
 }
 
 #[test]
-fn hundredths_are_rounded_up(rt: HostRuntime) -> Result<(), Fail> {
+fn hundredths_are_rounded_up(rt: HostRuntime) {
     assert_eq!(rt;
         (
             hundredths(353, 353),
@@ -121,11 +113,10 @@ fn hundredths_are_rounded_up(rt: HostRuntime) -> Result<(), Fail> {
         ),
         (100, 99, 1, 0, 74)
     );
-    Ok(())
 }
 
 #[test]
-fn pixels_are_rounded_down(rt: HostRuntime) -> Result<(), Fail> {
+fn pixels_are_rounded_down(rt: HostRuntime) {
     assert_eq!(rt;
         (
             pixels(382, 523),
@@ -136,11 +127,10 @@ fn pixels_are_rounded_down(rt: HostRuntime) -> Result<(), Fail> {
         ),
         (35, 47, 1, 48, 0)
     );
-    Ok(())
 }
 
 #[test]
-fn draws_from_zero(rt: HostRuntime) -> Result<(), Fail> {
+fn draws_from_zero(rt: HostRuntime) {
     let mut source = Rng5 { x: 0 };
     assert_eq!(rt;
         (source.draw(256), source.draw(256), source.draw(39)),
@@ -148,5 +138,4 @@ fn draws_from_zero(rt: HostRuntime) -> Result<(), Fail> {
     );
     let mut source = Rng5 { x: 0 };
     assert!(rt; source.chance(1) && !source.chance(113));
-    Ok(())
 }

@@ -1,16 +1,17 @@
 //! The requests that players are sent.
 ghost use Rattle.std.specs.Prelude.{◌<◌};
 
-use crate::arena::{nicks, small_dex};
+use crate::arena::nicks;
+use crate::made;
 use crate::steps::{
     FALLEN, FALLEN_ON_THE_BENCH, FRESH, HELD, MIMICKED, Step, Steps, TIRED, TRANSFORMED, USELESS,
     WAITING, battle_after,
 };
+use crate::texts::SMALL_DEX;
 use ps_choice::request::{SideNames, request_text};
 use ps_dex::dex::Dex;
 use std::alloc::{AllocError, Global};
 use std::process::Abort;
-use std::test::Fail;
 
 /// A side's request after some steps, as its text says it.
 fn request_of(
@@ -203,8 +204,7 @@ fn requests_hold(rt: &impl Abort, alloc: Global, dex: &Dex, cases: &[(Steps, Par
 }
 
 #[test]
-fn requests_tell_what_can_be_chosen(rt: HostRuntime) -> Result<(), Fail> {
-    let dex = small_dex(&rt, rt.alloc());
+fn requests_tell_what_can_be_chosen(rt: HostRuntime) {
+    let dex = made::dex(&rt, rt.alloc(), SMALL_DEX);
     requests_hold(&rt, rt.alloc(), &dex, REQUESTS);
-    Ok(())
 }

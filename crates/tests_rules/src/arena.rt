@@ -1,12 +1,10 @@
-//! What tests of battles run on: who acts, a dex, and nicknames.
+//! What tests of battles run on: who acts, and nicknames.
 use ps_base::list::List;
 use ps_base::text::Text;
-use ps_dex::dex::Dex;
 use ps_event::event::Who;
 use ps_event::side::Side;
 use std::alloc::Global;
 use std::process::Abort;
-use test_data::SMALL_DEX;
 
 /// P1's first member.
 pub(crate) const ANN: Who = Who {
@@ -25,16 +23,6 @@ pub(crate) const BOB: Who = Who {
     side: Side::P2,
     member: 0,
 };
-
-/// The dex that a text tells.
-pub(crate) fn dex_in(rt: &impl Abort, alloc: Global, text: &str) -> Dex {
-    Dex::read(alloc, text.as_bytes()).expect(rt, "a dex")
-}
-
-/// The small dex.
-pub(crate) fn small_dex(rt: &impl Abort, alloc: Global) -> Dex {
-    dex_in(rt, alloc, SMALL_DEX)
-}
 
 /// A text of its own that says that.
 pub(crate) fn text_of(rt: &impl Abort, alloc: Global, text: &str) -> Text {

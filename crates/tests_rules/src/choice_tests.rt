@@ -1,17 +1,17 @@
 //! What players ask for, and which choices are legal.
-use crate::arena::{dex_in, small_dex};
+use crate::made;
 use crate::steps::{
     DISABLED, FALLEN, FALLEN_ON_THE_BENCH, FRESH, HELD, HELD_AND_FALLEN, MIMICKED,
     MIMICKED_AND_SPENT, PREVIEWED, SPENT, SPENT_AND_DISABLED, Steps, TIED, TIRED, TRANSFORMED,
     TWICE_FALLEN, USELESS, USELESS_AND_HELD, WAITING, WON, battle_after,
 };
+use crate::texts::SMALL_DEX;
 use ps_choice::legality::legal;
 use ps_choice::resolution::resolve;
 use ps_choice::wanted::{Wanted, read_choice};
 use ps_dex::dex::Dex;
 use ps_mon::choice::{Choice, ChoiceFault};
 use std::process::Abort;
-use std::test::Fail;
 
 // ---- what a text asks for
 
@@ -73,20 +73,22 @@ fn asks_for(rt: &impl Abort, text: &str, wanted: Option<Wanted<'_>>) {
     assert_eq!(rt; (text, wanted_in(text)), (text, wanted));
 }
 
-#[test]
-fn texts_of_choices(rt: HostRuntime) -> Result<(), Fail> {
+fn wants_hold(rt: &impl Abort) {
     for (text, wanted) in WANTS {
-        asks_for(&rt, text, *wanted);
+        asks_for(rt, text, *wanted);
     }
-    Ok(())
+}
+
+fn near_misses_ask_for_nothing(rt: &impl Abort) {
+    for text in NEAR_MISSES {
+        asks_for(rt, text, None);
+    }
 }
 
 #[test]
-fn texts_that_ask_for_nothing(rt: HostRuntime) -> Result<(), Fail> {
-    for text in NEAR_MISSES {
-        asks_for(&rt, text, None);
-    }
-    Ok(())
+fn texts_of_choices(rt: HostRuntime) {
+    wants_hold(&rt);
+    near_misses_ask_for_nothing(&rt);
 }
 
 // ---- which choice a text is
@@ -299,13 +301,6 @@ const OF_A_TURN: &[Table] = &[
     (TRANSFORMED, OF_TRANSFORMED),
 ];
 
-#[test]
-fn choices_of_a_turn(rt: HostRuntime) -> Result<(), Fail> {
-    let dex = small_dex(&rt, rt.alloc());
-    answers_hold(&rt, &dex, OF_A_TURN);
-    Ok(())
-}
-
 /// The active member has fainted, so that position 1 has two faults. A move is told to be wrong before its name is looked up.
 const OF_FALLEN: Cases = &[
     ("switch 2", POSITION_2),
@@ -380,10 +375,10 @@ const OF_NO_TURN: &[Table] = &[
 ];
 
 #[test]
-fn choices_of_other_phases(rt: HostRuntime) -> Result<(), Fail> {
-    let dex = small_dex(&rt, rt.alloc());
+fn choices_of_each_phase(rt: HostRuntime) {
+    let dex = made::dex(&rt, rt.alloc(), SMALL_DEX);
+    answers_hold(&rt, &dex, OF_A_TURN);
     answers_hold(&rt, &dex, OF_NO_TURN);
-    Ok(())
 }
 
 /// Aliases of three moves, two of them with the names of what isn't a move.
@@ -430,10 +425,9 @@ const BY_ALIAS: &[Table] = &[
 ];
 
 #[test]
-fn choices_by_alias(rt: HostRuntime) -> Result<(), Fail> {
-    let dex = dex_in(&rt, rt.alloc(), ALIAS_DEX);
+fn choices_by_alias(rt: HostRuntime) {
+    let dex = made::dex(&rt, rt.alloc(), ALIAS_DEX);
     answers_hold(&rt, &dex, BY_ALIAS);
-    Ok(())
 }
 
 // ---- which choice is legal
@@ -516,18 +510,19 @@ fn faults_hold(rt: &impl Abort, dex: &Dex, cases: &[LegalCase]) {
     }
 }
 
-#[test]
-fn each_fault_is_told(rt: HostRuntime) -> Result<(), Fail> {
-    let dex = small_dex(&rt, rt.alloc());
+fn each_fault_is_told(rt: &impl Abort, dex: &Dex) {
     let cases = SINGLE_FAULTS;
-    faults_hold(&rt, &dex, &cases);
-    Ok(())
+    faults_hold(rt, dex, &cases);
+}
+
+fn faults_are_told_in_their_order(rt: &impl Abort, dex: &Dex) {
+    let cases = SEVERAL_FAULTS;
+    faults_hold(rt, dex, &cases);
 }
 
 #[test]
-fn faults_are_told_in_their_order(rt: HostRuntime) -> Result<(), Fail> {
-    let dex = small_dex(&rt, rt.alloc());
-    let cases = SEVERAL_FAULTS;
-    faults_hold(&rt, &dex, &cases);
-    Ok(())
+fn faults_of_choices(rt: HostRuntime) {
+    let dex = made::dex(&rt, rt.alloc(), SMALL_DEX);
+    each_fault_is_told(&rt, &dex);
+    faults_are_told_in_their_order(&rt, &dex);
 }
