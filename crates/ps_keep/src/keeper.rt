@@ -7,7 +7,7 @@ use crate::note::Note;
 use std::alloc::Global;
 
 /// Why notes weren't loaded or noted.
-#[derive(Clone, Copy, Debug, PartialEq, Eq)]
+#[derive(Clone, Copy)]
 pub enum KeepEnd {
     /// What keeps the notes refused the call.
     Failed,

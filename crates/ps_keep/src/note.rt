@@ -7,7 +7,7 @@ use ps_base::text::Text;
 use std::alloc::{AllocError, Global};
 
 /// What a member of staff did to a user.
-#[derive(Clone, Copy, Debug, PartialEq, Eq)]
+#[derive(Clone, Copy, Debug)]
 pub enum ActKind {
     /// `/warn`
     Warn,

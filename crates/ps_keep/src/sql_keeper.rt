@@ -4,7 +4,7 @@ ghost use Rattle.ps_keep.specs.Keepers.{no_counts, IsLoadEnd};
 
 use crate::keeper::{KeepEnd, Keeper};
 use crate::note::Note;
-use crate::table::{self, Loaded, TableEnd};
+use crate::table::{self, Job, Loaded, TableEnd};
 use crate::tally::Tally;
 use sqlite::{Connection, File, FileStore, MemStore};
 use std::alloc::Global;
@@ -24,10 +24,43 @@ enum Shelf<'a> {
 }
 
 // An open database.
-#[derive(Drop)]
 enum Opened {
     File(Connection<FileStore<File>>),
     Memory(Connection<MemStore>),
+}
+
+// By hand, so that whoever drops one has one step of its proof for that.
+impl Drop for Opened {
+    fn drop(self) {
+        match self {
+            Opened::File(_) => {}
+            Opened::Memory(_) => {}
+        }
+    }
+}
+
+impl Opened {
+    fn run(&mut self, alloc: Global, job: Job<'_>) -> Result<Option<Loaded>, TableEnd> {
+        match self {
+            Opened::File(conn) => table::run(alloc, conn, job),
+            Opened::Memory(conn) => table::run(alloc, conn, job),
+        }
+    }
+
+    fn append(&mut self, alloc: Global, notes: &[Note]) -> Result<(), TableEnd> {
+        self.run(alloc, Job::Append(notes))?;
+        Ok(())
+    }
+
+    // A file's log is copied into it.
+    fn close(self) {
+        match self {
+            Opened::File(conn) => {
+                let _ = conn.close();
+            }
+            Opened::Memory(_) => {}
+        }
+    }
 }
 
 // Opens the database of a file. Where there is no file it is made, or none is given.
@@ -77,51 +110,53 @@ impl Book<'_> {
         Ok(())
     }
 
-    fn load(&mut self, alloc: Global, most: u32) -> Result<Loaded, TableEnd> {
+    fn load(&mut self, alloc: Global, most: u32) -> Result<Option<Loaded>, TableEnd> {
         self.hold(alloc, false)?;
         match &mut self.opened {
-            Some(Opened::File(conn)) => table::load(alloc, conn, most),
-            Some(Opened::Memory(conn)) => table::load(alloc, conn, most),
-            None => Ok(Loaded::Notes(Vec::new(alloc))),
+            None => Ok(None),
+            Some(opened) => opened.run(alloc, Job::Load { most }),
         }
     }
 
     // The log of a file is copied into it, so that the file alone has all notes, and others may open it. Where that fails they
     // are in the file and its log.
     fn finish(&mut self) {
-        match self.opened.take() {
-            Some(Opened::File(conn)) => {
-                let _ = conn.close();
+        if let Some(Opened::File(_)) = &self.opened {
+            if let Some(opened) = self.opened.take() {
+                opened.close();
             }
-            other => self.opened = other,
         }
     }
 
     fn append(&mut self, alloc: Global, notes: &[Note]) -> Result<(), TableEnd> {
         self.hold(alloc, true)?;
         let end = match &mut self.opened {
-            Some(Opened::File(conn)) => table::append(alloc, conn, notes),
-            Some(Opened::Memory(conn)) => table::append(alloc, conn, notes),
             None => Err(TableEnd::Failed),
+            Some(opened) => opened.append(alloc, notes),
         };
         self.finish();
         end
     }
 }
 
-// What a load answers, of which this was found.
-fn load_end(found: Result<Loaded, TableEnd>, most: u32) -> Result<Vec<Note>, KeepEnd>
+// What a load answers, of which this was found, or nothing where there is no database.
+fn load_end(
+    alloc: Global,
+    found: Result<Option<Loaded>, TableEnd>,
+    most: u32,
+) -> Result<Vec<Note>, KeepEnd>
     ensures few { IfOk result (λ v. length v.items ≤ most) }
     ensures end { IsLoadEnd None most result }
 {
     match found {
-        Ok(Loaded::Notes(notes)) => {
+        Ok(None) => Ok(Vec::new(alloc)),
+        Ok(Some(Loaded::Notes(notes))) => {
             if notes.len() > most as usize {
                 return Err(KeepEnd::Failed);
             }
             Ok(notes)
         }
-        Ok(Loaded::TooMany(count)) => {
+        Ok(Some(Loaded::TooMany(count))) => {
             if count > most {
                 return Err(KeepEnd::TooMany { count });
             }
@@ -184,7 +219,7 @@ impl Keeper for SqlKeeper<'_> {
 
     /// Where there is no database there are no notes, and none is made.
     fn load(&mut self, alloc: Global, most: u32) -> Result<Vec<Note>, KeepEnd> {
-        let answer = load_end(self.book.load(alloc, most), most);
+        let answer = load_end(alloc, self.book.load(alloc, most), most);
         self.tally.count_load(&answer);
         answer
     }

@@ -14,7 +14,7 @@ use std::cmp::Ordering;
 use std::fmt;
 
 /// A user's place in the standings of a format. The higher rating stands first, and of equal ones the lower id.
-#[derive(Debug, Drop)]
+#[derive(Drop)]
 pub struct Place {
     /// Who it is.
     pub user: Id,

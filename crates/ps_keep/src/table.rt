@@ -78,6 +78,16 @@ pub enum Loaded {
     TooMany(u32),
 }
 
+/// What is asked of the table.
+#[derive(Clone, Copy)]
+pub enum Job<'a> {
+    /// All notes, if there are at most so many. A database with no table has none, and one with other tables alone is another
+    /// program's.
+    Load { most: u32 },
+    /// To put these behind those that it has, all of them or none. The table is made where there is none.
+    Append(&'a [Note]),
+}
+
 // ---- from rows
 
 fn kind_in(word: &str) -> Option<ActKind> {
@@ -122,14 +132,17 @@ fn won_in(alloc: Global, row: &Row) -> Result<Note, TableEnd> {
 }
 
 fn act_in(alloc: Global, row: &Row, kind: ActKind) -> Result<Note, TableEnd> {
-    let room: String = row.get(4)?;
     let moment: u64 = row.get(8)?;
+    let rank = symbol_at(row, 7)?;
+    let actor = id_at(alloc, row, 5)?;
+    let target = id_at(alloc, row, 6)?;
+    let room: String = row.get(4)?;
     Ok(Note::Act {
         room: Text::from_string(room),
-        actor: id_at(alloc, row, 5)?,
+        actor,
         kind,
-        target: id_at(alloc, row, 6)?,
-        rank: symbol_at(row, 7)?,
+        target,
+        rank,
         moment: Moment(moment),
     })
 }
@@ -150,25 +163,35 @@ fn number_of<S: Alter>(conn: &mut Connection<S>, query: &str) -> Result<u64, Tab
     Ok(number)
 }
 
-fn all_notes<S: Alter>(alloc: Global, conn: &mut Connection<S>) -> Result<Vec<Note>, TableEnd> {
-    let mut notes = Vec::new(alloc);
+fn push_note(alloc: Global, notes: &mut Vec<Note>, row: &Row) -> Result<(), TableEnd> {
+    notes.push(note_in(alloc, row)?)?;
+    Ok(())
+}
+
+fn push_notes<S: Alter>(
+    alloc: Global,
+    conn: &mut Connection<S>,
+    notes: &mut Vec<Note>,
+) -> Result<(), TableEnd> {
     let mut rows = conn.query(SELECT, &[])?;
     for _ in 0..u64::MAX {
         let Some(row) = rows.next()? else {
-            return Ok(notes);
+            return Ok(());
         };
-        notes.push(note_in(alloc, row)?)?;
+        push_note(alloc, notes, row)?;
     }
+    Ok(())
+}
+
+fn all_notes<S: Alter>(alloc: Global, conn: &mut Connection<S>) -> Result<Vec<Note>, TableEnd> {
+    let mut notes = Vec::new(alloc);
+    push_notes(alloc, conn, &mut notes)?;
     Ok(notes)
 }
 
-/// The notes of a database, if there are at most so many. One with no table has none, and one with other tables alone is another
-/// program's.
-pub fn load<S: Alter>(
-    alloc: Global,
-    conn: &mut Connection<S>,
-    most: u32,
-) -> Result<Loaded, TableEnd> {
+// The notes of a database, if there are at most so many. One with no table has none, and one with other tables alone is another
+// program's.
+fn load<S: Alter>(alloc: Global, conn: &mut Connection<S>, most: u32) -> Result<Loaded, TableEnd> {
     if number_of(conn, TABLES)? == 0 {
         return Ok(Loaded::Notes(Vec::new(alloc)));
     }
@@ -201,16 +224,65 @@ fn rank_text(alloc: Global, rank: Option<char>) -> Result<Option<String>, TableE
     Ok(Some(text))
 }
 
+// A statement that is run for each of many notes.
+struct Prepared {
+    statement: Statement,
+}
+
+// By hand, so that whoever drops one has one step of its proof for that: a statement has many parts.
+impl Drop for Prepared {
+    fn drop(self) {
+        let Prepared { statement: _ } = self;
+    }
+}
+
+fn prepare<S: Alter>(work: &mut Transaction<'_, S>, text: &str) -> Result<Prepared, TableEnd> {
+    let statement = work.prepare(text)?;
+    Ok(Prepared { statement })
+}
+
 fn insert_won<S: Alter>(
     work: &mut Transaction<'_, S>,
-    insert: &Statement,
+    insert: &Prepared,
     format: &Id,
     winner: &Id,
     loser: &Id,
 ) -> Result<(), TableEnd> {
     work.execute_prepared(
-        insert,
+        &insert.statement,
         params![format.as_str(), winner.as_str(), loser.as_str()],
+    )?;
+    Ok(())
+}
+
+// With the text of its rank and its moment as they stand in a row.
+fn insert_act_row<S: Alter>(
+    work: &mut Transaction<'_, S>,
+    insert: &Prepared,
+    note: &Note,
+    rank: &Option<String>,
+    moment: i64,
+) -> Result<(), TableEnd> {
+    let Note::Act {
+        room,
+        actor,
+        kind,
+        target,
+        ..
+    } = note
+    else {
+        return Err(TableEnd::Failed);
+    };
+    work.execute_prepared(
+        &insert.statement,
+        params![
+            word_of(*kind),
+            room.as_str(),
+            actor.as_str(),
+            target.as_str(),
+            rank,
+            moment,
+        ],
     )?;
     Ok(())
 }
@@ -218,43 +290,24 @@ fn insert_won<S: Alter>(
 fn insert_act<S: Alter>(
     alloc: Global,
     work: &mut Transaction<'_, S>,
-    insert: &Statement,
+    insert: &Prepared,
     note: &Note,
 ) -> Result<(), TableEnd> {
-    let Note::Act {
-        room,
-        actor,
-        kind,
-        target,
-        rank,
-        moment,
-    } = note
-    else {
+    let Note::Act { rank, moment, .. } = note else {
         return Err(TableEnd::Failed);
     };
     let Ok(moment) = i64::try_from(moment.0) else {
         return Err(TableEnd::Failed);
     };
     let rank = rank_text(alloc, *rank)?;
-    work.execute_prepared(
-        insert,
-        params![
-            word_of(*kind),
-            room.as_str(),
-            actor.as_str(),
-            target.as_str(),
-            &rank,
-            moment,
-        ],
-    )?;
-    Ok(())
+    insert_act_row(work, insert, note, &rank, moment)
 }
 
 fn insert<S: Alter>(
     alloc: Global,
     work: &mut Transaction<'_, S>,
-    won: &Statement,
-    act: &Statement,
+    won: &Prepared,
+    act: &Prepared,
     note: &Note,
 ) -> Result<(), TableEnd> {
     match note {
@@ -267,6 +320,19 @@ fn insert<S: Alter>(
     }
 }
 
+fn insert_each<S: Alter>(
+    alloc: Global,
+    work: &mut Transaction<'_, S>,
+    won: &Prepared,
+    act: &Prepared,
+    notes: &[Note],
+) -> Result<(), TableEnd> {
+    for note in notes {
+        insert(alloc, work, won, act, note)?;
+    }
+    Ok(())
+}
+
 // Makes the table where there is none, and puts the notes behind those that it has.
 fn insert_all<S: Alter>(
     alloc: Global,
@@ -277,16 +343,13 @@ fn insert_all<S: Alter>(
     if is_new {
         work.execute(CREATE, &[])?;
     }
-    let won = work.prepare(INSERT_WON)?;
-    let act = work.prepare(INSERT_ACT)?;
-    for note in notes {
-        insert(alloc, work, &won, &act, note)?;
-    }
-    Ok(())
+    let won = prepare(work, INSERT_WON)?;
+    let act = prepare(work, INSERT_ACT)?;
+    insert_each(alloc, work, &won, &act, notes)
 }
 
-/// Puts notes behind those of a database, all of them or none, and makes the table where there is none.
-pub fn append<S: Alter>(
+// Puts notes behind those of a database, all of them or none, and makes the table where there is none.
+fn append<S: Alter>(
     alloc: Global,
     conn: &mut Connection<S>,
     notes: &[Note],
@@ -299,4 +362,20 @@ pub fn append<S: Alter>(
     insert_all(alloc, &mut work, is_new, notes)?;
     work.commit()?;
     Ok(())
+}
+
+/// Does what is asked, and answers what a load found. It is one call for both, since a proof of a call over a store that is known
+/// takes long, whatever is asked.
+pub fn run<S: Alter>(
+    alloc: Global,
+    conn: &mut Connection<S>,
+    job: Job<'_>,
+) -> Result<Option<Loaded>, TableEnd> {
+    match job {
+        Job::Load { most } => Ok(Some(load(alloc, conn, most)?)),
+        Job::Append(notes) => {
+            append(alloc, conn, notes)?;
+            Ok(None)
+        }
+    }
 }
