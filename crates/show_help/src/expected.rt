@@ -1,4 +1,5 @@
 //! What was expected at a place, and the names that would have stood there.
+use crate::rows::Texts;
 use crate::rules::CLAUSES;
 use crate::values::{list_under, object_under, text_under};
 use ps_base::text::Text;
@@ -333,71 +334,47 @@ pub(crate) fn expected(is_dex: bool, pattern: &str) -> Option<&'static str> {
     }
 }
 
-fn add_words(alloc: Global, names: &mut Vec<Text>, words: &[&str]) -> Result<(), AllocError> {
+fn add_words(names: &mut Texts, words: &[&str]) {
     for word in words {
-        names.push(Text::copy_of(alloc, word)?)?;
+        names.add(word);
     }
-    Ok(())
 }
 
-pub(crate) fn add_clauses(alloc: Global, names: &mut Vec<Text>) -> Result<(), AllocError> {
+pub(crate) fn add_clauses(names: &mut Texts) {
     for clause in CLAUSES {
-        names.push(Text::copy_of(alloc, clause.name())?)?;
+        names.add(clause.name());
     }
-    Ok(())
 }
 
 // The texts that the objects of a list have at a key.
-fn add_list(
-    alloc: Global,
-    names: &mut Vec<Text>,
-    value: Option<&Value>,
-    list: &str,
-    key: &str,
-) -> Result<(), AllocError> {
+fn add_list(names: &mut Texts, value: Option<&Value>, list: &str, key: &str) {
     if let Some(items) = list_under(value, list) {
         for item in items {
             if let Some(name) = text_under(item, key) {
-                names.push(Text::copy_of(alloc, name)?)?;
+                names.add(name);
             }
         }
     }
-    Ok(())
 }
 
-fn add_keys(
-    alloc: Global,
-    names: &mut Vec<Text>,
-    value: Option<&Value>,
-    object: &str,
-) -> Result<(), AllocError> {
+fn add_keys(names: &mut Texts, value: Option<&Value>, object: &str) {
     if let Some(members) = object_under(value, object) {
         for key in members.keys() {
-            names.push(Text::copy_of(alloc, key.as_str())?)?;
+            names.add(key.as_str());
         }
     }
-    Ok(())
 }
 
-fn add_list_or_all_symbols(
-    alloc: Global,
-    names: &mut Vec<Text>,
-    config: Option<&Value>,
-) -> Result<(), AllocError> {
-    add_list(alloc, names, config, "groups", "symbol")?;
+fn add_list_or_all_symbols(names: &mut Texts, config: Option<&Value>) {
+    add_list(names, config, "groups", "symbol");
     if names.is_empty() {
-        add_words(alloc, names, &["~", "#", "@", "%", "*", "+", " "])?;
+        add_words(names, &["~", "#", "@", "%", "*", "+", " "]);
     }
-    Ok(())
 }
 
-fn add_species_and_moves(
-    alloc: Global,
-    names: &mut Vec<Text>,
-    dex: Option<&Value>,
-) -> Result<(), AllocError> {
-    add_list(alloc, names, dex, "species", "name")?;
-    add_list(alloc, names, dex, "moves", "name")
+fn add_species_and_moves(names: &mut Texts, dex: Option<&Value>) {
+    add_list(names, dex, "species", "name");
+    add_list(names, dex, "moves", "name");
 }
 
 // The words that may stand at a place, whatever the files say.
@@ -414,42 +391,30 @@ fn words_at(pattern: &str) -> &'static [&'static str] {
 }
 
 // The names of a dex that may stand at a place.
-fn add_of_dex(
-    alloc: Global,
-    names: &mut Vec<Text>,
-    pattern: &str,
-    dex: Option<&Value>,
-) -> Result<(), AllocError> {
+fn add_of_dex(names: &mut Texts, pattern: &str, dex: Option<&Value>) {
     match pattern {
         "factors[][0]" | "factors[][1]" | "moves[].type" | "species[].types[]" => {
-            add_list(alloc, names, dex, "types", "name")
+            add_list(names, dex, "types", "name")
         }
-        "species[].learns[]" => add_list(alloc, names, dex, "moves", "name"),
-        "aliases.*" => add_species_and_moves(alloc, names, dex),
+        "species[].learns[]" => add_list(names, dex, "moves", "name"),
+        "aliases.*" => add_species_and_moves(names, dex),
         "formats[].bans[]" => {
-            add_species_and_moves(alloc, names, dex)?;
-            add_keys(alloc, names, dex, "aliases")
+            add_species_and_moves(names, dex);
+            add_keys(names, dex, "aliases");
         }
-        _ => Ok(()),
+        _ => {}
     }
 }
 
 // The names of a configuration that may stand at a place.
-fn add_of_config(
-    alloc: Global,
-    names: &mut Vec<Text>,
-    pattern: &str,
-    config: Option<&Value>,
-) -> Result<(), AllocError> {
+fn add_of_config(names: &mut Texts, pattern: &str, config: Option<&Value>) {
     match pattern {
         "formats[].rules" => {
-            add_clauses(alloc, names)?;
-            add_keys(alloc, names, config, "rulesets")
+            add_clauses(names);
+            add_keys(names, config, "rulesets");
         }
-        "staff" | "groups[].inherit" | "users[].group" => {
-            add_list_or_all_symbols(alloc, names, config)
-        }
-        _ => Ok(()),
+        "staff" | "groups[].inherit" | "users[].group" => add_list_or_all_symbols(names, config),
+        _ => {}
     }
 }
 
@@ -460,9 +425,9 @@ pub(crate) fn names_for(
     dex: Option<&Value>,
     config: Option<&Value>,
 ) -> Result<Vec<Text>, AllocError> {
-    let mut names = Vec::new(alloc);
-    add_words(alloc, &mut names, words_at(pattern))?;
-    add_of_dex(alloc, &mut names, pattern, dex)?;
-    add_of_config(alloc, &mut names, pattern, config)?;
-    Ok(names)
+    let mut names = Texts::new(alloc);
+    add_words(&mut names, words_at(pattern));
+    add_of_dex(&mut names, pattern, dex);
+    add_of_config(&mut names, pattern, config);
+    names.into_vec()
 }

@@ -1,9 +1,9 @@
 //! Where a file isn't in its form, as a person looks it up.
 use crate::data_file::{DataFile, open_bytes, open_text, open_value};
 use crate::expected::{add_clauses, expected, names_for, pattern_of};
-use crate::rows::{push_row, push_text};
+use crate::rows::{Rows, Texts};
 use crate::values::{list_of, list_under, object_under};
-use file_help::page::{Row, Section, listed, section_of};
+use file_help::page::{Row, Section, section_of};
 use json_place::excerpt::{Place, byte_of, excerpt, has_star_before, place_of, text_at};
 use json_place::keys::{Note, of_config, of_dex};
 use json_place::nearest::nearest;
@@ -31,58 +31,38 @@ fn kind_text(kind: DataKind) -> &'static str {
 }
 
 // A number, and what is to be said of it.
-fn push_number(
-    alloc: Global,
-    rows: &mut Vec<Row>,
-    key: &str,
-    number: usize,
-    told: &str,
-) -> Result<(), AllocError> {
-    let value = format!(in alloc; "{number}{told}")?;
-    push_row(alloc, rows, key, Text::from_string(value))
+fn push_number(alloc: Global, rows: &mut Rows, key: &str, number: usize, told: &str) {
+    rows.formatted(key, format!(in alloc; "{number}{told}"));
 }
 
 // Line, column, the line with a mark.
-fn push_place(
-    alloc: Global,
-    rows: &mut Vec<Row>,
-    bytes: &[u8],
-    at: usize,
-) -> Result<(), AllocError> {
+fn push_place(alloc: Global, rows: &mut Rows, bytes: &[u8], at: usize) -> Result<(), AllocError> {
     let place = place_of(bytes, at);
     let counted = if has_star_before(bytes, at) {
         ", if what is hidden by a star counts as one character"
     } else {
         ""
     };
-    push_number(alloc, rows, "line", place.line, "")?;
-    push_number(alloc, rows, "column", place.column, counted)?;
+    push_number(alloc, rows, "line", place.line, "");
+    push_number(alloc, rows, "column", place.column, counted);
     let (shown, mark) = excerpt(alloc, bytes, at)?;
-    push_excerpt(alloc, rows, shown, mark)
+    rows.text("text", shown.as_str());
+    rows.text("here", mark.as_str());
+    Ok(())
 }
 
-fn push_excerpt(
-    alloc: Global,
-    rows: &mut Vec<Row>,
-    shown: String,
-    mark: String,
-) -> Result<(), AllocError> {
-    push_row(alloc, rows, "text", Text::from_string(shown))?;
-    push_row(alloc, rows, "here", Text::from_string(mark))
-}
-
-fn between_backquotes(alloc: Global, name: &Text) -> Result<Text, AllocError> {
+fn between_backquotes(alloc: Global, name: &Text) -> Result<String, AllocError> {
     let name = name.as_str();
-    Ok(Text::from_string(format!(in alloc; "`{name}`")?))
+    format!(in alloc; "`{name}`")
 }
 
 // The names, each between backquotes, since one may be a space.
-fn quoted(alloc: Global, names: &[Text]) -> Result<Text, AllocError> {
-    let mut texts = Vec::new(alloc);
+fn quoted(alloc: Global, names: &[Text]) -> Result<Vec<Text>, AllocError> {
+    let mut texts = Texts::new(alloc);
     for name in names {
-        texts.push(between_backquotes(alloc, name)?)?;
+        texts.formatted(between_backquotes(alloc, name));
     }
-    listed(alloc, &texts)
+    texts.into_vec()
 }
 
 fn nearest_of<'a>(
@@ -99,15 +79,17 @@ fn nearest_of<'a>(
 
 fn push_nearest(
     alloc: Global,
-    rows: &mut Vec<Row>,
+    rows: &mut Rows,
     word: &str,
     names: &[Text],
 ) -> Result<(), AllocError> {
     if let Some(name) = nearest_of(alloc, word, names)? {
-        return push_text(alloc, rows, "did you mean", name);
+        rows.text("did you mean", name);
+        return Ok(());
     }
     if !names.is_empty() && names.len() <= MOST_NAMES {
-        return push_row(alloc, rows, "there are", quoted(alloc, names)?);
+        let quoted = quoted(alloc, names)?;
+        rows.listed("there are", &quoted);
     }
     Ok(())
 }
@@ -145,8 +127,8 @@ fn json_expected(bytes: &[u8], at: usize) -> &'static str {
     }
 }
 
-fn push_expected(alloc: Global, rows: &mut Vec<Row>, what: &str) -> Result<(), AllocError> {
-    push_text(alloc, rows, "expected", what)
+fn push_expected(rows: &mut Rows, what: &str) {
+    rows.text("expected", what);
 }
 
 // Where a text stops being JSON, if it does.
@@ -163,22 +145,29 @@ fn place_of_error(alloc: Global, parsed: &[u8]) -> Option<Place> {
 // Of a text as it may be told, and as it may be parsed.
 fn push_json(
     alloc: Global,
-    rows: &mut Vec<Row>,
+    rows: &mut Rows,
     shown: &[u8],
     parsed: &[u8],
 ) -> Result<(), AllocError> {
     if shown.starts_with(b"\xEF\xBB\xBF") {
         push_place(alloc, rows, shown, 0)?;
-        let what = "JSON without a byte order mark: save the file as UTF-8 without one";
-        return push_expected(alloc, rows, what);
+        push_expected(
+            rows,
+            "JSON without a byte order mark: save the file as UTF-8 without one",
+        );
+        return Ok(());
     }
     let Some(place) = place_of_error(alloc, parsed) else {
-        let what = "JSON at the secrets, the nonce and the seeds, too, which aren't shown";
-        return push_expected(alloc, rows, what);
+        push_expected(
+            rows,
+            "JSON at the secrets, the nonce and the seeds, too, which aren't shown",
+        );
+        return Ok(());
     };
     let at = byte_of(shown, place);
     push_place(alloc, rows, shown, at)?;
-    push_expected(alloc, rows, json_expected(shown, at))
+    push_expected(rows, json_expected(shown, at));
+    Ok(())
 }
 
 // ---- a rule that can't stand
@@ -224,13 +213,13 @@ fn wrong_rule<'a>(
 // A rule that can't stand, as it is told, and the nearest of those that can.
 fn push_wrong_rule(
     alloc: Global,
-    rows: &mut Vec<Row>,
+    rows: &mut Rows,
     told: &str,
     rule: &str,
     names: &[Text],
     clauses: &[Text],
 ) -> Result<(), AllocError> {
-    push_text(alloc, rows, "at fault", told)?;
+    rows.text("at fault", told);
     if rule.starts_with('!') {
         push_nearest(alloc, rows, rule, clauses)
     } else {
@@ -238,10 +227,16 @@ fn push_wrong_rule(
     }
 }
 
+fn add_id(alloc: Global, ids: &mut BTreeMap<String, ()>, name: &str) -> Result<(), AllocError> {
+    let id = id_text(alloc, name)?;
+    ids.insert(id, ())?;
+    Ok(())
+}
+
 fn id_names(alloc: Global, names: &[Text]) -> Result<BTreeMap<String, ()>, AllocError> {
     let mut ids = BTreeMap::new(alloc);
     for name in names {
-        ids.insert(id_text(alloc, name.as_str())?, ())?;
+        add_id(alloc, &mut ids, name.as_str())?;
     }
     Ok(ids)
 }
@@ -252,11 +247,23 @@ fn id_text(alloc: Global, name: &str) -> Result<String, AllocError> {
 }
 
 fn keys_of(alloc: Global, sets: &Map<String, Value>) -> Result<Vec<Text>, AllocError> {
-    let mut keys = Vec::new(alloc);
+    let mut keys = Texts::new(alloc);
     for key in sets.keys() {
-        keys.push(Text::copy_of(alloc, key.as_str())?)?;
+        keys.add(key.as_str());
     }
-    Ok(keys)
+    keys.into_vec()
+}
+
+fn add_named(
+    alloc: Global,
+    inner: &mut Texts,
+    rule: &str,
+    ids: &BTreeMap<String, ()>,
+) -> Result<(), AllocError> {
+    if is_rule(alloc, rule, ids)? {
+        inner.add(rule);
+    }
+    Ok(())
 }
 
 // The texts of a list whose ids are among these.
@@ -265,33 +272,26 @@ fn named_in(
     list: &[Value],
     ids: &BTreeMap<String, ()>,
 ) -> Result<Vec<Text>, AllocError> {
-    let mut inner = Vec::new(alloc);
+    let mut inner = Texts::new(alloc);
     for rule in list {
         if let Some(rule) = rule.as_str() {
-            if is_rule(alloc, rule, ids)? {
-                inner.push(Text::copy_of(alloc, rule)?)?;
-            }
+            add_named(alloc, &mut inner, rule, ids)?;
         }
     }
-    Ok(inner)
+    inner.into_vec()
 }
 
-fn push_named(
-    alloc: Global,
-    rows: &mut Vec<Row>,
-    key: &str,
-    names: &[Text],
-) -> Result<(), AllocError> {
-    if names.is_empty() {
-        return Ok(());
+fn push_named(alloc: Global, rows: &mut Rows, key: &str, names: &[Text]) -> Result<(), AllocError> {
+    if !names.is_empty() {
+        let place = format!(in alloc; "ruleset {key} names")?;
+        rows.listed(place.as_str(), names);
     }
-    let place = format!(in alloc; "ruleset {key} names")?;
-    push_row(alloc, rows, place.as_str(), listed(alloc, names)?)
+    Ok(())
 }
 
 fn push_set(
     alloc: Global,
-    rows: &mut Vec<Row>,
+    rows: &mut Rows,
     key: &str,
     rules: &Value,
     ids: &BTreeMap<String, ()>,
@@ -305,7 +305,7 @@ fn push_set(
 
 fn push_each_set(
     alloc: Global,
-    rows: &mut Vec<Row>,
+    rows: &mut Rows,
     sets: &Map<String, Value>,
     ids: &BTreeMap<String, ()>,
 ) -> Result<(), AllocError> {
@@ -319,47 +319,61 @@ fn rulesets_of(config: Option<&Value>) -> Option<&Map<String, Value>> {
     object_under(config, "rulesets")
 }
 
+fn ids_of_keys(
+    alloc: Global,
+    sets: &Map<String, Value>,
+) -> Result<BTreeMap<String, ()>, AllocError> {
+    let keys = keys_of(alloc, sets)?;
+    id_names(alloc, &keys)
+}
+
 // Each ruleset that names others, with these: a ruleset inside itself is among them.
-fn push_sets(alloc: Global, rows: &mut Vec<Row>, config: Option<&Value>) -> Result<(), AllocError> {
+fn push_sets(alloc: Global, rows: &mut Rows, config: Option<&Value>) -> Result<(), AllocError> {
     let Some(sets) = rulesets_of(config) else {
         return Ok(());
     };
-    let keys = keys_of(alloc, sets)?;
-    let ids = id_names(alloc, &keys)?;
+    let ids = ids_of_keys(alloc, sets)?;
     push_each_set(alloc, rows, sets, &ids)
 }
 
 // The texts of a list that repeal nothing.
 fn plain_in(alloc: Global, rules: &[Value]) -> Result<Vec<Text>, AllocError> {
-    let mut named = Vec::new(alloc);
+    let mut named = Texts::new(alloc);
     for rule in rules {
         if let Some(rule) = rule.as_str() {
             if !rule.starts_with('!') {
-                named.push(Text::copy_of(alloc, rule)?)?;
+                named.add(rule);
             }
         }
     }
-    Ok(named)
+    named.into_vec()
+}
+
+fn ids_of_plain(alloc: Global, rules: &[Value]) -> Result<BTreeMap<String, ()>, AllocError> {
+    let named = plain_in(alloc, rules)?;
+    id_names(alloc, &named)
 }
 
 // A text of a list that repeals what is named in it, by its id.
 fn push_repeal(
     alloc: Global,
-    rows: &mut Vec<Row>,
+    rows: &mut Rows,
     place: &str,
     rule: &str,
     ids: &BTreeMap<String, ()>,
 ) -> Result<(), AllocError> {
     if rule.starts_with('!') && is_rule(alloc, rule, ids)? {
-        let told = format!(in alloc; "{rule} beside the same clause, in {place}")?;
-        push_row(alloc, rows, "at fault", Text::from_string(told))?;
+        rows.formatted(
+            "at fault",
+            format!(in alloc; "{rule} beside the same clause, in {place}"),
+        );
     }
     Ok(())
 }
 
 fn push_each_repeal(
     alloc: Global,
-    rows: &mut Vec<Row>,
+    rows: &mut Rows,
     place: &str,
     rules: &[Value],
     ids: &BTreeMap<String, ()>,
@@ -375,22 +389,31 @@ fn push_each_repeal(
 // The lists that name a clause and repeal it.
 fn push_repeals(
     alloc: Global,
-    rows: &mut Vec<Row>,
+    rows: &mut Rows,
     place: &str,
     rules: Option<&Value>,
 ) -> Result<(), AllocError> {
     let Some(rules) = list_of(rules) else {
         return Ok(());
     };
-    let named = plain_in(alloc, rules)?;
-    let ids = id_names(alloc, &named)?;
+    let ids = ids_of_plain(alloc, rules)?;
     push_each_repeal(alloc, rows, place, rules, &ids)
+}
+
+fn push_repeals_of(
+    alloc: Global,
+    rows: &mut Rows,
+    key: &str,
+    rules: &Value,
+) -> Result<(), AllocError> {
+    let place = format!(in alloc; "the ruleset {key}")?;
+    push_repeals(alloc, rows, place.as_str(), Some(rules))
 }
 
 // Those of the format's own list, and of each ruleset.
 fn push_all_repeals(
     alloc: Global,
-    rows: &mut Vec<Row>,
+    rows: &mut Rows,
     own: Option<&Value>,
     config: Option<&Value>,
 ) -> Result<(), AllocError> {
@@ -399,8 +422,7 @@ fn push_all_repeals(
         return Ok(());
     };
     for (key, rules) in sets {
-        let place = format!(in alloc; "the ruleset {key}")?;
-        push_repeals(alloc, rows, place.as_str(), Some(rules))?;
+        push_repeals_of(alloc, rows, key.as_str(), rules)?;
     }
     Ok(())
 }
@@ -433,7 +455,7 @@ struct Known<'a> {
 // The first ruleset with a text that can't stand in it.
 fn push_wrong_set(
     alloc: Global,
-    rows: &mut Vec<Row>,
+    rows: &mut Rows,
     sets: &Map<String, Value>,
     known: Known<'_>,
 ) -> Result<(), AllocError> {
@@ -449,7 +471,7 @@ fn push_wrong_set(
 // The first text that can't stand, in the format's own list or in a ruleset.
 fn push_wrong(
     alloc: Global,
-    rows: &mut Vec<Row>,
+    rows: &mut Rows,
     own: Option<&Value>,
     config: Option<&Value>,
     known: Known<'_>,
@@ -463,16 +485,21 @@ fn push_wrong(
     }
 }
 
+fn clause_names(alloc: Global) -> Result<Vec<Text>, AllocError> {
+    let mut clauses = Texts::new(alloc);
+    add_clauses(&mut clauses);
+    clauses.into_vec()
+}
+
 fn push_unknown(
     alloc: Global,
-    rows: &mut Vec<Row>,
+    rows: &mut Rows,
     own: Option<&Value>,
     config: Option<&Value>,
     names: &[Text],
 ) -> Result<(), AllocError> {
+    let clauses = clause_names(alloc)?;
     let ids = id_names(alloc, names)?;
-    let mut clauses = Vec::new(alloc);
-    add_clauses(alloc, &mut clauses)?;
     let clause_ids = id_names(alloc, &clauses)?;
     let known = Known {
         names,
@@ -486,7 +513,7 @@ fn push_unknown(
 // Where a format's rules can't be walked: the text that names nothing, in its own list or in a ruleset.
 fn push_rule(
     alloc: Global,
-    rows: &mut Vec<Row>,
+    rows: &mut Rows,
     kind: DataKind,
     path: &str,
     config: Option<&Value>,
@@ -505,16 +532,16 @@ fn push_rule(
 // What stands at a place.
 fn push_text_at(
     alloc: Global,
-    rows: &mut Vec<Row>,
+    rows: &mut Rows,
     bytes: &[u8],
     at: usize,
     kind: DataKind,
     names: &[Text],
 ) -> Result<(), AllocError> {
     let text = text_at(alloc, bytes, at)?;
-    push_text(alloc, rows, "at fault", text.as_str())?;
+    rows.text("at fault", text.as_str());
     if kind == DataKind::Unknown {
-        push_nearest(alloc, rows, text.as_str(), names)?;
+        return push_nearest(alloc, rows, text.as_str(), names);
     }
     Ok(())
 }
@@ -535,7 +562,7 @@ fn notes_of(
 // The fault of a value with this path and pattern, and the names that may stand there.
 fn push_fault(
     alloc: Global,
-    rows: &mut Vec<Row>,
+    rows: &mut Rows,
     bytes: &[u8],
     path: &str,
     pattern: &str,
@@ -546,7 +573,8 @@ fn push_fault(
     let found = find(alloc, bytes, path)?;
     push_place(alloc, rows, bytes, found.at)?;
     if !found.is_whole {
-        return push_text(alloc, rows, "at fault", "nothing: the key is missing");
+        rows.text("at fault", "nothing: the key is missing");
+        return Ok(());
     }
     if pattern == "formats[].rules" {
         return push_rule(alloc, rows, kind, path, config, names);
@@ -557,7 +585,7 @@ fn push_fault(
 // The fault of a value with this path and pattern, and what was expected.
 fn push_pattern(
     alloc: Global,
-    rows: &mut Vec<Row>,
+    rows: &mut Rows,
     bytes: &[u8],
     is_dex: bool,
     path: &str,
@@ -568,15 +596,27 @@ fn push_pattern(
 ) -> Result<(), AllocError> {
     let names = names_for(alloc, pattern, dex, config)?;
     push_fault(alloc, rows, bytes, path, pattern, kind, config, &names)?;
-    match expected(is_dex, pattern) {
-        None => Ok(()),
-        Some(what) => push_expected(alloc, rows, what),
+    if let Some(what) = expected(is_dex, pattern) {
+        push_expected(rows, what);
     }
+    Ok(())
+}
+
+fn push_keys(
+    alloc: Global,
+    rows: &mut Rows,
+    is_dex: bool,
+    dex: Option<&Value>,
+    config: Option<&Value>,
+) -> Result<(), AllocError> {
+    let notes = notes_of(alloc, is_dex, dex, config)?;
+    push_notes(rows, &notes);
+    Ok(())
 }
 
 fn push_value(
     alloc: Global,
-    rows: &mut Vec<Row>,
+    rows: &mut Rows,
     bytes: &[u8],
     is_dex: bool,
     path: &str,
@@ -596,16 +636,14 @@ fn push_value(
         dex,
         config,
     )?;
-    let notes = notes_of(alloc, is_dex, dex, config)?;
-    push_notes(alloc, rows, &notes)
+    push_keys(alloc, rows, is_dex, dex, config)
 }
 
 // Keys that nothing knows, since the one that is missing may be misspelt.
-fn push_notes(alloc: Global, rows: &mut Vec<Row>, notes: &[Note]) -> Result<(), AllocError> {
+fn push_notes(rows: &mut Rows, notes: &[Note]) {
     for note in notes.iter().take(MOST_NAMES) {
-        push_text(alloc, rows, note.place.as_str(), note.told.as_str())?;
+        rows.text(note.place.as_str(), note.told.as_str());
     }
-    Ok(())
 }
 
 /// The files that are read.
@@ -618,26 +656,20 @@ pub struct Names<'a> {
 }
 
 // The file, the path and the fault.
-fn push_head(
-    alloc: Global,
-    rows: &mut Vec<Row>,
-    file: DataFile<'_>,
-    path: &str,
-    kind: DataKind,
-) -> Result<(), AllocError> {
-    push_text(alloc, rows, "file", file.name.unwrap_or("none"))?;
+fn push_head(rows: &mut Rows, file: DataFile<'_>, path: &str, kind: DataKind) {
+    rows.text("file", file.name.unwrap_or("none"));
     let place = if path.is_empty() {
         "the whole file"
     } else {
         path
     };
-    push_text(alloc, rows, "path", place)?;
-    push_text(alloc, rows, "fault", kind_text(kind))
+    rows.text("path", place);
+    rows.text("fault", kind_text(kind));
 }
 
 fn push_json_of<F: Files>(
     alloc: Global,
-    rows: &mut Vec<Row>,
+    rows: &mut Rows,
     files: &mut F,
     file: DataFile<'_>,
 ) -> Result<(), AllocError> {
@@ -649,7 +681,7 @@ fn push_json_of<F: Files>(
 
 fn push_value_of<F: Files>(
     alloc: Global,
-    rows: &mut Vec<Row>,
+    rows: &mut Rows,
     files: &mut F,
     read: Read<'_>,
     bytes: &[u8],
@@ -680,12 +712,12 @@ struct Read<'a> {
 
 fn push_page<F: Files>(
     alloc: Global,
-    rows: &mut Vec<Row>,
+    rows: &mut Rows,
     files: &mut F,
     read: Read<'_>,
 ) -> Result<(), AllocError> {
     let file = if read.is_dex { read.dex } else { read.config };
-    push_head(alloc, rows, file, read.path, read.kind)?;
+    push_head(rows, file, read.path, read.kind);
     if read.kind == DataKind::Json {
         return push_json_of(alloc, rows, files, file);
     }
@@ -693,6 +725,16 @@ fn push_page<F: Files>(
         None => Ok(()),
         Some(bytes) => push_value_of(alloc, rows, files, read, &bytes),
     }
+}
+
+fn page_rows<F: Files>(
+    alloc: Global,
+    files: &mut F,
+    read: Read<'_>,
+) -> Result<Vec<Row>, AllocError> {
+    let mut rows = Rows::new(alloc);
+    push_page(alloc, &mut rows, files, read)?;
+    rows.into_vec()
 }
 
 fn one_section(alloc: Global, title: &str, rows: Vec<Row>) -> Result<Vec<Section>, AllocError> {
@@ -725,8 +767,7 @@ pub fn fault_page<F: Files>(
         path,
         kind,
     };
-    let mut rows = Vec::new(alloc);
-    push_page(alloc, &mut rows, files, read)?;
+    let rows = page_rows(alloc, files, read)?;
     let title = if is_dex {
         "The dex file is wrong"
     } else {

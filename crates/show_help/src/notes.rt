@@ -1,10 +1,10 @@
 //! Notes on a dex and a configuration that are in their forms.
 use crate::data_file::{DataFile, open_value};
 use crate::marks::{no_marks, set_mark};
-use crate::rows::{push_row, push_text};
+use crate::rows::{Rows, Texts};
 use crate::rules::{is_told, push_rulesets, source_rows, without_formats};
 use crate::values::{list_under, text_under};
-use file_help::page::{Row, Section, listed, section_of};
+use file_help::page::{Row, Section, section_of};
 use json_place::keys::{Note, looks_like_config, looks_like_dex, of_config, of_dex};
 use ps_base::id::to_id;
 use ps_base::text::Text;
@@ -41,41 +41,42 @@ struct Values<'a> {
 
 // ---- warnings
 
-fn push_notes(
-    alloc: Global,
-    rows: &mut Vec<Row>,
-    file: &str,
-    notes: &[Note],
-) -> Result<(), AllocError> {
+fn push_notes(alloc: Global, rows: &mut Rows, file: &str, notes: &[Note]) {
     for note in notes {
         let place = note.place.as_str();
-        let key = format!(in alloc; "{file} {place}")?;
-        push_text(alloc, rows, key.as_str(), note.told.as_str())?;
+        rows.keyed(format!(in alloc; "{file} {place}"), note.told.as_str());
     }
+}
+
+fn push_dex_notes(alloc: Global, rows: &mut Rows, dex: &Value) -> Result<(), AllocError> {
+    if looks_like_config(dex) {
+        rows.text(
+            "dex file",
+            "it looks like a configuration: are the files swapped?",
+        );
+        return Ok(());
+    }
+    let notes = of_dex(alloc, dex)?;
+    push_notes(alloc, rows, "dex file", &notes);
     Ok(())
 }
 
-fn push_dex_notes(alloc: Global, rows: &mut Vec<Row>, dex: &Value) -> Result<(), AllocError> {
-    if looks_like_config(dex) {
-        let told = "it looks like a configuration: are the files swapped?";
-        return push_text(alloc, rows, "dex file", told);
-    }
-    let notes = of_dex(alloc, dex)?;
-    push_notes(alloc, rows, "dex file", &notes)
-}
-
-fn push_config_notes(alloc: Global, rows: &mut Vec<Row>, config: &Value) -> Result<(), AllocError> {
+fn push_config_notes(alloc: Global, rows: &mut Rows, config: &Value) -> Result<(), AllocError> {
     if looks_like_dex(config) {
-        let told = "it looks like a dex file: are the files swapped?";
-        return push_text(alloc, rows, "configuration", told);
+        rows.text(
+            "configuration",
+            "it looks like a dex file: are the files swapped?",
+        );
+        return Ok(());
     }
     let notes = of_config(alloc, config)?;
-    push_notes(alloc, rows, "configuration", &notes)
+    push_notes(alloc, rows, "configuration", &notes);
+    Ok(())
 }
 
 fn push_file_notes(
     alloc: Global,
-    rows: &mut Vec<Row>,
+    rows: &mut Rows,
     dex: Option<&Value>,
     config: Option<&Value>,
 ) -> Result<(), AllocError> {
@@ -89,37 +90,32 @@ fn push_file_notes(
 }
 
 // A user whose secret is empty.
-fn push_empty_secrets(
-    alloc: Global,
-    rows: &mut Vec<Row>,
-    config: &Value,
-) -> Result<(), AllocError> {
+fn push_empty_secrets(alloc: Global, rows: &mut Rows, config: &Value) {
     if let Some(users) = list_under(Some(config), "users") {
         for i in 0..users.len() {
             if text_under(&users[i], "secret") == Some("") {
-                let key = format!(in alloc; "configuration users[{i}].secret")?;
-                let told = "it is empty: anybody can take the name";
-                push_text(alloc, rows, key.as_str(), told)?;
+                rows.keyed(
+                    format!(in alloc; "configuration users[{i}].secret"),
+                    "it is empty: anybody can take the name",
+                );
             }
         }
     }
-    Ok(())
 }
 
-fn push_defaults(
-    alloc: Global,
-    rows: &mut Vec<Row>,
-    words: NoteWords<'_>,
-) -> Result<(), AllocError> {
+fn push_defaults(rows: &mut Rows, words: NoteWords<'_>) {
     if words.is_default_nonce {
-        let told = "the default: a proof of who a user is may serve at another server, too";
-        push_text(alloc, rows, "configuration nonce", told)?;
+        rows.text(
+            "configuration nonce",
+            "the default: a proof of who a user is may serve at another server, too",
+        );
     }
     if words.is_default_seed {
-        let told = "the default: whoever knows it foretells the draws of battles";
-        push_text(alloc, rows, "configuration seed", told)?;
+        rows.text(
+            "configuration seed",
+            "the default: whoever knows it foretells the draws of battles",
+        );
     }
-    Ok(())
 }
 
 // ---- formats that nobody can play
@@ -160,57 +156,42 @@ fn count_left(alloc: Global, dex: &Dex, table: &RuleTable) -> Result<usize, Allo
 }
 
 // Ranges that nothing is in.
-fn push_turned(
-    alloc: Global,
-    rows: &mut Vec<Row>,
-    key: &str,
-    table: &RuleTable,
-) -> Result<(), AllocError> {
+fn push_turned(rows: &mut Rows, key: &str, table: &RuleTable) {
     if table.min > table.max {
-        push_text(alloc, rows, key, "nobody can play it: `min` is above `max`")?;
+        rows.text(key, "nobody can play it: `min` is above `max`");
     }
     if table.levels[0] > table.levels[1] {
-        push_text(
-            alloc,
-            rows,
-            key,
-            "nobody can play it: `levels` is turned round",
-        )?;
+        rows.text(key, "nobody can play it: `levels` is turned round");
     }
-    Ok(())
 }
 
 // Of how many species are left.
-fn push_left(
-    alloc: Global,
-    rows: &mut Vec<Row>,
-    key: &str,
-    table: &RuleTable,
-    left: usize,
-) -> Result<(), AllocError> {
+fn push_left(rows: &mut Rows, key: &str, table: &RuleTable, left: usize) {
     if left == 0 {
-        let told = "nobody can play it: no species is left that learns a move that is left";
-        return push_text(alloc, rows, key, told);
+        rows.text(
+            key,
+            "nobody can play it: no species is left that learns a move that is left",
+        );
+    } else if Clause::Species.is_in(table.clauses) && left < usize::from(table.min) {
+        rows.text(
+            key,
+            "nobody can play it: fewer species are left than `min`, and none may stand twice",
+        );
     }
-    if Clause::Species.is_in(table.clauses) && left < usize::from(table.min) {
-        let told =
-            "nobody can play it: fewer species are left than `min`, and none may stand twice";
-        return push_text(alloc, rows, key, told);
-    }
-    Ok(())
 }
 
 fn push_unplayable(
     alloc: Global,
-    rows: &mut Vec<Row>,
+    rows: &mut Rows,
     dex: &Dex,
     format: &Format,
 ) -> Result<(), AllocError> {
+    let left = count_left(alloc, dex, &format.table)?;
     let id = format.id.as_str();
     let key = format!(in alloc; "format {id}")?;
-    push_turned(alloc, rows, key.as_str(), &format.table)?;
-    let left = count_left(alloc, dex, &format.table)?;
-    push_left(alloc, rows, key.as_str(), &format.table, left)
+    push_turned(rows, key.as_str(), &format.table);
+    push_left(rows, key.as_str(), &format.table, left);
+    Ok(())
 }
 
 // ---- moves and species that nobody can use
@@ -226,13 +207,13 @@ fn unmarked_names(
     moves: &[MoveItem],
     marks: &[bool],
 ) -> Result<Vec<Text>, AllocError> {
-    let mut names = Vec::new(alloc);
+    let mut names = Texts::new(alloc);
     for (item, is_learned) in moves.iter().zip(marks) {
         if !*is_learned {
-            names.push(item.name.copy(alloc)?)?;
+            names.add(item.name.as_str());
         }
     }
-    Ok(names)
+    names.into_vec()
 }
 
 fn unlearned(alloc: Global, dex: &Dex) -> Result<Vec<Text>, AllocError> {
@@ -244,38 +225,39 @@ fn unlearned(alloc: Global, dex: &Dex) -> Result<Vec<Text>, AllocError> {
 }
 
 fn without_moves(alloc: Global, species: &[SpeciesItem]) -> Result<Vec<Text>, AllocError> {
-    let mut names = Vec::new(alloc);
+    let mut names = Texts::new(alloc);
     for item in species {
         if item.learns.as_slice().is_empty() {
-            names.push(item.name.copy(alloc)?)?;
+            names.add(item.name.as_str());
         }
     }
-    Ok(names)
+    names.into_vec()
 }
 
-fn push_named(
-    alloc: Global,
-    rows: &mut Vec<Row>,
-    key: &str,
-    names: &[Text],
-) -> Result<(), AllocError> {
-    if names.is_empty() {
-        return Ok(());
+fn push_named(rows: &mut Rows, key: &str, names: &[Text]) {
+    if !names.is_empty() {
+        rows.listed(key, names);
     }
-    push_row(alloc, rows, key, listed(alloc, names)?)
 }
 
 // ---- all of them
 
-fn push_unlearned(alloc: Global, rows: &mut Vec<Row>, dex: &Dex) -> Result<(), AllocError> {
+fn push_unlearned(alloc: Global, rows: &mut Rows, dex: &Dex) -> Result<(), AllocError> {
     let unlearned = unlearned(alloc, dex)?;
-    push_named(alloc, rows, "moves that nobody learns", &unlearned)
+    push_named(rows, "moves that nobody learns", &unlearned);
+    Ok(())
+}
+
+fn push_without_moves(alloc: Global, rows: &mut Rows, dex: &Dex) -> Result<(), AllocError> {
+    let without = without_moves(alloc, dex.all_species())?;
+    push_named(rows, "species without moves", &without);
+    Ok(())
 }
 
 // What is wrong with no single format.
 fn push_general(
     alloc: Global,
-    rows: &mut Vec<Row>,
+    rows: &mut Rows,
     dex: &Dex,
     formats: &Formats,
     sets: &Formats,
@@ -283,13 +265,34 @@ fn push_general(
     config: Option<&Value>,
 ) -> Result<(), AllocError> {
     if let Some(value) = config {
-        push_empty_secrets(alloc, rows, value)?;
-        push_defaults(alloc, rows, words)?;
+        push_empty_secrets(alloc, rows, value);
+        push_defaults(rows, words);
         push_rulesets(alloc, rows, formats, sets, value)?;
     }
     push_unlearned(alloc, rows, dex)?;
-    let without = without_moves(alloc, dex.all_species())?;
-    push_named(alloc, rows, "species without moves", &without)
+    push_without_moves(alloc, rows, dex)
+}
+
+fn push_warnings(
+    alloc: Global,
+    rows: &mut Rows,
+    dex: &Dex,
+    formats: &Formats,
+    sets: &Formats,
+    words: NoteWords<'_>,
+    only: Option<&Format>,
+    values: Values<'_>,
+) -> Result<(), AllocError> {
+    push_file_notes(alloc, rows, values.dex, values.config)?;
+    if only.is_none() {
+        push_general(alloc, rows, dex, formats, sets, words, values.config)?;
+    }
+    for format in formats.list() {
+        if is_told(format, only) {
+            push_unplayable(alloc, rows, dex, format)?;
+        }
+    }
+    Ok(())
 }
 
 fn warning_rows(
@@ -301,17 +304,9 @@ fn warning_rows(
     only: Option<&Format>,
     values: Values<'_>,
 ) -> Result<Vec<Row>, AllocError> {
-    let mut rows = Vec::new(alloc);
-    push_file_notes(alloc, &mut rows, values.dex, values.config)?;
-    if only.is_none() {
-        push_general(alloc, &mut rows, dex, formats, sets, words, values.config)?;
-    }
-    for format in formats.list() {
-        if is_told(format, only) {
-            push_unplayable(alloc, &mut rows, dex, format)?;
-        }
-    }
-    Ok(rows)
+    let mut rows = Rows::new(alloc);
+    push_warnings(alloc, &mut rows, dex, formats, sets, words, only, values)?;
+    rows.into_vec()
 }
 
 // The format of this name or id, if the words name one.

@@ -1,8 +1,8 @@
 //! Notes on rulesets, and on the rules of formats.
 use crate::marks::no_marks;
-use crate::rows::push_row;
+use crate::rows::{Rows, Texts};
 use crate::values::list_under;
-use file_help::page::{Row, listed, row_of};
+use file_help::page::{Row, listed};
 use ps_base::id::{Id, to_id};
 use ps_base::text::Text;
 use ps_dex::dex::Dex;
@@ -36,6 +36,18 @@ pub(crate) const CLAUSES: &[Clause] = &[
 
 // ---- rulesets
 
+fn copy_member(
+    alloc: Global,
+    members: &mut Map<String, Value>,
+    config: &Value,
+    key: &str,
+) -> Result<(), AllocError> {
+    match config.get(key) {
+        None => Ok(()),
+        Some(value) => serde_json::put(members, alloc, key, value.clone()?),
+    }
+}
+
 /// The rulesets of a configuration without its formats: an id that a format has, too, means the ruleset there, as it does in
 /// every rule list. `None` where they aren't in their form.
 pub(crate) fn without_formats(
@@ -44,12 +56,8 @@ pub(crate) fn without_formats(
     config: &Value,
 ) -> Result<Option<Formats>, AllocError> {
     let mut members = Map::new(alloc);
-    if let Some(version) = config.get("version") {
-        serde_json::put(&mut members, alloc, "version", version.clone()?)?;
-    }
-    if let Some(sets) = config.get("rulesets") {
-        serde_json::put(&mut members, alloc, "rulesets", sets.clone()?)?;
-    }
+    copy_member(alloc, &mut members, config, "version")?;
+    copy_member(alloc, &mut members, config, "rulesets")?;
     match Formats::from_value(alloc, &Value::Object(members), dex) {
         Ok(sets) => Ok(Some(sets)),
         Err(FormatFault::NoMemory) => Err(AllocError),
@@ -58,7 +66,6 @@ pub(crate) fn without_formats(
 }
 
 /// Which rulesets rule lists have come to.
-#[derive(Drop)]
 struct Reached {
     /// The index of each ruleset, by its id.
     indexes: BTreeMap<String, usize>,
@@ -66,6 +73,17 @@ struct Reached {
     marks: Vec<bool>,
     /// The indexes of those whose own lists are still to be gone through.
     waiting: Vec<usize>,
+}
+
+// By hand, so that whoever drops it has one step of its proof for that.
+impl Drop for Reached {
+    fn drop(self) {
+        let Reached {
+            indexes: _,
+            marks: _,
+            waiting: _,
+        } = self;
+    }
 }
 
 impl Reached {
@@ -111,20 +129,42 @@ impl Reached {
         let id = to_id(alloc, text)?;
         self.meet(id.as_str())
     }
+
+    fn into_marks(self) -> Vec<bool> {
+        let Reached {
+            indexes: _,
+            marks,
+            waiting: _,
+        } = self;
+        marks
+    }
+}
+
+fn add_index(
+    alloc: Global,
+    indexes: &mut BTreeMap<String, usize>,
+    set: &Ruleset,
+    index: usize,
+) -> Result<(), AllocError> {
+    let id = String::from_str(alloc, set.id.as_str())?;
+    indexes.insert(id, index)?;
+    Ok(())
 }
 
 fn indexes_of(alloc: Global, sets: &[Ruleset]) -> Result<BTreeMap<String, usize>, AllocError> {
     let mut indexes = BTreeMap::new(alloc);
     for index in 0..sets.len() {
-        indexes.insert(String::from_str(alloc, sets[index].id.as_str())?, index)?;
+        add_index(alloc, &mut indexes, &sets[index], index)?;
     }
     Ok(indexes)
 }
 
 fn none_reached(alloc: Global, sets: &[Ruleset]) -> Result<Reached, AllocError> {
+    let marks = no_marks(alloc, sets.len())?;
+    let indexes = indexes_of(alloc, sets)?;
     Ok(Reached {
-        indexes: indexes_of(alloc, sets)?,
-        marks: no_marks(alloc, sets.len())?,
+        indexes,
+        marks,
         waiting: Vec::new(alloc),
     })
 }
@@ -153,46 +193,57 @@ fn meet_sets(reached: &mut Reached, sets: &[Ruleset]) -> Result<(), AllocError> 
     Ok(())
 }
 
+fn meet_all(
+    alloc: Global,
+    reached: &mut Reached,
+    formats: &Formats,
+    config: &Value,
+) -> Result<(), AllocError> {
+    meet_formats(alloc, reached, formats, config)?;
+    meet_sets(reached, formats.rulesets())
+}
+
 // By a ruleset's index, whether some format comes to it, be it by its own list or by another ruleset.
 fn used_marks(alloc: Global, formats: &Formats, config: &Value) -> Result<Vec<bool>, AllocError> {
     let mut reached = none_reached(alloc, formats.rulesets())?;
-    meet_formats(alloc, &mut reached, formats, config)?;
-    meet_sets(&mut reached, formats.rulesets())?;
-    let Reached { marks, .. } = reached;
-    Ok(marks)
+    meet_all(alloc, &mut reached, formats, config)?;
+    Ok(reached.into_marks())
 }
 
 // What a ruleset comes to by itself, over rulesets without formats.
-fn outcome(alloc: Global, sets: &Formats, id: &Id) -> Result<Text, AllocError> {
-    let table = match resolve(alloc, sets, id) {
-        Ok(table) => table,
-        Err(RuleFault::UnknownRule { id }) => return wrong_at(alloc, &id),
-        Err(RuleFault::Cycle { id }) => return wrong_at(alloc, &id),
-        Err(RuleFault::Contradiction { id }) => return wrong_at(alloc, &id),
-        Err(RuleFault::NoMemory) => return Err(AllocError),
-    };
-    clauses_text(alloc, &table)
+fn outcome(alloc: Global, sets: &Formats, id: &Id) -> Result<String, AllocError> {
+    match resolve(alloc, sets, id) {
+        Ok(table) => clauses_text(alloc, &table),
+        Err(RuleFault::UnknownRule { id }) => wrong_at(alloc, &id),
+        Err(RuleFault::Cycle { id }) => wrong_at(alloc, &id),
+        Err(RuleFault::Contradiction { id }) => wrong_at(alloc, &id),
+        Err(RuleFault::NoMemory) => Err(AllocError),
+    }
 }
 
 fn names_in(alloc: Global, table: &RuleTable) -> Result<Vec<Text>, AllocError> {
-    let mut names = Vec::new(alloc);
+    let mut names = Texts::new(alloc);
     for clause in CLAUSES {
         if clause.is_in(table.clauses) {
-            names.push(Text::copy_of(alloc, clause.name())?)?;
+            names.add(clause.name());
         }
     }
-    Ok(names)
+    names.into_vec()
 }
 
-fn clauses_text(alloc: Global, table: &RuleTable) -> Result<Text, AllocError> {
+fn listed_clauses(alloc: Global, table: &RuleTable) -> Result<Text, AllocError> {
     let names = names_in(alloc, table)?;
-    let names = listed(alloc, &names)?;
-    let names = names.as_str();
-    Ok(Text::from_string(format!(in alloc; "comes to {names}")?))
+    listed(alloc, &names)
 }
 
-fn wrong_at(alloc: Global, id: &Id) -> Result<Text, AllocError> {
-    Ok(Text::from_string(format!(in alloc; "is wrong at `{id}`")?))
+fn clauses_text(alloc: Global, table: &RuleTable) -> Result<String, AllocError> {
+    let names = listed_clauses(alloc, table)?;
+    let names = names.as_str();
+    format!(in alloc; "comes to {names}")
+}
+
+fn wrong_at(alloc: Global, id: &Id) -> Result<String, AllocError> {
+    format!(in alloc; "is wrong at `{id}`")
 }
 
 // Whether `Rulesets` tells a fault of it.
@@ -204,43 +255,34 @@ fn is_wrong(alloc: Global, formats: &Formats, id: &Id) -> Result<bool, AllocErro
     }
 }
 
-fn push_told(
-    alloc: Global,
-    rows: &mut Vec<Row>,
-    set: &Ruleset,
-    told: Text,
-) -> Result<(), AllocError> {
+fn push_told(alloc: Global, rows: &mut Rows, set: &Ruleset, told: &str) {
     let id = set.id.as_str();
-    let key = format!(in alloc; "ruleset {id}")?;
-    push_row(alloc, rows, key.as_str(), told)
+    rows.keyed(format!(in alloc; "ruleset {id}"), told);
 }
 
-fn shared_text(alloc: Global, outcome: &Text) -> Result<Text, AllocError> {
-    let outcome = outcome.as_str();
-    let told = format!(in alloc;
-        "a format has this id, too; rule lists mean the ruleset, which {outcome}"
-    )?;
-    Ok(Text::from_string(told))
+fn shared_text(alloc: Global, sets: &Formats, id: &Id) -> Result<String, AllocError> {
+    let outcome = outcome(alloc, sets, id)?;
+    format!(in alloc; "a format has this id, too; rule lists mean the ruleset, which {outcome}")
 }
 
 // Of a ruleset with the id of a format, what it comes to: `Rulesets` says nothing of that.
 fn push_shared(
     alloc: Global,
-    rows: &mut Vec<Row>,
+    rows: &mut Rows,
     formats: &Formats,
     sets: &Formats,
     set: &Ruleset,
 ) -> Result<(), AllocError> {
     if formats.format(&set.id).is_some() {
-        let outcome = outcome(alloc, sets, &set.id)?;
-        push_told(alloc, rows, set, shared_text(alloc, &outcome)?)?;
+        let told = shared_text(alloc, sets, &set.id)?;
+        push_told(alloc, rows, set, told.as_str());
     }
     Ok(())
 }
 
 fn push_unused(
     alloc: Global,
-    rows: &mut Vec<Row>,
+    rows: &mut Rows,
     formats: &Formats,
     set: &Ruleset,
 ) -> Result<(), AllocError> {
@@ -249,14 +291,15 @@ fn push_unused(
     } else {
         "nobody uses it"
     };
-    push_told(alloc, rows, set, Text::copy_of(alloc, told)?)
+    push_told(alloc, rows, set, told);
+    Ok(())
 }
 
 /// Rows on the rulesets that have the id of a format, and on those that no format comes to, which say too whether they are
 /// wrong. `sets` are the same rulesets without formats.
 pub(crate) fn push_rulesets(
     alloc: Global,
-    rows: &mut Vec<Row>,
+    rows: &mut Rows,
     formats: &Formats,
     sets: &Formats,
     config: &Value,
@@ -267,7 +310,7 @@ pub(crate) fn push_rulesets(
 
 fn push_by_use(
     alloc: Global,
-    rows: &mut Vec<Row>,
+    rows: &mut Rows,
     formats: &Formats,
     sets: &Formats,
     used: &[bool],
@@ -315,14 +358,14 @@ fn source_of(
     sets: &Formats,
     rules: &[Value],
     clause: Clause,
-) -> Result<Text, AllocError> {
+) -> Result<String, AllocError> {
     let name = clause.name();
     if is_always_on(alloc, sets, clause)? {
-        return Ok(Text::from_string(format!(in alloc; "{name} (always on)")?));
+        return format!(in alloc; "{name} (always on)");
     }
     match giving_rule(alloc, sets, rules, clause)? {
-        None => Text::copy_of(alloc, name),
-        Some(rule) => Ok(Text::from_string(format!(in alloc; "{name} (`{rule}`)")?)),
+        None => String::from_str(alloc, name),
+        Some(rule) => format!(in alloc; "{name} (`{rule}`)"),
     }
 }
 
@@ -349,23 +392,23 @@ fn sources_of(
     format: &Format,
     rules: &[Value],
 ) -> Result<Vec<Text>, AllocError> {
-    let mut sources = Vec::new(alloc);
+    let mut sources = Texts::new(alloc);
     for clause in CLAUSES {
         if clause.is_in(format.table.clauses) {
-            sources.push(source_of(alloc, sets, rules, *clause)?)?;
+            sources.formatted(source_of(alloc, sets, rules, *clause));
         }
     }
-    Ok(sources)
+    sources.into_vec()
 }
 
-fn format_row(
+fn listed_sources(
     alloc: Global,
     sets: &Formats,
     format: &Format,
     rules: &[Value],
-) -> Result<Row, AllocError> {
+) -> Result<Text, AllocError> {
     let sources = sources_of(alloc, sets, format, rules)?;
-    row_of(alloc, format.id.as_str(), listed(alloc, &sources)?)
+    listed(alloc, &sources)
 }
 
 fn own_rules(config: &Value, index: usize) -> Option<&[Value]> {
@@ -389,12 +432,14 @@ pub(crate) fn source_rows(
     only: Option<&Format>,
     config: &Value,
 ) -> Result<Vec<Row>, AllocError> {
-    let mut rows = Vec::new(alloc);
+    let mut rows = Rows::new(alloc);
     let list = formats.list();
     for index in 0..list.len() {
-        if is_told(&list[index], only) {
-            rows.push(format_row(alloc, sets, &list[index], rules_at(config, index))?)?;
+        let format = &list[index];
+        if is_told(format, only) {
+            let sources = listed_sources(alloc, sets, format, rules_at(config, index));
+            rows.made(format.id.as_str(), sources);
         }
     }
-    Ok(rows)
+    rows.into_vec()
 }
