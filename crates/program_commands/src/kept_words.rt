@@ -5,7 +5,7 @@ ghost use Rattle.program_commands.specs.KeptWords.{may_stand, with_name, name_at
 use crate::words::{OptionWords, is_name, last_name};
 
 /// What `archive` is asked for.
-#[derive(Clone, Copy, Debug)]
+#[derive(Clone, Copy)]
 pub struct ArchiveWords<'a> {
     /// The files that options name.
     pub options: OptionWords<'a>,
@@ -14,7 +14,7 @@ pub struct ArchiveWords<'a> {
 }
 
 /// What `standings` is asked for.
-#[derive(Clone, Copy, Debug)]
+#[derive(Clone, Copy)]
 pub struct StandingsWords<'a> {
     /// The format, by its name or id.
     pub format: &'a str,
@@ -23,7 +23,7 @@ pub struct StandingsWords<'a> {
 }
 
 /// What the words of `run_kept` ask for.
-#[derive(Clone, Copy, Debug)]
+#[derive(Clone, Copy)]
 pub enum KeptCommand<'a> {
     /// To replay a script, and to keep its notes.
     Archive(ArchiveWords<'a>),

@@ -12,7 +12,7 @@ use std::fmt;
 
 /// How a run ended. Its `Display` is the name of the variant, and for each field in order a space,
 /// the field's name, `=` and its value.
-#[derive(Debug, Drop)]
+#[derive(Drop)]
 pub enum Status {
     /// The command did its work. A replay read its input to the end.
     Done,

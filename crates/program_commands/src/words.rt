@@ -16,7 +16,7 @@ pub const MOST_USERS: u32 = 16;
 pub const MOST_COUNT: u32 = 1_024;
 
 /// The files that options name.
-#[derive(Clone, Copy, Debug)]
+#[derive(Clone, Copy)]
 pub struct OptionWords<'a> {
     /// The name of the dex file, if one is named.
     pub dex: Option<&'a str>,
@@ -25,7 +25,7 @@ pub struct OptionWords<'a> {
 }
 
 /// What `drill` is asked for.
-#[derive(Clone, Copy, Debug)]
+#[derive(Clone, Copy)]
 pub struct DrillWords<'a> {
     /// How many steps, 1 to 4,000.
     pub steps: u32,
@@ -34,7 +34,7 @@ pub struct DrillWords<'a> {
 }
 
 /// What `tour` is asked for.
-#[derive(Clone, Copy, Debug)]
+#[derive(Clone, Copy)]
 pub struct TourWords<'a> {
     /// How many users, 2 to 16.
     pub users: u8,
@@ -45,7 +45,7 @@ pub struct TourWords<'a> {
 }
 
 /// What `check` is asked for.
-#[derive(Clone, Copy, Debug)]
+#[derive(Clone, Copy)]
 pub struct CheckWords<'a> {
     /// The format, by its name or id.
     pub format: &'a str,
@@ -58,7 +58,7 @@ pub struct CheckWords<'a> {
 }
 
 /// What `serve` is asked for.
-#[derive(Clone, Copy, Debug)]
+#[derive(Clone, Copy)]
 pub struct ServeWords<'a> {
     /// The address at which connections are taken.
     pub address: &'a str,
@@ -69,7 +69,7 @@ pub struct ServeWords<'a> {
 }
 
 /// What the words of `run` ask for.
-#[derive(Clone, Copy, Debug)]
+#[derive(Clone, Copy)]
 pub enum Command<'a> {
     /// To replay a script, with the files of these names.
     Replay(OptionWords<'a>),

@@ -6,7 +6,7 @@ ghost use Rattle.program_show.specs.Asked.{json_in, show_in, show_words_in, show
 use program_commands::words::{OptionWords, is_name, options_in};
 
 /// What `show` is asked for.
-#[derive(Clone, Copy, Debug)]
+#[derive(Clone, Copy)]
 pub struct ShowWords<'a> {
     /// The format, by its name or id, if one is named.
     pub format: Option<&'a str>,
