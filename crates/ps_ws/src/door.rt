@@ -11,8 +11,25 @@ use ps_outside::door::{Door, DoorEnd};
 use std::alloc::Global;
 use std::io::ErrorKind;
 use std::marker::Model;
-use std::net::{Net, TcpListener, TcpStream};
+use std::net::{Net, TcpListener, TcpStream, ToSocketAddrs};
 use std::{io, rt};
+
+// Listens at the first of these addresses that can be had. As many clients may wait for an `accept` as the host lets wait: mio asks
+// for the longest queue, and std for one of 128.
+fn listen<N: Net>(net: &N, address: &str) -> io::Result<TcpListener> {
+    let mut last = io::Error::from(ErrorKind::InvalidInput);
+    for address in address.to_socket_addrs(net)? {
+        match mio::net::TcpListener::bind(net, address) {
+            Ok(listener) => {
+                let listener = TcpListener::from(listener);
+                listener.set_nonblocking(false)?;
+                return Ok(listener);
+            }
+            Err(error) => last = error,
+        }
+    }
+    Err(last)
+}
 
 // Whether a connection was lost on its way, before it was taken from the queue of those that wait.
 fn is_lost(error: &io::Error) -> bool {
@@ -108,14 +125,15 @@ impl<R: Net<Listener = TcpListener, Stream = TcpStream> + rt::Clock + Copy> Door
     ghost given = { λ d. d.given };
 
     /// Binds a TCP listener: the address is an IP address or a host's name, and a port. Where that
-    /// fails the door is as open as it was.
+    /// fails the door is as open as it was. As many clients may wait at the door as the host lets wait
+    /// (`net.core.somaxconn` of Linux).
     fn open(&mut self, address: &str) -> Result<(), Failed>
         ensures count { self.new.given ≡ self.old.given }
         ensures cause { CountsErr self.old.faults self.new.faults result }
         ensures opens { OnOk result (self.new.listens ≡ true) }
         ensures same { OnErr result (self.new.listens ≡ self.old.listens) }
     {
-        match TcpListener::bind(&self.host, address) {
+        match listen(&self.host, address) {
             Ok(listener) => {
                 self.listener = Some(listener);
                 Ok(())

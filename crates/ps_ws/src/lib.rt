@@ -4,5 +4,6 @@
 #![tactic(auto)]
 
 pub mod door;
+mod handshake;
 pub mod link;
 mod wire;

@@ -22,14 +22,20 @@ pub enum Ending {
 
 /// The server's side of one WebSocket connection (RFC 6455), which tells nothing ahead.
 ///
-/// - The first call does the handshake, for 10 seconds at most.
+/// - The first call does the handshake, for 10 seconds at most, and answers Quiet at once. The frames that come right behind the
+///   request are taken.
+/// - A request that is no handshake is answered by HTTP, and then the link has failed: 405 where its method isn't GET, 426 where its
+///   version isn't 13, 431 where its head has over 65,536 bytes, over 124 fields or comes in over 1,024 reads, and 400 where it is
+///   malformed or of HTTP/1.0, has a body, or where Host, Upgrade, Connection or the key are missing, wrong or there twice.
 /// - A text message and a binary message are each a Text of its bytes, whole, of at most
 ///   [`MESSAGE_LIMIT`] bytes.
 /// - Quiet comes where nothing has come within 50 milliseconds, and at each ping and pong. A ping is
 ///   answered.
 /// - End comes where both sides have said that they close, and from then on.
 /// - Failed comes at all else, and from then on: at a message over the limit, text that isn't UTF-8,
-///   anything that the protocol forbids, and a connection that ends without a close.
+///   anything that the protocol forbids, and a connection that ends without a close. For the first three the client is sent a Close
+///   frame before, with a reason and the code 1009, 1007 or 1002 (RFC 6455 7.4.1), for which its socket has 10 seconds.
+/// - Who was told why the connection ends has a second to end it, too, and then it is let go.
 /// - A text is sent within 10 seconds, or is Failed.
 #[derive(Drop)]
 pub struct WsLink<R: rt::Clock + Copy> {

@@ -1,19 +1,26 @@
 //! A socket that speaks WebSocket, without any count.
 
+use crate::handshake::{Refusal, Request, judge};
 use crate::link::MESSAGE_LIMIT;
 use mio::{Events, Interest, Poll, Token};
 use ps_outside::link::{Next, SendEnd};
 use std::alloc::Global;
-use std::io::ErrorKind;
-use std::net::{Net, TcpStream};
+use std::io::{ErrorKind, Read, Write};
+use std::net::{Net, Shutdown, TcpStream};
 use std::time::{Duration, Instant};
 use std::{io, mem, rt};
-use tungstenite::handshake::server::{NoCallback, ServerHandshake, start};
-use tungstenite::handshake::{HandshakeError, MidHandshake};
-use tungstenite::{Error, Message, NoMask, WebSocket, WebSocketConfig};
+use tungstenite::{
+    CloseCode, CloseFrame, Error, Message, NoMask, Role, Utf8Bytes, WebSocket, WebSocketConfig,
+};
+use websocket::error::ProtocolError;
+use websocket::handshake::HandshakeError;
+use websocket::handshake::server::write_response;
 
-// How long a handshake, and the sending of a text, may take in all, in milliseconds.
+// How long a handshake, and the sending of a text or of a Close frame, may take in all, in milliseconds.
 const PATIENCE: u64 = 10_000;
+
+// How long the end of a client is waited for that was told why its connection ends, in milliseconds.
+const PARTING: u64 = 1_000;
 
 // How long one wait for the socket takes at most, in milliseconds.
 const POLL: u64 = 50;
@@ -21,16 +28,18 @@ const POLL: u64 = 50;
 // How many bytes one read of the socket asks for. A link keeps two buffers of this size.
 const READ_SIZE: usize = 8192;
 
+// In how many reads the head of a handshake has to come. Each looks at the whole head, so without a bound one that comes byte by byte
+// would cost more than a client should.
+const HEAD_READS: u64 = 1024;
+
 type Stream = mio::net::TcpStream;
 
 type Socket = WebSocket<Stream, NoMask>;
 
-type Handshaking = MidHandshake<ServerHandshake<Stream, NoCallback>>;
-
 #[derive(Drop)]
 enum Stage {
     // The handshake isn't done.
-    Handshaking(Handshaking),
+    Handshaking(Stream),
     // Messages go to and fro.
     Open(Socket),
     // The socket was let go.
@@ -61,6 +70,33 @@ fn would_block(error: &Error) -> bool {
     match error {
         Error::Io(cause) => cause.kind() == ErrorKind::WouldBlock,
         _ => false,
+    }
+}
+
+// What a Close frame says of an error, where the client broke the protocol (RFC 6455 7.4.1).
+fn breach(error: &Error) -> Option<(CloseCode, &'static str)> {
+    match error {
+        Error::Protocol(cause) => Some((CloseCode::Protocol, breach_of_protocol(cause)?)),
+        Error::Utf8 => Some((CloseCode::Invalid, "the text is not UTF-8")),
+        Error::Capacity(_) => Some((CloseCode::Size, "the message has over 65536 bytes")),
+        _ => None,
+    }
+}
+
+// What the protocol forbids, or `None` where the connection ended without a word.
+fn breach_of_protocol(cause: &ProtocolError) -> Option<&'static str> {
+    match cause {
+        ProtocolError::UnmaskedFrameFromClient => Some("a frame of a client has to be masked"),
+        ProtocolError::NonZeroReservedBits => Some("the reserved bits of a frame have to be 0"),
+        ProtocolError::FragmentedControlFrame => Some("a control frame has to be whole"),
+        ProtocolError::ControlFrameTooBig => Some("a control frame has at most 125 bytes"),
+        ProtocolError::UnexpectedContinueFrame => Some("there is no message to continue"),
+        ProtocolError::ExpectedFragment(_) => Some("the message before has to be continued"),
+        ProtocolError::InvalidOpcode(_) => Some("there is no such kind of frame"),
+        ProtocolError::InvalidLength => Some("the length is not in its shortest form"),
+        ProtocolError::InvalidCloseSequence => Some("a Close frame has no code of two bytes"),
+        ProtocolError::ResetWithoutClosingHandshake => None,
+        _ => Some("the protocol was broken"),
     }
 }
 
@@ -96,7 +132,7 @@ impl<R: rt::Clock + Copy> Wire<R> {
             alloc,
             poll,
             events,
-            stage: Stage::Handshaking(start(alloc, stream, NoCallback, Some(config()))),
+            stage: Stage::Handshaking(stream),
             kept: None,
         })
     }
@@ -107,10 +143,11 @@ impl<R: rt::Clock + Copy> Wire<R> {
         self.kept = None;
     }
 
-    /// What comes next, after one wait where there is nothing.
+    /// What comes next, after one wait where there is nothing. Quiet comes at once where this call ended the handshake.
     pub(crate) fn next(&mut self) -> Next {
         match self.shake_hands() {
-            Ok(()) => {}
+            Ok(false) => {}
+            Ok(true) => return Next::Quiet,
             Err(SendEnd::Failed) => return Next::Failed,
             Err(SendEnd::NoMemory) => return Next::NoMemory,
         }
@@ -148,38 +185,180 @@ impl<R: rt::Clock + Copy> Wire<R> {
         }
     }
 
-    // Ends the handshake, where it isn't done.
-    fn shake_hands(&mut self) -> Result<(), SendEnd> {
+    // Ends the handshake, where it isn't done, and tells whether it did.
+    fn shake_hands(&mut self) -> Result<bool, SendEnd> {
         match mem::replace(&mut self.stage, Stage::Over) {
-            Stage::Handshaking(handshaking) => {
-                self.stage = Stage::Open(self.finish_handshake(handshaking)?);
-                Ok(())
+            Stage::Handshaking(stream) => {
+                self.stage = Stage::Open(self.finish_handshake(stream)?);
+                Ok(true)
             }
             Stage::Open(socket) => {
                 self.stage = Stage::Open(socket);
-                Ok(())
+                Ok(false)
             }
             Stage::Over => Err(SendEnd::Failed),
         }
     }
 
-    // Goes on with a handshake until it is done, within its time.
-    fn finish_handshake(&mut self, mut handshaking: Handshaking) -> Result<Socket, SendEnd> {
+    // Reads a request and answers it, within its time: a handshake opens the socket, and of all else the connection ends.
+    fn finish_handshake(&mut self, mut stream: Stream) -> Result<Socket, SendEnd> {
         let Ok(begun) = Instant::now(&self.host) else {
             return Err(SendEnd::Failed);
         };
-        for _ in 0..u64::MAX {
-            match handshaking.handshake() {
-                Ok(socket) => return Ok(socket),
-                Err(HandshakeError::Interrupted(rest)) => handshaking = rest,
-                Err(HandshakeError::Failure(Error::OutOfMemory)) => return Err(SendEnd::NoMemory),
-                Err(HandshakeError::Failure(_)) => return Err(SendEnd::Failed),
+        let mut bytes = Vec::new(self.alloc);
+        match self.read_request(&mut stream, &mut bytes, begun)? {
+            Request::Handshake { length, accept } => {
+                let mut answer = Vec::new(self.alloc);
+                match write_response(&accept, &[], &mut answer) {
+                    Ok(()) => {}
+                    Err(HandshakeError::OutOfMemory) => return Err(SendEnd::NoMemory),
+                    Err(_) => return Err(SendEnd::Failed),
+                }
+                // What came behind the head are the first frames.
+                let Ok(frames) = bytes.get(length..).unwrap_or(&[]).to_vec(self.alloc) else {
+                    return Err(SendEnd::NoMemory);
+                };
+                self.write(&mut stream, answer.as_slice(), begun)?;
+                Ok(WebSocket::from_partially_read(
+                    self.alloc,
+                    stream,
+                    NoMask,
+                    frames,
+                    Role::Server,
+                    Some(config()),
+                ))
             }
-            if self.wait_since(begun).is_err() {
+            Request::Refused(refusal) => {
+                let Ok(answer) = refusal.answer(self.alloc) else {
+                    return Err(SendEnd::NoMemory);
+                };
+                self.write(&mut stream, answer.as_bytes(), begun)?;
+                self.part(stream);
+                Err(SendEnd::Failed)
+            }
+            Request::Unfinished => Err(SendEnd::Failed),
+        }
+    }
+
+    // Reads until it is known whether the client asks for a handshake, within its time.
+    fn read_request(
+        &mut self,
+        stream: &mut Stream,
+        bytes: &mut Vec<u8>,
+        begun: Instant,
+    ) -> Result<Request, SendEnd> {
+        for _ in 0..HEAD_READS {
+            if !self.read_more(stream, bytes, begun)? {
+                // A client that sends nothing asks nothing.
+                if bytes.is_empty() {
+                    return Err(SendEnd::Failed);
+                }
+                return Ok(Request::Refused(Refusal::Malformed));
+            }
+            match judge(bytes.as_slice()) {
+                Request::Unfinished => {}
+                request => return Ok(request),
+            }
+        }
+        Ok(Request::Refused(Refusal::TooLong))
+    }
+
+    // Reads once, after a wait where there is nothing, within its time. `false` where the client sends nothing any more.
+    fn read_more(
+        &mut self,
+        stream: &mut Stream,
+        bytes: &mut Vec<u8>,
+        begun: Instant,
+    ) -> Result<bool, SendEnd> {
+        let mut chunk = [0; READ_SIZE];
+        for _ in 0..u64::MAX {
+            match stream.read(&mut chunk) {
+                Ok(count) => {
+                    return match bytes.extend_from_slice(&chunk[..count]) {
+                        Ok(()) => Ok(count > 0),
+                        Err(_) => Err(SendEnd::NoMemory),
+                    };
+                }
+                Err(error) => {
+                    if error.kind() != ErrorKind::WouldBlock {
+                        return Err(SendEnd::Failed);
+                    }
+                }
+            }
+            if self.wait_since(begun, PATIENCE).is_err() {
                 return Err(SendEnd::Failed);
             }
         }
         Err(SendEnd::Failed)
+    }
+
+    // Writes all of an answer of HTTP, within its time.
+    fn write(&mut self, stream: &mut Stream, answer: &[u8], begun: Instant) -> Result<(), SendEnd> {
+        let mut rest = answer;
+        for _ in 0..u64::MAX {
+            if rest.is_empty() {
+                return Ok(());
+            }
+            match stream.write(rest) {
+                Ok(0) => return Err(SendEnd::Failed),
+                Ok(count) => rest = &rest[count..],
+                Err(error) => {
+                    if error.kind() != ErrorKind::WouldBlock
+                        || self.wait_since(begun, PATIENCE).is_err()
+                    {
+                        return Err(SendEnd::Failed);
+                    }
+                }
+            }
+        }
+        Err(SendEnd::Failed)
+    }
+
+    // Ends what is sent, and throws away what still comes, for a moment. If bytes were left unread, the host would end the connection
+    // by a reset, and the client might lose what it was told.
+    fn part(&mut self, mut stream: Stream) {
+        let Ok(begun) = Instant::now(&self.host) else {
+            return;
+        };
+        if stream.shutdown(Shutdown::Write).is_err() {
+            return;
+        }
+        let mut chunk = [0; READ_SIZE];
+        for _ in 0..u64::MAX {
+            let is_over = match stream.read(&mut chunk) {
+                Ok(0) => true,
+                Ok(_) => self.left(begun, PARTING).is_err(),
+                Err(error) => {
+                    error.kind() != ErrorKind::WouldBlock
+                        || self.wait_since(begun, PARTING).is_err()
+                }
+            };
+            if is_over {
+                return;
+            }
+        }
+    }
+
+    // Tells a client that broke the protocol why its connection ends, in a Close frame, and ends it.
+    fn close(&mut self, code: CloseCode, reason: &'static str) {
+        let Stage::Open(socket) = &mut self.stage else {
+            return;
+        };
+        let frame = CloseFrame {
+            code,
+            reason: Utf8Bytes::from_static(reason),
+        };
+        let is_sent = match socket.close(Some(frame)) {
+            Ok(()) => true,
+            Err(error) => would_block(&error) && self.flush().is_ok(),
+        };
+        if !is_sent {
+            return;
+        }
+        match mem::replace(&mut self.stage, Stage::Over) {
+            Stage::Open(socket) => self.part(socket.into_inner()),
+            Stage::Handshaking(_) | Stage::Over => {}
+        }
     }
 
     // Writes what waits to be sent, within its time. A part of it may have left.
@@ -188,7 +367,7 @@ impl<R: rt::Clock + Copy> Wire<R> {
             return Err(SendEnd::Failed);
         };
         for _ in 0..u64::MAX {
-            if self.wait_since(begun).is_err() {
+            if self.wait_since(begun, PATIENCE).is_err() {
                 return Err(SendEnd::Failed);
             }
             let Stage::Open(socket) = &mut self.stage else {
@@ -220,10 +399,12 @@ impl<R: rt::Clock + Copy> Wire<R> {
             Err(Error::OutOfMemory) => Some(Next::NoMemory),
             Err(error) => {
                 if would_block(&error) {
-                    None
-                } else {
-                    Some(Next::Failed)
+                    return None;
                 }
+                if let Some((code, reason)) = breach(&error) {
+                    self.close(code, reason);
+                }
+                Some(Next::Failed)
             }
         }
     }
@@ -249,13 +430,19 @@ impl<R: rt::Clock + Copy> Wire<R> {
         self.poll.poll(&mut self.events, Some(most))
     }
 
-    // The same for what began at this moment, or TimedOut where its time is up.
-    fn wait_since(&mut self, begun: Instant) -> io::Result<()> {
+    // How much of so many milliseconds is left since this moment, or TimedOut where nothing is.
+    fn left(&self, begun: Instant, most: u64) -> io::Result<Duration> {
         let passed = begun.elapsed(&self.host)?;
-        let left = Duration::from_millis(PATIENCE).saturating_sub(passed);
+        let left = Duration::from_millis(most).saturating_sub(passed);
         if left.is_zero() {
             return Err(io::Error::from(ErrorKind::TimedOut));
         }
+        Ok(left)
+    }
+
+    // Waits for what began at this moment and may take so many milliseconds, or TimedOut where its time is up.
+    fn wait_since(&mut self, begun: Instant, most: u64) -> io::Result<()> {
+        let left = self.left(begun, most)?;
         self.wait(left.min(Duration::from_millis(POLL)))
     }
 }
