@@ -10,7 +10,7 @@ use Rattle.ps_lines.specs.declared.command.HallCmd.TheVariants as hall_commands
 use Rattle.ps_lines.specs.declared.order.Order.{Order}
 use Rattle.ps_lines.specs.declared.order.Order.TheVariants as orders
 use Rattle.ps_users.specs.Seats.{is_seat}
-use Rattle.ps_session.specs.Sessions.{Record as Session, begun, with_badge}
+use Rattle.ps_session.specs.Sessions.{Record as Session, begun, with_badge, without_badge}
 use Rattle.ps_session.specs.Routes.{taken, after_take, no_room, after_no_room}
 use Rattle.ps_session.specs.declared.session.TakeFault.{TakeFault}
 use Rattle.ps_hall.specs.declared.entry.HallEntry.{HallEntry}
@@ -25,6 +25,7 @@ use Rattle.ps_room.specs.Rooms.{role}
 use Rattle.ps_room.specs.Logs.{out_of, ended_in}
 use Rattle.replay_script.specs.declared.item.Item.{Item}
 use Rattle.replay_script.specs.declared.item.Item.TheVariants.{Nothing, Moment, Group, Open, Send, Close}
+use Rattle.replay_state.specs.declared.place.EntryOut.{EntryOut}
 use Rattle.replay_state.specs.declared.place.Placed.{Placed}
 use Rattle.replay_state.specs.declared.place.Placed.TheVariants.{Hall, Room}
 use Rattle.replay_state.specs.declared.place.Happening.{Happening}
@@ -275,3 +276,29 @@ world_of s items = (run_past (run_opening s) items).world
 abbrev pub IsCounted : Order → Session → Type 0
 IsCounted (orders.Hall cmd) s = Unit {0}
 IsCounted (orders.Room id cmd) s = s.last ≡ Some id
+
+-- ---- for the code: an entry of a room has its sender's badge, which the session lends to it
+
+-- the session meanwhile, by the order that it makes its entry of
+abbrev pub lent_to_room : Option ℕ → Session → Session
+lent_to_room None s = after_no_room s
+lent_to_room (Some number) s = without_badge s
+
+abbrev pub session_lent : Now → Order → Session → Session
+session_lent n (orders.Hall cmd) s = s
+session_lent n (orders.Room id cmd) s = lent_to_room (get n.numbers id) s
+
+-- what comes of an entry: the end of the battle that it ended, and the badge that one of the hall gives
+abbrev pub entry_out : Now → Placed → EntryOut
+entry_out n (Hall e) = record { ended = None; badge = (halls.out_of n.hall e).badge }
+entry_out n (Room number e) = record { ended = ending_at (record_at number n) e; badge = None }
+
+-- the badge that the session gets from it
+abbrev pub badge_past : Placed → Option Badge → Option Badge
+badge_past (Hall e) badge = badge
+badge_past (Room number e) badge = Some e.badge
+
+-- and the session then
+abbrev pub session_past : Now → Option Placed → Session → Session
+session_past n None s = s
+session_past n (Some p) s = badged (badge_past p (entry_out n p).badge) s

@@ -13,12 +13,15 @@ ghost use Rattle.replay_state.specs.Worlds.{with_number, numbers_from, started_b
 ghost use Rattle.ps_room.specs.Logs.{record_in, seen_opened, ended_in};
 ghost use Rattle.replay_state.specs.Nows.{room_at, record_at};
 ghost use Rattle.replay_state.specs.Houses.{House, standing, now_in, begin, house_opening, house_after};
-ghost use Rattle.replay_state.specs.Entries.{is_member, quit_of, quit_in, room_quits, named_quits, quits, hall_entry, is_open, out_at, ending_at};
+ghost use Rattle.replay_state.specs.Entries.{is_member, quit_of, quit_in, room_quits, named_quits, quits, is_open, out_at, ending_at};
 ghost use Rattle.replay_state.specs.Notes.{act_in, won_by};
-ghost use Rattle.replay_state.specs.Ledgers.{asked};
+ghost use Rattle.replay_state.specs.Counts.{hall_refuses};
+ghost use Rattle.replay_state.specs.Ledgers.{asked, entered};
+ghost use Rattle.replay_state.specs.Transcript.{printed, with_id};
+ghost use Rattle.ps_base.specs.Lists.{each_to};
 ghost use Rattle.replay_state.specs.Tables.{entry_text, entry_ledger};
 
-use crate::place::Placed;
+use crate::place::{Placed, hall_entry};
 use crate::replay_room::{ReplayRoom, play_rooms};
 use crate::transcript::{Ledger, Transcript, hall_refuses, out_refuses};
 use crate::{notes, play};
@@ -29,7 +32,8 @@ use ps_base::number::{ConnNo, Moment, RoomNo};
 use ps_dex::dex::Dex;
 use ps_hall::entry::HallEntry;
 use ps_hall::hall::Hall;
-use ps_hall::outcome::HallOut;
+use ps_hall::notice::Notice;
+use ps_hall::outcome::{HallOut, HallVerdict};
 use ps_keep::note::Note;
 use ps_lines::command::{Command, HallCmd};
 use ps_room::entry::Entry;
@@ -45,12 +49,23 @@ use std::sync::Arc;
 
 /// The hall, the chat rooms by their numbers, the rooms of battles in the order in which these started, and the number of
 /// each room by its id.
-#[derive(Drop)]
 pub struct Places {
     hall: Hall,
     chats: Vec<ReplayRoom>,
     battles: Vec<ReplayRoom>,
     numbers: IdMap<u32>,
+}
+
+// By hand, so that whoever drops the places has one step of its proof for that.
+impl Drop for Places {
+    fn drop(self) {
+        let Places {
+            hall: _,
+            chats: _,
+            battles: _,
+            numbers: _,
+        } = self;
+    }
 }
 
 impl Model for Places {
@@ -237,10 +252,22 @@ fn ending_in(out: Option<RoomOut>) -> Option<Ending>
     }
 }
 
-fn hall_entry(moment: Moment, conn: ConnNo, cmd: HallCmd) -> HallEntry
-    ensures { placed.Hall result ≡ hall_entry moment conn cmd }
+// Prints what an entry of the hall told, counts it, and notes what it does.
+fn push_applied(
+    alloc: Global,
+    conns: u32,
+    told: &[Notice],
+    verdict: HallVerdict,
+    does: Option<Note>,
+    out: &mut Transcript,
+) -> Result<(), AllocError>
+    ensures text { OnOk result (string_bytes out.new.text ≡ string_bytes out.old.text
+        ++ each_to (λ conn. printed conn (with_id None (halls.message_of conn told.now))) conns) }
+    ensures ledger { OnOk result (out.new.ledger ≡ entered (hall_refuses verdict) does out.old.ledger) }
 {
-    HallEntry { conn, moment, cmd }
+    let refused = hall_refuses(verdict);
+    play::push_hall_told(alloc, &mut out.text, conns, told)?;
+    out.ledger.enter(refused, does)
 }
 
 impl Places {
@@ -312,7 +339,7 @@ impl Places {
                 )?;
             }
         }
-        quits.push(Placed::Hall(hall_entry(moment, conn, HallCmd::Quit)))?;
+        quits.push(hall_entry(moment, conn, HallCmd::Quit))?;
         Ok(quits)
     }
 
@@ -374,10 +401,9 @@ impl Places {
             badge,
             start,
         } = self.hall.apply(alloc, entry)?;
-        play::push_hall_told(alloc, &mut out.text, conns, self.hall.told())?;
-        out.ledger.enter(hall_refuses(&verdict), won)?;
+        push_applied(alloc, conns, self.hall.told(), verdict, won, out)?;
         match start {
-            None => {}
+            None => Ok(badge),
             Some(start) => {
                 begin(
                     alloc,
@@ -387,9 +413,9 @@ impl Places {
                     dex,
                     start,
                 )?;
+                Ok(badge)
             }
         }
-        Ok(badge)
     }
 
     /// Prints an entry of a room, to the connections from 1 to `conns`, and applies it. Gives what comes of it, where the

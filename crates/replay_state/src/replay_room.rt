@@ -22,10 +22,16 @@ use std::alloc::{AllocError, Global};
 use std::marker::Model;
 
 /// A room of a replay. Contracts see the room: what begins the messages to its members is kept ready beside it.
-#[derive(Drop)]
 pub struct ReplayRoom {
     inner: Room,
     heads: Heads,
+}
+
+// By hand, so that whoever drops a room has one step of its proof for that.
+impl Drop for ReplayRoom {
+    fn drop(self) {
+        let ReplayRoom { inner: _, heads: _ } = self;
+    }
 }
 
 impl Model for ReplayRoom {

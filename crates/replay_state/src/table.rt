@@ -2,24 +2,23 @@
 ghost use Rattle.std.specs.Prelude.{◌≡◌, ◌++◌, ◌∷◌, [], ◌-◌, ◌≤◌, IfOk, OnOk, map, string_bytes, length, is_some, true, Some, Ok};
 ghost use Rattle.std.specs.Arc.{arc_value};
 ghost use Rattle.ps_hall.specs.Halls as halls;
+ghost use Rattle.std.specs.FinMap as maps;
 ghost use Rattle.ps_session.specs.Routes.{no_room, after_no_room};
-ghost use Rattle.replay_state.specs.declared.place.Placed.TheVariants as placed;
 ghost use Rattle.replay_state.specs.declared.place.Happening.TheVariants as happening;
 ghost use Rattle.replay_state.specs.Houses.{now_in};
-ghost use Rattle.replay_state.specs.Nows.{record_at};
-ghost use Rattle.ps_session.specs.Sessions.{begun};
-ghost use Rattle.replay_state.specs.Entries.{quits, ended, badged, report_of, entry_happenings, entry_in_room, entry_in_hall, text_entry, text_session, order_entry, order_session, sent_by, session_of, opening, ending_at, end_by, end_sent, IsCounted};
+ghost use Rattle.ps_session.specs.Sessions.{begun, without_badge};
+ghost use Rattle.replay_state.specs.Entries.{quits, ended, badged, report_of, entry_happenings, entry_in_room, entry_in_hall, numbered_entry, text_entry, text_session, order_entry, entry_out, badge_past, session_lent, session_past, lent_to_room, sent_by, session_of, opening, end_by, end_sent, IsCounted};
 ghost use Rattle.replay_state.specs.Tables.{happenings_text, happenings_after, happenings_ledger};
 
-use crate::place::Placed;
+use crate::place::{EntryOut, Placed, badge_past, hall_entry, let_go};
 use crate::places::Places;
 use crate::print;
 use crate::transcript::Transcript;
 use ps_base::badge::Badge;
 use ps_base::id_map::IdMap;
 use ps_base::number::{ConnNo, Moment, RoomNo};
+use ps_base::text::Text;
 use ps_dex::dex::Dex;
-use ps_hall::entry::HallEntry;
 use ps_lines::command::{Command, HallCmd};
 use ps_lines::order::Order;
 use ps_room::entry::Entry;
@@ -32,11 +31,21 @@ use std::marker::Model;
 use std::sync::Arc;
 
 /// A replay's state: the moment, the hall and the rooms, and what is known of each connection, in order from 1.
-#[derive(Drop)]
 pub struct Table {
     moment: Moment,
     places: Places,
     sessions: Vec<Session>,
+}
+
+// By hand, so that whoever drops a table has one step of its proof for that.
+impl Drop for Table {
+    fn drop(self) {
+        let Table {
+            moment: _,
+            places: _,
+            sessions: _,
+        } = self;
+    }
 }
 
 impl Model for Table {
@@ -169,159 +178,180 @@ fn push_report(
     match end {
         None => Ok(()),
         Some(end) => {
-            let entry = HallEntry {
-                conn,
-                moment,
-                cmd: HallCmd::Report {
-                    number: end.number,
-                    winner: end.winner,
-                },
+            let cmd = HallCmd::Report {
+                number: end.number,
+                winner: end.winner,
             };
-            places.push_hall(alloc, count, &entry, out)?;
-            Ok(())
+            let report = hall_entry(moment, conn, cmd);
+            let done = push_placed(alloc, places, count, &report, out);
+            let_go(report);
+            done
         }
     }
 }
 
-// An entry of a room, and the report of the battle that it ended, whose end is given.
-fn push_in_room(
+// An entry of a connection, and the report of the battle that it ended. Gives what comes of it.
+fn push_entry(
     alloc: Global,
     places: &mut Places,
     moment: Moment,
     count: u32,
-    no: u32,
-    entry: &Entry,
+    conn: ConnNo,
+    placed: &Placed,
     out: &mut Transcript,
-) -> Result<Option<Ending>, AllocError>
-    ensures state { OnOk result (places.new ≡ happenings_after places.old (entry_happenings moment (now_in places.old) entry.now.conn (Some (placed.Room no entry.now)))) }
-    ensures text { OnOk result (string_bytes out.new.text ≡ string_bytes out.old.text ++ happenings_text count places.old (entry_happenings moment (now_in places.old) entry.now.conn (Some (placed.Room no entry.now)))) }
-    ensures ledger { OnOk result (out.new.ledger ≡ happenings_ledger places.old (entry_happenings moment (now_in places.old) entry.now.conn (Some (placed.Room no entry.now))) out.old.ledger) }
-    ensures ended { IfOk result (λ end. end ≡ ending_at (record_at no (now_in places.old)) entry.now) }
+) -> Result<EntryOut, AllocError>
+    ensures state { OnOk result (places.new ≡ happenings_after places.old (entry_happenings moment (now_in places.old) conn (Some placed.now))) }
+    ensures text { OnOk result (string_bytes out.new.text ≡ string_bytes out.old.text ++ happenings_text count places.old (entry_happenings moment (now_in places.old) conn (Some placed.now))) }
+    ensures ledger { OnOk result (out.new.ledger ≡ happenings_ledger places.old (entry_happenings moment (now_in places.old) conn (Some placed.now)) out.old.ledger) }
+    ensures out { IfOk result (λ made. made ≡ entry_out (now_in places.old) placed.now) }
 {
-    let end = places.push_room(alloc, count, RoomNo(no), entry, out)?;
-    push_report(alloc, places, moment, count, entry.conn, end, out)?;
-    Ok(end)
+    match placed {
+        Placed::Hall(entry) => {
+            let badge = places.push_hall(alloc, count, entry, out)?;
+            Ok(EntryOut { ended: None, badge })
+        }
+        Placed::Room(no, entry) => {
+            let ended = places.push_room(alloc, count, *no, entry, out)?;
+            push_report(alloc, places, moment, count, conn, ended, out)?;
+            Ok(EntryOut { ended, badge: None })
+        }
+    }
 }
 
-// An entry of the hall.
-fn push_in_hall(
-    alloc: Global,
-    places: &mut Places,
-    moment: Moment,
-    count: u32,
-    entry: &HallEntry,
-    out: &mut Transcript,
-) -> Result<Option<Badge>, AllocError>
-    ensures state { OnOk result (places.new ≡ happenings_after places.old (entry_happenings moment (now_in places.old) entry.now.conn (Some (placed.Hall entry.now)))) }
-    ensures text { OnOk result (string_bytes out.new.text ≡ string_bytes out.old.text ++ happenings_text count places.old (entry_happenings moment (now_in places.old) entry.now.conn (Some (placed.Hall entry.now)))) }
-    ensures ledger { OnOk result (out.new.ledger ≡ happenings_ledger places.old (entry_happenings moment (now_in places.old) entry.now.conn (Some (placed.Hall entry.now))) out.old.ledger) }
-    ensures badge { IfOk result (λ b. b ≡ (halls.out_of places.old.hall entry.now).badge) }
-{
-    places.push_hall(alloc, count, entry, out)
-}
-
-// A text of a connection for the room with a number. The badge is lent to its entry.
-#[tactic(auto, using(crate::proofs::OrderLemmas::given_back, crate::proofs::OrderLemmas::none_lent))]
-fn push_to_room(
+// The entry that an order made, to which the session lent its badge; where it made none, the session is over.
+#[tactic(auto, using(crate::proofs::OrderLemmas::end_is))]
+fn push_lent(
     alloc: Global,
     places: &mut Places,
     session: &mut Session,
     moment: Moment,
     count: u32,
     conn: ConnNo,
-    no: u32,
-    cmd: Command,
+    placed: Option<Placed>,
     out: &mut Transcript,
 ) -> Result<Option<Ending>, AllocError>
-    ensures state { OnOk result (places.new ≡ happenings_after places.old (entry_happenings moment (now_in places.old) conn (entry_in_room moment conn no cmd session.old.badge))) }
-    ensures session { OnOk result (session.new ≡ session.old) }
-    ensures text { OnOk result (string_bytes out.new.text ≡ string_bytes out.old.text ++ happenings_text count places.old (entry_happenings moment (now_in places.old) conn (entry_in_room moment conn no cmd session.old.badge))) }
-    ensures ledger { OnOk result (out.new.ledger ≡ happenings_ledger places.old (entry_happenings moment (now_in places.old) conn (entry_in_room moment conn no cmd session.old.badge)) out.old.ledger) }
-    ensures ended { IfOk result (λ end. end ≡ end_by (now_in places.old) (entry_in_room moment conn no cmd session.old.badge)) }
+    ensures state { OnOk result (places.new ≡ happenings_after places.old (entry_happenings moment (now_in places.old) conn placed)) }
+    ensures session { OnOk result (session.new ≡ session_past (now_in places.old) placed session.old) }
+    ensures text { OnOk result (string_bytes out.new.text ≡ string_bytes out.old.text ++ happenings_text count places.old (entry_happenings moment (now_in places.old) conn placed)) }
+    ensures ledger { OnOk result (out.new.ledger ≡ happenings_ledger places.old (entry_happenings moment (now_in places.old) conn placed) out.old.ledger) }
+    ensures ended { IfOk result (λ end. end ≡ end_by (now_in places.old) placed) }
 {
-    match session.take_badge() {
+    match placed {
         None => {
             push_ended(alloc, places, moment, count, conn, out)?;
             Ok(None)
         }
-        Some(badge) => {
-            let entry = Entry {
+        Some(placed) => {
+            match push_entry(alloc, places, moment, count, conn, &placed, out) {
+                Err(error) => {
+                    let_go(placed);
+                    Err(error)
+                }
+                Ok(made) => {
+                    set_badge(session, badge_past(placed, made.badge));
+                    Ok(made.ended)
+                }
+            }
+        }
+    }
+}
+
+// ---- orders
+
+// The entry of the room with a number, to which the session lends its badge.
+fn entry_in_room(
+    session: &mut Session,
+    moment: Moment,
+    conn: ConnNo,
+    no: u32,
+    cmd: Command,
+) -> Option<Placed>
+    ensures entry { result ≡ entry_in_room moment conn no cmd session.old.badge }
+    ensures session { session.new ≡ without_badge session.old }
+{
+    match session.take_badge() {
+        None => {
+            let_go(cmd);
+            None
+        }
+        Some(badge) => Some(Placed::Room(
+            RoomNo(no),
+            Entry {
                 conn,
                 badge,
                 moment,
                 cmd,
-            };
-            let end = push_in_room(alloc, places, moment, count, no, &entry, out)?;
-            session.named(entry.badge);
-            Ok(end)
-        }
+            },
+        )),
     }
 }
 
-// A text of a connection for a room that isn't there.
-fn push_to_none(
-    alloc: Global,
-    places: &mut Places,
-    session: &mut Session,
-    moment: Moment,
-    count: u32,
-    conn: ConnNo,
-    out: &mut Transcript,
-) -> Result<Option<Ending>, AllocError>
+// The entry of the hall in the place of one for a room that isn't there.
+fn entry_for_none(session: &mut Session, moment: Moment, conn: ConnNo) -> Option<Placed>
     requires { is_some session.old.last ≡ true }
-    ensures state { OnOk result (places.new ≡ happenings_after places.old (entry_happenings moment (now_in places.old) conn (entry_in_hall moment conn (no_room session.old)))) }
+    ensures entry { result ≡ entry_in_hall moment conn (no_room session.old) }
     ensures session { session.new ≡ after_no_room session.old }
-    ensures text { OnOk result (string_bytes out.new.text ≡ string_bytes out.old.text ++ happenings_text count places.old (entry_happenings moment (now_in places.old) conn (entry_in_hall moment conn (no_room session.old)))) }
-    ensures ledger { OnOk result (out.new.ledger ≡ happenings_ledger places.old (entry_happenings moment (now_in places.old) conn (entry_in_hall moment conn (no_room session.old))) out.old.ledger) }
-    ensures ended { IfOk result (λ end. end ≡ end_by (now_in places.old) (entry_in_hall moment conn (no_room session.old))) }
 {
     match session.no_room() {
-        Some(Order::Hall(cmd)) => {
-            let entry = HallEntry { conn, moment, cmd };
-            push_in_hall(alloc, places, moment, count, &entry, out)?;
-            Ok(None)
-        }
-        _ => {
-            push_ended(alloc, places, moment, count, conn, out)?;
-            Ok(None)
+        None => None,
+        Some(Order::Hall(cmd)) => Some(hall_entry(moment, conn, cmd)),
+        Some(Order::Room { id: _, cmd }) => {
+            let_go(cmd);
+            None
         }
     }
 }
 
-// An order that a text was taken for.
-fn push_order(
-    alloc: Global,
-    places: &mut Places,
+// The same of an order for the room with a number, if it is there.
+fn numbered_entry(
     session: &mut Session,
     moment: Moment,
-    count: u32,
+    conn: ConnNo,
+    no: Option<u32>,
+    cmd: Command,
+) -> Option<Placed>
+    requires { is_some session.old.last ≡ true }
+    ensures entry { result ≡ numbered_entry moment conn no cmd session.old }
+    ensures session { session.new ≡ lent_to_room no session.old }
+{
+    match no {
+        None => {
+            let_go(cmd);
+            entry_for_none(session, moment, conn)
+        }
+        Some(no) => entry_in_room(session, moment, conn, no, cmd),
+    }
+}
+
+fn number_of(places: &Places, id: Text) -> Option<u32>
+    ensures { result ≡ maps.get places.now.numbers id }
+{
+    places.number(id.as_str())
+}
+
+// The entry that an order makes which a text was taken for.
+fn order_entry(
+    places: &Places,
+    session: &mut Session,
+    moment: Moment,
     conn: ConnNo,
     order: Order,
-    out: &mut Transcript,
-) -> Result<Option<Ending>, AllocError>
+) -> Option<Placed>
     requires { IsCounted order session.old }
-    ensures state { OnOk result (places.new ≡ happenings_after places.old (entry_happenings moment (now_in places.old) conn (order_entry moment (now_in places.old) conn (Ok order) session.old))) }
-    ensures session { OnOk result (session.new ≡ order_session moment (now_in places.old) conn (Ok order) session.old) }
-    ensures text { OnOk result (string_bytes out.new.text ≡ string_bytes out.old.text ++ happenings_text count places.old (entry_happenings moment (now_in places.old) conn (order_entry moment (now_in places.old) conn (Ok order) session.old))) }
-    ensures ledger { OnOk result (out.new.ledger ≡ happenings_ledger places.old (entry_happenings moment (now_in places.old) conn (order_entry moment (now_in places.old) conn (Ok order) session.old)) out.old.ledger) }
-    ensures ended { IfOk result (λ end. end ≡ end_by (now_in places.old) (order_entry moment (now_in places.old) conn (Ok order) session.old)) }
+    ensures entry { result ≡ order_entry moment (now_in places.now) conn (Ok order) session.old }
+    ensures session { session.new ≡ session_lent (now_in places.now) order session.old }
 {
     match order {
-        Order::Hall(cmd) => {
-            let entry = HallEntry { conn, moment, cmd };
-            let badge = push_in_hall(alloc, places, moment, count, &entry, out)?;
-            set_badge(session, badge);
-            Ok(None)
+        Order::Hall(cmd) => Some(hall_entry(moment, conn, cmd)),
+        Order::Room { id, cmd } => {
+            let no = number_of(places, id);
+            numbered_entry(session, moment, conn, no, cmd)
         }
-        Order::Room { id, cmd } => match places.number(id.as_str()) {
-            None => push_to_none(alloc, places, session, moment, count, conn, out),
-            Some(no) => push_to_room(alloc, places, session, moment, count, conn, no, cmd, out),
-        },
     }
 }
 
 // A text of a connection.
-#[tactic(auto, using(crate::proofs::OrderLemmas::counted_is))]
+#[tactic(auto, using(crate::proofs::OrderLemmas::counted_is, crate::proofs::OrderLemmas::session_whole))]
 fn push_text(
     alloc: Global,
     places: &mut Places,
@@ -340,15 +370,16 @@ fn push_text(
 {
     match session.take(alloc, text.as_bytes()) {
         Err(TakeFault::NoMemory) => Err(AllocError),
-        Err(TakeFault::BadText) => {
-            push_ended(alloc, places, moment, count, conn, out)?;
-            Ok(None)
-        }
+        Err(TakeFault::BadText) => push_lent(
+            alloc, places, session, moment, count, conn, None, out,
+        ),
         Err(TakeFault::Limit { .. }) => {
-            push_ended(alloc, places, moment, count, conn, out)?;
-            Ok(None)
+            push_lent(alloc, places, session, moment, count, conn, None, out)
         }
-        Ok(order) => push_order(alloc, places, session, moment, count, conn, order, out),
+        Ok(order) => {
+            let placed = order_entry(places, session, moment, conn, order);
+            push_lent(alloc, places, session, moment, count, conn, placed, out)
+        }
     }
 }
 
@@ -412,13 +443,10 @@ fn push_opened(
         return Err(AllocError);
     }
     sessions.push(Session::new(alloc, conn))?;
-    let entry = HallEntry {
-        conn,
-        moment,
-        cmd: HallCmd::Open,
-    };
-    places.push_hall(alloc, sessions.len() as u32, &entry, out)?;
-    Ok(())
+    let opening = hall_entry(moment, conn, HallCmd::Open);
+    let done = push_placed(alloc, places, sessions.len() as u32, &opening, out);
+    let_go(opening);
+    done
 }
 
 impl Table {

@@ -12,7 +12,7 @@ use std::alloc::{AllocError, Global};
 use std::marker::Model;
 
 /// How many entries took their places, and how many of them were refused.
-#[derive(Clone, Copy, Debug, PartialEq, Eq)]
+#[derive(Clone, Copy)]
 pub struct Counts {
     /// All entries.
     pub entries: u64,
@@ -124,8 +124,8 @@ impl Transcript {
 
 // ---- verdicts
 
-pub(crate) fn hall_refuses(verdict: &HallVerdict) -> bool
-    ensures { result ≡ hall_refuses verdict.now }
+pub(crate) fn hall_refuses(verdict: HallVerdict) -> bool
+    ensures { result ≡ hall_refuses verdict }
 {
     match verdict {
         HallVerdict::Applied => false,
