@@ -1,9 +1,6 @@
 -- Ranges of what a dex file says, as far as lookups and battles rest on them.
-use Rattle.std.specs.Prelude.{◌≡◌, ℕ, ◌<◌, ◌≤◌, All, List, length, IfSome}
-use Rattle.ps_mon.specs.declared.facts.MoveData.{MoveData}
+use Rattle.std.specs.Prelude.{ℕ, ◌<◌, ◌≤◌, All, length, IfSome}
 use Rattle.ps_mon.specs.Facts.{IsFairMove, IsFactor}
-use Rattle.ps_dex.specs.declared.item.FactorItem.{FactorItem}
-use Rattle.ps_dex.specs.declared.item.MoveItem.{MoveItem}
 use Rattle.ps_dex.specs.declared.item.SpeciesItem.{SpeciesItem}
 use Rattle.ps_dex.specs.declared.item.AliasItem.{AliasItem}
 use Rattle.ps_dex.specs.declared.item.Tables.{Tables}

@@ -1,6 +1,5 @@
 -- What is looked up in a dex.
-use Rattle.std.specs.Prelude.{◌≡◌, ℕ, ◌==◌, ◌&&◌, ◌||◌, Bool, false, List, [], ◌∷◌, codes, slice_get, Option, Some, None, is_some, option_map, if◌then◌else◌}
-use Rattle.std.specs.Option.{option_or, option_and_then}
+use Rattle.std.specs.Prelude.{ℕ, ◌==◌, ◌&&◌, ◌||◌, Bool, List, [], ◌∷◌, codes, slice_get, Option, Some, None, if◌then◌else◌}
 use Rattle.ps_mon.specs.declared.facts.MoveData.{MoveData}
 use Rattle.ps_mon.specs.Facts.{struggle}
 use Rattle.ps_dex.specs.declared.item.TypeItem.{TypeItem}

@@ -124,19 +124,18 @@ fn from_tables(alloc: Global, tables: Tables) -> Result<Dex, AllocError>
     })
 }
 
-fn is_taken(tables: &Tables, id: &str) -> bool
-    ensures { result ≡ is_taken id.now tables.now }
-{
-    has_species(&tables.species, id) || has_move(&tables.moves, id)
-}
-
+// The maps find by a hash, so what has an id is looked up once: a number tells that the id is had.
+#[tactic(auto, unfolding(crate::specs::Species::species_index, crate::specs::Species::has_species, crate::specs::Moves::move_index, crate::specs::Moves::has_move, ps_data::specs::OwnIds::has_id))]
 fn species_of(tables: &Tables, id: &str) -> Option<u16>
     requires { AreFit tables.now }
     ensures index { result ≡ species_of id.now tables.now }
     ensures within { IfSome result (λ s. s < length tables.now.species) }
 {
-    if is_taken(tables, id) {
-        return species_number(&tables.species, id);
+    if let Some(number) = species_number(&tables.species, id) {
+        return Some(number);
+    }
+    if has_move(&tables.moves, id) {
+        return None;
     }
     let aliases = tables.aliases.as_slice();
     match alias_index(&tables.aliases, id) {
@@ -145,13 +144,17 @@ fn species_of(tables: &Tables, id: &str) -> Option<u16>
     }
 }
 
+#[tactic(auto, unfolding(crate::specs::Species::species_index, crate::specs::Species::has_species, crate::specs::Moves::move_index, crate::specs::Moves::has_move, ps_data::specs::OwnIds::has_id))]
 fn move_of(tables: &Tables, id: &str) -> Option<u16>
     requires { AreFit tables.now }
     ensures index { result ≡ move_of id.now tables.now }
     ensures within { IfSome result (λ mv. mv < length tables.now.moves) }
 {
-    if is_taken(tables, id) {
-        return move_number(&tables.moves, id);
+    if let Some(number) = move_number(&tables.moves, id) {
+        return Some(number);
+    }
+    if has_species(&tables.species, id) {
+        return None;
     }
     let aliases = tables.aliases.as_slice();
     match alias_index(&tables.aliases, id) {
