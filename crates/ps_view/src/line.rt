@@ -1,14 +1,14 @@
 //! The line of each event, and who is shown it.
-ghost use Rattle.std.specs.Prelude.{◌≡◌, ◌↔◌, false, None, IfOk};
+ghost use Rattle.std.specs.Prelude.{◌≡◌, ◌↔◌, ◌++◌, false, None, IfOk, OnOk, string_bytes};
 ghost use Rattle.ps_view.specs.Lines.{row_of, is_request, is_shown, line_of};
 
 use crate::names::Names;
 use crate::role::{Role, has_role, reads_exactly};
 use crate::row::{
-    about, activate_line, boost_line, cant_line, cure_line, damage_line, end_line, forfeit_line,
-    heal_line, hit_count_line, move_line, player_line, poke_line, prepare_line, rule_line,
-    start_line, status_line, switch_line, team_size_line, tier_line, transform_line, turn_line,
-    unboost_line, win_line,
+    push_about, push_activate, push_boost, push_cant, push_cure, push_damage, push_end,
+    push_forfeit, push_heal, push_hit_count, push_move, push_player, push_poke, push_prepare,
+    push_rule, push_start, push_status, push_switch, push_team_size, push_tier, push_transform,
+    push_turn, push_unboost, push_win,
 };
 use ps_base::text::Text;
 use ps_dex::dex::Dex;
@@ -17,6 +17,77 @@ use ps_event::table::audience;
 use std::alloc::{AllocError, Global};
 
 #[tactic(auto, unfolding(crate::specs::Lines::row_of))]
+fn push_row(
+    out: &mut String,
+    exact: bool,
+    names: &Names,
+    dex: &Dex,
+    event: Event,
+) -> Result<(), AllocError>
+    ensures { OnOk result (string_bytes out.new ≡ string_bytes out.old ++ row_of exact names.now dex.now event) }
+{
+    match event {
+        Event::Player { side } => push_player(out, names, side),
+        Event::TeamSize { side, count } => push_team_size(out, side, count),
+        Event::GameType => out.push_str("|gametype|singles"),
+        Event::Gen => out.push_str("|gen|1"),
+        Event::Tier => push_tier(out, names),
+        Event::Rule { clause } => push_rule(out, clause),
+        Event::ClearPoke => out.push_str("|clearpoke"),
+        Event::Poke {
+            side,
+            species,
+            level,
+        } => push_poke(out, dex, side, species, level),
+        Event::TeamPreview => out.push_str("|teampreview"),
+        Event::Start => out.push_str("|start"),
+        Event::Switch {
+            who,
+            species,
+            level,
+            health,
+        } => push_switch(out, exact, names, dex, who, species, level, health),
+        Event::Move {
+            who,
+            mv,
+            target,
+            still,
+            from,
+        } => push_move(out, names, dex, who, mv, target, still, from),
+        Event::Cant { who, reason } => push_cant(out, names, who, reason),
+        Event::Damage { who, health, from } => push_damage(out, exact, names, who, health, from),
+        Event::Heal { who, health } => push_heal(out, exact, names, who, health),
+        Event::Status { who, status } => push_status(out, names, who, status),
+        Event::CureStatus { who, status } => push_cure(out, names, who, status),
+        Event::Boost { who, stat, by } => push_boost(out, names, who, stat, by),
+        Event::Unboost { who, stat, by } => push_unboost(out, names, who, stat, by),
+        Event::Crit { who } => push_about(out, "-crit", names, who),
+        Event::Super { who } => push_about(out, "-supereffective", names, who),
+        Event::Resisted { who } => push_about(out, "-resisted", names, who),
+        Event::Immune { who } => push_about(out, "-immune", names, who),
+        Event::Miss { who } => push_about(out, "-miss", names, who),
+        Event::Fail { who } => push_about(out, "-fail", names, who),
+        Event::VolStart { who, effect, mv } => push_start(out, names, dex, who, effect, mv),
+        Event::VolEnd { who, effect } => push_end(out, names, dex, who, effect),
+        Event::Activate { who, effect, mv } => push_activate(out, names, dex, who, effect, mv),
+        Event::MustRecharge { who } => push_about(out, "-mustrecharge", names, who),
+        Event::Prepare { who, mv } => push_prepare(out, names, dex, who, mv),
+        Event::Transform { who, target } => push_transform(out, names, who, target),
+        Event::HitCount { who, hits } => push_hit_count(out, names, who, hits),
+        Event::ClearAll => out.push_str("|-clearallboost"),
+        Event::Faint { who } => push_about(out, "faint", names, who),
+        Event::Upkeep => out.push_str("|upkeep"),
+        Event::Turn { turn } => push_turn(out, turn),
+        Event::Forfeit { side } => push_forfeit(out, names, side),
+        Event::Win { side } => push_win(out, names, side),
+        Event::Tie => out.push_str("|tie"),
+        Event::Request { .. } => Ok(()),
+    }
+}
+
+// The bytes that a usual line takes at most.
+const USUAL_LENGTH: usize = 64;
+
 fn row_of(
     alloc: Global,
     exact: bool,
@@ -26,63 +97,9 @@ fn row_of(
 ) -> Result<Text, AllocError>
     ensures { IfOk result (λ t. t ≡ row_of exact names.now dex.now event) }
 {
-    match event {
-        Event::Player { side } => player_line(alloc, names, side),
-        Event::TeamSize { side, count } => team_size_line(alloc, side, count),
-        Event::GameType => Text::copy_of(alloc, "|gametype|singles"),
-        Event::Gen => Text::copy_of(alloc, "|gen|1"),
-        Event::Tier => tier_line(alloc, names),
-        Event::Rule { clause } => rule_line(alloc, clause),
-        Event::ClearPoke => Text::copy_of(alloc, "|clearpoke"),
-        Event::Poke {
-            side,
-            species,
-            level,
-        } => poke_line(alloc, dex, side, species, level),
-        Event::TeamPreview => Text::copy_of(alloc, "|teampreview"),
-        Event::Start => Text::copy_of(alloc, "|start"),
-        Event::Switch {
-            who,
-            species,
-            level,
-            health,
-        } => switch_line(alloc, exact, names, dex, who, species, level, health),
-        Event::Move {
-            who,
-            mv,
-            target,
-            still,
-            from,
-        } => move_line(alloc, names, dex, who, mv, target, still, from),
-        Event::Cant { who, reason } => cant_line(alloc, names, who, reason),
-        Event::Damage { who, health, from } => damage_line(alloc, exact, names, who, health, from),
-        Event::Heal { who, health } => heal_line(alloc, exact, names, who, health),
-        Event::Status { who, status } => status_line(alloc, names, who, status),
-        Event::CureStatus { who, status } => cure_line(alloc, names, who, status),
-        Event::Boost { who, stat, by } => boost_line(alloc, names, who, stat, by),
-        Event::Unboost { who, stat, by } => unboost_line(alloc, names, who, stat, by),
-        Event::Crit { who } => about(alloc, "-crit", names, who),
-        Event::Super { who } => about(alloc, "-supereffective", names, who),
-        Event::Resisted { who } => about(alloc, "-resisted", names, who),
-        Event::Immune { who } => about(alloc, "-immune", names, who),
-        Event::Miss { who } => about(alloc, "-miss", names, who),
-        Event::Fail { who } => about(alloc, "-fail", names, who),
-        Event::VolStart { who, effect, mv } => start_line(alloc, names, dex, who, effect, mv),
-        Event::VolEnd { who, effect } => end_line(alloc, names, dex, who, effect),
-        Event::Activate { who, effect, mv } => activate_line(alloc, names, dex, who, effect, mv),
-        Event::MustRecharge { who } => about(alloc, "-mustrecharge", names, who),
-        Event::Prepare { who, mv } => prepare_line(alloc, names, dex, who, mv),
-        Event::Transform { who, target } => transform_line(alloc, names, who, target),
-        Event::HitCount { who, hits } => hit_count_line(alloc, names, who, hits),
-        Event::ClearAll => Text::copy_of(alloc, "|-clearallboost"),
-        Event::Faint { who } => about(alloc, "faint", names, who),
-        Event::Upkeep => Text::copy_of(alloc, "|upkeep"),
-        Event::Turn { turn } => turn_line(alloc, turn),
-        Event::Forfeit { side } => forfeit_line(alloc, names, side),
-        Event::Win { side } => win_line(alloc, names, side),
-        Event::Tie => Text::copy_of(alloc, "|tie"),
-        Event::Request { .. } => Ok(Text::new(alloc)),
-    }
+    let mut out = String::with_capacity(alloc, USUAL_LENGTH)?;
+    push_row(&mut out, exact, names, dex, event)?;
+    Ok(Text::from_string(out))
 }
 
 fn is_request(event: &Event) -> bool

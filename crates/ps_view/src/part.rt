@@ -1,23 +1,32 @@
-//! The parts that lines are made of.
-ghost use Rattle.std.specs.Prelude.{◌≡◌, ◌<◌, IfOk};
+//! The parts that lines are made of, each put behind what a line has already.
+ghost use Rattle.std.specs.Prelude.{◌≡◌, ◌<◌, ◌++◌, OnOk, codes, string_bytes};
+ghost use Rattle.std.specs.Fmt.{decimal};
 ghost use Rattle.ps_view.specs.Parts.{position, species_word, level_end, details, status_end, share_of, bar_of, shown_share, exact_condition, public_condition, condition, still_end, called_end, stages, names_move, named_end};
 
 use crate::names::Names;
 use crate::word::{side_word, stat_word, status_word};
-use ps_base::text::Text;
+use itoa::Buffer;
 use ps_calc::health::{hundredths, pixels};
 use ps_dex::dex::Dex;
 use ps_event::event::{Health, Who};
 use ps_event::numbers::{EFFECT_DISABLE, EFFECT_MIMIC};
-use std::alloc::{AllocError, Global};
+use std::alloc::AllocError;
+
+/// A number in decimal digits.
+pub(crate) fn push_number(out: &mut String, number: u16) -> Result<(), AllocError>
+    ensures { OnOk result (string_bytes out.new ≡ string_bytes out.old ++ decimal number) }
+{
+    let mut buffer = Buffer::new();
+    out.push_str(buffer.format(number))
+}
 
 /// `p1a: NICK`
-pub(crate) fn position(alloc: Global, names: &Names, who: Who) -> Result<Text, AllocError>
-    ensures { IfOk result (λ t. t ≡ position names.now who) }
+pub(crate) fn push_position(out: &mut String, names: &Names, who: Who) -> Result<(), AllocError>
+    ensures { OnOk result (string_bytes out.new ≡ string_bytes out.old ++ position names.now who) }
 {
-    let side = side_word(who.side);
-    let nick = names.nick(who);
-    Ok(Text::from_string(format!(in alloc; "{side}a: {nick}")?))
+    out.push_str(side_word(who.side))?;
+    out.push_str("a: ")?;
+    out.push_str(names.nick(who))
 }
 
 fn species_word(dex: &Dex, species: u16) -> &str
@@ -29,32 +38,37 @@ fn species_word(dex: &Dex, species: u16) -> &str
     }
 }
 
-fn level_end(alloc: Global, level: u8) -> Result<Text, AllocError>
-    ensures { IfOk result (λ t. t ≡ level_end level) }
+fn push_level_end(out: &mut String, level: u8) -> Result<(), AllocError>
+    ensures { OnOk result (string_bytes out.new ≡ string_bytes out.old ++ level_end level) }
 {
     if level == 100 {
-        return Ok(Text::new(alloc));
+        return Ok(());
     }
-    Ok(Text::from_string(format!(in alloc; ", L{level}")?))
+    out.push_str(", L")?;
+    push_number(out, u16::from(level))
 }
 
 /// `SPECIES`, or `SPECIES, L50` where the level isn't 100.
-pub(crate) fn details(alloc: Global, dex: &Dex, species: u16, level: u8) -> Result<Text, AllocError>
-    ensures { IfOk result (λ t. t ≡ details dex.now species level) }
+pub(crate) fn push_details(
+    out: &mut String,
+    dex: &Dex,
+    species: u16,
+    level: u8,
+) -> Result<(), AllocError>
+    ensures { OnOk result (string_bytes out.new ≡ string_bytes out.old ++ details dex.now species level) }
 {
-    let species = species_word(dex, species);
-    let level = level_end(alloc, level)?;
-    Ok(Text::from_string(format!(in alloc; "{species}{level}")?))
+    out.push_str(species_word(dex, species))?;
+    push_level_end(out, level)
 }
 
-fn status_end(alloc: Global, status: u8) -> Result<Text, AllocError>
-    ensures { IfOk result (λ t. t ≡ status_end status) }
+fn push_status_end(out: &mut String, status: u8) -> Result<(), AllocError>
+    ensures { OnOk result (string_bytes out.new ≡ string_bytes out.old ++ status_end status) }
 {
     if status == 0 {
-        return Ok(Text::new(alloc));
+        return Ok(());
     }
-    let status = status_word(status);
-    Ok(Text::from_string(format!(in alloc; " {status}")?))
+    out.push_str(" ")?;
+    out.push_str(status_word(status))
 }
 
 /// The hundredths that others see.
@@ -80,83 +94,97 @@ fn bar_of(health: Health) -> u8
 }
 
 /// `N/100` under HP Percentage Mod, else `N/48`.
-fn shown_share(alloc: Global, percent: bool, health: Health) -> Result<Text, AllocError>
+fn push_shown_share(out: &mut String, percent: bool, health: Health) -> Result<(), AllocError>
     requires { 0 < health.hp }
-    ensures { IfOk result (λ t. t ≡ shown_share percent health) }
+    ensures { OnOk result (string_bytes out.new ≡ string_bytes out.old ++ shown_share percent health) }
 {
     if percent {
-        let share = share_of(health);
-        Ok(Text::from_string(format!(in alloc; "{share}/100")?))
+        push_number(out, u16::from(share_of(health)))?;
+        out.push_str("/100")
     } else {
-        let bar = bar_of(health);
-        Ok(Text::from_string(format!(in alloc; "{bar}/48")?))
+        push_number(out, u16::from(bar_of(health)))?;
+        out.push_str("/48")
     }
 }
 
-fn exact_condition(alloc: Global, health: Health) -> Result<Text, AllocError>
-    ensures { IfOk result (λ t. t ≡ exact_condition health) }
+fn push_exact_condition(out: &mut String, health: Health) -> Result<(), AllocError>
+    ensures { OnOk result (string_bytes out.new ≡ string_bytes out.old ++ exact_condition health) }
 {
     if health.hp == 0 {
-        return Text::copy_of(alloc, "0 fnt");
+        return out.push_str("0 fnt");
     }
-    let (hp, max) = (health.hp, health.max);
-    let status = status_end(alloc, health.status)?;
-    Ok(Text::from_string(format!(in alloc; "{hp}/{max}{status}")?))
+    push_number(out, health.hp)?;
+    out.push_str("/")?;
+    push_number(out, health.max)?;
+    push_status_end(out, health.status)
 }
 
-fn public_condition(alloc: Global, percent: bool, health: Health) -> Result<Text, AllocError>
-    ensures { IfOk result (λ t. t ≡ public_condition percent health) }
+fn push_public_condition(out: &mut String, percent: bool, health: Health) -> Result<(), AllocError>
+    ensures { OnOk result (string_bytes out.new ≡ string_bytes out.old ++ public_condition percent health) }
 {
     if health.hp == 0 {
-        return Text::copy_of(alloc, "0 fnt");
+        return out.push_str("0 fnt");
     }
-    let share = shown_share(alloc, percent, health)?;
-    let status = status_end(alloc, health.status)?;
-    Ok(Text::from_string(format!(in alloc; "{share}{status}")?))
+    push_shown_share(out, percent, health)?;
+    push_status_end(out, health.status)
 }
 
 /// `HP/MAX`, or in the public form `N/100` or `N/48`, and the status behind it; `0 fnt` at no health.
-pub(crate) fn condition(
-    alloc: Global,
+pub(crate) fn push_condition(
+    out: &mut String,
     exact: bool,
     percent: bool,
     health: Health,
-) -> Result<Text, AllocError>
-    ensures { IfOk result (λ t. t ≡ condition exact percent health) }
+) -> Result<(), AllocError>
+    ensures { OnOk result (string_bytes out.new ≡ string_bytes out.old ++ condition exact percent health) }
 {
     if exact {
-        exact_condition(alloc, health)
+        push_exact_condition(out, health)
     } else {
-        public_condition(alloc, percent, health)
+        push_public_condition(out, percent, health)
     }
 }
 
 /// `|[still]` where a move is only prepared.
-pub(crate) fn still_end(still: bool) -> &'static str
+fn still_end(still: bool) -> &'static str
     ensures { result.now ≡ still_end still }
 {
     if still { "|[still]" } else { "" }
 }
 
 /// `|[from]MOVE`: the move that called another one, or goes on.
-pub(crate) fn called_end(alloc: Global, dex: &Dex, from: Option<u16>) -> Result<Text, AllocError>
-    ensures { IfOk result (λ t. t ≡ called_end dex.now from) }
+fn push_called_end(out: &mut String, dex: &Dex, from: Option<u16>) -> Result<(), AllocError>
+    ensures { OnOk result (string_bytes out.new ≡ string_bytes out.old ++ called_end dex.now from) }
 {
     match from {
-        None => Ok(Text::new(alloc)),
+        None => Ok(()),
         Some(mv) => {
-            let name = dex.move_name(mv);
-            Ok(Text::from_string(format!(in alloc; "|[from]{name}")?))
+            out.push_str("|[from]")?;
+            out.push_str(dex.move_name(mv))
         }
     }
 }
 
-/// `STAT|N`: a stat, and by how many stages it changed.
-pub(crate) fn stages(alloc: Global, stat: u8, by: u8) -> Result<Text, AllocError>
-    ensures { IfOk result (λ t. t ≡ stages stat by) }
+/// `|[still]` and `|[from]MOVE`, each where it is so.
+pub(crate) fn push_move_ends(
+    out: &mut String,
+    dex: &Dex,
+    still: bool,
+    from: Option<u16>,
+) -> Result<(), AllocError>
+    ensures { OnOk result (string_bytes out.new ≡ string_bytes out.old ++ still_end still ++ called_end dex.now from) }
 {
-    let word = stat_word(stat);
-    Ok(Text::from_string(format!(in alloc; "{word}|{by}")?))
+    out.push_str(still_end(still))?;
+    push_called_end(out, dex, from)
+}
+
+/// `STAT|N`: a stat, and by how many stages it changed.
+pub(crate) fn push_stages(out: &mut String, stat: u8, by: u8) -> Result<(), AllocError>
+    ensures { OnOk result (string_bytes out.new ≡ string_bytes out.old ++ stages stat by) }
+{
+    out.push_str(stat_word(stat))?;
+    out.push_str("|")?;
+    push_number(out, u16::from(by))
 }
 
 fn names_move(effect: u8) -> bool
@@ -166,22 +194,22 @@ fn names_move(effect: u8) -> bool
 }
 
 /// `|MOVE` behind what begins with a move's name.
-pub(crate) fn named_end(
-    alloc: Global,
+pub(crate) fn push_named_end(
+    out: &mut String,
     dex: &Dex,
     effect: u8,
     mv: Option<u16>,
-) -> Result<Text, AllocError>
-    ensures { IfOk result (λ t. t ≡ named_end dex.now effect mv) }
+) -> Result<(), AllocError>
+    ensures { OnOk result (string_bytes out.new ≡ string_bytes out.old ++ named_end dex.now effect mv) }
 {
     match mv {
-        None => Ok(Text::new(alloc)),
+        None => Ok(()),
         Some(mv) => {
             if !names_move(effect) {
-                return Ok(Text::new(alloc));
+                return Ok(());
             }
-            let name = dex.move_name(mv);
-            Ok(Text::from_string(format!(in alloc; "|{name}")?))
+            out.push_str("|")?;
+            out.push_str(dex.move_name(mv))
         }
     }
 }
