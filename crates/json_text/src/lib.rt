@@ -2,3 +2,4 @@
 #![tactic(auto)]
 
 pub mod json_line;
+pub mod quoted;
