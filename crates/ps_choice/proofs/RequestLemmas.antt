@@ -1,36 +1,34 @@
--- What is written of a slot, and what is left to write of the slots.
-use Rattle.std.proofs.Common.{◌≡◌, ℕ, suc, ◌+◌, ◌-◌, ◌<◌, Bool, codes, List, ◌∷◌, refl, sym, ap, ◌∙◌, arith}
-use Rattle.serde_json.specs.Data.{Data, boolean, object, no_members, member}
+-- What is left to write of a list behind an item that was written, and pieces behind one another.
+use Rattle.std.proofs.Common.{◌≡◌, ℕ, suc, ◌+◌, ◌-◌, ◌<◌, Bool, true, List, ◌∷◌, ◌++◌, refl, sym, ap, ◌∙◌, append_assoc, arith}
+use Rattle.serde_json.specs.Data.{Data}
 use Rattle.serde_json.specs.View.{items_of}
-use Rattle.json_text.specs.Lines.{Line, with_value, with_items}
-use Rattle.json_text.proofs.LineLemmas.{item_written}
+use Rattle.serde_json.specs.Written.{compact_text, items_text, comma_if}
 use Rattle.ps_mon.specs.declared.record.SideState.{SideState}
 use Rattle.ps_dex.specs.declared.item.MoveItem.{MoveItem}
-use Rattle.ps_mon.specs.Slots.{slot_now, is_disabled}
-use Rattle.ps_dex.specs.Lookups.{name_of_move}
-use Rattle.ps_choice.specs.Shown.{id_of_move}
-use Rattle.ps_choice.specs.Requests.{text, count, slot_data, slots_from}
+use Rattle.ps_choice.specs.Requests.{slot_data, slots_from}
 
--- a slot of which this is shown
-abbrev pub shown_slot : Bool → List ℕ → ℕ → List ℕ → ℕ → Data
-shown_slot disabled id most name pp = object
-    (member (codes "disabled") (boolean disabled)
-    (member (codes "id") (text id)
-    (member (codes "maxpp") (count most)
-    (member (codes "move") (text name)
-    (member (codes "pp") (count pp)
-    no_members)))))
+-- a piece behind a text, and one behind both
+pub then : (old mid new a b : List ℕ) → mid ≡ old ++ a → new ≡ mid ++ b → new ≡ old ++ (a ++ b)
+then old mid new a b first second = second ∙ ap (λ (x : List ℕ). x ++ b) first ∙ append_assoc old a b
 
-pub slot_is : (moves : List MoveItem) (side : SideState) (j : ℕ) (disabled : Bool) (id name : List ℕ) (most pp : ℕ)
-    → disabled ≡ is_disabled side.vol.disabled j → id ≡ id_of_move (slot_now side j).mv moves → most ≡ (slot_now side j).max_pp
-    → name ≡ name_of_move (slot_now side j).mv moves → pp ≡ (slot_now side j).pp → shown_slot disabled id most name pp ≡ slot_data moves side j
-unfolding slot_data
-slot_is moves side j disabled id name most pp d i m n p =
-    ap (λ (x : Bool). shown_slot x id most name pp) d
-    ∙ ap (λ (x : List ℕ). shown_slot (is_disabled side.vol.disabled j) x most name pp) i
-    ∙ ap (λ (x : ℕ). shown_slot (is_disabled side.vol.disabled j) (id_of_move (slot_now side j).mv moves) x name pp) m
-    ∙ ap (λ (x : List ℕ). shown_slot (is_disabled side.vol.disabled j) (id_of_move (slot_now side j).mv moves) (slot_now side j).max_pp x pp) n
-    ∙ ap (λ (x : ℕ). shown_slot (is_disabled side.vol.disabled j) (id_of_move (slot_now side j).mv moves) (slot_now side j).max_pp (name_of_move (slot_now side j).mv moves) x) p
+-- a piece behind one that is itself of three
+pub then_closed : (old mid new a b c d : List ℕ) → mid ≡ old ++ (a ++ (b ++ c)) → new ≡ mid ++ d → new ≡ old ++ (a ++ (b ++ (c ++ d)))
+then_closed old mid new a b c d first second =
+    then old mid new (a ++ (b ++ c)) d first second
+    ∙ ap (λ (x : List ℕ). old ++ x) (append_assoc a (b ++ c) d ∙ ap (λ (x : List ℕ). a ++ x) (append_assoc b c d))
+
+-- the two brackets that close a list of moves belong to it
+pub regrouped : (a b c d : List ℕ) → a ++ (b ++ (c ++ d)) ≡ ((a ++ b) ++ c) ++ d
+regrouped a b c d = sym (append_assoc (a ++ b) c d ∙ append_assoc a b (c ++ d))
+
+-- where the first of the items that are left was written, the others are left
+pub item_written : (later : Bool) (value : Data) (values : List Data) (old new all : List ℕ) → new ≡ old ++ (comma_if later ++ compact_text value)
+    → old ++ items_text later (items_of (value ∷ values)) ≡ all → new ++ items_text true (items_of values) ≡ all
+item_written later value values old new all written left =
+    ap (λ (x : List ℕ). x ++ items_text true (items_of values)) written
+    ∙ append_assoc old (comma_if later ++ compact_text value) (items_text true (items_of values))
+    ∙ ap (λ (x : List ℕ). old ++ x) (append_assoc (comma_if later) (compact_text value) (items_text true (items_of values)))
+    ∙ left
 
 slots_more : (moves : List MoveItem) (side : SideState) (j n : ℕ) → j < n → slots_from moves side j (n - j) ≡ slot_data moves side j ∷ slots_from moves side (j + 1) (n - (j + 1))
 slots_more moves side j n lt =
@@ -39,8 +37,9 @@ slots_more moves side j n lt =
     rw left (rw (← next) refl)
 
 -- where a slot was written, those behind it are left
-pub next_slot : (moves : List MoveItem) (side : SideState) (j n : ℕ) (old new all : Line) → j < n → new ≡ with_value (slot_data moves side j) old
-    → with_items (items_of (slots_from moves side j (n - j))) old ≡ all → with_items (items_of (slots_from moves side (j + 1) (n - (j + 1)))) new ≡ all
-next_slot moves side j n old new all lt written left =
-    item_written (slot_data moves side j) (slots_from moves side (j + 1) (n - (j + 1))) old new all written
-    (ap (λ (ds : List Data). with_items (items_of ds) old) (sym (slots_more moves side j n lt)) ∙ left)
+pub next_slot : (moves : List MoveItem) (side : SideState) (j n : ℕ) (later : Bool) (old new all : List ℕ) → j < n
+    → new ≡ old ++ (comma_if later ++ compact_text (slot_data moves side j)) → old ++ items_text later (items_of (slots_from moves side j (n - j))) ≡ all
+    → new ++ items_text true (items_of (slots_from moves side (j + 1) (n - (j + 1)))) ≡ all
+next_slot moves side j n later old new all lt written left =
+    item_written later (slot_data moves side j) (slots_from moves side (j + 1) (n - (j + 1))) old new all written
+    (ap (λ (ds : List Data). old ++ items_text later (items_of ds)) (sym (slots_more moves side j n lt)) ∙ left)

@@ -1,9 +1,10 @@
 -- The JSON of a request. It looks at the phase, the dex and the own side alone, with that side's names. The members of each
 -- object stand in the order of their keys, as they are written.
-use Rattle.std.specs.Prelude.{ℕ, zero, suc, ◌==◌, Bool, true, false, ◌&&◌, List, [], ◌∷◌, map, take, codes, Option, Some, None, slice_index, if◌then◌else◌}
-use Rattle.serde_json.specs.Data.{Data, boolean, number, unsigned, string, array, object, no_items, item, no_members, member}
+use Rattle.std.specs.Prelude.{ℕ, zero, suc, ◌==◌, Bool, true, false, ◌&&◌, List, [], ◌∷◌, ◌++◌, map, take, codes, Option, Some, None, slice_index, if◌then◌else◌}
+use Rattle.serde_json.specs.Data.{Data, Members, boolean, number, unsigned, string, array, object, no_items, item, no_members, member}
 use Rattle.serde_json.specs.View.{items_of}
-use Rattle.serde_json.specs.Written.{compact_text}
+use Rattle.json.specs.Print.{quoted}
+use Rattle.serde_json.specs.Written.{compact_text, members_text}
 use Rattle.ps_mon.specs.declared.record.Lock.{Lock}
 use Rattle.ps_mon.specs.declared.record.Phase.{Phase}
 use Rattle.ps_mon.specs.declared.record.Phase.TheVariants as phases
@@ -159,3 +160,35 @@ request_data phase dex name nicks s side round =
 -- as it is written, without spaces
 abbrev pub request : Phase → Tables → List ℕ → List (List ℕ) → ℕ → SideState → ℕ → List ℕ
 request phase dex name nicks s side round = compact_text (request_data phase dex name nicks s side round)
+
+-- ---- for private clauses: parts of the text
+
+-- a member behind another
+abbrev pub later_member : List ℕ → Data → List ℕ
+later_member key value = codes "," ++ (quoted key ++ (codes ":" ++ compact_text value))
+
+-- what is shown of a slot behind whether it is disabled, and the brace that closes the slot
+abbrev pub shown_move : List ℕ → ℕ → List ℕ → ℕ → List ℕ
+shown_move id most name pp = members_text true
+    (member (codes "id") (text id)
+    (member (codes "maxpp") (count most)
+    (member (codes "move") (text name)
+    (member (codes "pp") (count pp)
+    no_members))))
+
+-- a slot in force, of which it is told whether it is disabled
+abbrev pub shown_slot : List MoveItem → Bool → MoveSlot → Data
+shown_slot moves disabled own = object
+    (member (codes "disabled") (boolean disabled)
+    (member (codes "id") (text (id_of_move own.mv moves))
+    (member (codes "maxpp") (count own.max_pp)
+    (member (codes "move") (text (name_of_move own.mv moves))
+    (member (codes "pp") (count own.pp)
+    no_members)))))
+
+-- the last members of a member
+abbrev pub moves_and_stats : List MoveItem → Member → Members
+moves_and_stats moves m =
+    member (codes "moves") (array (items_of (own_moves moves m)))
+    (member (codes "stats") (stats_data m.stats)
+    no_members)

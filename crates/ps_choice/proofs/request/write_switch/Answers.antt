@@ -1,12 +1,8 @@
-use Rattle.json_text.proofs.LineLemmas.{then}
+use Rattle.std.proofs.Common.{codes, decimal}
+use Rattle.json.specs.Print.{escape_byte}
+use Rattle.ps_choice.proofs.RequestLemmas.{then_closed}
 use Rattle.ps_choice.proofs.request.write_switch.Goals as goal
 
 pub returns : goal.returns
-returns c =
-    then _ _ _ _ _ c.in_ok-open_object.ensures
-    (then _ _ _ _ _ c.in_ok-key.ensures
-    (then _ _ _ _ _ c.in_ok-open_array.ensures
-    (then _ _ _ _ _ c.in_ok-boolean.ensures
-    (then _ _ _ _ _ c.in_ok-close_array.ensures
-    (then _ _ _ _ _ c.in_ok-write_round.ensures
-    c.in_ok-close_object.ensures)))))
+unfolding escape_byte
+returns c = then_closed _ _ _ (codes "{\"forceSwitch\":[true],\"rqid\":") (decimal c.args.round) _ _ c.in_ok-write_round.ensures c.in_ok-push_piece.ensures
