@@ -2,6 +2,7 @@
 use Rattle.std.specs.Prelude.{ℕ, ℤ, List, [], ◌∷◌, ◌++◌, find, map, codes, slice_index_or, Option, Some, None}
 use Rattle.std.specs.List.{filter, join_with_byte}
 use Rattle.std.specs.Fmt.{decimal, signed_decimal}
+use Rattle.json.specs.Print.{quoted}
 use Rattle.serde_json.specs.Data.{Data, Members, null, string, array, object, no_members, member, put}
 use Rattle.serde_json.specs.View.{items_of}
 use Rattle.serde_json.specs.Written.{compact_text}
@@ -65,6 +66,13 @@ games_data gs = object_or_null (with_games no_members gs)
 abbrev pub search_data : List Game → List (List ℕ) → Data
 search_data games formats = object (member (codes "games") (games_data games) (member (codes "searching") (array (items_of (map string formats))) no_members))
 
+-- for the code: a battle's title at its id, and all battles, as they are written
+unfoldable pub game_member : Game → List ℕ
+game_member g = quoted (battle_id g.format g.number) ++ 58 ∷ quoted (battle_title (slice_index_or g.players 0 []) (slice_index_or g.players 1 []))
+
+unfoldable pub games_text : List Game → List ℕ
+games_text gs = compact_text (games_data gs)
+
 -- the battles of a user that weren't reported, and the formats that it searches
 unfoldable pub search_line : List Game → List Search → List ℕ → List ℕ
 search_line gs ss id = codes "|updatesearch|" ++ compact_text (search_data (games_of gs id) (searched ss id))
@@ -83,6 +91,13 @@ with_asked ms (a ∷ others) = with_asked (put a.by (string a.format) ms) others
 -- the format of each challenge that was got, by who made it
 abbrev pub challenge_data : Option Asked → List Asked → Data
 challenge_data made got = object (member (codes "challengeTo") (asked_data made) (member (codes "challengesFrom") (object (with_asked no_members got)) no_members))
+
+-- for the code: the two parts of it, as they are written
+unfoldable pub made_text : Option Asked → List ℕ
+made_text made = compact_text (asked_data made)
+
+unfoldable pub got_text : List Asked → List ℕ
+got_text got = compact_text (object (with_asked no_members got))
 
 -- of the open challenges, the one that a user made, and those that it got
 unfoldable pub challenge_line : List Asked → List ℕ → List ℕ

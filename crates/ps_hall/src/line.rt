@@ -4,13 +4,15 @@ ghost use Rattle.std.specs.List.{filter, join_with_byte};
 ghost use Rattle.std.specs.Option.{option_copied};
 ghost use Rattle.serde_json.specs.Data.{string, array, object, member, no_members, put as with_member};
 ghost use Rattle.serde_json.specs.View.{view, items_of, members_view};
+ghost use Rattle.serde_json.specs.Written.{comma_if, compact_text, items_text};
 ghost use Rattle.ps_pms.specs.Lookups.{is_by, is_to};
 ghost use Rattle.ps_hall.specs.Coming.{games_after};
 ghost use Rattle.ps_hall.specs.Lookups.{games_of, searched};
-ghost use Rattle.ps_hall.specs.Lines.{challstr_line, guest_line, formats_line, open_lines, user_line, with_game, with_games, games_data, object_or_null, search_data, search_line, asked_data, with_asked, challenge_data, challenge_line, whisper_line, rating_line, taken_by, taken_line, refused_line};
+ghost use Rattle.ps_hall.specs.Lines.{challstr_line, guest_line, formats_line, open_lines, user_line, with_game, with_games, games_text, game_member, object_or_null, search_line, made_text, got_text, with_asked, challenge_line, whisper_line, rating_line, taken_by, taken_line, refused_line};
 
 use crate::coming::{ComingGames, own_games};
 use crate::game::Game;
+use json_text::quoted::push_quoted;
 use ps_base::badge::Badge;
 use ps_base::hall_why::{HallWhy, nametaken_line, popup_line};
 use ps_base::id::Id;
@@ -26,8 +28,11 @@ use ps_pms::asked::Asked;
 use ps_rules::table::Format;
 use ps_users::read::read_of;
 use rules_start::start::battle_id;
-use serde_json::{Map, Value, json};
+use serde_json::{Map, Value};
 use std::alloc::{AllocError, Global};
+
+/// Room for a usual line of JSON: one battle, and a search or two.
+const ROOM_OF_LINE: usize = 128;
 
 // ---- connecting
 
@@ -140,63 +145,112 @@ fn titles_of(alloc: Global, games: &[&Game]) -> Result<Map<String, Value>, Alloc
     Ok(members)
 }
 
-fn games_value(alloc: Global, games: &ComingGames, id: &Id) -> Result<Value, AllocError>
-    ensures { IfOk result (λ v. view v ≡ games_data (games_of (games_after games.now) id.now)) }
+// A battle's title at its id.
+#[tactic(auto, unfolding(crate::specs::Lines::game_member))]
+fn push_game(alloc: Global, out: &mut String, game: &Game) -> Result<(), AllocError>
+    ensures { OnOk result (string_bytes out.new ≡ string_bytes out.old ++ game_member game.now) }
 {
-    let own = own_games(alloc, games, id)?;
-    let members = titles_of(alloc, own.as_slice())?;
-    Ok(object_or_null(members))
+    let id = battle_id(alloc, &game.format, game.number)?;
+    let title = game.title(alloc)?;
+    push_quoted(out, id.as_str())?;
+    out.push_str(":")?;
+    push_quoted(out, title.as_str())
 }
 
-/// The format of a user's search, and of no other's.
-fn push_own_format(
-    alloc: Global,
-    values: &mut Vec<Value>,
-    search: &Search,
-    id: &Id,
-) -> Result<(), AllocError>
-    ensures { OnOk result (map view values.new.items ≡ map view values.old.items ++ map string (searched (search.now ∷ []) id.now)) }
+// One battle alone.
+fn push_one_game(alloc: Global, out: &mut String, game: &Game) -> Result<(), AllocError>
+    ensures { OnOk result (string_bytes out.new ≡ string_bytes out.old ++ games_text (game.now ∷ [])) }
 {
-    if search.user.as_str() == id.as_str() {
-        values.push(Value::try_from_str(alloc, search.format.as_str())?)?;
-        return Ok(());
-    }
+    out.push_str("{")?;
+    push_game(alloc, out, game)?;
+    out.push_str("}")?;
     Ok(())
 }
 
-fn own_formats(alloc: Global, searches: &[&Search], id: &Id) -> Result<Vec<Value>, AllocError>
-    ensures { IfOk result (λ v. map view v.items ≡ map string (searched (map (λ x. x.now) searches.now) id.now)) }
+// Battles in the order of their ids.
+#[tactic(auto, unfolding(crate::specs::Lines::games_text), using(crate::proofs::JsonLemmas::some_games_plain))]
+fn push_sorted_games(alloc: Global, out: &mut String, games: &[&Game]) -> Result<(), AllocError>
+    ensures { OnOk result (string_bytes out.new ≡ string_bytes out.old ++ games_text (map (λ x. x.now) games.now)) }
 {
-    let mut values = Vec::new(alloc);
-    for search in searches {
-        push_own_format(alloc, &mut values, *search, id)?;
-    }
-    Ok(values)
+    let members = titles_of(alloc, games)?;
+    let value = object_or_null(members);
+    let text = written(alloc, &value)?;
+    out.push_str(text.as_str())
 }
 
-fn search_object(alloc: Global, games: Value, formats: Vec<Value>) -> Result<Value, AllocError>
-    ensures { IfOk result (λ v. view v ≡ object (member (codes "games") (view games) (member (codes "searching") (array (items_of (map view formats.items))) no_members))) }
-{
-    json!(in alloc; {"games": games, "searching": formats})
-}
-
-fn search_value(
+// Most users play one battle, or none, which needs no sorting.
+fn push_some_games(
     alloc: Global,
+    out: &mut String,
+    games: &[&Game],
+    first: &Game,
+    rest: &[&Game],
+) -> Result<(), AllocError>
+    requires { map (λ x. x.now) games.now ≡ first.now ∷ map (λ x. x.now) rest.now }
+    ensures { OnOk result (string_bytes out.new ≡ string_bytes out.old ++ games_text (map (λ x. x.now) games.now)) }
+{
+    match rest {
+        [] => push_one_game(alloc, out, first),
+        [_, ..] => push_sorted_games(alloc, out, games),
+    }
+}
+
+// Each battle's title by its id.
+fn push_games(alloc: Global, out: &mut String, games: &[&Game]) -> Result<(), AllocError>
+    ensures { OnOk result (string_bytes out.new ≡ string_bytes out.old ++ games_text (map (λ x. x.now) games.now)) }
+{
+    match games {
+        [] => {
+            out.push_str("null")?;
+            Ok(())
+        }
+        [first, rest @ ..] => push_some_games(alloc, out, games, *first, rest),
+    }
+}
+
+fn push_own_games(
+    alloc: Global,
+    out: &mut String,
     games: &ComingGames,
+    id: &Id,
+) -> Result<(), AllocError>
+    ensures { OnOk result (string_bytes out.new ≡ string_bytes out.old ++ games_text (games_of (games_after games.now) id.now)) }
+{
+    let own = own_games(alloc, games, id)?;
+    push_games(alloc, out, own.as_slice())
+}
+
+fn push_comma_if(out: &mut String, later: bool) -> Result<(), AllocError>
+    ensures { OnOk result (string_bytes out.new ≡ string_bytes out.old ++ comma_if later) }
+{
+    if later { out.push_str(",") } else { Ok(()) }
+}
+
+// The formats that a user searches, and the bracket that closes their array.
+fn push_formats(
+    out: &mut String,
+    later: bool,
     searches: &[&Search],
     id: &Id,
-) -> Result<Value, AllocError>
-    ensures { IfOk result (λ v. view v
-        ≡ search_data (games_of (games_after games.now) id.now) (searched (map (λ x. x.now) searches.now) id.now)) }
+) -> Result<(), AllocError>
+    ensures { OnOk result (string_bytes out.new ≡ string_bytes out.old
+        ++ items_text later (items_of (map string (searched (map (λ x. x.now) searches.now) id.now)))) }
 {
-    let games = games_value(alloc, games, id)?;
-    let formats = own_formats(alloc, searches, id)?;
-    search_object(alloc, games, formats)
+    match searches {
+        [] => out.push_str("]"),
+        [search, rest @ ..] => {
+            if search.user.as_str() != id.as_str() {
+                return push_formats(out, later, rest, id);
+            }
+            push_comma_if(out, later)?;
+            push_quoted(out, search.format.as_str())?;
+            push_formats(out, true, rest, id)
+        }
+    }
 }
 
 /// The battles of a user that weren't reported, and the formats that it searches, in order of search: `|updatesearch|JSON`
 /// of PROTOCOL.md.
-#[tactic(auto, unfolding(crate::specs::Lines::search_line), using(crate::proofs::JsonLemmas::plain_lines))]
 pub(crate) fn search_line(
     alloc: Global,
     games: &ComingGames,
@@ -205,9 +259,13 @@ pub(crate) fn search_line(
 ) -> Result<Text, AllocError>
     ensures { IfOk result (λ t. t ≡ search_line (games_after games.now) (map (λ x. x.now) searches.now) id.now) }
 {
-    let value = search_value(alloc, games, searches, id)?;
-    let text = written(alloc, &value)?;
-    Ok(Text::from_string(format!(in alloc; "|updatesearch|{text}")?))
+    let mut line = String::with_capacity(alloc, ROOM_OF_LINE)?;
+    line.push_str("|updatesearch|{\"games\":")?;
+    push_own_games(alloc, &mut line, games, id)?;
+    line.push_str(",\"searching\":[")?;
+    push_formats(&mut line, false, searches, id)?;
+    line.push_str("}")?;
+    Ok(Text::from_string(line))
 }
 
 // ---- `|updatechallenges|`
@@ -224,70 +282,128 @@ fn made_by<'a>(asked: &[&'a Asked], id: &Id) -> Option<&'a Asked>
     None
 }
 
-fn asked_value(alloc: Global, asked: Option<&Asked>) -> Result<Value, AllocError>
-    ensures { IfOk result (λ v. view v ≡ asked_data (option_copied asked.entry)) }
+fn push_made_some(out: &mut String, asked: &Asked) -> Result<(), AllocError>
+    ensures { OnOk result (string_bytes out.new ≡ string_bytes out.old ++ made_text (Some asked.now)) }
 {
-    match asked {
-        None => Ok(Value::Null),
-        Some(asked) => {
-            let format = asked.format.as_str();
-            let to = asked.to.as_str();
-            json!(in alloc; {"format": format, "to": to})
-        }
-    }
-}
-
-/// Puts the format of a challenge that a user got at who made it, and no other's.
-fn put_got(
-    alloc: Global,
-    members: &mut Map<String, Value>,
-    asked: &Asked,
-    id: &Id,
-) -> Result<(), AllocError>
-    ensures { OnOk result (members_view members.new.entries ≡ with_asked (members_view members.old.entries) (filter (is_to id.now) (asked.now ∷ []))) }
-{
-    if asked.is_to(id) {
-        return put_text(alloc, members, asked.by.as_str(), asked.format.as_str());
-    }
+    out.push_str("{\"format\":")?;
+    push_quoted(out, asked.format.as_str())?;
+    out.push_str(",\"to\":")?;
+    push_quoted(out, asked.to.as_str())?;
+    out.push_str("}")?;
     Ok(())
 }
 
-fn got_by(alloc: Global, asked: &[&Asked], id: &Id) -> Result<Map<String, Value>, AllocError>
-    ensures { IfOk result (λ m. members_view m.entries ≡ with_asked no_members (filter (is_to id.now) (map (λ x. x.now) asked.now))) }
+#[tactic(auto, using(crate::proofs::JsonLemmas::made_none))]
+fn push_made(out: &mut String, asked: Option<&Asked>) -> Result<(), AllocError>
+    ensures { OnOk result (string_bytes out.new ≡ string_bytes out.old ++ made_text (option_copied asked.entry)) }
+{
+    match asked {
+        None => out.push_str("null"),
+        Some(asked) => push_made_some(out, asked),
+    }
+}
+
+/// The challenges that a user got.
+fn got_by<'a>(alloc: Global, asked: &[&'a Asked], id: &Id) -> Result<Vec<&'a Asked>, AllocError>
+    ensures { IfOk result (λ v. map (λ x. x.now) v.items ≡ filter (is_to id.now) (map (λ x. x.now) asked.now)) }
+{
+    let mut got = Vec::new(alloc);
+    for challenge in asked {
+        if challenge.is_to(id) {
+            got.push(*challenge)?;
+        }
+    }
+    Ok(got)
+}
+
+/// Puts the format of a challenge at who made it.
+fn put_got(alloc: Global, members: &mut Map<String, Value>, asked: &Asked) -> Result<(), AllocError>
+    ensures { OnOk result (members_view members.new.entries ≡ with_asked (members_view members.old.entries) (asked.now ∷ [])) }
+{
+    put_text(alloc, members, asked.by.as_str(), asked.format.as_str())
+}
+
+fn formats_by_user(alloc: Global, got: &[&Asked]) -> Result<Map<String, Value>, AllocError>
+    ensures { IfOk result (λ m. members_view m.entries ≡ with_asked no_members (map (λ x. x.now) got.now)) }
 {
     let mut members = Map::new(alloc);
-    for challenge in asked {
-        put_got(alloc, &mut members, *challenge, id)?;
+    for challenge in got {
+        put_got(alloc, &mut members, *challenge)?;
     }
     Ok(members)
 }
 
-fn challenge_object(
-    alloc: Global,
-    made: Value,
-    got: Map<String, Value>,
-) -> Result<Value, AllocError>
-    ensures { IfOk result (λ v. view v ≡ object (member (codes "challengeTo") (view made) (member (codes "challengesFrom") (object (members_view got.entries)) no_members))) }
+// One challenge alone.
+fn push_one_got(out: &mut String, asked: &Asked) -> Result<(), AllocError>
+    ensures { OnOk result (string_bytes out.new ≡ string_bytes out.old ++ got_text (asked.now ∷ [])) }
 {
-    json!(in alloc; {"challengeTo": made, "challengesFrom": got})
+    out.push_str("{")?;
+    push_quoted(out, asked.by.as_str())?;
+    out.push_str(":")?;
+    push_quoted(out, asked.format.as_str())?;
+    out.push_str("}")?;
+    Ok(())
 }
 
-fn challenge_value(alloc: Global, asked: &[&Asked], id: &Id) -> Result<Value, AllocError>
-    ensures { IfOk result (λ v. view v ≡ challenge_data (find (is_by id.now) (map (λ x. x.now) asked.now)) (filter (is_to id.now) (map (λ x. x.now) asked.now))) }
+fn object_of(members: Map<String, Value>) -> Value
+    ensures { view result ≡ object (members_view members.entries) }
 {
-    let made = asked_value(alloc, made_by(asked, id))?;
-    let got = got_by(alloc, asked, id)?;
-    challenge_object(alloc, made, got)
+    Value::Object(members)
+}
+
+// Challenges in the order of who made them.
+#[tactic(auto, unfolding(crate::specs::Lines::got_text), using(crate::proofs::JsonLemmas::some_got_plain))]
+fn push_sorted_got(alloc: Global, out: &mut String, got: &[&Asked]) -> Result<(), AllocError>
+    ensures { OnOk result (string_bytes out.new ≡ string_bytes out.old ++ got_text (map (λ x. x.now) got.now)) }
+{
+    let members = formats_by_user(alloc, got)?;
+    let value = object_of(members);
+    let text = written(alloc, &value)?;
+    out.push_str(text.as_str())
+}
+
+// Most users have one challenge, or none, which needs no sorting.
+fn push_some_got(
+    alloc: Global,
+    out: &mut String,
+    got: &[&Asked],
+    first: &Asked,
+    rest: &[&Asked],
+) -> Result<(), AllocError>
+    requires { map (λ x. x.now) got.now ≡ first.now ∷ map (λ x. x.now) rest.now }
+    ensures { OnOk result (string_bytes out.new ≡ string_bytes out.old ++ got_text (map (λ x. x.now) got.now)) }
+{
+    match rest {
+        [] => push_one_got(out, first),
+        [_, ..] => push_sorted_got(alloc, out, got),
+    }
+}
+
+// The format of each challenge, by who made it.
+fn push_got(alloc: Global, out: &mut String, got: &[&Asked]) -> Result<(), AllocError>
+    ensures { OnOk result (string_bytes out.new ≡ string_bytes out.old ++ got_text (map (λ x. x.now) got.now)) }
+{
+    match got {
+        [] => {
+            out.push_str("{}")?;
+            Ok(())
+        }
+        [first, rest @ ..] => push_some_got(alloc, out, got, *first, rest),
+    }
 }
 
 /// Of the open challenges the one that a user made, and those that it got: `|updatechallenges|JSON` of PROTOCOL.md.
-#[tactic(auto, unfolding(crate::specs::Lines::challenge_line), using(crate::proofs::JsonLemmas::plain_lines))]
 pub(crate) fn challenge_line(alloc: Global, asked: &[&Asked], id: &Id) -> Result<Text, AllocError>
     ensures { IfOk result (λ t. t ≡ challenge_line (map (λ x. x.now) asked.now) id.now) }
 {
-    let value = challenge_value(alloc, asked, id)?;
-    let text = written(alloc, &value)?;
-    Ok(Text::from_string(format!(in alloc; "|updatechallenges|{text}")?))
+    let got = got_by(alloc, asked, id)?;
+    let mut line = String::with_capacity(alloc, ROOM_OF_LINE)?;
+    line.push_str("|updatechallenges|{\"challengeTo\":")?;
+    push_made(&mut line, made_by(asked, id))?;
+    line.push_str(",\"challengesFrom\":")?;
+    push_got(alloc, &mut line, got.as_slice())?;
+    line.push_str("}")?;
+    Ok(Text::from_string(line))
 }
 
 // ---- whispers and ratings
