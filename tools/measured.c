@@ -2,8 +2,9 @@
 
      measured IN OUT PROGRAM WORD..     runs PROGRAM with IN as its standard input and OUT as its standard output
 
-   It prints three numbers: the status as wait() gives it, the processor time in microseconds, and the greatest memory in KiB. A
-   program of so few pages is in between since a new process counts the memory of the one that it came from, until it is another. */
+   It prints three numbers: the status as wait() gives it, the processor time in microseconds, and the greatest memory in KiB. The
+   host counts as a process's greatest memory that of the process it was forked from, too, so a large one (an interpreter) can't
+   measure a small program itself. */
 #include <fcntl.h>
 #include <stdio.h>
 #include <sys/resource.h>
