@@ -6,6 +6,7 @@ pub mod LookupLemmas
 pub mod PackLemmas
 pub mod StartLemmas
 pub mod ApplyLemmas
+pub mod PrepareLemmas
 pub mod AnswerLemmas
 pub mod GameLemmas
 pub mod ComingLemmas

@@ -1,5 +1,5 @@
 -- A battle that starts can start.
-use Rattle.std.proofs.Common.{◌≡◌, ◌≢◌, ℕ, ℤ, Bool, true, false, cond, List, [], ◌∷◌, Option, Some, None, Result, Ok, Err, IfOk, IfSome, IsSome, find, All, refl, sym, ap, subst, ◌∙◌}
+use Rattle.std.proofs.Common.{◌≡◌, ◌≢◌, ℕ, ℤ, Bool, true, false, cond, List, [], ◌∷◌, Option, Some, None, Result, Ok, Err, IfOk, IfSome, IsSome, find, All, refl, sym, subst, ◌∙◌}
 use Rattle.std.specs.Str.{bytes_eq}
 use Rattle.std.proofs.lemmas.Slice.Eq.{bytes_eq-Decides}
 use Rattle.std.proofs.lemmas.List.Elements.{All-head, All-tail}
@@ -17,7 +17,7 @@ use Rattle.ps_ladder.specs.declared.searches.Search.{Search}
 use Rattle.ps_ladder.specs.Waiting.{suits, found}
 use Rattle.ps_hall.specs.declared.kept.KeptTeam.{KeptTeam}
 use Rattle.ps_hall.specs.Records.{Record}
-use Rattle.ps_hall.specs.Lookups.{is_kept, kept_team, legal_or, checked, legal_under, legal_team, format_in, challenge_from, opponent, rating_in}
+use Rattle.ps_hall.specs.Lookups.{is_kept, kept_team, legal_under, legal_team, format_in, challenge_from, opponent, rating_in}
 use Rattle.ps_hall.specs.KeptIndices.{IsKeptReady, AreReady}
 use Rattle.ps_hall.specs.Starts.{start_if}
 

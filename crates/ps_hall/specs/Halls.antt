@@ -1,11 +1,9 @@
 -- What an entry does to the hall, and what each connection is sent at it.
 use Rattle.std.specs.Prelude.{◌≡◌, ℕ, List, [], ◌∷◌, ◌++◌, ◌==◌, ◌-◌, length, drop, slice_get, unwrap_or, Option, Some, None, if◌then◌else◌}
 use Rattle.std.specs.List.{flat_map}
-use Rattle.ps_base.specs.declared.badge.Badge.{Badge}
 use Rattle.ps_base.specs.declared.hall_why.HallWhy.{HallWhy}
 use Rattle.ps_base.specs.Messages.{sent}
 use Rattle.ps_lines.specs.declared.command.HallCmd.{HallCmd}
-use Rattle.rules_start.specs.declared.start.Start.{Start}
 use Rattle.ps_users.specs.Steps.{granted}
 use Rattle.ps_hall.specs.declared.entry.HallEntry.{HallEntry}
 use Rattle.ps_hall.specs.declared.notice.Notice.{Notice}

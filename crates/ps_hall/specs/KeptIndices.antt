@@ -1,14 +1,11 @@
 -- For the code: the index of a kept team, and teams that can open a battle.
-use Rattle.std.specs.Prelude.{◌≡◌, ℕ, ◌<◌, List, length, All, IfSome, IfNone}
+use Rattle.std.specs.Prelude.{◌≡◌, ℕ, ◌<◌, List, length, All}
 use Rattle.std.specs.List.{remove}
 use Rattle.ps_dex.specs.declared.item.Tables.{Tables}
 use Rattle.ps_valid.specs.Ready.{IsReady}
 use Rattle.ps_hall.specs.declared.kept.KeptTeam.{KeptTeam}
 use Rattle.ps_hall.specs.Records.{Record}
-use Rattle.ps_base.specs.Ids.{id_of}
-use Rattle.ps_lines.specs.declared.command.HallCmd.{HallCmd}
-use Rattle.ps_lines.specs.declared.command.HallCmd.TheVariants.{Search, Challenge}
-use Rattle.ps_hall.specs.Lookups.{without_kept, legal_team, opponent}
+use Rattle.ps_hall.specs.Lookups.{without_kept}
 
 -- it is the index, counted from 0, of the first team of a user that was kept with an id
 pub record IsKeptIndex (ks : List KeptTeam) (user with_id : List ℕ) (index : ℕ) : Type 0 where
@@ -22,13 +19,3 @@ IsKeptReady dex k = IsReady dex k.team
 pub record AreReady (h : Record) : Type 0 where
   pub challenge_teams : All (IsKeptReady h.dex) h.challenge_teams
   pub search_teams : All (IsKeptReady h.dex) h.search_teams
-
--- the team of a user, where it is legal under the format with an id, can open a battle
-abbrev pub IsLegalReady : Record → List ℕ → List ℕ → Type 0
-IsLegalReady h me format = IfSome (legal_team h me format) (λ l. IsReady h.dex l)
-
--- what a command that is applied keeps can open a battle
-abbrev pub IsKeepReady : Record → List ℕ → HallCmd → Type 0
-IsKeepReady h name (Search format) = IfNone (opponent h (id_of name) format) (IsLegalReady h (id_of name) format)
-IsKeepReady h name (Challenge user format) = IsLegalReady h (id_of name) format
-IsKeepReady h name other = Unit {0}

@@ -12,3 +12,4 @@ pub mod Halls
 pub mod States
 pub mod Coming
 pub mod KeptIndices
+pub mod Changes

@@ -1,8 +1,7 @@
 -- Lookups in the hall.
-use Rattle.std.specs.Prelude.{ℕ, ℤ, ◌==◌, ◌&&◌, ◌||◌, Bool, not, List, [], ◌∷◌, ◌++◌, find, map, codes, option_and_then, unwrap_or, is_some, slice_index_or, nat_le, Option, Some, None, Result, Ok, if◌then◌else◌}
+use Rattle.std.specs.Prelude.{ℕ, ℤ, ◌==◌, ◌&&◌, ◌||◌, Bool, not, List, [], ◌∷◌, find, map, option_and_then, unwrap_or, is_some, slice_index_or, nat_le, Option, Some, None, Result, Ok, if◌then◌else◌}
 use Rattle.std.specs.List.{filter, list_any}
 use Rattle.std.specs.Str.{bytes_eq}
-use Rattle.std.specs.Fmt.{decimal}
 use Rattle.std.specs.FinMap.{get}
 use Rattle.ps_base.specs.Ids.{id_of}
 use Rattle.ps_base.specs.Limits.{most_battles}

@@ -1,7 +1,6 @@
 -- What a battle starts with.
-use Rattle.std.specs.Prelude.{ℕ, ◌+◌, Bool, true, false, List, [], ◌∷◌, ◌++◌, option_map, Option, Some, None}
+use Rattle.std.specs.Prelude.{ℕ, ◌+◌, Bool, List, [], ◌∷◌, ◌++◌, option_map, Option, Some, None}
 use Rattle.ps_base.specs.Ids.{id_of}
-use Rattle.ps_base.specs.declared.badge.Badge.{Badge}
 use Rattle.ps_valid.specs.declared.legal.Legal.{Legal}
 use Rattle.rules_start.specs.declared.start.Start.{Start}
 use Rattle.rules_config.specs.Seeds.{seed_of}

@@ -1,12 +1,12 @@
 -- The rows of the hall table: what each command changes, where it is applied.
-use Rattle.std.specs.Prelude.{ℕ, Bool, true, false, not, ◌&&◌, List, [], ◌∷◌, ◌++◌, option_map, option_to_list, slice_index_or, nat_lt, Option, Some, None, if◌then◌else◌}
+use Rattle.std.specs.Prelude.{ℕ, Bool, true, false, not, ◌&&◌, List, ◌++◌, option_map, option_to_list, nat_lt, Option, Some, None, if◌then◌else◌}
 use Rattle.std.specs.List.{filter}
 use Rattle.std.specs.Str.{bytes_eq, chars}
 use Rattle.std.specs.FinMap.{insert, remove}
 use Rattle.ps_base.specs.Ids.{id_of}
 use Rattle.ps_base.specs.declared.badge.Badge.{Badge}
 use Rattle.ps_lines.specs.declared.command.HallCmd.{HallCmd}
-use Rattle.ps_lines.specs.declared.command.HallCmd.TheVariants.{Open, Quit, Bad, Name, Team, Search, CancelSearch, Challenge, CancelChallenge, Reject, Accept, Whisper, Block, Unblock, Rank, Report}
+use Rattle.ps_lines.specs.declared.command.HallCmd.TheVariants.{Open, Quit, Bad, Name, Team, Search, CancelSearch, Challenge, CancelChallenge, Reject, Accept, Block, Unblock, Report}
 use Rattle.ps_packed.specs.declared.set.Set.{Set}
 use Rattle.ps_packed.specs.Scan.{team_of}
 use Rattle.ps_valid.specs.declared.legal.Legal.{Legal}

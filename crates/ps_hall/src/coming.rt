@@ -3,7 +3,7 @@ ghost use Rattle.std.specs.Prelude.{◌≡◌, ◌++◌, ◌∷◌, [], not, map
 ghost use Rattle.std.specs.List.{filter};
 ghost use Rattle.std.specs.Option.{option_copied};
 ghost use Rattle.ps_pms.specs.Lookups.{is_by, is_of, is_with};
-ghost use Rattle.ps_ladder.specs.Waiting.{without, added, cancelled};
+ghost use Rattle.ps_ladder.specs.Waiting.{without, cancelled};
 ghost use Rattle.ps_hall.specs.Lookups.{games_of};
 ghost use Rattle.ps_hall.specs.Coming.{games_after, staying};
 ghost use Rattle.ps_hall.specs.Steps.{without_game};
@@ -11,7 +11,7 @@ ghost use Rattle.ps_hall.specs.Steps.{without_game};
 use crate::game::{Game, plays};
 use crate::games::Games;
 use ps_base::id::Id;
-use ps_ladder::searches::{Search, Searches, has_user, suits};
+use ps_ladder::searches::{Search, has_user, suits};
 use ps_pms::asked::Asked;
 use std::alloc::{AllocError, Global};
 
@@ -126,13 +126,15 @@ pub(crate) fn searches_not_of<'a>(
     Ok(found)
 }
 
-// The searches without the one that has waited longest of those that suit.
-fn searches_but<'a>(
+/// The searches without the one that has waited longest of those that suit.
+pub(crate) fn searches_but<'a>(
     alloc: Global,
     list: &'a [Search],
-    new: &Search,
+    user: &Id,
+    format: &Id,
+    rating: i32,
 ) -> Result<Vec<&'a Search>, AllocError>
-    ensures { IfOk result (λ v. map (λ x. x.now) v.items ≡ without list.now new.now.user new.now.format new.now.rating) }
+    ensures { IfOk result (λ v. map (λ x. x.now) v.items ≡ without list.now user.now format.now rating) }
 {
     let mut found = Vec::new(alloc);
     let mut is_out = false;
@@ -141,7 +143,7 @@ fn searches_but<'a>(
             found.push(entry)?;
             continue;
         }
-        if suits(entry, &new.user, &new.format, new.rating) {
+        if suits(entry, user, format, rating) {
             is_out = true;
             continue;
         }
@@ -150,22 +152,17 @@ fn searches_but<'a>(
     Ok(found)
 }
 
-/// The searches after a new one: without the one that it is matched with, or with it at the end.
+/// The searches with one more.
 pub(crate) fn searches_and<'a>(
     alloc: Global,
-    searches: &'a Searches,
+    list: &'a [Search],
     new: &'a Search,
 ) -> Result<Vec<&'a Search>, AllocError>
-    ensures { IfOk result (λ v. map (λ x. x.now) v.items ≡ added searches.now new.now.user new.now.format new.now.rating) }
+    ensures { IfOk result (λ v. map (λ x. x.now) v.items ≡ list.now ++ new.now ∷ []) }
 {
-    match searches.find(&new.user, &new.format, new.rating) {
-        Some(_) => searches_but(alloc, searches.list(), new),
-        None => {
-            let mut found = all_searches(alloc, searches.list())?;
-            found.push(new)?;
-            Ok(found)
-        }
-    }
+    let mut found = all_searches(alloc, list)?;
+    found.push(new)?;
+    Ok(found)
 }
 
 // ---- battles

@@ -1,19 +1,19 @@
 //! Entries that are applied or refused.
-ghost use Rattle.std.specs.Prelude.{◌≡◌, ◌++◌, ◌∷◌, [], IfOk, IfSome, OnOk, OnErr, None, Some};
+ghost use Rattle.std.specs.Prelude.{◌≡◌, ◌∷◌, [], IfOk, IfSome, OnOk, OnErr, Ok, None, Some};
 ghost use Rattle.rules_start.specs.Fits.{IsFit};
+ghost use Rattle.ps_hall.specs.Changes.{IsPrepared};
 ghost use Rattle.ps_hall.specs.States.{record_of};
 ghost use Rattle.ps_hall.specs.KeptIndices.{AreReady};
 ghost use Rattle.ps_hall.specs.Refusals.{refusal};
 ghost use Rattle.ps_hall.specs.Lines.{refused_line};
-ghost use Rattle.ps_hall.specs.declared.outcome.HallVerdict.TheVariants.{Refused};
-ghost use Rattle.ps_hall.specs.Halls.{out_by, after_by, notices_by};
+ghost use Rattle.ps_hall.specs.Halls.{after_by, out_by, notices_by};
 
-use crate::answer::told_of;
-use crate::apply::apply;
+use crate::change::Allowed;
+use crate::keep::keep;
 use crate::line::refused_line;
 use crate::notice::Notice;
-use crate::outcome::{HallOut, HallVerdict};
-use crate::refusal::refusal;
+use crate::outcome::{HallOut, HallVerdict, Told};
+use crate::prepare::prepare;
 use crate::state::State;
 use ps_base::hall_why::HallWhy;
 use ps_base::list::List;
@@ -43,21 +43,23 @@ fn refused_notices(
 // Refuses an entry.
 fn refuse(
     alloc: Global,
-    log: &mut Vec<List<Notice>>,
+    state: &State,
     conn: ConnNo,
     cmd: &HallCmd,
     why: HallWhy,
-) -> Result<HallOut, AllocError>
-    ensures out { IfOk result (λ out. out ≡ record { verdict = Refused why; badge = None; start = None }) }
-    ensures log { OnOk result (log.new.items ≡ log.old.items ++ (record { conn = conn; lines = refused_line why cmd.now ∷ [] } ∷ []) ∷ []) }
-    ensures err { OnErr result (log.new.items ≡ log.old.items) }
+) -> Result<Told, AllocError>
+    ensures out { IfOk result (λ t. t.out ≡ out_by (Some why) (record_of state.now) conn cmd.now) }
+    ensures notices { IfOk result (λ t. t.notices ≡ notices_by (Some why) (record_of state.now) conn cmd.now) }
+    ensures fit { IfOk result (λ t. IfSome t.out.start (λ s. IsFit s (record_of state.now).config (record_of state.now).dex)) }
 {
     let notices = refused_notices(alloc, conn, cmd, &why)?;
-    log.push(notices)?;
-    Ok(HallOut {
-        verdict: HallVerdict::Refused(why),
-        badge: None,
-        start: None,
+    Ok(Told {
+        out: HallOut {
+            verdict: HallVerdict::Refused(why),
+            badge: None,
+            start: None,
+        },
+        notices,
     })
 }
 
@@ -65,46 +67,71 @@ fn refuse(
 fn allow(
     alloc: Global,
     state: &mut State,
-    log: &mut Vec<List<Notice>>,
     conn: ConnNo,
     cmd: &HallCmd,
-) -> Result<HallOut, AllocError>
-    requires allowed { refusal (record_of state.old) conn cmd.now ≡ None }
+    allowed: Allowed,
+) -> Result<Told, AllocError>
+    requires prepared { IsPrepared (record_of state.old) conn cmd.now (Ok allowed) }
     requires ready { AreReady (record_of state.old) }
-    ensures out { IfOk result (λ out. out ≡ out_by None (record_of state.old) conn cmd.now) }
-    ensures fit { IfOk result (λ out. IfSome out.start (λ s. IsFit s (record_of state.old).config (record_of state.old).dex)) }
-    ensures state { OnOk result (record_of state.new ≡ after_by None (record_of state.old) conn cmd.now) }
+    ensures out { IfOk result (λ t. t.out ≡ out_by (refusal (record_of state.old) conn cmd.now) (record_of state.old) conn cmd.now) }
+    ensures notices { IfOk result (λ t. t.notices
+        ≡ notices_by (refusal (record_of state.old) conn cmd.now) (record_of state.old) conn cmd.now) }
+    ensures fit { IfOk result (λ t. IfSome t.out.start (λ s. IsFit s (record_of state.old).config (record_of state.old).dex)) }
+    ensures state { OnOk result (record_of state.new ≡ after_by (refusal (record_of state.old) conn cmd.now) (record_of state.old) conn cmd.now) }
     ensures ready { OnOk result (AreReady (record_of state.new)) }
-    ensures log { OnOk result (log.new.items ≡ log.old.items ++ notices_by None (record_of state.old) conn cmd.now ∷ []) }
-    ensures same_state { OnErr result (record_of state.new ≡ record_of state.old) }
-    ensures same_log { OnErr result (log.new.items ≡ log.old.items) }
+    ensures same { OnErr result (record_of state.new ≡ record_of state.old) }
 {
-    let notices = told_of(alloc, state, conn, cmd)?;
-    log.reserve(1)?;
-    let out = apply(alloc, state, conn, cmd)?;
-    log.push(notices).unwrap();
-    Ok(out)
+    let Allowed {
+        notices,
+        badge,
+        start,
+        change,
+    } = allowed;
+    keep(alloc, state, conn, cmd, change)?;
+    Ok(Told {
+        out: HallOut {
+            verdict: HallVerdict::Applied,
+            badge,
+            start,
+        },
+        notices,
+    })
 }
 
 /// Applies an entry, or refuses it by name. Where memory fails nothing changes.
 pub(crate) fn enter(
     alloc: Global,
     state: &mut State,
-    log: &mut Vec<List<Notice>>,
     conn: ConnNo,
     cmd: &HallCmd,
-) -> Result<HallOut, AllocError>
-    requires ready { AreReady (record_of state.old) }
-    ensures out { IfOk result (λ out. out ≡ out_by (refusal (record_of state.old) conn cmd.now) (record_of state.old) conn cmd.now) }
-    ensures fit { IfOk result (λ out. IfSome out.start (λ s. IsFit s (record_of state.old).config (record_of state.old).dex)) }
+) -> Result<Told, AllocError>
+    requires { AreReady (record_of state.old) }
+    ensures out { IfOk result (λ t. t.out ≡ out_by (refusal (record_of state.old) conn cmd.now) (record_of state.old) conn cmd.now) }
+    ensures notices { IfOk result (λ t. t.notices
+        ≡ notices_by (refusal (record_of state.old) conn cmd.now) (record_of state.old) conn cmd.now) }
+    ensures fit { IfOk result (λ t. IfSome t.out.start (λ s. IsFit s (record_of state.old).config (record_of state.old).dex)) }
     ensures state { OnOk result (record_of state.new ≡ after_by (refusal (record_of state.old) conn cmd.now) (record_of state.old) conn cmd.now) }
     ensures ready { OnOk result (AreReady (record_of state.new)) }
-    ensures log { OnOk result (log.new.items ≡ log.old.items ++ notices_by (refusal (record_of state.old) conn cmd.now) (record_of state.old) conn cmd.now ∷ []) }
-    ensures same_state { OnErr result (record_of state.new ≡ record_of state.old) }
-    ensures same_log { OnErr result (log.new.items ≡ log.old.items) }
+    ensures same { OnErr result (record_of state.new ≡ record_of state.old) }
 {
-    match refusal(alloc, state, conn, cmd)? {
-        Some(why) => refuse(alloc, log, conn, cmd, why),
-        None => allow(alloc, state, log, conn, cmd),
+    match prepare(alloc, state, conn, cmd)? {
+        Err(why) => refuse(alloc, state, conn, cmd, why),
+        Ok(allowed) => allow(alloc, state, conn, cmd, allowed),
+    }
+}
+
+/// Why a command is refused; `None` where it is allowed.
+pub(crate) fn verdict(
+    alloc: Global,
+    state: &State,
+    conn: ConnNo,
+    cmd: &HallCmd,
+) -> Result<Option<HallWhy>, AllocError>
+    requires { AreReady (record_of state.now) }
+    ensures { IfOk result (λ o. o ≡ refusal (record_of state.now) conn cmd.now) }
+{
+    match prepare(alloc, state, conn, cmd)? {
+        Err(why) => Ok(Some(why)),
+        Ok(_) => Ok(None),
     }
 }

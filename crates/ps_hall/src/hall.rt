@@ -1,40 +1,30 @@
 //! The hall.
-ghost use Rattle.std.specs.Prelude.{◌≡◌, ◌-◌, IfOk, IfSome, OnOk, OnErr, length, map};
+ghost use Rattle.std.specs.Prelude.{◌≡◌, ◌++◌, ◌∷◌, [], IfOk, IfSome, OnOk, OnErr, map};
 ghost use Rattle.std.specs.Option.{option_copied};
 ghost use Rattle.std.specs.Arc.{arc_value};
 ghost use Rattle.rules_start.specs.Fits.{IsFit};
 ghost use Rattle.ps_users.specs.Seats.{is_seat};
 ghost use Rattle.ps_hall.specs.Records.{opened};
 ghost use Rattle.ps_hall.specs.Lookups.{badge_of, game_in};
-ghost use Rattle.ps_hall.specs.States.{record_of};
-ghost use Rattle.ps_hall.specs.KeptIndices.{AreReady};
 ghost use Rattle.ps_hall.specs.Refusals.{refusal};
-ghost use Rattle.ps_hall.specs.Halls.{seen_opened, seen_after, out_of, pulled_past, cursor_past, last_told};
+ghost use Rattle.ps_hall.specs.Halls.{seen_opened, seen_after, after, notices, out_of, pulled_past, cursor_past, last_told};
 ghost use Rattle.ps_base.specs.Messages.{msg_lines};
 
-use crate::account::accounts_of;
 use crate::cursor::Cursor;
-use crate::enter::enter;
 use crate::entry::HallEntry;
 use crate::game::Game;
-use crate::games::Games;
+use crate::hall_state::HallState;
 use crate::log::{past, push_pulled};
 use crate::notice::Notice;
-use crate::outcome::HallOut;
-use crate::refusal::refusal;
-use crate::state::State;
+use crate::outcome::{HallOut, Told};
 use ps_base::badge::Badge;
 use ps_base::hall_why::HallWhy;
 use ps_base::id_map::IdMap;
 use ps_base::list::List;
 use ps_base::msg::Msg;
 use ps_base::number::ConnNo;
-use ps_base::text::Text;
 use ps_dex::dex::Dex;
-use ps_ladder::searches::Searches;
 use ps_lines::command::HallCmd;
-use ps_pms::pms::Pms;
-use ps_users::users::Users;
 use rules_config::config::Config;
 use std::alloc::{AllocError, Global};
 use std::marker::Model;
@@ -44,7 +34,7 @@ use std::sync::Arc;
 /// and what it keeps of its entries.
 #[derive(Drop)]
 pub struct Hall {
-    state: State,
+    state: HallState,
     log: Vec<List<Notice>>,
 }
 
@@ -53,50 +43,33 @@ impl Model for Hall {
     ghost use base.Stored.{coded_unit};
     ghost use Rattle.ps_base.specs.ById.{by_id_code};
     ghost use Rattle.ps_users.specs.ByConn.{by_conn_code};
-    ghost use Rattle.ps_hall.specs.States.{record_of};
-    ghost use Rattle.ps_hall.specs.KeptIndices.{AreReady};
     ghost use Rattle.ps_hall.specs.Halls.{Seen};
 
     ghost Value = { Seen };
 
     ghost coded = { Prim.hlevel (codes, by_id_code, by_conn_code, coded_ℕ, coded_ℤ, coded_unit) };
 
-    ghost view = { λ h. record { state = record_of h.state; log = h.log.items } };
-
-    ghost invariant = { λ h. AreReady (record_of h.state) };
+    ghost view = { λ h. record { state = h.state; log = h.log.items } };
 }
 
-// The rank of who has no other.
-fn lowest(config: &Config) -> u8
-    ensures { result ≡ length config.now.groups - 1 }
-{
-    config.groups().count() - 1
-}
-
-fn opened(
+// Applies an entry, or refuses it by name, and keeps what it told.
+fn apply(
     alloc: Global,
-    config: Arc<Config>,
-    dex: Arc<Dex>,
-    ranks: IdMap<u8>,
-) -> Result<State, AllocError>
-    ensures value { IfOk result (λ s. record_of s ≡ opened (arc_value config) (arc_value dex) ranks) }
-    ensures ready { IfOk result (λ s. AreReady (record_of s)) }
+    state: &mut HallState,
+    log: &mut Vec<List<Notice>>,
+    entry: &HallEntry,
+) -> Result<HallOut, AllocError>
+    ensures out { IfOk result (λ out. out ≡ out_of state.old entry.now) }
+    ensures state { OnOk result (state.new ≡ after state.old entry.now) }
+    ensures log { OnOk result (log.new.items ≡ log.old.items ++ notices state.old entry.now ∷ []) }
+    ensures same_state { OnErr result (state.new ≡ state.old) }
+    ensures same_log { OnErr result (log.new.items ≡ log.old.items) }
+    ensures fit { IfOk result (λ out. IfSome out.start (λ s. IsFit s state.old.config state.old.dex)) }
 {
-    let accounts = accounts_of(alloc, config.users())?;
-    let nonce = Text::copy_of(alloc, config.nonce())?;
-    let users = Users::new(alloc, nonce, accounts, ranks, lowest(&config));
-    Ok(State {
-        config,
-        dex,
-        users,
-        pms: Pms::new(alloc),
-        teams: IdMap::new(alloc),
-        challenge_teams: Vec::new(alloc),
-        search_teams: Vec::new(alloc),
-        searches: Searches::new(alloc),
-        ladders: IdMap::new(alloc),
-        games: Games::new(alloc),
-    })
+    log.reserve(1)?;
+    let Told { out, notices } = state.apply(alloc, entry)?;
+    log.push(notices).unwrap();
+    Ok(out)
 }
 
 impl Hall {
@@ -109,7 +82,7 @@ impl Hall {
     ) -> Result<Hall, AllocError>
         ensures { IfOk result (λ h. h ≡ seen_opened (opened (arc_value config) (arc_value dex) ranks)) }
     {
-        let state = opened(alloc, config, dex, ranks)?;
+        let state = HallState::new(alloc, config, dex, ranks)?;
         Ok(Hall {
             state,
             log: Vec::new(alloc),
@@ -120,35 +93,35 @@ impl Hall {
     pub fn config(&self) -> &Arc<Config>
         ensures { arc_value result.now ≡ self.now.state.config }
     {
-        &self.state.config
+        self.state.config()
     }
 
     /// The dex.
     pub fn dex(&self) -> &Arc<Dex>
         ensures { arc_value result.now ≡ self.now.state.dex }
     {
-        &self.state.dex
+        self.state.dex()
     }
 
     /// Whether a connection is open. Takes no memory.
     pub fn is_open(&self, conn: ConnNo) -> bool
         ensures { result ≡ is_seat self.now.state.users.seats conn }
     {
-        self.state.users.is_open(conn)
+        self.state.is_open(conn)
     }
 
     /// The badge of a connection, once it has a name. Takes no memory.
     pub fn badge(&self, conn: ConnNo) -> Option<&Badge>
         ensures { option_copied result ≡ badge_of self.now.state conn }
     {
-        self.state.users.badge(conn)
+        self.state.badge(conn)
     }
 
     /// The battle with a number, if it started and wasn't reported. Takes no memory.
     pub fn game(&self, number: u32) -> Option<&Game>
         ensures { option_copied result ≡ game_in self.now.state number }
     {
-        self.state.games.find(number)
+        self.state.game(number)
     }
 
     /// Why a command is refused; `None` where it is allowed.
@@ -160,7 +133,7 @@ impl Hall {
     ) -> Result<Option<HallWhy>, AllocError>
         ensures { IfOk result (λ o. o ≡ refusal self.now.state conn cmd.now) }
     {
-        refusal(alloc, &self.state, conn, cmd)
+        self.state.verdict(alloc, conn, cmd)
     }
 
     /// Applies an entry, or refuses it by name. A refused one changes nothing and gives its sender one line. Where memory
@@ -171,13 +144,7 @@ impl Hall {
         ensures err { OnErr result (self.new ≡ self.old) }
         ensures fit { IfOk result (λ out. IfSome out.start (λ s. IsFit s self.old.state.config self.old.state.dex)) }
     {
-        enter(
-            alloc,
-            &mut self.state,
-            &mut self.log,
-            entry.conn,
-            &entry.cmd,
-        )
+        apply(alloc, &mut self.state, &mut self.log, entry)
     }
 
     /// What the last entry told, and nothing before the first. Takes no memory.

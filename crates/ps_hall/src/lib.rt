@@ -3,7 +3,7 @@
 
 mod account;
 mod answer;
-mod apply;
+mod change;
 mod coming;
 pub mod cursor;
 mod enter;
@@ -11,6 +11,8 @@ pub mod entry;
 pub mod game;
 mod games;
 pub mod hall;
+pub mod hall_state;
+mod keep;
 pub mod kept;
 pub mod law;
 pub mod line;
@@ -19,6 +21,7 @@ mod lookup;
 pub mod notice;
 pub mod outcome;
 pub mod pack;
+mod prepare;
 mod refusal;
 mod report;
 mod start;

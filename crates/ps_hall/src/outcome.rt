@@ -1,6 +1,8 @@
 //! What the hall answers to an entry.
+use crate::notice::Notice;
 use ps_base::badge::Badge;
 use ps_base::hall_why::HallWhy;
+use ps_base::list::List;
 use rules_start::start::Start;
 
 /// Whether an entry was applied.
@@ -20,4 +22,11 @@ pub struct HallOut {
     pub badge: Option<Badge>,
     /// What the battle starts with that this entry starts.
     pub start: Option<Start>,
+}
+
+/// What comes of an entry: what it gives, and whom it tells what.
+#[derive(Debug, Drop)]
+pub struct Told {
+    pub out: HallOut,
+    pub notices: List<Notice>,
 }

@@ -1,33 +1,32 @@
-//! The rows of the hall table: why each command is refused, in the row's order.
-ghost use Rattle.std.specs.Prelude.{◌≡◌, IfOk};
+//! The rows of the hall table: why each command is refused, in the row's order, or else the legal team that it takes.
+ghost use Rattle.std.specs.Prelude.{◌≡◌, IfOk, Some};
 ghost use Rattle.std.specs.Option.{option_copied};
 ghost use Rattle.ps_hall.specs.States.{record_of};
 ghost use Rattle.ps_hall.specs.Refusals.{bad_why, of_found, of_team, of_text, of_battles, of_waiting, of_search, of_challenge, of_accepted, of_accept, is_winner};
-ghost use Rattle.ps_hall.specs.Refusals.{refusal_of_search, refusal_of_cancel_search, refusal_of_challenge, refusal_of_cancel_challenge, refusal_of_reject, refusal_of_accept, refusal_of_pm, refusal_of_rank, refusal_of_report, refusal_of_named, refusal_by, refusal};
+ghost use Rattle.ps_hall.specs.Changes.{IsJudged};
+ghost use Rattle.ps_hall.specs.Lookups.{legal_or, legal_under, legal_team};
+ghost use Rattle.ps_hall.specs.Refusals.{refusal_of_search, refusal_of_cancel_search, refusal_of_challenge, refusal_of_cancel_challenge, refusal_of_reject, refusal_of_pm, refusal_of_rank};
 ghost use Rattle.ps_valid.specs.TeamRows.{legal_in};
 
 use crate::lookup;
-use crate::pack::pack_refusal;
 use crate::state::State;
-use ps_base::badge::Badge;
 use ps_base::hall_why::HallWhy;
 use ps_base::id::Id;
-use ps_base::number::ConnNo;
-use ps_base::text::Text;
 use ps_dex::dex::Dex;
-use ps_lines::command::{BadWhy, HallCmd};
+use ps_lines::command::BadWhy;
 use ps_lines::sent_text::{is_blank, is_long};
 use ps_packed::team::Team;
 use ps_pms::asked::Asked;
 use ps_rules::table::{Format, RuleTable};
 use ps_valid::check::check_team;
+use ps_valid::legal::Legal;
 use ps_valid::verdict::TeamFault;
 use std::alloc::{AllocError, Global};
 
 // ---- what several rows ask
 
 /// Why a text is no command of its connection.
-fn bad_why(why: BadWhy) -> HallWhy
+pub(crate) fn bad_why(why: BadWhy) -> HallWhy
     ensures { result ≡ bad_why why }
 {
     match why {
@@ -40,18 +39,19 @@ fn bad_why(why: BadWhy) -> HallWhy
     }
 }
 
-/// BadTeam, where the rules find a fault.
-fn of_rules(
+/// A team, or BadTeam where the rules find a fault.
+fn judge_rules(
     alloc: Global,
     dex: &Dex,
     rules: &RuleTable,
     team: &Team,
-) -> Result<Option<HallWhy>, AllocError>
-    ensures { IfOk result (λ o. o ≡ of_found (legal_in dex.now rules.now team.now)) }
+) -> Result<Result<Legal, HallWhy>, AllocError>
+    ensures { IfOk result (IsJudged dex.now (of_found (legal_in dex.now rules.now team.now))
+        (legal_or (Some (legal_in dex.now rules.now team.now)))) }
 {
     match check_team(alloc, dex, rules, team) {
-        Ok(_) => Ok(None),
-        Err(TeamFault::Verdict(verdict)) => Ok(Some(HallWhy::BadTeam {
+        Ok(legal) => Ok(Ok(legal)),
+        Err(TeamFault::Verdict(verdict)) => Ok(Err(HallWhy::BadTeam {
             set: verdict.set,
             rule: verdict.rule,
             subject: verdict.subject,
@@ -60,18 +60,19 @@ fn of_rules(
     }
 }
 
-/// NoTeam, then BadTeam.
-fn of_team(
+/// A user's team, or NoTeam, then BadTeam.
+fn judge_team(
     alloc: Global,
     state: &State,
     me: &Id,
     format: &Format,
-) -> Result<Option<HallWhy>, AllocError>
-    ensures { IfOk result (λ o. o ≡ of_team (record_of state.now) me.now format.now) }
+) -> Result<Result<Legal, HallWhy>, AllocError>
+    ensures { IfOk result (IsJudged (record_of state.now).dex (of_team (record_of state.now) me.now format.now)
+        (legal_under (record_of state.now) me.now (Some format.now))) }
 {
     match state.teams.find(me.as_str()) {
-        None => Ok(Some(HallWhy::NoTeam)),
-        Some(team) => of_rules(alloc, &state.dex, &format.table, team),
+        None => Ok(Err(HallWhy::NoTeam)),
+        Some(team) => judge_rules(alloc, &state.dex, &format.table, team),
     }
 }
 
@@ -110,39 +111,58 @@ fn of_waiting(state: &State, me: &Id, format: &Id) -> Option<HallWhy>
     of_battles(state)
 }
 
-fn of_search(
+// The team of who may search this format.
+fn judge_searched(
+    alloc: Global,
+    state: &State,
+    me: &Id,
+    id: &Id,
+    format: &Format,
+) -> Result<Result<Legal, HallWhy>, AllocError>
+    ensures { IfOk result (IsJudged (record_of state.now).dex (of_search (record_of state.now) me.now id.now (Some format.now))
+        (legal_under (record_of state.now) me.now (Some format.now))) }
+{
+    if !format.table.rated {
+        return Ok(Err(HallWhy::NotRated));
+    }
+    match judge_team(alloc, state, me, format)? {
+        Err(why) => Ok(Err(why)),
+        Ok(legal) => match of_waiting(state, me, id) {
+            Some(why) => Ok(Err(why)),
+            None => Ok(Ok(legal)),
+        },
+    }
+}
+
+fn judge_search_in(
     alloc: Global,
     state: &State,
     me: &Id,
     id: &Id,
     format: Option<&Format>,
-) -> Result<Option<HallWhy>, AllocError>
-    ensures { IfOk result (λ o. o ≡ of_search (record_of state.now) me.now id.now (option_copied format.entry)) }
+) -> Result<Result<Legal, HallWhy>, AllocError>
+    ensures { IfOk result (IsJudged (record_of state.now).dex
+        (of_search (record_of state.now) me.now id.now (option_copied format.entry))
+        (legal_under (record_of state.now) me.now (option_copied format.entry))) }
 {
     match format {
-        None => Ok(Some(HallWhy::UnknownFormat)),
-        Some(format) => {
-            if !format.table.rated {
-                return Ok(Some(HallWhy::NotRated));
-            }
-            match of_team(alloc, state, me, format)? {
-                Some(why) => Ok(Some(why)),
-                None => Ok(of_waiting(state, me, id)),
-            }
-        }
+        None => Ok(Err(HallWhy::UnknownFormat)),
+        Some(format) => judge_searched(alloc, state, me, id, format),
     }
 }
 
+/// The team of who searches, or why it can't.
 #[tactic(auto, unfolding(crate::specs::Refusals::refusal_of_search))]
-fn refusal_of_search(
+pub(crate) fn judge_search(
     alloc: Global,
     state: &State,
     me: &Id,
     format: &Id,
-) -> Result<Option<HallWhy>, AllocError>
-    ensures { IfOk result (λ o. o ≡ refusal_of_search (record_of state.now) me.now format.now) }
+) -> Result<Result<Legal, HallWhy>, AllocError>
+    ensures { IfOk result (IsJudged (record_of state.now).dex (refusal_of_search (record_of state.now) me.now format.now)
+        (legal_team (record_of state.now) me.now format.now)) }
 {
-    of_search(
+    judge_search_in(
         alloc,
         state,
         me,
@@ -152,7 +172,7 @@ fn refusal_of_search(
 }
 
 #[tactic(auto, unfolding(crate::specs::Refusals::refusal_of_cancel_search))]
-fn refusal_of_cancel_search(state: &State, me: &Id) -> Option<HallWhy>
+pub(crate) fn refusal_of_cancel_search(state: &State, me: &Id) -> Option<HallWhy>
     ensures { result ≡ refusal_of_cancel_search (record_of state.now) me.now }
 {
     if !state.searches.has(me) {
@@ -161,41 +181,63 @@ fn refusal_of_cancel_search(state: &State, me: &Id) -> Option<HallWhy>
     None
 }
 
-fn of_challenge(
+// The team of who challenges this other user in this format.
+fn judge_challenged(
+    alloc: Global,
+    state: &State,
+    me: &Id,
+    user: &Id,
+    format: &Format,
+) -> Result<Result<Legal, HallWhy>, AllocError>
+    ensures { IfOk result (IsJudged (record_of state.now).dex (of_challenge (record_of state.now) me.now user.now (Some format.now))
+        (legal_under (record_of state.now) me.now (Some format.now))) }
+{
+    match judge_team(alloc, state, me, format)? {
+        Err(why) => Ok(Err(why)),
+        Ok(legal) => match state.pms.refusal_of_asking(me, user) {
+            Some(why) => Ok(Err(why)),
+            None => Ok(Ok(legal)),
+        },
+    }
+}
+
+fn judge_challenge_in(
     alloc: Global,
     state: &State,
     me: &Id,
     user: &Id,
     format: Option<&Format>,
-) -> Result<Option<HallWhy>, AllocError>
-    ensures { IfOk result (λ o. o ≡ of_challenge (record_of state.now) me.now user.now (option_copied format.entry)) }
+) -> Result<Result<Legal, HallWhy>, AllocError>
+    ensures { IfOk result (IsJudged (record_of state.now).dex
+        (of_challenge (record_of state.now) me.now user.now (option_copied format.entry))
+        (legal_under (record_of state.now) me.now (option_copied format.entry))) }
 {
     match format {
-        None => Ok(Some(HallWhy::UnknownFormat)),
-        Some(format) => match of_team(alloc, state, me, format)? {
-            Some(why) => Ok(Some(why)),
-            None => Ok(state.pms.refusal_of_asking(me, user)),
-        },
+        None => Ok(Err(HallWhy::UnknownFormat)),
+        Some(format) => judge_challenged(alloc, state, me, user, format),
     }
 }
 
+/// The team of who challenges a user, or why it can't.
 #[tactic(auto, unfolding(crate::specs::Refusals::refusal_of_challenge))]
-fn refusal_of_challenge(
+pub(crate) fn judge_challenge(
     alloc: Global,
     state: &State,
     me: &Id,
     user: &Id,
     format: &Id,
-) -> Result<Option<HallWhy>, AllocError>
-    ensures { IfOk result (λ o. o ≡ refusal_of_challenge (record_of state.now) me.now user.now format.now) }
+) -> Result<Result<Legal, HallWhy>, AllocError>
+    ensures { IfOk result (IsJudged (record_of state.now).dex
+        (refusal_of_challenge (record_of state.now) me.now user.now format.now)
+        (legal_team (record_of state.now) me.now format.now)) }
 {
     if !lookup::is_online(&state.users, user) {
-        return Ok(Some(HallWhy::NoSuchUser));
+        return Ok(Err(HallWhy::NoSuchUser));
     }
     if user.as_str() == me.as_str() {
-        return Ok(Some(HallWhy::SelfTarget));
+        return Ok(Err(HallWhy::SelfTarget));
     }
-    of_challenge(
+    judge_challenge_in(
         alloc,
         state,
         me,
@@ -205,14 +247,14 @@ fn refusal_of_challenge(
 }
 
 #[tactic(auto, unfolding(crate::specs::Refusals::refusal_of_cancel_challenge))]
-fn refusal_of_cancel_challenge(state: &State, me: &Id) -> Option<HallWhy>
+pub(crate) fn refusal_of_cancel_challenge(state: &State, me: &Id) -> Option<HallWhy>
     ensures { result ≡ refusal_of_cancel_challenge (record_of state.now) me.now }
 {
     state.pms.refusal_of_cancel(me)
 }
 
 #[tactic(auto, unfolding(crate::specs::Refusals::refusal_of_reject))]
-fn refusal_of_reject(state: &State, me: &Id, user: &Id) -> Option<HallWhy>
+pub(crate) fn refusal_of_reject(state: &State, me: &Id, user: &Id) -> Option<HallWhy>
     ensures { result ≡ refusal_of_reject (record_of state.now) me.now user.now }
 {
     if lookup::challenge_from(state, me, user).is_none() {
@@ -221,56 +263,43 @@ fn refusal_of_reject(state: &State, me: &Id, user: &Id) -> Option<HallWhy>
     None
 }
 
-fn of_accepted(
+// The team of who accepts a challenge in this format.
+fn judge_accepted_in(
     alloc: Global,
     state: &State,
     me: &Id,
-    format: Option<&Format>,
-) -> Result<Option<HallWhy>, AllocError>
-    ensures { IfOk result (λ o. o ≡ of_accepted (record_of state.now) me.now (option_copied format.entry)) }
+    format: &Format,
+) -> Result<Result<Legal, HallWhy>, AllocError>
+    ensures { IfOk result (IsJudged (record_of state.now).dex (of_accepted (record_of state.now) me.now (Some format.now))
+        (legal_under (record_of state.now) me.now (Some format.now))) }
 {
-    match format {
-        None => Ok(Some(HallWhy::UnknownFormat)),
-        Some(format) => match of_team(alloc, state, me, format)? {
-            Some(why) => Ok(Some(why)),
-            None => Ok(of_battles(state)),
+    match judge_team(alloc, state, me, format)? {
+        Err(why) => Ok(Err(why)),
+        Ok(legal) => match of_battles(state) {
+            Some(why) => Ok(Err(why)),
+            None => Ok(Ok(legal)),
         },
     }
 }
 
-fn of_accept(
+/// The team of who accepts a challenge, or why it can't.
+pub(crate) fn judge_accepted(
     alloc: Global,
     state: &State,
     me: &Id,
-    asked: Option<&Asked>,
-) -> Result<Option<HallWhy>, AllocError>
-    ensures { IfOk result (λ o. o ≡ of_accept (record_of state.now) me.now (option_copied asked.entry)) }
+    asked: &Asked,
+) -> Result<Result<Legal, HallWhy>, AllocError>
+    ensures { IfOk result (IsJudged (record_of state.now).dex (of_accept (record_of state.now) me.now (Some asked.now))
+        (legal_team (record_of state.now) me.now asked.now.format)) }
 {
-    match asked {
-        None => Ok(Some(HallWhy::NoChallenge)),
-        Some(asked) => of_accepted(
-            alloc,
-            state,
-            me,
-            lookup::format_in(&state.config, &asked.format),
-        ),
+    match lookup::format_in(&state.config, &asked.format) {
+        None => Ok(Err(HallWhy::UnknownFormat)),
+        Some(format) => judge_accepted_in(alloc, state, me, format),
     }
 }
 
-#[tactic(auto, unfolding(crate::specs::Refusals::refusal_of_accept))]
-fn refusal_of_accept(
-    alloc: Global,
-    state: &State,
-    me: &Id,
-    user: &Id,
-) -> Result<Option<HallWhy>, AllocError>
-    ensures { IfOk result (λ o. o ≡ refusal_of_accept (record_of state.now) me.now user.now) }
-{
-    of_accept(alloc, state, me, lookup::challenge_from(state, me, user))
-}
-
 #[tactic(auto, unfolding(crate::specs::Refusals::refusal_of_pm))]
-fn refusal_of_pm(state: &State, me: &Id, user: &Id, text: &str) -> Option<HallWhy>
+pub(crate) fn refusal_of_pm(state: &State, me: &Id, user: &Id, text: &str) -> Option<HallWhy>
     ensures { result ≡ refusal_of_pm (record_of state.now) me.now user.now text.now }
 {
     if !lookup::is_online(&state.users, user) {
@@ -283,7 +312,7 @@ fn refusal_of_pm(state: &State, me: &Id, user: &Id, text: &str) -> Option<HallWh
 }
 
 #[tactic(auto, unfolding(crate::specs::Refusals::refusal_of_rank))]
-fn refusal_of_rank(state: &State, format: &Id) -> Option<HallWhy>
+pub(crate) fn refusal_of_rank(state: &State, format: &Id) -> Option<HallWhy>
     ensures { result ≡ refusal_of_rank (record_of state.now) format.now }
 {
     if lookup::format_in(&state.config, format).is_none() {
@@ -293,86 +322,11 @@ fn refusal_of_rank(state: &State, format: &Id) -> Option<HallWhy>
 }
 
 /// Whether nobody, player 1 or player 2 won.
-fn is_winner(winner: Option<u8>) -> bool
+pub(crate) fn is_winner(winner: Option<u8>) -> bool
     ensures { result ≡ is_winner winner }
 {
     match winner {
         None => true,
         Some(s) => s < 2,
-    }
-}
-
-#[tactic(auto, unfolding(crate::specs::Refusals::refusal_of_report))]
-fn refusal_of_report(state: &State, number: u32, winner: Option<u8>) -> Option<HallWhy>
-    ensures { result ≡ refusal_of_report (record_of state.now) number winner }
-{
-    if state.games.find(number).is_none() {
-        return Some(HallWhy::NoBattle);
-    }
-    if !is_winner(winner) {
-        return Some(HallWhy::NoBattle);
-    }
-    None
-}
-
-// ---- all of them
-
-/// The commands that take a name.
-fn refusal_of_named(
-    alloc: Global,
-    state: &State,
-    me: &Id,
-    cmd: &HallCmd,
-) -> Result<Option<HallWhy>, AllocError>
-    ensures { IfOk result (λ o. o ≡ refusal_of_named (record_of state.now) me.now cmd.now) }
-{
-    match cmd {
-        HallCmd::Team { pack } => pack_refusal(alloc, pack.as_ref()),
-        HallCmd::Search { format } => refusal_of_search(alloc, state, me, format),
-        HallCmd::CancelSearch => Ok(refusal_of_cancel_search(state, me)),
-        HallCmd::Challenge { user, format } => refusal_of_challenge(alloc, state, me, user, format),
-        HallCmd::CancelChallenge => Ok(refusal_of_cancel_challenge(state, me)),
-        HallCmd::Reject { user } => Ok(refusal_of_reject(state, me, user)),
-        HallCmd::Accept { user } => refusal_of_accept(alloc, state, me, user),
-        HallCmd::Whisper { user, text } => Ok(refusal_of_pm(state, me, user, text.as_str())),
-        HallCmd::Block { user } => Ok(state.pms.refusal_of_block(me, user)),
-        HallCmd::Unblock { user } => Ok(state.pms.refusal_of_unblock(me, user)),
-        HallCmd::Rank { format, .. } => Ok(refusal_of_rank(state, format)),
-        _ => Ok(None),
-    }
-}
-
-/// NotNamed, where the connection has no name.
-fn refusal_by(
-    alloc: Global,
-    state: &State,
-    badge: Option<&Badge>,
-    cmd: &HallCmd,
-) -> Result<Option<HallWhy>, AllocError>
-    ensures { IfOk result (λ o. o ≡ refusal_by (record_of state.now) (option_copied badge.entry) cmd.now) }
-{
-    match badge {
-        None => Ok(Some(HallWhy::NotNamed)),
-        Some(badge) => refusal_of_named(alloc, state, badge.name.id(), cmd),
-    }
-}
-
-/// Why a command of a connection is refused; `None` where it is allowed.
-#[tactic(auto, unfolding(crate::specs::Refusals::refusal))]
-pub(crate) fn refusal(
-    alloc: Global,
-    state: &State,
-    conn: ConnNo,
-    cmd: &HallCmd,
-) -> Result<Option<HallWhy>, AllocError>
-    ensures { IfOk result (λ o. o ≡ refusal (record_of state.now) conn cmd.now) }
-{
-    match cmd {
-        HallCmd::Open => Ok(None),
-        HallCmd::Quit => Ok(None),
-        HallCmd::Bad { why } => Ok(Some(bad_why(*why))),
-        HallCmd::Name { .. } => state.users.verdict(alloc, conn, cmd),
-        HallCmd::Report { number, winner } => Ok(refusal_of_report(state, *number, *winner)),
-        _ => refusal_by(alloc, state, state.users.badge(conn), cmd),
     }
 }

@@ -1,5 +1,5 @@
 //! Who waits for a rated battle.
-ghost use Rattle.std.specs.Prelude.{◌≡◌, OnOk, OnErr, IfOk, IfErr, IfNone, IfSome, None, Some, true, false, [], not};
+ghost use Rattle.std.specs.Prelude.{◌≡◌, ◌++◌, ◌∷◌, OnOk, OnErr, IfOk, IfErr, IfNone, IfSome, None, Some, true, false, [], not};
 ghost use Rattle.std.specs.List.{list_any, filter};
 ghost use Rattle.std.specs.Option.{option_copied};
 ghost use Rattle.ps_ladder.specs.Waiting.{has_user, is_for, is_near, suits, waits, found, without, added, answer, cancelled, IsIndex, IsAddFault};
@@ -274,6 +274,15 @@ impl Searches {
         }
         let found = add_new(&mut self.list, alloc, user, format, rating)?;
         Ok(found)
+    }
+
+    /// Who is matched with nobody waits, behind the others. Where memory fails nothing changes.
+    pub fn wait(&mut self, search: Search) -> Result<(), AllocError>
+        ensures ok { OnOk result (self.new ≡ self.old ++ search ∷ []) }
+        ensures err { OnErr result (self.new ≡ self.old) }
+    {
+        self.list.push(search)?;
+        Ok(())
     }
 
     /// Who a user at a rating is matched with waits no more: the search that `find` gives. Takes no memory.

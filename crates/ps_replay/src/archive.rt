@@ -30,7 +30,7 @@ use ps_outside::files::Files;
 use ps_outside::sink::Sink;
 use ps_outside::source::Source;
 use replay_script::input::{InputEnd, read_input};
-use replay_script::item::Item;
+use replay_script::line::Line;
 use replay_script::script::{ScriptEnd, read_script};
 use replay_state::table::Table;
 use replay_state::transcript::Transcript;
@@ -47,7 +47,7 @@ pub(crate) const MOST_NOTES: u32 = 65_536;
 fn note_item(
     alloc: Global,
     table: &mut Table,
-    item: &Item,
+    item: &Line<'_>,
     pending: &mut Transcript,
 ) -> Result<(), AllocError>
     ensures state { OnOk result (table.new ≡ item_after table.old item.now) }
@@ -62,7 +62,7 @@ fn note_item(
 fn notes_from(
     alloc: Global,
     table: &mut Table,
-    items: &[Item],
+    items: &[Line<'_>],
 ) -> Result<Option<Vec<Note>>, AllocError>
     ensures { IfOk result (λ v. option_map (λ n. n.items) v ≡ (ledger_from table.old items.now blank_noting).notes) }
 {
@@ -74,7 +74,11 @@ fn notes_from(
 }
 
 // The same of a state that ends with it. It is dropped here alone: who has it by value takes it apart at each exit.
-fn notes_once(alloc: Global, table: Table, items: &[Item]) -> Result<Option<Vec<Note>>, AllocError>
+fn notes_once(
+    alloc: Global,
+    table: Table,
+    items: &[Line<'_>],
+) -> Result<Option<Vec<Note>>, AllocError>
     ensures { IfOk result (λ v. option_map (λ n. n.items) v ≡ (ledger_from table items.now blank_noting).notes) }
 {
     let mut table = table;
@@ -87,7 +91,7 @@ fn notes_of(
     alloc: Global,
     config: &Arc<Config>,
     dex: &Arc<Dex>,
-    items: &[Item],
+    items: &[Line<'_>],
 ) -> Result<Vec<Note>, AllocError>
     ensures { IfOk result (λ v. v.items ≡ notes (setup_of (arc_value config.now) (arc_value dex.now) items.now) items.now) }
 {
@@ -117,7 +121,7 @@ fn archive_notes<K: Sink, R: Keeper>(
     config: &Arc<Config>,
     dex: &Arc<Dex>,
     bytes: &[u8],
-    items: &[Item],
+    items: &[Line<'_>],
     loaded: &[Note],
     more: &[Note],
     out: &mut K,
@@ -156,7 +160,7 @@ fn archive_items<K: Sink, R: Keeper>(
     config: &Arc<Config>,
     dex: &Arc<Dex>,
     bytes: &[u8],
-    items: &[Item],
+    items: &[Line<'_>],
     loaded: &[Note],
     out: &mut K,
     keeper: &mut R,

@@ -28,7 +28,7 @@ use ps_outside::sink::{self, Sink};
 use replay_drill::counter::Counter;
 use replay_drill::script::drill_script;
 use replay_drill::tally::Tally;
-use replay_script::item::Item;
+use replay_script::line::Line;
 use replay_script::script::{ScriptEnd, read_script};
 use replay_state::table::Table;
 use replay_state::transcript::{Counts, Transcript};
@@ -56,7 +56,7 @@ pub(crate) struct Run {
 fn run_item(
     alloc: Global,
     table: &mut Table,
-    item: &Item,
+    item: &Line<'_>,
     pending: &mut Transcript,
     tally: &mut Tally,
     counter: &mut Counter,
@@ -79,7 +79,7 @@ fn run_item(
 fn run_from(
     alloc: Global,
     table: &mut Table,
-    items: &[Item],
+    items: &[Line<'_>],
     tally: Tally,
 ) -> Result<Run, AllocError>
     ensures { IfOk result (SummarizesRun tally table.old items.now) }
@@ -98,7 +98,12 @@ fn run_from(
 }
 
 // The same of a state that ends with the run. It is dropped here alone: who has it by value takes it apart at each exit.
-fn run_once(alloc: Global, table: Table, items: &[Item], tally: Tally) -> Result<Run, AllocError>
+fn run_once(
+    alloc: Global,
+    table: Table,
+    items: &[Line<'_>],
+    tally: Tally,
+) -> Result<Run, AllocError>
     ensures { IfOk result (SummarizesRun tally table items.now) }
 {
     let mut table = table;
@@ -136,7 +141,7 @@ fn run_items(
     config: &Arc<Config>,
     dex: &Arc<Dex>,
     script: &[u8],
-    items: &[Item],
+    items: &[Line<'_>],
 ) -> Result<String, AllocError>
     requires { IsScript (symbols_of (arc_value config.now).groups) script.now items.now }
     ensures { IfOk result (λ t. string_bytes t ≡ summary_of script.now (setup_of (arc_value config.now) (arc_value dex.now) items.now) items.now) }

@@ -21,6 +21,7 @@ use ps_outside::sink::{self, Sink};
 use ps_room::outcome::Ending;
 use replay_drill::fight::Fight;
 use replay_script::item::Item;
+use replay_script::line::{Line, line_of, lines_of};
 use replay_state::table::Table;
 use replay_state::transcript::Transcript;
 use replay_tour::entering::entering;
@@ -67,7 +68,7 @@ fn play_line<K: Sink>(
     ensures later { K.faults out.old ≤ K.faults out.new }
     ensures fault { result ≡ Err ReplayEnd.WriteFault → Rose (K.faults out.old) (K.faults out.new) }
 {
-    match replay_item(alloc, table, line, pending, out) {
+    match replay_item(alloc, table, &line_of(line), pending, out) {
         Err(end) => Err(end),
         Ok(end) => match tour.go_on(winner_of(end)) {
             Err(_) => Err(ReplayEnd::NoMemory),
@@ -111,7 +112,7 @@ fn play_matches<K: Sink>(
 fn play_from<K: Sink>(
     alloc: Global,
     most: u32,
-    items: &[Item],
+    items: &[Line<'_>],
     format: &Id,
     table: &mut Table,
     tour: &mut Tour,
@@ -134,7 +135,7 @@ fn play_from<K: Sink>(
 // The same of a state that ends with the tournament. It is dropped here alone.
 fn play_once<K: Sink>(
     alloc: Global,
-    items: &[Item],
+    items: &[Line<'_>],
     format: &Id,
     table: Table,
     tour: &mut Tour,
@@ -153,7 +154,7 @@ fn play_with<K: Sink>(
     alloc: Global,
     config: &Arc<Config>,
     dex: &Arc<Dex>,
-    items: &[Item],
+    items: &[Line<'_>],
     format: &Id,
     tour: &mut Tour,
     out: &mut K,
@@ -168,6 +169,29 @@ fn play_with<K: Sink>(
     match table_of(alloc, config, dex, &[]) {
         Err(_) => Err(ReplayEnd::NoMemory),
         Ok(table) => play_once(alloc, items, format, table, tour, out),
+    }
+}
+
+// The same of items that have their texts themselves.
+fn play_items<K: Sink>(
+    alloc: Global,
+    config: &Arc<Config>,
+    dex: &Arc<Dex>,
+    items: &[Item],
+    format: &Id,
+    tour: &mut Tour,
+    out: &mut K,
+) -> Result<(), ReplayEnd>
+    ensures ok { OnOk result (PlaysLines items.now most_lines format.now tour.old tour.new
+        (fresh (setup_of (arc_value config.now) (arc_value dex.now) [])) (K.written out.old) (K.written out.new)) }
+    ensures err { OnErr result (PlaysFront items.now most_lines format.now tour.old
+        (fresh (setup_of (arc_value config.now) (arc_value dex.now) [])) (K.written out.old) (K.written out.new)) }
+    ensures later { K.faults out.old ≤ K.faults out.new }
+    ensures fault { result ≡ Err ReplayEnd.WriteFault → Rose (K.faults out.old) (K.faults out.new) }
+{
+    match lines_of(alloc, items) {
+        Err(_) => Err(ReplayEnd::NoMemory),
+        Ok(lines) => play_with(alloc, config, dex, &lines, format, tour, out),
     }
 }
 
@@ -191,7 +215,7 @@ pub(crate) fn play_all<K: Sink>(
 {
     match entering(alloc, config, &fight.team, users) {
         Err(_) => Err(ReplayEnd::NoMemory),
-        Ok(items) => play_with(alloc, config, dex, &items, &fight.format, tour, out),
+        Ok(items) => play_items(alloc, config, dex, &items, &fight.format, tour, out),
     }
 }
 

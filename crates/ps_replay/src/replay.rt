@@ -14,7 +14,7 @@ use ps_dex::dex::Dex;
 use ps_outside::Failed;
 use ps_outside::sink::{self, Sink};
 use ps_room::outcome::Ending;
-use replay_script::item::Item;
+use replay_script::line::Line;
 use replay_state::ranks::ranks_of;
 use replay_state::table::Table;
 use replay_state::transcript::Transcript;
@@ -66,7 +66,7 @@ fn flush_full<K: Sink>(pending: &mut String, out: &mut K) -> Result<(), Failed>
 pub(crate) fn replay_item<K: Sink>(
     alloc: Global,
     table: &mut Table,
-    item: &Item,
+    item: &Line<'_>,
     pending: &mut Transcript,
     out: &mut K,
 ) -> Result<Option<Ending>, ReplayEnd>
@@ -90,7 +90,7 @@ pub(crate) fn replay_item<K: Sink>(
 pub(crate) fn replay_from<K: Sink>(
     alloc: Global,
     table: &mut Table,
-    items: &[Item],
+    items: &[Line<'_>],
     out: &mut K,
 ) -> Result<(), ReplayEnd>
     ensures state { OnOk result (table.new ≡ desk_after table.old items.now) }
@@ -116,7 +116,7 @@ pub(crate) fn replay_from<K: Sink>(
 fn replay_once<K: Sink>(
     alloc: Global,
     table: Table,
-    items: &[Item],
+    items: &[Line<'_>],
     out: &mut K,
 ) -> Result<(), ReplayEnd>
     ensures wrote { OnOk result (Appends (K.written out.old) (K.written out.new) (text_from table items.now)) }
@@ -133,7 +133,7 @@ pub(crate) fn table_of(
     alloc: Global,
     config: &Arc<Config>,
     dex: &Arc<Dex>,
-    items: &[Item],
+    items: &[Line<'_>],
 ) -> Result<Table, AllocError>
     ensures { IfOk result (λ t. t ≡ fresh (setup_of (arc_value config.now) (arc_value dex.now) items.now)) }
 {
@@ -147,7 +147,7 @@ pub fn replay<K: Sink>(
     alloc: Global,
     config: &Arc<Config>,
     dex: &Arc<Dex>,
-    items: &[Item],
+    items: &[Line<'_>],
     out: &mut K,
 ) -> Result<(), ReplayEnd>
     ensures wrote { OnOk result (Appends (K.written out.old) (K.written out.new) (output (setup_of (arc_value config.now) (arc_value dex.now) items.now) items.now)) }

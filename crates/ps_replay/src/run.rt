@@ -31,7 +31,7 @@ use ps_outside::files::Files;
 use ps_outside::sink::Sink;
 use ps_outside::source::Source;
 use replay_script::input::{InputEnd, read_input};
-use replay_script::item::Item;
+use replay_script::line::Line;
 use replay_script::script::{ScriptEnd, read_script};
 use rules_config::config::Config;
 use std::alloc::Global;
@@ -42,7 +42,7 @@ fn run_items<K: Sink>(
     config: &Arc<Config>,
     dex: &Arc<Dex>,
     bytes: &[u8],
-    items: &[Item],
+    items: &[Line<'_>],
     out: &mut K,
 ) -> Status
     requires few { length (arc_value config.now).rooms ≤ 16 }

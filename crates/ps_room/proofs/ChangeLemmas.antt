@@ -22,7 +22,7 @@ use Rattle.ps_splitlog.specs.declared.entry.LogEntry.{LogEntry}
 use Rattle.ps_room.specs.declared.entry.Entry.{Entry}
 use Rattle.ps_room.specs.Records.{Record, presents_of, cast_in}
 use Rattle.ps_room.specs.Rooms.{verdict, sender_of, chat_lines, told, refused_line, events_by, lines_by, IsDecided, CanDecideIn, events_from, lines_from, battle_from, with_bout, CanGoOn, IsIdle, allowed_events, allowed_lines, is_join, applied, battle_after}
-use Rattle.ps_room.specs.Logs.{Seen, record_in, seen_after, change_in, change_to, changed_conn, touched_by, stored_in, join_if, given, kept_of, ending_of, ending_by, ending_from, out_of, Goes, MakesNone}
+use Rattle.ps_room.specs.Logs.{Seen, record_in, with_log, seen_after, state_after, change_in, change_to, changed_conn, touched_by, stored_in, join_if, given, kept_of, ending_of, ending_by, ending_from, out_of, Goes, MakesNone}
 use Rattle.ps_room.specs.declared.outcome.Ending.{Ending}
 use Rattle.ps_room.specs.declared.outcome.Verdict.TheVariants.{Applied}
 use Rattle.ps_room.proofs.AnswerLemmas.{after_allowed, after_refused, out_allowed}
@@ -126,14 +126,12 @@ none_by_parts s e battle next v b plain = record {
   idle = subst (λ (x : Option Fight). IsIdle x next) b plain;
 }
 
--- a refused entry changes nothing but the log, and no role
-pub seen_refused : (s : Seen) (e : Entry) (why : Why) (h : LogEntry) → verdict (record_in s) e ≡ Some why → h ≡ given (record_in s) e → record s { log = s.log ++ h ∷ [] } ≡ seen_after s e
-seen_refused s e why h v is =
-    ap (λ (x : LogEntry). record s { log = s.log ++ x ∷ [] }) (is ∙ kept)
-    ∙ ap (λ (x : Record). record s { opening = x.opening; chat = x.chat; battle = x.battle; log = s.log ++ kept_of (record_in s) e ∷ [] }) (sym (after_refused (record_in s) e why v))
-  where
-    kept : given (record_in s) e ≡ kept_of (record_in s) e
-    kept = rw v refl
+-- a refused entry changes nothing, and no role
+pub state_refused : (s : Seen) (e : Entry) (why : Why) → verdict (record_in s) e ≡ Some why → s ≡ state_after s e
+state_refused s e why v = ap (λ (x : Record). record { no = s.no; id = s.id; opening = x.opening; chat = x.chat; battle = x.battle; log = s.log }) (sym (after_refused (record_in s) e why v))
+
+pub roles_refused : (r : Record) (e : Entry) (why : Why) → verdict r e ≡ Some why → [] ≡ (kept_of r e).roles
+roles_refused r e why v = rw v refl
 
 -- a room with these parts
 abbrev pub room_with : ℕ → List ℕ → ChatSeen → Option Fight → List LogEntry → Seen
@@ -142,36 +140,56 @@ room_with number id chat battle log = record { no = number; id = id; opening = c
 abbrev pub chat_after : ChatSeen → Entry → ChatSeen
 chat_after chat e = record chat { state = record_after chat.opening.groups chat.state e.conn e.badge e.moment e.cmd }
 
--- an allowed one is applied, and the roles are those after it
-seen_applied : (s : Seen) (e : Entry) (h : LogEntry) (changes : List (ℕ × Role)) → verdict (record_in s) e ≡ None → h ≡ given (record_in s) e → changes ≡ map (change_to (applied (record_in s) e)) (touched_by e.cmd (presents_of (record_in s)) e.conn)
-    → record { no = s.no; id = s.id; opening = (applied (record_in s) e).opening; chat = (applied (record_in s) e).chat; battle = (applied (record_in s) e).battle; log = s.log ++ with_roles h changes ∷ [] } ≡ seen_after s e
-seen_applied s e h changes v is these =
-    ap (λ (x : LogEntry). record { no = s.no; id = s.id; opening = (applied r e).opening; chat = (applied r e).chat; battle = (applied r e).battle; log = s.log ++ x ∷ [] }) (ap (λ (x : LogEntry). with_roles x changes) is ∙ ap (with_roles (given r e)) (these ∙ roles))
-    ∙ ap (λ (x : Record). record { no = s.no; id = s.id; opening = x.opening; chat = x.chat; battle = x.battle; log = s.log ++ kept_of r e ∷ [] }) (sym (after_allowed r e v))
-  where
-    r : Record
-    r = record_in s
-
-    roles : map (change_to (applied r e)) (touched_by e.cmd (presents_of r) e.conn) ≡ (kept_of r e).roles
-    roles = rw v (ap (λ (x : Record). map (change_to x) (touched_by e.cmd (presents_of r) e.conn)) (sym (after_allowed r e v)))
-
 -- the parts of a room after an entry that is allowed
-pub parts_applied : (number : ℕ) (id : List ℕ) (old new : ChatSeen) (battle next : Option Fight) (log : List LogEntry) (e : Entry) (h : LogEntry) (unset changes : List (ℕ × Role))
-    → verdict (record_in (room_with number id old battle log)) e ≡ None
-    → h ≡ given (record_in (room_with number id old battle log)) e
+pub state_applied : (number : ℕ) (id : List ℕ) (old new : ChatSeen) (battle next : Option Fight) (e : Entry)
+    → verdict (record_in (room_with number id old battle [])) e ≡ None
+    → new ≡ chat_after old e
+    → next ≡ battle_after battle (member e.conn (presents old.opening old.state)) e.cmd
+    → room_with number id new next [] ≡ state_after (room_with number id old battle []) e
+state_applied number id old new battle next e v moved went =
+    let r : Record = record_in (room_with number id old battle []) in
+    ap (λ (chat : ChatSeen). room_with number id chat next []) moved
+    ∙ ap (λ (b : Option Fight). room_with number id (chat_after old e) b []) went
+    ∙ ap (λ (x : Record). record { no = number; id = id; opening = x.opening; chat = x.chat; battle = x.battle; log = [] }) (sym (after_allowed r e v))
+
+-- and the roles that it gives
+pub roles_applied : (number : ℕ) (id : List ℕ) (old new : ChatSeen) (battle next : Option Fight) (e : Entry) (unset changes : List (ℕ × Role))
+    → verdict (record_in (room_with number id old battle [])) e ≡ None
     → new ≡ chat_after old e
     → next ≡ battle_after battle (member e.conn (presents old.opening old.state)) e.cmd
     → map changed_conn unset ≡ touched_by e.cmd (presents old.opening old.state) e.conn
     → changes ≡ map (λ c. change_in (cast_in next) new.opening new.state (changed_conn c)) unset
-    → room_with number id new next (log ++ with_roles h changes ∷ []) ≡ seen_after (room_with number id old battle log) e
-parts_applied number id old new battle next log e h unset changes v is moved went touch these =
-    let r : Record = record_in (room_with number id old battle log) in
-    let roles : changes ≡ map (change_to (applied r e)) (touched_by e.cmd (presents_of r) e.conn) =
+    → changes ≡ (kept_of (record_in (room_with number id old battle [])) e).roles
+roles_applied number id old new battle next e unset changes v moved went touch these =
     these
     ∙ ap (λ (chat : ChatSeen). map (λ c. change_in (cast_in next) chat.opening chat.state (changed_conn c)) unset) moved
     ∙ ap (λ (b : Option Fight). map (λ c. change_in (cast_in b) old.opening (chat_after old e).state (changed_conn c)) unset) went
     ∙ map_twice changed_conn (change_to (applied r e)) unset
-    ∙ ap (map (change_to (applied r e))) touch in
-    ap (λ (chat : ChatSeen). room_with number id chat next (log ++ with_roles h changes ∷ [])) moved
-    ∙ ap (λ (b : Option Fight). room_with number id (chat_after old e) b (log ++ with_roles h changes ∷ [])) went
-    ∙ seen_applied (room_with number id old battle log) e h changes v is roles
+    ∙ ap (map (change_to (applied r e))) touch
+    ∙ roles
+  where
+    r : Record
+    r = record_in (room_with number id old battle [])
+
+    roles : map (change_to (applied r e)) (touched_by e.cmd (presents_of r) e.conn) ≡ (kept_of r e).roles
+    roles = rw v (ap (λ (x : Record). map (change_to x) (touched_by e.cmd (presents_of r) e.conn)) (sym (after_allowed r e v)))
+
+-- ---- a room with its log
+
+-- what an entry gives, with the roles that hold after it, is what the log has of it
+pub logged_so : (s : Seen) (log : List LogEntry) (e : Entry) (h : LogEntry) (roles : List (ℕ × Role)) (state : Seen) → h ≡ given (record_in s) e → roles ≡ (kept_of (record_in s) e).roles → state ≡ state_after s e
+    → with_log (log ++ record h { roles = roles } ∷ []) state ≡ seen_after (with_log log s) e
+logged_so s log e h roles state is these went =
+    ap (λ (x : LogEntry). with_log (log ++ record x { roles = roles } ∷ []) state) is
+    ∙ ap (λ (x : List (ℕ × Role)). with_log (log ++ record (given (record_in s) e) { roles = x } ∷ []) state) these
+    ∙ ap (with_log (log ++ kept_of (record_in s) e ∷ [])) went
+
+-- a log is nothing to how a battle goes on
+pub goes_unlogged : (s : Seen) (log : List LogEntry) (e : Entry) (b : Option Bout) → Goes s e b → Goes (with_log log s) e b
+goes_unlogged s log e b goes = record { after = goes.after; bout = goes.bout }
+
+pub goes_apart : (s : Seen) (log : List LogEntry) (e : Entry) (b : Option Bout) → Goes (with_log log s) e b → Goes s e b
+goes_apart s log e b goes = record { after = goes.after; bout = goes.bout }
+
+pub none_unlogged : (s : Seen) (log : List LogEntry) (e : Entry) (b : Option Bout) → MakesNone s e b → MakesNone (with_log log s) e b
+none_unlogged s log e b makes = record { refused = makes.refused; idle = makes.idle }

@@ -10,3 +10,4 @@ pub mod StoredLemmas
 pub mod UnseenLemmas
 pub mod QuietLemmas
 pub mod ChatLemmas
+pub mod OpenedLemmas

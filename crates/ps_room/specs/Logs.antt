@@ -119,6 +119,13 @@ pub record Seen : Type 0 where
 abbrev pub record_in : Seen → Record
 record_in s = record { opening = s.opening; chat = s.chat; logged = []; battle = s.battle }
 
+-- a room with this log in the place of its own, and apart from any: who keeps a room's log beside it chooses how long
+abbrev pub with_log : List LogEntry → Seen → Seen
+with_log log s = record { no = s.no; id = s.id; opening = s.opening; chat = s.chat; battle = s.battle; log = log }
+
+abbrev pub unlogged : Seen → Seen
+unlogged s = with_log [] s
+
 -- the opening of a battle stands in the log before all entries, as one of a connection that nobody is
 abbrev pub opened_log : Settings → Tables → Option Start → List LogEntry
 opened_log config dex None = []
@@ -130,6 +137,10 @@ seen_opened o = record { no = o.no; id = o.id; opening = chat_opening o; chat = 
 -- a room after an entry
 abbrev pub seen_after : Seen → Entry → Seen
 seen_after s e = record { no = s.no; id = s.id; opening = (after (record_in s) e).opening; chat = (after (record_in s) e).chat; battle = (after (record_in s) e).battle; log = s.log ++ kept_of (record_in s) e ∷ [] }
+
+-- apart from its log, which stays
+abbrev pub state_after : Seen → Entry → Seen
+state_after s e = with_log s.log (seen_after s e)
 
 -- a room after a history
 abbrev pub run_seen : Seen → List Entry → Seen

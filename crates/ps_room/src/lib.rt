@@ -9,3 +9,4 @@ pub mod opening;
 pub mod outcome;
 pub mod room;
 mod start;
+pub mod state;

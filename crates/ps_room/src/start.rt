@@ -2,7 +2,7 @@
 ghost use Rattle.std.specs.Prelude.{◌≡◌, [], ◌∷◌, IfSome, IfOk, Some, None, map, option_map};
 ghost use Rattle.std.specs.Arc.{arc_value};
 ghost use Rattle.rules_start.specs.Fits.{legal_of, IsFit};
-ghost use Rattle.std.specs.Option.{option_copied};
+ghost use Rattle.std.specs.Option.{option_copied, option_to_list};
 ghost use Rattle.ps_room.specs.Openings.{name_of_format, clauses_of_format, in_percent, team_of_legal, nicks_of_legal, fight_with};
 ghost use Rattle.ps_room.specs.Logs.{log_entry_with, opened_log};
 
@@ -17,7 +17,7 @@ use ps_event::event::{Event, Events};
 use ps_mon::team::BattleTeam;
 use ps_rules::clause::Clause;
 use ps_rules::table::Format;
-use ps_splitlog::log::SplitLog;
+use ps_splitlog::entry::{Entry as Heard, LogEntry, log_entry_of};
 use ps_valid::legal::Legal;
 use ps_view::names::Names;
 use rules_config::config::Config;
@@ -54,20 +54,25 @@ fn in_percent(format: Option<&Format>) -> bool
     Clause::Percentage.is_in(clauses_of_format(format))
 }
 
-/// The battle of a room, if it has one, and the room's log, which begins with the battle's opening.
+/// The battle of a room, if it has one, and what the room's log begins with, the battle's opening.
 #[derive(Drop)]
 pub(crate) struct Opened {
     pub(crate) battle: Option<RoomBattle>,
-    pub(crate) log: SplitLog,
+    pub(crate) first: Option<LogEntry>,
 }
 
-// A log that begins with these events, which are of no connection.
-fn log_of(alloc: Global, cast: &Cast, told: &[Event]) -> Result<SplitLog, AllocError>
-    ensures { IfOk result (λ l. l ≡ log_entry_with (Some cast.now) 0 (record { events = told.now; lines = []; joined = None }) [] ∷ []) }
+// What a log has of these events, which are of no connection.
+fn log_entry_of_opening(alloc: Global, cast: &Cast, told: &[Event]) -> Result<LogEntry, AllocError>
+    ensures { IfOk result (λ h. h ≡ log_entry_with (Some cast.now) 0 (record { events = told.now; lines = []; joined = None }) []) }
 {
-    let mut log = SplitLog::new(alloc);
-    log.append(alloc, NOBODY, told, cast.names(), cast.dex())?;
-    Ok(log)
+    let heard = Heard {
+        conn: NOBODY,
+        events: told,
+        lines: Vec::new(alloc),
+        join: None,
+        roles: &[],
+    };
+    log_entry_of(alloc, cast.names(), cast.dex(), heard)
 }
 
 /// The teams of both players, in numbers.
@@ -115,7 +120,7 @@ fn start_battle(
 ) -> Result<Opened, AllocError>
     requires { IsFit start config.now (arc_value dex) }
     ensures battle { IfOk result (λ o. o.battle ≡ Some (fight_with config.now (arc_value dex) start)) }
-    ensures log { IfOk result (λ o. o.log ≡ opened_log config.now (arc_value dex) (Some start)) }
+    ensures first { IfOk result (λ o. option_to_list o.first ≡ opened_log config.now (arc_value dex) (Some start)) }
 {
     let Start {
         number,
@@ -131,14 +136,14 @@ fn start_battle(
     let cast = Cast::new(names, dex);
     let mut out = Events::new();
     let battle = RoomBattle::open(number, cast, &fighters, clauses, seed, &mut out);
-    let log = log_of(alloc, battle.cast(), out.as_slice())?;
+    let first = log_entry_of_opening(alloc, battle.cast(), out.as_slice())?;
     Ok(Opened {
         battle: Some(battle),
-        log,
+        first: Some(first),
     })
 }
 
-/// The battle of a room at its opening, if it has one, and the room's log.
+/// The battle of a room at its opening, if it has one, and what the room's log begins with.
 pub(crate) fn open_battle(
     alloc: Global,
     config: &Config,
@@ -147,12 +152,12 @@ pub(crate) fn open_battle(
 ) -> Result<Opened, AllocError>
     requires { IfSome start (λ s. IsFit s config.now (arc_value dex)) }
     ensures battle { IfOk result (λ o. o.battle ≡ option_map (fight_with config.now (arc_value dex)) start) }
-    ensures log { IfOk result (λ o. o.log ≡ opened_log config.now (arc_value dex) start) }
+    ensures first { IfOk result (λ o. option_to_list o.first ≡ opened_log config.now (arc_value dex) start) }
 {
     match start {
         None => Ok(Opened {
             battle: None,
-            log: SplitLog::new(alloc),
+            first: None,
         }),
         Some(start) => start_battle(alloc, config, dex, start),
     }

@@ -2,3 +2,4 @@ pub mod IndexLemmas
 pub mod MessageLemmas
 pub mod ReadLemmas
 pub mod EventLemmas
+pub mod ShortLemmas

@@ -3,3 +3,4 @@ pub mod Entries
 pub mod Indices
 pub mod Lines
 pub mod Reads
+pub mod Shorts

@@ -5,7 +5,7 @@ ghost use Rattle.std.specs.Option.{option_copied};
 ghost use Rattle.ps_splitlog.specs.Lines.{stored_of_event, stored_of_line, stored_of};
 ghost use Rattle.ps_splitlog.specs.Entries.{log_entry_of, log_entry_of_lines};
 
-use crate::stored::{Stored, stored_of_event, stored_of_line};
+use crate::stored::{Lines, Stored, stored_of_event, stored_of_line};
 use ps_base::list::List;
 use ps_base::number::ConnNo;
 use ps_base::text::Text;
@@ -94,7 +94,7 @@ pub struct LogEntry {
     /// The connection that made it.
     pub conn: ConnNo,
     /// Its lines, those of its events first.
-    pub lines: List<Stored>,
+    pub lines: Lines,
     /// Where the connection joins by it, what it is sent in place of these.
     pub join: Joining,
     /// The roles that it gives from the next entry on.
@@ -148,13 +148,13 @@ fn stored_of(
     dex: &Dex,
     events: &[Event],
     lines: Vec<ChatLine<Text>>,
-) -> Result<List<Stored>, AllocError>
+) -> Result<Lines, AllocError>
     ensures { IfOk result (λ v. v ≡ stored_of names.now dex.now events.now lines.items) }
 {
     let mut stored = Vec::with_capacity(alloc, lines.len())?;
     push_events(alloc, &mut stored, names, dex, events)?;
     push_lines(&mut stored, lines)?;
-    Ok(List::from_vec(stored))
+    Ok(Lines::from_vec(stored))
 }
 
 /// What a log holds of an entry: of its events the lines that `line_for` gives, then its lines. The events' numbers are in the
@@ -191,7 +191,7 @@ pub fn log_entry_of_lines(
     push_lines(&mut stored, lines)?;
     Ok(LogEntry {
         conn,
-        lines: List::from_vec(stored),
+        lines: Lines::from_vec(stored),
         join: Joining::new(alloc, join)?,
         roles: List::from_vec(Vec::new(alloc)),
     })

@@ -7,4 +7,5 @@ mod index;
 pub mod law;
 pub mod log;
 pub mod read;
+pub mod short_log;
 pub mod stored;

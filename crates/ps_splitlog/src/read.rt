@@ -17,7 +17,11 @@ use ps_base::text::{Text, push_copies, push_copy};
 use ps_view::role::Role;
 use std::alloc::{AllocError, Global};
 
-fn push_tail(alloc: Global, texts: &mut Vec<Text>, tail: &Option<Text>) -> Result<(), AllocError>
+pub(crate) fn push_tail(
+    alloc: Global,
+    texts: &mut Vec<Text>,
+    tail: &Option<Text>,
+) -> Result<(), AllocError>
     ensures { OnOk result (texts.new.items ≡ texts.old.items ++ option_to_list tail.now) }
 {
     match tail {
@@ -30,7 +34,7 @@ fn push_tail(alloc: Global, texts: &mut Vec<Text>, tail: &Option<Text>) -> Resul
 }
 
 // Puts the line's text behind the others, where a connection in this role is shown it.
-fn push_shown(
+pub(crate) fn push_shown(
     alloc: Global,
     texts: &mut Vec<Text>,
     conn: ConnNo,
@@ -129,7 +133,7 @@ fn init(
 }
 
 // What a connection in this role is shown of these lines.
-fn shown_of(
+pub(crate) fn shown_of(
     alloc: Global,
     conn: ConnNo,
     role: Role,

@@ -15,6 +15,7 @@ use ps_view::line::line_for;
 use ps_view::names::Names;
 use ps_view::role::{Role, has_role, reads_exactly};
 use std::alloc::{AllocError, Global};
+use std::marker::Model;
 
 /// A line of an entry, each text once.
 #[derive(Debug, Drop)]
@@ -39,6 +40,44 @@ pub enum Stored {
         /// What every other member reads.
         public: Text,
     },
+}
+
+/// The lines of an entry. Contracts see the list of them.
+#[derive(Debug, Drop)]
+pub struct Lines {
+    inner: Vec<Stored>,
+}
+
+impl Model for Lines {
+    ghost use Rattle.std.specs.Prelude as prelude;
+    ghost use Rattle.ps_splitlog.specs.declared.stored.Stored.{Stored};
+
+    ghost Value = { prelude.List Stored };
+
+    ghost view = { λ l. l.inner.items };
+}
+
+impl Lines {
+    /// The same lines. Takes no memory.
+    pub fn from_vec(inner: Vec<Stored>) -> Lines
+        ensures { result ≡ inner.items }
+    {
+        Lines { inner }
+    }
+
+    /// The lines as a slice.
+    pub fn as_slice(&self) -> &[Stored]
+        ensures { result.now ≡ self.now }
+    {
+        self.inner.as_slice()
+    }
+
+    /// The lines themselves.
+    pub fn into_vec(self) -> Vec<Stored>
+        ensures { result.items ≡ self }
+    {
+        self.inner
+    }
 }
 
 // ---- what is shown

@@ -1,15 +1,9 @@
 -- How reading a script ends without one.
 use Rattle.std.specs.Prelude.{ℕ, List}
 use Rattle.replay_script.specs.declared.item.Item.{Item}
-use Rattle.replay_script.specs.declared.script.LineEnd.{LineEnd}
-use Rattle.replay_script.specs.declared.script.LineEnd.TheVariants as line_ends
 use Rattle.replay_script.specs.declared.script.ScriptEnd.{ScriptEnd}
 use Rattle.replay_script.specs.declared.script.ScriptEnd.TheVariants as script_ends
-use Rattle.replay_script.specs.Scripts.{Seen, IsFault, IsFirstFault, IsScript}
-
-abbrev pub EndsLine : Seen → List ℕ → LineEnd → Type 0
-EndsLine s line (line_ends.Bad kind) = IsFault s line kind
-EndsLine s line line_ends.NoMemory = Unit {0}
+use Rattle.replay_script.specs.Scripts.{IsFirstFault, IsScript}
 
 abbrev pub EndsScript : List ℕ → List ℕ → ScriptEnd → Type 0
 EndsScript symbols bytes (script_ends.Bad line kind) = IsFirstFault symbols bytes line kind

@@ -3,4 +3,5 @@ pub mod Ends
 pub mod Items
 pub mod Laws
 pub mod Limits
+pub mod Sayings
 pub mod Scripts

@@ -1,22 +1,23 @@
 //! The lines of a script.
-ghost use Rattle.std.specs.Prelude.{◌≡◌, ◌↔◌, ℕ, List, IsTrue, IfOk, IfSome, IfNone};
+ghost use Rattle.std.specs.Prelude.{◌≡◌, ◌↔◌, ℕ, List, false, Some, None, IsTrue, IfSome, IfNone};
+ghost use Rattle.ps_base.specs.Ids.{id_in, is_id_byte};
 ghost use Rattle.replay_script.specs.declared.item.Item.{Item};
 ghost use Rattle.replay_script.specs.Items.{IsItem, IsIdle, IsNumber, IsSend, IsGroup, IsCharFirst};
 
+use crate::line::{Line, Said};
 use ps_base::cut;
 use ps_base::decimal::read_u32;
-use ps_base::id::{Id, read_id};
-use ps_base::number::{ConnNo, Moment};
+use ps_base::id::Id;
+use ps_base::number::ConnNo;
 use ps_base::text::Text;
-use std::alloc::{AllocError, Global};
 
-/// What a line of a script says.
+/// What a line of a script says, with a text and an id of its own.
 #[derive(Debug, Drop)]
 pub enum Item {
     /// An empty line, or a comment.
     Nothing,
     /// `T N`: the moment is N seconds from here on.
-    Moment(Moment),
+    Moment(u32),
     /// `G SYMBOL ID`: the id has the group of that symbol.
     Group(char, Id),
     /// `+N`: a connection opens.
@@ -74,47 +75,69 @@ fn first_char(text: &str) -> Option<(char, &str)>
     }
 }
 
-fn group(alloc: Global, line: &str) -> Result<Option<(char, Id)>, AllocError>
-    ensures found { IfOk result (λ o. IfSome o (λ p. IsGroup line.now p.0 p.1)) }
-    ensures none { IfOk result (λ o. IfNone o ((symbol : ℕ) (id : List ℕ) → IsGroup line.now symbol id → ⊥)) }
+fn is_id_byte(b: u8) -> bool
+    ensures { result ≡ is_id_byte b }
+{
+    b.is_ascii_lowercase() || b.is_ascii_digit()
+}
+
+// Whether a text is an id that isn't empty. It is asked for each line, so no id is made of it.
+fn is_name(text: &str) -> bool
+    ensures found { IsTrue result → id_in text.now ≡ Some text.now }
+    ensures none { result ≡ false → id_in text.now ≡ None }
+{
+    for b in text.as_bytes() {
+        if !is_id_byte(*b) {
+            return false;
+        }
+    }
+    !text.is_empty()
+}
+
+fn group(line: &str) -> Option<(char, &str)>
+    ensures found { IfSome result (λ p. IsGroup line.now p.0 p.1.now) }
+    ensures none { IfNone result ((symbol : ℕ) (id : List ℕ) → IsGroup line.now symbol id → ⊥) }
 {
     match cut::after(line, "G ") {
-        None => Ok(None),
+        None => None,
         Some(rest) => match first_char(rest) {
-            None => Ok(None),
+            None => None,
             Some((symbol, rest)) => match cut::after(rest, " ") {
-                None => Ok(None),
-                Some(id) => match read_id(alloc, id)? {
-                    None => Ok(None),
-                    Some(id) => Ok(Some((symbol, id))),
-                },
+                None => None,
+                Some(id) => {
+                    if is_name(id) {
+                        Some((symbol, id))
+                    } else {
+                        None
+                    }
+                }
             },
         },
     }
 }
 
 /// What the line says, or `None` exactly where it has none of the forms.
-pub fn read_item(alloc: Global, line: &str) -> Result<Option<Item>, AllocError>
-    ensures found { IfOk result (λ o. IfSome o (λ i. IsItem line.now i)) }
-    ensures none { IfOk result (λ o. IfNone o ((i : Item) → IsItem line.now i → ⊥)) }
+pub fn read_item(line: &str) -> Option<Line<'_>>
+    ensures found { IfSome result (λ i. IsItem line.now i) }
+    ensures none { IfNone result ((i : Item) → IsItem line.now i → ⊥) }
 {
     if is_idle(line) {
-        return Ok(Some(Item::Nothing));
+        return Some(Line::new(Said::Nothing));
     }
     if let Some(n) = number_after(line, "T ") {
-        return Ok(Some(Item::Moment(Moment(u64::from(n)))));
+        return Some(Line::new(Said::Moment(n)));
     }
-    if let Some((symbol, id)) = group(alloc, line)? {
-        return Ok(Some(Item::Group(symbol, id)));
+    if let Some((symbol, id)) = group(line) {
+        return Some(Line::new(Said::Group(symbol, id)));
     }
     if let Some(n) = number_after(line, "+") {
-        return Ok(Some(Item::Open(ConnNo(n))));
+        return Some(Line::new(Said::Open(ConnNo(n))));
     }
     if let Some((n, text)) = send(line) {
-        return Ok(Some(Item::Send(ConnNo(n), Text::copy_of(alloc, text)?)));
+        return Some(Line::new(Said::Send(ConnNo(n), text)));
     }
     if let Some(n) = number_after(line, "-") {
-        return Ok(Some(Item::Close(ConnNo(n))));
+        return Some(Line::new(Said::Close(ConnNo(n))));
     }
-    Ok(None)
+    None
 }

@@ -4,4 +4,5 @@
 pub mod input;
 pub mod item;
 pub mod law;
+pub mod line;
 pub mod script;

@@ -2,14 +2,15 @@
 ghost use Rattle.std.specs.Prelude.{◌≡◌, ◌≢◌, ◌∷◌, ◌<◌, ◌≤◌, ◌^◌, ℕ, List, length, IfOk, IfErr, OnOk, OnErr, None, slice_index};
 ghost use Rattle.std.specs.Str.Lines.{lines, strip_carriage_return};
 ghost use Rattle.replay_script.specs.Controls.{has_control};
-ghost use Rattle.replay_script.specs.Scripts.{has_symbol, is_open, closed_in, fault_of, IsLine, IsScript};
-ghost use Rattle.replay_script.specs.Ends.{EndsLine, EndsScript, IsNoScript};
+ghost use Rattle.replay_script.specs.Scripts.{has_symbol, is_open, closed_in, fault_of, IsLine, IsFault, IsScript};
+ghost use Rattle.replay_script.specs.Ends.{EndsScript, IsNoScript};
 ghost use Rattle.replay_script.specs.declared.item.Item.{Item};
 
-use crate::item::{self, Item};
+use crate::item::read_item;
+use crate::line::{Line, Said};
 use memchr::memchr;
 use ps_base::limit::MOST_TEXT;
-use ps_base::number::{ConnNo, Moment};
+use ps_base::number::ConnNo;
 use std::alloc::{AllocError, AllocFailed, Global};
 use std::marker::Model;
 
@@ -40,7 +41,7 @@ pub enum ScriptKind {
 #[derive(Drop)]
 pub struct Seen<'a> {
     symbols: &'a [char],
-    moment: Moment,
+    moment: u32,
     opened: Vec<bool>,
 }
 
@@ -103,34 +104,34 @@ impl<'a> Seen<'a> {
     {
         Seen {
             symbols,
-            moment: Moment(0),
+            moment: 0,
             opened: Vec::new(alloc),
         }
     }
 
-    /// What is wrong with a line of this item after these.
-    pub fn fault_of(&self, item: &Item) -> Option<ScriptKind>
+    /// What is wrong with a line after these.
+    pub fn fault_of(&self, item: &Line<'_>) -> Option<ScriptKind>
         ensures { result ≡ fault_of self.now item.now }
     {
-        match item {
-            Item::Nothing => None,
-            Item::Moment(n) => {
-                if *n < self.moment {
+        match item.said() {
+            Said::Nothing => None,
+            Said::Moment(n) => {
+                if n < self.moment {
                     Some(ScriptKind::Order)
                 } else {
                     None
                 }
             }
-            Item::Group(symbol, _) => {
+            Said::Group(symbol, _) => {
                 if !self.opened.is_empty() {
                     Some(ScriptKind::Order)
-                } else if has_symbol(self.symbols, *symbol) {
+                } else if has_symbol(self.symbols, symbol) {
                     None
                 } else {
                     Some(ScriptKind::Group)
                 }
             }
-            Item::Open(n) => {
+            Said::Open(n) => {
                 if n.0 as usize != self.opened.len() + 1 {
                     Some(ScriptKind::Order)
                 } else if n.0 <= MOST_CONNECTIONS {
@@ -139,8 +140,8 @@ impl<'a> Seen<'a> {
                     Some(ScriptKind::Many)
                 }
             }
-            Item::Send(n, text) => {
-                if !is_open(&self.opened, *n) {
+            Said::Send(n, text) => {
+                if !is_open(&self.opened, n) {
                     Some(ScriptKind::Order)
                 } else if text.len() <= MOST_TEXT {
                     None
@@ -148,8 +149,8 @@ impl<'a> Seen<'a> {
                     Some(ScriptKind::Long)
                 }
             }
-            Item::Close(n) => {
-                if is_open(&self.opened, *n) {
+            Said::Close(n) => {
+                if is_open(&self.opened, n) {
                     None
                 } else {
                     Some(ScriptKind::Order)
@@ -158,25 +159,25 @@ impl<'a> Seen<'a> {
         }
     }
 
-    /// Goes past an item. Where memory fails nothing changes.
-    pub fn pass(&mut self, item: &Item) -> Result<(), AllocError>
+    /// Goes past a line. Where memory fails nothing changes.
+    pub fn pass(&mut self, item: &Line<'_>) -> Result<(), AllocError>
         ensures ok { OnOk result (self.new ≡ next self.old item.now) }
         ensures err { OnErr result (self.new ≡ self.old) }
     {
-        match item {
-            Item::Nothing => Ok(()),
-            Item::Moment(n) => {
-                self.moment = *n;
+        match item.said() {
+            Said::Nothing => Ok(()),
+            Said::Moment(n) => {
+                self.moment = n;
                 Ok(())
             }
-            Item::Group(_, _) => Ok(()),
-            Item::Open(_) => {
+            Said::Group(_, _) => Ok(()),
+            Said::Open(_) => {
                 self.opened.push(true)?;
                 Ok(())
             }
-            Item::Send(_, _) => Ok(()),
-            Item::Close(n) => {
-                close(&mut self.opened, *n);
+            Said::Send(_, _) => Ok(()),
+            Said::Close(n) => {
+                close(&mut self.opened, n);
                 Ok(())
             }
         }
@@ -218,24 +219,6 @@ fn first_line(bytes: &[u8]) -> (&[u8], &[u8])
     }
 }
 
-/// Why a line was not read.
-#[derive(Clone, Copy, Debug, PartialEq, Eq)]
-pub enum LineEnd {
-    Bad(ScriptKind),
-    NoMemory,
-}
-
-impl From<AllocError> for LineEnd {
-    ghost use Rattle.std.specs.Prelude.{◌≡◌};
-    ghost use Rattle.replay_script.specs.declared.script.LineEnd.TheVariants.{NoMemory};
-
-    ghost from_gives = { λ _ e. e ≡ NoMemory };
-
-    fn from(_: AllocError) -> Self {
-        LineEnd::NoMemory
-    }
-}
-
 /// Why a script was not read.
 #[derive(Clone, Copy, Debug, PartialEq, Eq)]
 pub enum ScriptEnd {
@@ -265,30 +248,33 @@ impl<T: Drop> From<AllocFailed<T>> for ScriptEnd {
     }
 }
 
-/// Reads a line after others.
-fn read_line(alloc: Global, seen: &Seen<'_>, line: &[u8]) -> Result<Item, LineEnd>
+// Reads a line after others.
+fn read_line<'a>(seen: &Seen<'_>, line: &'a [u8]) -> Result<Line<'a>, ScriptKind>
     ensures found { IfOk result (λ i. IsLine line.now i × (fault_of seen.now i ≡ None)) }
-    ensures bad { IfErr result (EndsLine seen.now line.now) }
+    ensures bad { IfErr result (IsFault seen.now line.now) }
 {
     let text = match std::str::from_utf8(line) {
         Ok(text) => text,
-        Err(_) => return Err(LineEnd::Bad(ScriptKind::Utf8)),
+        Err(_) => return Err(ScriptKind::Utf8),
     };
     if has_control(line) {
-        return Err(LineEnd::Bad(ScriptKind::Control));
+        return Err(ScriptKind::Control);
     }
-    match item::read_item(alloc, text) {
-        Err(_) => Err(LineEnd::NoMemory),
-        Ok(None) => Err(LineEnd::Bad(ScriptKind::Form)),
-        Ok(Some(item)) => match seen.fault_of(&item) {
-            Some(kind) => Err(LineEnd::Bad(kind)),
+    match read_item(text) {
+        None => Err(ScriptKind::Form),
+        Some(item) => match seen.fault_of(&item) {
+            Some(kind) => Err(kind),
             None => Ok(item),
         },
     }
 }
 
 // Reads the lines of a script.
-fn read_lines(alloc: Global, bytes: &[u8], symbols: &[char]) -> Result<Vec<Item>, ScriptEnd>
+fn read_lines<'a>(
+    alloc: Global,
+    bytes: &'a [u8],
+    symbols: &[char],
+) -> Result<Vec<Line<'a>>, ScriptEnd>
     requires { length bytes.now < 2 ^ 32 }
     ensures found { IfOk result (λ v. IsScript symbols.now bytes.now v.items) }
     ensures few { IfOk result (λ v. length v.items ≤ length bytes.now) }
@@ -301,9 +287,8 @@ fn read_lines(alloc: Global, bytes: &[u8], symbols: &[char]) -> Result<Vec<Item>
     while !rest.is_empty() {
         let (line, after) = first_line(rest);
         count += 1;
-        match read_line(alloc, &seen, line) {
-            Err(LineEnd::NoMemory) => return Err(ScriptEnd::NoMemory),
-            Err(LineEnd::Bad(kind)) => return Err(ScriptEnd::Bad(count, kind)),
+        match read_line(&seen, line) {
+            Err(kind) => return Err(ScriptEnd::Bad(count, kind)),
             Ok(item) => {
                 seen.pass(&item)?;
                 items.push(item)?;
@@ -314,10 +299,14 @@ fn read_lines(alloc: Global, bytes: &[u8], symbols: &[char]) -> Result<Vec<Item>
     Ok(items)
 }
 
-/// Reads a script where groups have these symbols. A text is one script at most; `Bad` comes exactly
-/// where it is none, with the number of the first line that no script has there, counted from 1, and
-/// what is wrong with it.
-pub fn read_script(alloc: Global, bytes: &[u8], symbols: &[char]) -> Result<Vec<Item>, ScriptEnd>
+/// Reads a script where groups have these symbols. Its lines lend their texts from these bytes. A text is one script at most;
+/// `Bad` comes exactly where it is none, with the number of the first line that no script has there, counted from 1, and what is
+/// wrong with it.
+pub fn read_script<'a>(
+    alloc: Global,
+    bytes: &'a [u8],
+    symbols: &[char],
+) -> Result<Vec<Line<'a>>, ScriptEnd>
     requires { length bytes.now < 2 ^ 32 }
     ensures found { IfOk result (λ v. IsScript symbols.now bytes.now v.items) }
     ensures one { IfOk result (λ v. (items : List Item) → IsScript symbols.now bytes.now items → items ≡ v.items) }

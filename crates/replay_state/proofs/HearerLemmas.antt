@@ -18,7 +18,8 @@ use Rattle.ps_base.specs.declared.why.Why.{Why}
 use Rattle.ps_lines.specs.declared.command.Command.{Command}
 use Rattle.ps_lines.specs.declared.command.Command.TheVariants.{Join, Leave, Quit, Say, Announce, Modnote, Warn, Mute, Unmute, Ban, Unban, Promote, Modchat, Choose, Undo, Forfeit}
 use Rattle.ps_room.specs.declared.entry.Entry.{Entry}
-use Rattle.ps_room.specs.Logs.{Seen, conn_of, record_in, seen_after, touched_by, touched_if, change_to}
+use Rattle.ps_room.specs.Logs.{conn_of, record_in, touched_by, touched_if, change_to}
+use Rattle.replay_state.specs.Kepts.{Kept, kept_after}
 use Rattle.ps_room.proofs.RoleLemmas.{role_next}
 use Rattle.ps_room.specs.Records.{Record, presents_of, cast_in}
 use Rattle.ps_room.specs.Roles.{role_of, role_of_member}
@@ -27,7 +28,7 @@ use Rattle.ps_splitlog.specs.declared.entry.LogEntry.{LogEntry}
 use Rattle.ps_splitlog.specs.declared.entry.Joined.{Joined}
 use Rattle.ps_splitlog.specs.declared.stored.Stored.{Stored}
 use Rattle.ps_splitlog.specs.declared.stored.Stored.TheVariants.{Same, Split}
-use Rattle.ps_splitlog.specs.Entries.{changed, join_for, logged_lines}
+use Rattle.ps_splitlog.specs.Entries.{changed, join_for}
 use Rattle.ps_splitlog.specs.Lines.{shown, shown_lines}
 use Rattle.ps_splitlog.proofs.MessageLemmas.{plain_message}
 use Rattle.ps_view.specs.declared.role.Role.{Role}
@@ -143,9 +144,9 @@ no_member : (k : ℕ) (ps : List Present) → is_among k (map conn_of ps) ≡ fa
 no_member k [] out = refl
 no_member k (p ∷ ps) out = let parts = not_first k p.conn (map conn_of ps) out in rw parts.0 (no_member k ps parts.1)
 
-outside : (k : ℕ) (s : Seen) → is_among k (map conn_of (presents_of (record_in s))) ≡ false → role k (record_in s) ≡ Outside
+outside : (k : ℕ) (s : Kept) → is_among k (map conn_of (presents_of (record_in s.room))) ≡ false → role k (record_in s.room) ≡ Outside
 unfolding role_in
-outside k s out = ap (role_of (cast_in s.battle)) (no_member k (presents_of (record_in s)) out)
+outside k s out = ap (role_of (cast_in s.room.battle)) (no_member k (presents_of (record_in s.room)) out)
 
 -- is shown what it has of its own alone
 not_shown : (k : ℕ) (l : Stored) (ls : List Stored) → is_among k (filter_map own_conn (l ∷ ls)) ≡ false → (shown k Outside l ≡ None) × (is_among k (filter_map own_conn ls) ≡ false)
@@ -165,13 +166,13 @@ none_shown k (l ∷ ls) out = let parts = not_shown k l ls out in rw parts.0 (no
 no_join : (k : ℕ) (h : LogEntry) → (h.conn == k) ≡ false → join_for k h ≡ None
 no_join k h other = rw (ne_eqb k h.conn (λ same. eqb-false h.conn k other (sym same))) refl
 
-no_message : (k : ℕ) (s : Seen) (h : LogEntry) → is_among k (room_hearers s h) ≡ false → next_message k s h ≡ []
+no_message : (k : ℕ) (s : Kept) (h : LogEntry) → is_among k (room_hearers s h) ≡ false → next_message k s h ≡ []
 unfolding next_message
 no_message k s h out =
-    let parts = not_first k h.conn (map conn_of (presents_of (record_in s)) ++ filter_map own_conn h.lines) out in
-    let members = not_left k (map conn_of (presents_of (record_in s))) (filter_map own_conn h.lines) parts.1 in
-    let own = not_right k (map conn_of (presents_of (record_in s))) (filter_map own_conn h.lines) parts.1 in
-    plain_message k (role k (record_in s)) (logged_lines s.log) h (no_join k h parts.0)
+    let parts = not_first k h.conn (map conn_of (presents_of (record_in s.room)) ++ filter_map own_conn h.lines) out in
+    let members = not_left k (map conn_of (presents_of (record_in s.room))) (filter_map own_conn h.lines) parts.1 in
+    let own = not_right k (map conn_of (presents_of (record_in s.room))) (filter_map own_conn h.lines) parts.1 in
+    plain_message k (role k (record_in s.room)) s.backlog h (no_join k h parts.0)
     ∙ ap (λ (r : Role). shown_lines k r h.lines) (outside k s members)
     ∙ none_shown k h.lines own
 
@@ -208,9 +209,9 @@ among_members k cast (p ∷ ps) there = elim (cases_Bool (p.conn == k)) [
   | inr other ↦ rw other (among_members k cast ps (sym (ap (λ (b : Bool). b || is_among k (map conn_of ps)) other) ∙ there))
 ]
 
-inside : (k : ℕ) (s : Seen) → is_among k (map conn_of (presents_of (record_in s))) ≡ true → is_member (role k (record_in s)) ≡ true
+inside : (k : ℕ) (s : Kept) → is_among k (map conn_of (presents_of (record_in s.room))) ≡ true → is_member (role k (record_in s.room)) ≡ true
 unfolding role_in
-inside k s there = among_members k (cast_in s.battle) (presents_of (record_in s)) there
+inside k s there = among_members k (cast_in s.room.battle) (presents_of (record_in s.room)) there
 
 -- the text for who is a member, and none for who isn't
 abbrev for_member : Role → Option (List ℕ) → Option (List ℕ)
@@ -249,12 +250,12 @@ nobody_joins : (b : Bool) (join : Option Joined) → join ≡ None → (if b the
 nobody_joins true join none = none
 nobody_joins false join none = refl
 
-common_message : (k : ℕ) (s : Seen) (h : LogEntry) (t : List ℕ) → common_text h ≡ Some t → next_message k s h ≡ lines_for (role k (record_in s)) t
+common_message : (k : ℕ) (s : Kept) (h : LogEntry) (t : List ℕ) → common_text h ≡ Some t → next_message k s h ≡ lines_for (role k (record_in s.room)) t
 unfolding next_message
 common_message k s h t is =
     let parts = common_parts h.join h.lines t is in
-    plain_message k (role k (record_in s)) (logged_lines s.log) h (nobody_joins (k == h.conn) h.join parts.0)
-    ∙ common_shown k (role k (record_in s)) h.lines t parts.1
+    plain_message k (role k (record_in s.room)) s.backlog h (nobody_joins (k == h.conn) h.join parts.0)
+    ∙ common_shown k (role k (record_in s.room)) h.lines t parts.1
 
 -- ---- heads
 
@@ -275,30 +276,30 @@ one_line : (k : ℕ) (id : List ℕ) (r : Role) (t : List ℕ) → is_member r �
 one_line k id r t full = rw full (sym (head_printed k id t))
 
 -- what a line prints behind the heads of the members is what is printed for all
-pub all_headed : (s : Seen) (h : LogEntry) (t : List ℕ) (count : ℕ) (heads : List Head) → common_text h ≡ Some t → HasHeads s heads
-    → each_headed (t ++ 10 ∷ []) count 0 heads ≡ each_to (λ conn. printed conn (with_id (Some s.id) (next_message conn s h))) count
+pub all_headed : (s : Kept) (h : LogEntry) (t : List ℕ) (count : ℕ) (heads : List Head) → common_text h ≡ Some t → HasHeads s heads
+    → each_headed (t ++ 10 ∷ []) count 0 heads ≡ each_to (λ conn. printed conn (with_id (Some s.room.id) (next_message conn s h))) count
 all_headed s h t count heads is ready =
-    let told : (k : ℕ) → printed k (with_id (Some s.id) (next_message k s h)) ≡ printed k (with_id (Some s.id) (lines_for (role k (record_in s)) t)) =
-    λ k. ap (λ (ls : List (List ℕ)). printed k (with_id (Some s.id) ls)) (common_message k s h t is) in
+    let told : (k : ℕ) → printed k (with_id (Some s.room.id) (next_message k s h)) ≡ printed k (with_id (Some s.room.id) (lines_for (role k (record_in s.room)) t)) =
+    λ k. ap (λ (ls : List (List ℕ)). printed k (with_id (Some s.room.id) ls)) (common_message k s h t is) in
     ap (each_headed (t ++ 10 ∷ []) count 0) ready.heads_are
-    ∙ headed_is s.id (t ++ 10 ∷ []) count 0 ready.conns
-    ∙ each_same (λ conn. head_text s.id conn ++ (t ++ 10 ∷ [])) (λ conn. printed conn (with_id (Some s.id) (next_message conn s h))) count 0 ready.conns
-    (λ k there. sym (told k ∙ one_line k s.id (role k (record_in s)) t (sym (ready.members k) ∙ there)))
-    ∙ each_silent (λ conn. printed conn (with_id (Some s.id) (next_message conn s h))) count ready.conns ready.sorted
-    (λ k out. told k ∙ no_lines k s.id (role k (record_in s)) t (sym (ready.members k) ∙ out))
+    ∙ headed_is s.room.id (t ++ 10 ∷ []) count 0 ready.conns
+    ∙ each_same (λ conn. head_text s.room.id conn ++ (t ++ 10 ∷ [])) (λ conn. printed conn (with_id (Some s.room.id) (next_message conn s h))) count 0 ready.conns
+    (λ k there. sym (told k ∙ one_line k s.room.id (role k (record_in s.room)) t (sym (ready.members k) ∙ there)))
+    ∙ each_silent (λ conn. printed conn (with_id (Some s.room.id) (next_message conn s h))) count ready.conns ready.sorted
+    (λ k out. told k ∙ no_lines k s.room.id (role k (record_in s.room)) t (sym (ready.members k) ∙ out))
 
 -- the heads of the members are ready,
-pub made : (s : Seen) (heads : List Head) (conns : List ℕ) → heads ≡ map (head_of s.id) conns → IsPermutation (map conn_of (presents_of (record_in s))) conns → IsSorted nat_cmp conns → HasHeads s heads
+pub made : (s : Kept) (heads : List Head) (conns : List ℕ) → heads ≡ map (head_of s.room.id) conns → IsPermutation (map conn_of (presents_of (record_in s.room))) conns → IsSorted nat_cmp conns → HasHeads s heads
 made s heads conns are same sorted = record {
   conns = conns;
   heads_are = are;
   sorted = sorted;
-  members = λ k. by k (is_among k (map conn_of (presents_of (record_in s)))) refl;
+  members = λ k. by k (is_among k (map conn_of (presents_of (record_in s.room)))) refl;
 }
   where
-    by : (k : ℕ) (b : Bool) → is_among k (map conn_of (presents_of (record_in s))) ≡ b → is_among k conns ≡ is_member (role k (record_in s))
-    by k true there = sym (list_any-IsPermutation (λ n. n == k) (map conn_of (presents_of (record_in s))) conns same) ∙ there ∙ sym (inside k s there)
-    by k false out = sym (list_any-IsPermutation (λ n. n == k) (map conn_of (presents_of (record_in s))) conns same) ∙ out ∙ sym (ap is_member (outside k s out))
+    by : (k : ℕ) (b : Bool) → is_among k (map conn_of (presents_of (record_in s.room))) ≡ b → is_among k conns ≡ is_member (role k (record_in s.room))
+    by k true there = sym (list_any-IsPermutation (λ n. n == k) (map conn_of (presents_of (record_in s.room))) conns same) ∙ there ∙ sym (inside k s there)
+    by k false out = sym (list_any-IsPermutation (λ n. n == k) (map conn_of (presents_of (record_in s.room))) conns same) ∙ out ∙ sym (ap is_member (outside k s out))
 
 -- and are so after an entry that changes no member
 untouched_by_cmd : (cmd : Command) (ps : List Present) (conn : ℕ) → changes_members cmd ≡ false → touched_by cmd ps conn ≡ []
@@ -323,13 +324,13 @@ untouched_if : (why : Option Why) (r : Record) (e : Entry) → changes_members e
 untouched_if (Some why) r e not = refl
 untouched_if None r e not = untouched_by_cmd e.cmd (presents_of r) e.conn not
 
-still_role : (k : ℕ) (s : Seen) (e : Entry) → changes_members e.cmd ≡ false → role k (record_in s) ≡ role k (record_in (seen_after s e))
+still_role : (k : ℕ) (s : Kept) (e : Entry) → changes_members e.cmd ≡ false → role k (record_in s.room) ≡ role k (record_in (kept_after s e).room)
 unfolding role_in
 still_role k s e not =
-    ap (λ (cs : List ℕ). changed k (map (change_to (after (record_in s) e)) cs) (role k (record_in s))) (sym (untouched_if (verdict (record_in s) e) (record_in s) e not))
-    ∙ role_next k (record_in s) e
+    ap (λ (cs : List ℕ). changed k (map (change_to (after (record_in s.room) e)) cs) (role k (record_in s.room))) (sym (untouched_if (verdict (record_in s.room) e) (record_in s.room) e not))
+    ∙ role_next k (record_in s.room) e
 
-still_has : (s : Seen) (e : Entry) (heads : List Head) → changes_members e.cmd ≡ false → HasHeads s heads → HasHeads (seen_after s e) heads
+still_has : (s : Kept) (e : Entry) (heads : List Head) → changes_members e.cmd ≡ false → HasHeads s heads → HasHeads (kept_after s e) heads
 still_has s e heads not ready = record {
   conns = ready.conns;
   heads_are = ready.heads_are;
@@ -337,22 +338,22 @@ still_has s e heads not ready = record {
   members = λ k. ready.members k ∙ ap is_member (still_role k s e not);
 }
 
-still_by : (s : Seen) (e : Entry) (ready : Bool) (heads : List Head) (b : Bool) → changes_members e.cmd ≡ b → AreReady s ready heads → (if b then false else ready) ≡ true → HasHeads (seen_after s e) heads
+still_by : (s : Kept) (e : Entry) (ready : Bool) (heads : List Head) (b : Bool) → changes_members e.cmd ≡ b → AreReady s ready heads → (if b then false else ready) ≡ true → HasHeads (kept_after s e) heads
 still_by s e ready heads true is old now = absurd cc
 still_by s e ready heads false is old now = still_has s e heads is (old.are now)
 
-pub still : (s new : Seen) (e : Entry) (ready now : Bool) (heads : List Head) → new ≡ seen_after s e → now ≡ still_ready ready e.cmd → AreReady s ready heads → AreReady new now heads
+pub still : (s new : Kept) (e : Entry) (ready now : Bool) (heads : List Head) → new ≡ kept_after s e → now ≡ still_ready ready e.cmd → AreReady s ready heads → AreReady new now heads
 still s new e ready now heads is said old = record {
-  are = λ t. subst (λ (x : Seen). HasHeads x heads) (sym is) (still_by s e ready heads (changes_members e.cmd) refl old (sym said ∙ t));
+  are = λ t. subst (λ (x : Kept). HasHeads x heads) (sym is) (still_by s e ready heads (changes_members e.cmd) refl old (sym said ∙ t));
 }
 
 -- ---- what is printed for them is what is printed for all
 
-pub all_heard : (s : Seen) (h : LogEntry) (count : ℕ) (conns : List ℕ) → IsPermutation (room_hearers s h) conns → IsSorted nat_cmp conns
-    → each_of (λ conn. printed conn (with_id (Some s.id) (next_message conn s h))) count 0 conns ≡ each_to (λ conn. printed conn (with_id (Some s.id) (next_message conn s h))) count
+pub all_heard : (s : Kept) (h : LogEntry) (count : ℕ) (conns : List ℕ) → IsPermutation (room_hearers s h) conns → IsSorted nat_cmp conns
+    → each_of (λ conn. printed conn (with_id (Some s.room.id) (next_message conn s h))) count 0 conns ≡ each_to (λ conn. printed conn (with_id (Some s.room.id) (next_message conn s h))) count
 all_heard s h count conns same sorted =
-    each_heard (λ conn. printed conn (with_id (Some s.id) (next_message conn s h))) count (room_hearers s h) conns same sorted
-    (λ k out. ap (λ (ls : List (List ℕ)). printed k (with_id (Some s.id) ls)) (no_message k s h out))
+    each_heard (λ conn. printed conn (with_id (Some s.room.id) (next_message conn s h))) count (room_hearers s h) conns same sorted
+    (λ k out. ap (λ (ls : List (List ℕ)). printed k (with_id (Some s.room.id) ls)) (no_message k s h out))
 
 pub all_told : (ns : List Notice) (count : ℕ) (conns : List ℕ) → IsPermutation (notice_hearers ns) conns → IsSorted nat_cmp conns
     → each_of (λ conn. printed conn (with_id None (halls.message_of conn ns))) count 0 conns ≡ each_to (λ conn. printed conn (with_id None (halls.message_of conn ns))) count

@@ -22,3 +22,4 @@ pub mod OrderLemmas
 pub mod EndLemmas
 pub mod LedgerLemmas
 pub mod HearerLemmas
+pub mod KeptLemmas

@@ -8,7 +8,8 @@ use Rattle.std.proofs.lemmas.List.Concat.{flat_map-append}
 use Rattle.std.proofs.lemmas.Option.{slice_get-map}
 use Rattle.ps_room.specs.declared.entry.Entry.{Entry}
 use Rattle.ps_room.specs.Openings.{Opening}
-use Rattle.ps_room.specs.Logs.{Seen, seen_opened}
+use Rattle.replay_state.specs.Kepts.{Kept, kept_opened}
+use Rattle.replay_state.proofs.KeptLemmas.{message_kept}
 use Rattle.ps_room.proofs.PullLemmas as rooms
 use Rattle.ps_room.specs.Stories.{Story, seen_of}
 use Rattle.replay_script.specs.declared.item.Item.{Item}
@@ -20,7 +21,7 @@ use Rattle.ps_room.specs.Openings.{first_battle}
 use Rattle.replay_state.specs.Setup.{Setup, chat_openings}
 use Rattle.replay_state.specs.Worlds.{Place, World, place_of, hall_in, record_of, story_at, world_after, world_message, room_message, room_id, no_story}
 use Rattle.replay_state.specs.Nows.{Standing, Now, standing_of, now_of, room_at, record_at}
-use Rattle.replay_state.specs.Houses.{House, standing, now_in, seen_at, house_after, id_of, house_id, next_message, seen_message, house_message, house_opening, house_of}
+use Rattle.replay_state.specs.Houses.{House, standing, now_in, seen_at, house_after, id_of, house_id, next_message, seen_message, house_message, house_opening, kept_in, house_of}
 use Rattle.replay_state.specs.Entries.{Run, Line, state_of, run_opening, run_after, run_past, line_in, line_at, end_at, entries_in, worlds_after, moment_after}
 use Rattle.replay_state.specs.Transcript.{Message, told, over, message_if, messages_to, signs_from, signs_in, print, print_sign, printed, with_id, output}
 use Rattle.replay_state.specs.Tables.{Desk, state_in, desk_of, fresh, printed_for, entry_text, happenings_text, happenings_after, item_text, line_text, line_after, item_after, text_from, desk_after}
@@ -46,25 +47,25 @@ record_is number w = ap (option_map (λ (s : Standing). s.state)) (room_is numbe
 
 -- ---- a room as the code keeps it, in its story
 
-seen_by : (number : ℕ) (w : World) (b : Bool) → cond b (slice_get (map seen_of w.chats) number) (slice_get (map seen_of w.battles) (number - first_battle)) ≡ option_map seen_of (cond b (slice_get w.chats number) (slice_get w.battles (number - first_battle)))
-seen_by number w true = slice_get-map seen_of w.chats number
-seen_by number w false = slice_get-map seen_of w.battles (number - first_battle)
+seen_by : (number : ℕ) (w : World) (b : Bool) → cond b (slice_get (map kept_in w.chats) number) (slice_get (map kept_in w.battles) (number - first_battle)) ≡ option_map kept_in (cond b (slice_get w.chats number) (slice_get w.battles (number - first_battle)))
+seen_by number w true = slice_get-map kept_in w.chats number
+seen_by number w false = slice_get-map kept_in w.battles (number - first_battle)
 
-seen_is : (number : ℕ) (w : World) → seen_at number (house_of w) ≡ option_map seen_of (story_at number w)
+seen_is : (number : ℕ) (w : World) → seen_at number (house_of w) ≡ option_map kept_in (story_at number w)
 seen_is number w = seen_by number w (nat_lt number first_battle)
 
-id_in : (o : Option Story) → id_of (option_map seen_of o) ≡ option_map_or (λ (s : Story). s.opening.id) o []
+id_in : (o : Option Story) → id_of (option_map kept_in o) ≡ option_map_or (λ (s : Story). s.opening.id) o []
 id_in None = refl
 id_in (Some s) = rooms.id_is s.opening s.history
 
 id_is : (w : World) (p : Placed) → house_id (house_of w) p ≡ room_id w p
 id_is w (Hall e) = refl
-id_is w (Room number e) = ap (λ (o : Option Seen). Some (id_of o)) (seen_is number w) ∙ ap (λ (x : List ℕ). Some x) (id_in (story_at number w))
+id_is w (Room number e) = ap (λ (o : Option Kept). Some (id_of o)) (seen_is number w) ∙ ap (λ (x : List ℕ). Some x) (id_in (story_at number w))
 
-message_in : (conn : ℕ) (e : Entry) (o : Option Story) → seen_message conn e (option_map seen_of o) ≡ room_message conn e (option_map record_of o)
+message_in : (conn : ℕ) (e : Entry) (o : Option Story) → seen_message conn e (option_map kept_in o) ≡ room_message conn e (option_map record_of o)
 unfolding next_message
 message_in conn e None = refl
-message_in conn e (Some s) = rooms.next_is conn s.opening s.history e
+message_in conn e (Some s) = message_kept conn (seen_of s) e ∙ rooms.next_is conn s.opening s.history e
 
 message_is : (conn : ℕ) (w : World) (p : Placed) → house_message conn (house_of w) p ≡ world_message conn w p
 message_is conn w (Hall e) = refl
@@ -110,12 +111,12 @@ house_past w (happening.Ended conn ∷ xs) = house_past w xs
 
 -- ---- what a line brings about
 
-standing_in : (s : Story) → standing (seen_of s) ≡ blank_standing (standing_of s)
+standing_in : (s : Story) → standing (kept_in s) ≡ blank_standing (standing_of s)
 standing_in s i = record { id = rooms.id_is s.opening s.history i; state = rooms.record_is s.opening s.history i }
 
-standings_in : (ss : List Story) → map standing (map seen_of ss) ≡ map blank_standing (map standing_of ss)
+standings_in : (ss : List Story) → map standing (map kept_in ss) ≡ map blank_standing (map standing_of ss)
 standings_in [] = refl
-standings_in (s ∷ ss) = ap (λ (x : Standing). x ∷ map standing (map seen_of ss)) (standing_in s) ∙ ap (λ (xs : List Standing). blank_standing (standing_of s) ∷ xs) (standings_in ss)
+standings_in (s ∷ ss) = ap (λ (x : Standing). x ∷ map standing (map kept_in ss)) (standing_in s) ∙ ap (λ (xs : List Standing). blank_standing (standing_of s) ∷ xs) (standings_in ss)
 
 pub now_is : (w : World) → now_in (house_of w) ≡ blank_now (now_of w)
 now_is w i = record { hall = hall_in w; chats = standings_in w.chats i; battles = standings_in w.battles i; numbers = w.numbers }
@@ -157,12 +158,12 @@ text_behind d (i ∷ is) js =
     ap (λ (x : List ℕ). item_text d i ++ x) (text_behind (item_after d i) is js)
     ∙ sym (append_assoc (item_text d i) (text_from (item_after d i) is) (text_from (desk_after (item_after d i) is) js))
 
-opened_stories : (os : List Opening) → map seen_of (map no_story os) ≡ map seen_opened os
+opened_stories : (os : List Opening) → map kept_in (map no_story os) ≡ map kept_opened os
 opened_stories [] = refl
-opened_stories (o ∷ os) = ap (λ (x : List Seen). seen_opened o ∷ x) (opened_stories os)
+opened_stories (o ∷ os) = ap (λ (x : List Kept). kept_opened o ∷ x) (opened_stories os)
 
 pub fresh_is : (s : Setup) → fresh s ≡ desk_of (run_opening s)
-fresh_is s = ap (λ (chats : List Seen). record (fresh s) { house = record (house_opening s) { chats = chats } }) (sym (opened_stories (chat_openings s)))
+fresh_is s = ap (λ (chats : List Kept). record (fresh s) { house = record (house_opening s) { chats = chats } }) (sym (opened_stories (chat_openings s)))
 
 pub output_is : (s : Setup) (items : List Item) → text_from (fresh s) items ≡ output s items
 output_is s items = ap (λ (x : Desk). text_from x items) (fresh_is s) ∙ text_is (run_opening s) items

@@ -8,7 +8,8 @@ use Rattle.ps_lines.specs.declared.command.Command.{Command}
 use Rattle.ps_lines.specs.declared.command.Command.TheVariants.{Join, Leave, Quit, Ban, Promote}
 use Rattle.ps_view.specs.Roles.{is_member}
 use Rattle.ps_room.specs.Rooms.{role}
-use Rattle.ps_room.specs.Logs.{Seen, record_in}
+use Rattle.ps_room.specs.Logs.{record_in}
+use Rattle.replay_state.specs.Kepts.{Kept}
 use Rattle.replay_state.specs.declared.heads.Head.{Head}
 use Rattle.replay_state.specs.Tables.{is_next}
 
@@ -25,14 +26,14 @@ each_headed end n last [] = []
 each_headed end n last (h ∷ hs) = if is_next last n h.conn then h.text ++ end ++ each_headed end n h.conn hs else each_headed end n last hs
 
 -- there is one for each member, in ascending number
-pub record HasHeads (s : Seen) (heads : List Head) : Type 0 where
+pub record HasHeads (s : Kept) (heads : List Head) : Type 0 where
   pub conns : List ℕ
-  pub heads_are : heads ≡ map (head_of s.id) conns
+  pub heads_are : heads ≡ map (head_of s.room.id) conns
   pub sorted : IsSorted nat_cmp conns
-  pub members : (conn : ℕ) → list_any (λ c. c == conn) conns ≡ is_member (role conn (record_in s))
+  pub members : (conn : ℕ) → list_any (λ c. c == conn) conns ≡ is_member (role conn (record_in s.room))
 
 -- they are, if it says that they are ready
-pub record AreReady (s : Seen) (ready : Bool) (heads : List Head) : Type 0 where
+pub record AreReady (s : Kept) (ready : Bool) (heads : List Head) : Type 0 where
   pub are : ready ≡ true → HasHeads s heads
 
 -- whether a command may change who is a member

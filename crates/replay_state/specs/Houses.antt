@@ -1,4 +1,4 @@
--- The hall and the rooms as the code keeps them: of each room its log in the place of what was logged. No statement of the top
+-- The hall and the rooms as the code keeps them: of what a room logged what who joins may still be shown. No statement of the top
 -- call rests on this file.
 use Rattle.std.specs.Prelude.{ℕ, ◌-◌, List, [], ◌∷◌, ◌++◌, map, slice_get, slice_set, nat_lt, Option, Some, None, if◌then◌else◌}
 use Rattle.std.specs.List.{filter_map}
@@ -16,15 +16,16 @@ use Rattle.ps_splitlog.specs.declared.entry.LogEntry.{LogEntry}
 use Rattle.ps_splitlog.specs.declared.entry.Joined.{Joined}
 use Rattle.ps_splitlog.specs.declared.stored.Stored.{Stored}
 use Rattle.ps_splitlog.specs.declared.stored.Stored.TheVariants.{Same, Split}
-use Rattle.ps_splitlog.specs.Entries.{logged_lines, message_of}
+use Rattle.ps_splitlog.specs.Entries.{message_of}
 use Rattle.ps_room.specs.declared.entry.Entry.{Entry}
 use Rattle.ps_room.specs.Rooms.{role}
 use Rattle.ps_room.specs.Records.{presents_of}
-use Rattle.ps_room.specs.Logs.{Seen, conn_of, record_in, given, seen_opened, seen_after}
+use Rattle.ps_room.specs.Logs.{conn_of, record_in, given}
 use Rattle.replay_state.specs.declared.place.Placed.{Placed}
 use Rattle.replay_state.specs.declared.place.Placed.TheVariants.{Hall, Room}
 use Rattle.ps_room.specs.Openings.{first_battle}
-use Rattle.ps_room.specs.Stories.{seen_of}
+use Rattle.ps_room.specs.Stories.{Story, seen_of}
+use Rattle.replay_state.specs.Kepts.{Kept, kept, kept_opened, kept_after}
 use Rattle.replay_state.specs.Setup.{Setup, opened_hall, chat_openings}
 use Rattle.replay_state.specs.Worlds.{World, with_number, numbers_from, hall_in, opening_in, started_by}
 use Rattle.replay_state.specs.Nows.{Standing, Now}
@@ -33,14 +34,14 @@ use Rattle.replay_state.specs.Nows.{Standing, Now}
 -- the number of each room, by its id
 pub record House : Type 0 where
   pub hall : HallRecord
-  pub chats : List Seen
-  pub battles : List Seen
+  pub chats : List Kept
+  pub battles : List Kept
   pub numbers : ById ℕ
 
 -- ---- what they are, but for what was logged: what a line brings about doesn't look at that
 
-abbrev pub standing : Seen → Standing
-standing s = record { id = s.id; state = record_in s }
+abbrev pub standing : Kept → Standing
+standing k = record { id = k.room.id; state = record_in k.room }
 
 abbrev pub now_in : House → Now
 now_in k = record { hall = k.hall; chats = map standing k.chats; battles = map standing k.battles; numbers = k.numbers }
@@ -48,16 +49,16 @@ now_in k = record { hall = k.hall; chats = map standing k.chats; battles = map s
 -- ---- one entry more
 
 -- a room by its number
-abbrev pub seen_at : ℕ → House → Option Seen
+abbrev pub seen_at : ℕ → House → Option Kept
 seen_at number k = if nat_lt number first_battle then slice_get k.chats number else slice_get k.battles (number - first_battle)
 
-abbrev pub seen_rooms_after : List Seen → ℕ → Entry → List Seen
-seen_rooms_after rooms place e = option_map_or (λ s. slice_set rooms place (seen_after s e)) (slice_get rooms place) rooms
+abbrev pub seen_rooms_after : List Kept → ℕ → Entry → List Kept
+seen_rooms_after rooms place e = option_map_or (λ k. slice_set rooms place (kept_after k e)) (slice_get rooms place) rooms
 
 -- a battle that this hall starts has its room from then on
 abbrev pub begin : HallRecord → Option Start → House → House
 begin h None k = k
-begin h (Some start) k = record k { battles = k.battles ++ seen_opened (opening_in h start) ∷ []; numbers = with_number k.numbers (opening_in h start) }
+begin h (Some start) k = record k { battles = k.battles ++ kept_opened (opening_in h start) ∷ []; numbers = with_number k.numbers (opening_in h start) }
 
 abbrev pub house_hall : House → HallEntry → House
 house_hall k e = record k { hall = halls.after k.hall e }
@@ -71,8 +72,8 @@ house_after k (Room number e) = house_room k number e
 
 -- ---- what is told
 
-abbrev pub id_of : Option Seen → List ℕ
-id_of found = option_map_or (λ s. s.id) found []
+abbrev pub id_of : Option Kept → List ℕ
+id_of found = option_map_or (λ k. k.room.id) found []
 
 -- the id of the room of an entry, which is the text behind `>` in its messages
 abbrev pub house_id : House → Placed → Option (List ℕ)
@@ -80,13 +81,13 @@ house_id k (Hall e) = None
 house_id k (Room number e) = Some (id_of (seen_at number k))
 
 -- what a connection is sent at a room's next entry, of which the log will have this
-unfoldable pub next_message : ℕ → Seen → LogEntry → List (List ℕ)
-next_message conn s h = message_of conn (role conn (record_in s)) (logged_lines s.log) h
+unfoldable pub next_message : ℕ → Kept → LogEntry → List (List ℕ)
+next_message conn k h = message_of conn (role conn (record_in k.room)) k.backlog h
 
 -- what it is sent at an entry of a room
-abbrev pub seen_message : ℕ → Entry → Option Seen → List (List ℕ)
+abbrev pub seen_message : ℕ → Entry → Option Kept → List (List ℕ)
 seen_message conn e None = []
-seen_message conn e (Some s) = next_message conn s (given (record_in s) e)
+seen_message conn e (Some k) = next_message conn k (given (record_in k.room) e)
 
 -- what a connection is sent at an entry
 abbrev pub house_message : ℕ → House → Placed → List (List ℕ)
@@ -105,8 +106,8 @@ own_conn (Same audience logged text) = one_of audience
 own_conn (Split side logged secret public) = None
 
 -- who may be sent something at a room's next entry: who made it, the members, and who has a line of its own
-abbrev pub room_hearers : Seen → LogEntry → List ℕ
-room_hearers s h = h.conn ∷ map conn_of (presents_of (record_in s)) ++ filter_map own_conn h.lines
+abbrev pub room_hearers : Kept → LogEntry → List ℕ
+room_hearers k h = h.conn ∷ map conn_of (presents_of (record_in k.room)) ++ filter_map own_conn h.lines
 
 -- the text of a line for all members
 abbrev pub text_for_all : Audience → List ℕ → Option (List ℕ)
@@ -142,9 +143,13 @@ notice_hearers ns = map told_conn ns
 
 -- before the first entry
 abbrev pub house_opening : Setup → House
-house_opening s = record { hall = opened_hall s; chats = map seen_opened (chat_openings s); battles = []; numbers = numbers_from empty (chat_openings s) }
+house_opening s = record { hall = opened_hall s; chats = map kept_opened (chat_openings s); battles = []; numbers = numbers_from empty (chat_openings s) }
 
 -- ---- of a world
 
+-- a room of it
+abbrev pub kept_in : Story → Kept
+kept_in s = kept (seen_of s)
+
 abbrev pub house_of : World → House
-house_of w = record { hall = hall_in w; chats = map seen_of w.chats; battles = map seen_of w.battles; numbers = w.numbers }
+house_of w = record { hall = hall_in w; chats = map kept_in w.chats; battles = map kept_in w.battles; numbers = w.numbers }

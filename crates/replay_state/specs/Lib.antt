@@ -12,3 +12,4 @@ pub mod OneEntry
 pub mod TwoWorlds
 pub mod WholeHall
 pub mod Tables
+pub mod Kepts

@@ -8,9 +8,9 @@ ghost use Rattle.ps_base.specs.Lists.{each_to};
 
 use crate::hearers;
 use crate::play::is_next;
+use crate::short_room::ShortRoom;
 use ps_base::text::Text;
 use ps_lines::command::Command;
-use ps_room::room::Room;
 use ps_splitlog::entry::LogEntry;
 use std::alloc::{AllocError, Global};
 
@@ -50,7 +50,7 @@ fn push_all(alloc: Global, list: &mut Vec<Head>, id: &str, conns: &[u32]) -> Res
 }
 
 // Makes the heads of a room's members.
-fn renew(alloc: Global, room: &Room, list: &mut Vec<Head>) -> Result<(), AllocError>
+fn renew(alloc: Global, room: &ShortRoom, list: &mut Vec<Head>) -> Result<(), AllocError>
     ensures { OnOk result (HasHeads room.now list.new.items) }
 {
     let conns = hearers::of_members(alloc, room)?;
@@ -60,7 +60,7 @@ fn renew(alloc: Global, room: &Room, list: &mut Vec<Head>) -> Result<(), AllocEr
 }
 
 // Makes the heads of a room's members, if they aren't ready.
-fn make_ready(alloc: Global, room: &Room, heads: &mut Heads) -> Result<(), AllocError>
+fn make_ready(alloc: Global, room: &ShortRoom, heads: &mut Heads) -> Result<(), AllocError>
     requires { AreReady room.now heads.old.ready heads.old.list.items }
     ensures kept { AreReady room.now heads.new.ready heads.new.list.items }
     ensures ready { OnOk result (HasHeads room.now heads.new.list.items) }
@@ -109,7 +109,7 @@ pub(crate) fn push_common(
     alloc: Global,
     out: &mut String,
     count: u32,
-    room: &Room,
+    room: &ShortRoom,
     heads: &mut Heads,
     log_entry: &LogEntry,
     line: &Text,
@@ -118,7 +118,7 @@ pub(crate) fn push_common(
     requires ready { AreReady room.now heads.old.ready heads.old.list.items }
     ensures kept { AreReady room.now heads.new.ready heads.new.list.items }
     ensures text { OnOk result (string_bytes out.new ≡ string_bytes out.old
-        ++ each_to (λ conn. printed conn (with_id (Some room.now.id) (next_message conn room.now log_entry.now))) count) }
+        ++ each_to (λ conn. printed conn (with_id (Some room.now.room.id) (next_message conn room.now log_entry.now))) count) }
 {
     make_ready(alloc, room, heads)?;
     push_behind(

@@ -8,11 +8,11 @@ ghost use Rattle.ps_room.specs.Logs.{conn_of, record_in};
 ghost use Rattle.ps_room.specs.Records.{presents_of};
 ghost use Rattle.replay_state.specs.Houses.{one_of, own_conn, room_hearers, text_for_all, common_of, common_text, told_conn, notice_hearers};
 
+use crate::short_room::ShortRoom;
 use ps_base::text::Text;
 use ps_chat::present::Present;
 use ps_event::audience::Audience;
 use ps_hall::notice::Notice;
-use ps_room::room::Room;
 use ps_splitlog::entry::LogEntry;
 use ps_splitlog::stored::Stored;
 use std::alloc::{AllocError, Global};
@@ -58,7 +58,11 @@ fn push_own(conns: &mut Vec<u32>, lines: &[Stored]) -> Result<(), AllocError>
 
 /// Who may be sent something at an entry of a room that comes next: who made it, the members, and who has a line of its own.
 /// Some may stand there more than once.
-pub fn of_room(alloc: Global, room: &Room, log_entry: &LogEntry) -> Result<Vec<u32>, AllocError>
+pub fn of_room(
+    alloc: Global,
+    room: &ShortRoom,
+    log_entry: &LogEntry,
+) -> Result<Vec<u32>, AllocError>
     ensures all { IfOk result (λ v. IsPermutation (room_hearers room.now log_entry.now) v.items) }
     ensures sorted { IfOk result (λ v. IsSorted nat_cmp v.items) }
 {
@@ -104,8 +108,8 @@ pub fn common_text(log_entry: &LogEntry) -> Option<&Text>
 }
 
 /// The members of a room.
-pub fn of_members(alloc: Global, room: &Room) -> Result<Vec<u32>, AllocError>
-    ensures all { IfOk result (λ v. IsPermutation (map conn_of (presents_of (record_in room.now))) v.items) }
+pub fn of_members(alloc: Global, room: &ShortRoom) -> Result<Vec<u32>, AllocError>
+    ensures all { IfOk result (λ v. IsPermutation (map conn_of (presents_of (record_in room.now.room))) v.items) }
     ensures sorted { IfOk result (λ v. IsSorted nat_cmp v.items) }
 {
     let members = room.members();

@@ -10,5 +10,6 @@ mod play;
 mod print;
 pub mod ranks;
 mod replay_room;
+mod short_room;
 pub mod table;
 pub mod transcript;

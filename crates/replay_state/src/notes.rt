@@ -10,7 +10,7 @@ use ps_base::id::Id;
 use ps_base::text::Text;
 use ps_hall::entry::HallEntry;
 use ps_hall::game::Game;
-use ps_hall::hall::Hall;
+use ps_hall::hall_state::HallState;
 use ps_keep::note::{ActKind, Note};
 use ps_lines::command::{Command, HallCmd};
 use ps_room::entry::Entry;
@@ -117,10 +117,10 @@ fn won_in(
 /// The rated battle that was won whose end an entry of the hall reports, if it is one.
 pub(crate) fn won_by(
     alloc: Global,
-    hall: &Hall,
+    hall: &HallState,
     entry: &HallEntry,
 ) -> Result<Option<Note>, AllocError>
-    ensures { IfOk result (λ n. n ≡ won_by hall.now.state entry.now.cmd) }
+    ensures { IfOk result (λ n. n ≡ won_by hall.now entry.now.cmd) }
 {
     match &entry.cmd {
         HallCmd::Report { number, winner } => won_in(alloc, hall.game(*number), *winner),

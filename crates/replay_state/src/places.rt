@@ -10,7 +10,8 @@ ghost use Rattle.ps_hall.specs.Lookups.{badge_of};
 ghost use Rattle.replay_state.specs.declared.place.Placed.TheVariants as placed;
 ghost use Rattle.ps_room.specs.Openings.{chat_opening, chats_from, battle_opening};
 ghost use Rattle.replay_state.specs.Worlds.{with_number, numbers_from, started_by};
-ghost use Rattle.ps_room.specs.Logs.{record_in, seen_opened, ended_in};
+ghost use Rattle.ps_room.specs.Logs.{record_in, ended_in};
+ghost use Rattle.replay_state.specs.Kepts.{kept_opened};
 ghost use Rattle.replay_state.specs.Nows.{room_at, record_at};
 ghost use Rattle.replay_state.specs.Houses.{House, standing, now_in, begin, house_opening, house_after};
 ghost use Rattle.replay_state.specs.Entries.{is_member, quit_of, quit_in, room_quits, named_quits, quits, is_open, out_at, ending_at};
@@ -31,9 +32,9 @@ use ps_base::limit::MOST_BATTLES;
 use ps_base::number::{ConnNo, Moment, RoomNo};
 use ps_dex::dex::Dex;
 use ps_hall::entry::HallEntry;
-use ps_hall::hall::Hall;
+use ps_hall::hall_state::HallState;
 use ps_hall::notice::Notice;
-use ps_hall::outcome::{HallOut, HallVerdict};
+use ps_hall::outcome::{HallOut, HallVerdict, Told};
 use ps_keep::note::Note;
 use ps_lines::command::{Command, HallCmd};
 use ps_room::entry::Entry;
@@ -50,7 +51,7 @@ use std::sync::Arc;
 /// The hall, the chat rooms by their numbers, the rooms of battles in the order in which these started, and the number of
 /// each room by its id.
 pub struct Places {
-    hall: Hall,
+    hall: HallState,
     chats: Vec<ReplayRoom>,
     battles: Vec<ReplayRoom>,
     numbers: IdMap<u32>,
@@ -81,7 +82,7 @@ impl Model for Places {
 
     ghost coded = { Prim.hlevel (codes, by_id_code, by_conn_code, coded_ℕ, coded_ℤ, coded_unit) };
 
-    ghost view = { λ p. record { hall = p.hall.state; chats = p.chats.items; battles = p.battles.items; numbers = p.numbers } };
+    ghost view = { λ p. record { hall = p.hall; chats = p.chats.items; battles = p.battles.items; numbers = p.numbers } };
 
     ghost invariant = { λ p. (length p.chats.items ≤ 16) × (length p.battles.items ≤ most_battles) };
 }
@@ -95,7 +96,7 @@ fn open_chat(
     no: u32,
     room: &ChatRoom,
 ) -> Result<ReplayRoom, AllocError>
-    ensures { IfOk result (λ r. r ≡ seen_opened (chat_opening (arc_value config.now) (arc_value dex.now) no room.now)) }
+    ensures { IfOk result (λ r. r ≡ kept_opened (chat_opening (arc_value config.now) (arc_value dex.now) no room.now)) }
 {
     let opening = chat_opening(alloc, config, dex, no, room)?;
     ReplayRoom::new(alloc, opening)
@@ -111,7 +112,7 @@ fn push_chat(
     no: u32,
     room: &ChatRoom,
 ) -> Result<(), AllocError>
-    ensures chats { OnOk result (chats.new.items ≡ chats.old.items ++ seen_opened (chat_opening (arc_value config.now) (arc_value dex.now) no room.now) ∷ []) }
+    ensures chats { OnOk result (chats.new.items ≡ chats.old.items ++ kept_opened (chat_opening (arc_value config.now) (arc_value dex.now) no room.now) ∷ []) }
     ensures count { OnOk result (length chats.new.items ≡ length chats.old.items + 1) }
     ensures numbers { OnOk result (numbers.new ≡ with_number numbers.old (chat_opening (arc_value config.now) (arc_value dex.now) no room.now)) }
 {
@@ -131,7 +132,7 @@ fn open_chats(
     rooms: &[ChatRoom],
 ) -> Result<(), AllocError>
     requires { no + length rooms.now ≤ 16 }
-    ensures chats { OnOk result (chats.new.items ≡ chats.old.items ++ map seen_opened (chats_from (arc_value config.now) (arc_value dex.now) no rooms.now)) }
+    ensures chats { OnOk result (chats.new.items ≡ chats.old.items ++ map kept_opened (chats_from (arc_value config.now) (arc_value dex.now) no rooms.now)) }
     ensures count { OnOk result (length chats.new.items ≡ length chats.old.items + length rooms.now) }
     ensures numbers { OnOk result (numbers.new ≡ numbers_from numbers.old (chats_from (arc_value config.now) (arc_value dex.now) no rooms.now)) }
 {
@@ -155,7 +156,7 @@ fn begin(
 ) -> Result<(), AllocError>
     requires few { length battles.old.items ≤ most_battles }
     requires fit { IsFit start (arc_value config) (arc_value dex) }
-    ensures battles { OnOk result (battles.new.items ≡ battles.old.items ++ seen_opened (battle_opening (arc_value config) (arc_value dex) start) ∷ []) }
+    ensures battles { OnOk result (battles.new.items ≡ battles.old.items ++ kept_opened (battle_opening (arc_value config) (arc_value dex) start) ∷ []) }
     ensures count { length battles.new.items ≤ most_battles }
     ensures numbers { OnOk result (numbers.new ≡ with_number numbers.old (battle_opening (arc_value config) (arc_value dex) start)) }
 {
@@ -195,7 +196,7 @@ fn quit_of(
 }
 
 fn is_member(room: &ReplayRoom, conn: ConnNo) -> bool
-    ensures { result ≡ is_member conn (record_in room.now) }
+    ensures { result ≡ is_member conn (record_in room.now.room) }
 {
     match room.role(conn) {
         Role::Outside => false,
@@ -291,7 +292,7 @@ impl Places {
             0,
             config.rooms(),
         )?;
-        let hall = Hall::new(alloc, config, dex, ranks)?;
+        let hall = HallState::new(alloc, config, dex, ranks)?;
         Ok(Places {
             hall,
             chats,
@@ -396,12 +397,13 @@ impl Places {
         let config = self.hall.config().clone()?;
         let dex = self.hall.dex().clone()?;
         let won = self.asked_won(alloc, &out.ledger, entry)?;
+        let Told { out: made, notices } = self.hall.apply(alloc, entry)?;
         let HallOut {
             verdict,
             badge,
             start,
-        } = self.hall.apply(alloc, entry)?;
-        push_applied(alloc, conns, self.hall.told(), verdict, won, out)?;
+        } = made;
+        push_applied(alloc, conns, notices.as_slice(), verdict, won, out)?;
         match start {
             None => Ok(badge),
             Some(start) => {

@@ -6,10 +6,10 @@ ghost use Rattle.replay_state.specs.Transcript.{printed, with_id};
 ghost use Rattle.replay_state.specs.Tables.{is_next, each_of};
 ghost use Rattle.ps_base.specs.Lists.{each_to};
 
+use crate::short_room::ShortRoom;
 use crate::{hearers, print};
 use ps_base::number::ConnNo;
 use ps_hall::notice::Notice;
-use ps_room::room::Room;
 use ps_splitlog::entry::LogEntry;
 use ps_splitlog::read::join_for;
 use std::alloc::{AllocError, Global};
@@ -57,16 +57,15 @@ pub fn push_hall_told(
 }
 
 // Prints what an entry of a room gives to one connection, of which a message is made.
-#[tactic(auto, unfolding(crate::specs::Houses::next_message))]
 fn push_made(
     alloc: Global,
     out: &mut String,
     conn: ConnNo,
-    room: &Room,
+    room: &ShortRoom,
     log_entry: &LogEntry,
 ) -> Result<(), AllocError>
     ensures { OnOk result (string_bytes out.new ≡ string_bytes out.old
-        ++ printed conn (with_id (Some room.now.id) (next_message conn room.now log_entry.now))) }
+        ++ printed conn (with_id (Some room.now.room.id) (next_message conn room.now log_entry.now))) }
 {
     let lines = room.message(alloc, conn, log_entry)?;
     print::push_room_message(out, conn, room.id(), lines.as_slice())?;
@@ -79,11 +78,11 @@ fn push_log_entry(
     alloc: Global,
     out: &mut String,
     conn: ConnNo,
-    room: &Room,
+    room: &ShortRoom,
     log_entry: &LogEntry,
 ) -> Result<(), AllocError>
     ensures { OnOk result (string_bytes out.new ≡ string_bytes out.old
-        ++ printed conn (with_id (Some room.now.id) (next_message conn room.now log_entry.now))) }
+        ++ printed conn (with_id (Some room.now.room.id) (next_message conn room.now log_entry.now))) }
 {
     match join_for(conn, log_entry) {
         Some(_) => push_made(alloc, out, conn, room, log_entry),
@@ -102,12 +101,12 @@ fn push_each_log_entry(
     alloc: Global,
     out: &mut String,
     count: u32,
-    room: &Room,
+    room: &ShortRoom,
     log_entry: &LogEntry,
     conns: &[u32],
 ) -> Result<(), AllocError>
     ensures { OnOk result (string_bytes out.new ≡ string_bytes out.old
-        ++ each_of (λ conn. printed conn (with_id (Some room.now.id) (next_message conn room.now log_entry.now))) count 0 conns.now) }
+        ++ each_of (λ conn. printed conn (with_id (Some room.now.room.id) (next_message conn room.now log_entry.now))) count 0 conns.now) }
 {
     let mut last = 0;
     for conn in conns {
@@ -124,11 +123,11 @@ pub(crate) fn push_by_role(
     alloc: Global,
     out: &mut String,
     count: u32,
-    room: &Room,
+    room: &ShortRoom,
     log_entry: &LogEntry,
 ) -> Result<(), AllocError>
     ensures { OnOk result (string_bytes out.new ≡ string_bytes out.old
-        ++ each_to (λ conn. printed conn (with_id (Some room.now.id) (next_message conn room.now log_entry.now))) count) }
+        ++ each_to (λ conn. printed conn (with_id (Some room.now.room.id) (next_message conn room.now log_entry.now))) count) }
 {
     let conns = hearers::of_room(alloc, room, log_entry)?;
     push_each_log_entry(alloc, out, count, room, log_entry, conns.as_slice())?;

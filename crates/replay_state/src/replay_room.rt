@@ -1,7 +1,8 @@
 //! A room of a replay.
 ghost use Rattle.std.specs.Prelude.{◌≡◌, ◌++◌, OnOk, IfOk, map, string_bytes, slice_get, Some};
 ghost use Rattle.std.specs.Option.{option_map};
-ghost use Rattle.ps_room.specs.Logs.{record_in, given, seen_after, out_of};
+ghost use Rattle.ps_room.specs.Logs.{record_in, given, out_of};
+ghost use Rattle.replay_state.specs.Kepts.{kept_after};
 ghost use Rattle.ps_room.specs.Rooms.{role};
 ghost use Rattle.replay_state.specs.Heads.{AreReady};
 ghost use Rattle.replay_state.specs.Houses.{standing, id_of, next_message, seen_message, seen_rooms_after};
@@ -10,20 +11,20 @@ ghost use Rattle.replay_state.specs.Transcript.{printed, with_id};
 ghost use Rattle.ps_base.specs.Lists.{each_to};
 
 use crate::heads::{Heads, push_common, still_ready};
+use crate::short_room::ShortRoom;
 use crate::{hearers, play};
 use ps_base::number::ConnNo;
 use ps_room::entry::Entry;
 use ps_room::opening::Opening;
 use ps_room::outcome::RoomOut;
-use ps_room::room::Room;
 use ps_splitlog::entry::LogEntry;
 use ps_view::role::Role;
 use std::alloc::{AllocError, Global};
 use std::marker::Model;
 
-/// A room of a replay. Contracts see the room: what begins the messages to its members is kept ready beside it.
+/// A room of a replay. Contracts see what is kept of the room: what begins the messages to its members is kept ready beside it.
 pub struct ReplayRoom {
-    inner: Room,
+    inner: ShortRoom,
     heads: Heads,
 }
 
@@ -35,13 +36,13 @@ impl Drop for ReplayRoom {
 }
 
 impl Model for ReplayRoom {
-    ghost use Rattle.ps_room.specs.Logs.{Seen};
+    ghost use Rattle.replay_state.specs.Kepts.{Kept};
     ghost use Rattle.std.specs.Coded.{codes, coded_ℕ};
     ghost use base.Stored.{coded_unit};
     ghost use Rattle.ps_base.specs.ById.{by_id_code};
     ghost use Rattle.replay_state.specs.Heads.{AreReady};
 
-    ghost Value = { Seen };
+    ghost Value = { Kept };
 
     ghost coded = { Prim.hlevel (codes, by_id_code coded_ℕ, by_id_code coded_unit) };
 
@@ -52,29 +53,29 @@ impl Model for ReplayRoom {
 
 impl ReplayRoom {
     ghost use Rattle.ps_room.specs.Openings.{IsFitOpening};
-    ghost use Rattle.ps_room.specs.Logs.{seen_opened};
+    ghost use Rattle.replay_state.specs.Kepts.{kept_opened};
 
     /// A room with nobody in it; where the opening has a battle, that is open.
     pub fn new(alloc: Global, opening: Opening) -> Result<ReplayRoom, AllocError>
         requires { IsFitOpening opening }
-        ensures { IfOk result (λ r. r ≡ seen_opened opening) }
+        ensures { IfOk result (λ r. r ≡ kept_opened opening) }
     {
         Ok(ReplayRoom {
-            inner: Room::new(alloc, opening)?,
+            inner: ShortRoom::new(alloc, opening)?,
             heads: Heads::new(alloc),
         })
     }
 
     /// The room's id.
     pub fn id(&self) -> &str
-        ensures { result.now ≡ self.now.id }
+        ensures { result.now ≡ self.now.room.id }
     {
         self.inner.id()
     }
 
     /// What a connection is to the room. Takes no memory.
     pub fn role(&self, conn: ConnNo) -> Role
-        ensures { result ≡ role conn (record_in self.now) }
+        ensures { result ≡ role conn (record_in self.now.room) }
     {
         self.inner.role(conn)
     }
@@ -85,14 +86,14 @@ fn push_entry(
     alloc: Global,
     out: &mut String,
     count: u32,
-    room: &Room,
+    room: &ShortRoom,
     heads: &mut Heads,
     log_entry: &LogEntry,
 ) -> Result<(), AllocError>
     requires ready { AreReady room.now heads.old.ready heads.old.list.items }
     ensures kept { AreReady room.now heads.new.ready heads.new.list.items }
     ensures text { OnOk result (string_bytes out.new ≡ string_bytes out.old
-        ++ each_to (λ conn. printed conn (with_id (Some room.now.id) (next_message conn room.now log_entry.now))) count) }
+        ++ each_to (λ conn. printed conn (with_id (Some room.now.room.id) (next_message conn room.now log_entry.now))) count) }
 {
     match hearers::common_text(log_entry) {
         Some(line) => push_common(alloc, out, count, room, heads, log_entry, line),
@@ -108,10 +109,10 @@ fn play_entry(
     room: &mut ReplayRoom,
     entry: &Entry,
 ) -> Result<RoomOut, AllocError>
-    ensures state { OnOk result (room.new ≡ seen_after room.old entry.now) }
+    ensures state { OnOk result (room.new ≡ kept_after room.old entry.now) }
     ensures text { OnOk result (string_bytes out.new ≡ string_bytes out.old
-        ++ each_to (λ conn. printed conn (with_id (Some room.old.id) (next_message conn room.old (given (record_in room.old) entry.now)))) count) }
-    ensures out { IfOk result (λ o. o ≡ out_of (record_in room.old) entry.now) }
+        ++ each_to (λ conn. printed conn (with_id (Some room.old.room.id) (next_message conn room.old (given (record_in room.old.room) entry.now)))) count) }
+    ensures out { IfOk result (λ o. o ≡ out_of (record_in room.old.room) entry.now) }
 {
     let prepared = room.inner.prepare(alloc, entry)?;
     push_entry(

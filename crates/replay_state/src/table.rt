@@ -24,7 +24,7 @@ use ps_lines::order::Order;
 use ps_room::entry::Entry;
 use ps_room::outcome::Ending;
 use ps_session::session::{Session, TakeFault};
-use replay_script::item::Item;
+use replay_script::line::{Line, Said};
 use rules_config::config::Config;
 use std::alloc::{AllocError, Global};
 use std::marker::Model;
@@ -451,6 +451,7 @@ fn push_opened(
 
 impl Table {
     ghost use Rattle.replay_state.specs.Entries.{moment_after, end_at};
+    ghost use Rattle.replay_script.specs.declared.item.Item.TheVariants as items;
     ghost use Rattle.replay_state.specs.Tables.{state_in, fresh, item_text, item_after, item_ledger};
 
     /// Before the first line, with the ranks that the script gives.
@@ -474,7 +475,7 @@ impl Table {
     pub fn play(
         &mut self,
         alloc: Global,
-        item: &Item,
+        item: &Line<'_>,
         out: &mut Transcript,
     ) -> Result<Option<Ending>, AllocError>
         ensures state { OnOk result (self.new ≡ item_after self.old item.now) }
@@ -482,48 +483,88 @@ impl Table {
         ensures ledger { OnOk result (out.new.ledger ≡ item_ledger self.old item.now out.old.ledger) }
         ensures ended { IfOk result (λ end. end ≡ end_at (state_in self.old) item.now) }
     {
-        match item {
-            Item::Nothing => Ok(None),
-            Item::Group(_, _) => Ok(None),
-            Item::Moment(moment) => {
-                self.moment = *moment;
+        match item.said() {
+            Said::Nothing => Ok(None),
+            Said::Group(_, _) => Ok(None),
+            Said::Moment(moment) => {
+                self.moment = Moment(u64::from(moment));
                 Ok(None)
             }
-            Item::Open(conn) => {
-                push_opened(
-                    alloc,
-                    &mut self.places,
-                    &mut self.sessions,
-                    self.moment,
-                    *conn,
-                    out,
-                )?;
-                Ok(None)
-            }
-            Item::Send(conn, text) => {
-                if !self.places.is_open(*conn) {
-                    return Ok(None);
-                }
-                let count = self.sessions.len() as u32;
-                push_sent(
-                    alloc,
-                    &mut self.places,
-                    &mut self.sessions,
-                    self.moment,
-                    count,
-                    *conn,
-                    text.as_str(),
-                    out,
-                )
-            }
-            Item::Close(conn) => {
-                if !self.places.is_open(*conn) {
-                    return Ok(None);
-                }
-                let count = self.sessions.len() as u32;
-                push_quits(alloc, &mut self.places, self.moment, count, *conn, out)?;
-                Ok(None)
-            }
+            Said::Open(conn) => self.play_open(alloc, conn, out),
+            Said::Send(conn, text) => self.play_send(alloc, conn, text, out),
+            Said::Close(conn) => self.play_close(alloc, conn, out),
         }
+    }
+
+    // A connection opens.
+    fn play_open(
+        &mut self,
+        alloc: Global,
+        conn: ConnNo,
+        out: &mut Transcript,
+    ) -> Result<Option<Ending>, AllocError>
+        ensures state { OnOk result (self.new ≡ item_after self.old (items.Open conn)) }
+        ensures text { OnOk result (string_bytes out.new.text ≡ string_bytes out.old.text ++ item_text self.old (items.Open conn)) }
+        ensures ledger { OnOk result (out.new.ledger ≡ item_ledger self.old (items.Open conn) out.old.ledger) }
+        ensures ended { IfOk result (λ end. end ≡ end_at (state_in self.old) (items.Open conn)) }
+    {
+        push_opened(
+            alloc,
+            &mut self.places,
+            &mut self.sessions,
+            self.moment,
+            conn,
+            out,
+        )?;
+        Ok(None)
+    }
+
+    // A connection sends a text.
+    fn play_send(
+        &mut self,
+        alloc: Global,
+        conn: ConnNo,
+        text: &str,
+        out: &mut Transcript,
+    ) -> Result<Option<Ending>, AllocError>
+        ensures state { OnOk result (self.new ≡ item_after self.old (items.Send conn text.now)) }
+        ensures text { OnOk result (string_bytes out.new.text ≡ string_bytes out.old.text ++ item_text self.old (items.Send conn text.now)) }
+        ensures ledger { OnOk result (out.new.ledger ≡ item_ledger self.old (items.Send conn text.now) out.old.ledger) }
+        ensures ended { IfOk result (λ end. end ≡ end_at (state_in self.old) (items.Send conn text.now)) }
+    {
+        if !self.places.is_open(conn) {
+            return Ok(None);
+        }
+        let count = self.sessions.len() as u32;
+        push_sent(
+            alloc,
+            &mut self.places,
+            &mut self.sessions,
+            self.moment,
+            count,
+            conn,
+            text,
+            out,
+        )
+    }
+
+    // A connection closes.
+    fn play_close(
+        &mut self,
+        alloc: Global,
+        conn: ConnNo,
+        out: &mut Transcript,
+    ) -> Result<Option<Ending>, AllocError>
+        ensures state { OnOk result (self.new ≡ item_after self.old (items.Close conn)) }
+        ensures text { OnOk result (string_bytes out.new.text ≡ string_bytes out.old.text ++ item_text self.old (items.Close conn)) }
+        ensures ledger { OnOk result (out.new.ledger ≡ item_ledger self.old (items.Close conn) out.old.ledger) }
+        ensures ended { IfOk result (λ end. end ≡ end_at (state_in self.old) (items.Close conn)) }
+    {
+        if !self.places.is_open(conn) {
+            return Ok(None);
+        }
+        let count = self.sessions.len() as u32;
+        push_quits(alloc, &mut self.places, self.moment, count, conn, out)?;
+        Ok(None)
     }
 }

@@ -1,5 +1,4 @@
-use Rattle.std.proofs.Common.{◌≡◌, ◌∙◌, sym, arith, true}
-use Rattle.ps_hall.specs.Lookups.{is_kept}
+use Rattle.std.proofs.Common.{◌∙◌, sym, arith}
 use Rattle.ps_hall.proofs.KeptLemmas.{stops}
 use Rattle.ps_hall.proofs.kept.index_of.Goals as goal
 

@@ -10,5 +10,5 @@ returns c =
     (c.in_ok-push_all.ensures
     ∙ ap (λ (front : List Head). front ++ map (head_of c.id.result.now) c.as_slice.result.now) c.clear.ensures.items
     ∙ ap (λ (id : List ℕ). map (head_of id) c.as_slice.result.now) c.id.ensures
-    ∙ ap (map (head_of c.args.room.now.id)) c.as_slice.ensures.value)
+    ∙ ap (map (head_of c.args.room.now.room.id)) c.as_slice.ensures.value)
     c.in_ok-conns.ensures.all c.in_ok-conns.ensures.sorted

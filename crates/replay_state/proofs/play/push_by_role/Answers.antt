@@ -8,5 +8,5 @@ use Rattle.replay_state.proofs.play.push_by_role.Goals as goal
 pub returns : goal.returns
 returns c =
     c.in_ok-push_each_log_entry.ensures
-    ∙ ap (λ (conns : List ℕ). string_bytes c.args.out.now ++ each_of (λ conn. printed conn (with_id (Some c.args.room.now.id) (next_message conn c.args.room.now c.args.log_entry.now))) c.args.count 0 conns) c.as_slice.ensures.value
+    ∙ ap (λ (conns : List ℕ). string_bytes c.args.out.now ++ each_of (λ conn. printed conn (with_id (Some c.args.room.now.room.id) (next_message conn c.args.room.now c.args.log_entry.now))) c.args.count 0 conns) c.as_slice.ensures.value
     ∙ ap (λ (text : List ℕ). string_bytes c.args.out.now ++ text) (all_heard c.args.room.now c.args.log_entry.now c.args.count c.in_ok-conns.conns.items c.in_ok-conns.ensures.all c.in_ok-conns.ensures.sorted)

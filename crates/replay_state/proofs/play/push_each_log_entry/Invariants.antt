@@ -6,5 +6,5 @@ use Rattle.replay_state.proofs.play.push_each_log_entry.Given as goal
 
 abbrev pub invariant-loop-conn : goal.invariant-loop-conn
 invariant-loop-conn l =
-    string_bytes l.out ++ each_of (λ conn. printed conn (with_id (Some l.room.id) (next_message conn l.room l.log_entry))) l.count l.last (drop l.conn-index l.conns)
-    ≡ string_bytes l.fn.out ++ each_of (λ conn. printed conn (with_id (Some l.room.id) (next_message conn l.room l.log_entry))) l.count 0 l.conns
+    string_bytes l.out ++ each_of (λ conn. printed conn (with_id (Some l.room.room.id) (next_message conn l.room l.log_entry))) l.count l.last (drop l.conn-index l.conns)
+    ≡ string_bytes l.fn.out ++ each_of (λ conn. printed conn (with_id (Some l.room.room.id) (next_message conn l.room l.log_entry))) l.count 0 l.conns

@@ -1,16 +1,28 @@
-use Rattle.std.proofs.Common.{◌≡◌, subst, OnOk}
-use Rattle.ps_room.specs.Logs.{Seen, record_in}
-use Rattle.ps_room.proofs.AnswerLemmas.{was_allowed, was_refused}
-use Rattle.ps_room.proofs.ChangeLemmas.{seen_refused}
+use Rattle.std.proofs.Common.{List, ◌∙◌, ap, sym, subst}
+use Rattle.ps_splitlog.specs.declared.entry.LogEntry.{LogEntry}
+use Rattle.ps_room.specs.Logs.{Seen, record_in, with_log, seen_after, given, out_of, Goes}
+use Rattle.ps_room.proofs.ChangeLemmas.{logged_so, goes_apart}
 use Rattle.ps_room.proofs.room.Room.keep.Goals as goal
 
-pub keep_applied-requires-clause-allowed : goal.keep_applied-requires-clause-allowed
-keep_applied-requires-clause-allowed c = was_allowed (record_in c.args.self.now) c.args.entry.now c.args.prepared.out c.requires.out c.in-Applied.is
+pub keep-requires-clause-out : goal.keep-requires-clause-out
+keep-requires-clause-out c = c.requires.out ∙ ap (λ (s : Seen). out_of (record_in s) c.args.entry.now) (sym c.self.view_is)
 
-pub returns-in-Refused-clause-ok : goal.returns-in-Refused-clause-ok
-returns-in-Refused-clause-ok c =
-    subst (λ (s : Seen). OnOk c.keep_refused.result (c.keep_refused.new.self ≡ s))
-    (seen_refused c.args.self.now c.args.entry.now c.in-Refused.field-0 c.args.prepared.log_entry
-    (was_refused (record_in c.args.self.now) c.args.entry.now c.args.prepared.out c.in-Refused.field-0 c.requires.out c.in-Refused.is)
-    c.requires.given)
-    c.keep_refused.ensures.ok
+pub keep-requires-clause-goes : goal.keep-requires-clause-goes
+keep-requires-clause-goes c =
+    goes_apart c.self.inside.state c.self.inside.log c.args.entry.now c.args.prepared.bout
+    (subst (λ (s : Seen). Goes s c.args.entry.now c.args.prepared.bout) (sym c.self.view_is) c.requires.goes)
+
+pub returns-in-Ok-clause-ok : goal.returns-in-Ok-clause-ok
+returns-in-Ok-clause-ok c =
+    ap (λ (log : List LogEntry). with_log log c.keep.new.self) (c.give_roles.ensures.last c.self.inside.log c.args.prepared.log_entry c.in_ok-push.ensures.ok)
+    ∙ logged_so c.self.inside.state c.self.inside.log c.args.entry.now c.args.prepared.log_entry c.in-Ok.roles c.keep.new.self
+    (c.requires.given ∙ ap (λ (s : Seen). given (record_in s) c.args.entry.now) (sym c.self.view_is))
+    c.in-Ok.ensures.roles
+    c.in-Ok.ensures.ok
+    ∙ ap (λ (s : Seen). seen_after s c.args.entry.now) c.self.view_is
+
+pub returns-in-Err-clause-err : goal.returns-in-Err-clause-err
+returns-in-Err-clause-err c =
+    ap (λ (log : List LogEntry). with_log log c.keep.new.self) (c.take_back.ensures.last c.self.inside.log c.args.prepared.log_entry c.in_ok-push.ensures.ok)
+    ∙ ap (with_log c.self.inside.log) c.in-Err.ensures.err
+    ∙ c.self.view_is

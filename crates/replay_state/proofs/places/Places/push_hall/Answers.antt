@@ -4,8 +4,8 @@ use Rattle.replay_state.proofs.places.Places.push_hall.Goals as goal
 
 pub returns-in-None-clause-text : goal.returns-in-None-clause-text
 returns-in-None-clause-text c =
-    rw (← c.self.view_is) (c.in_ok-push_applied.ensures.text ∙ ap (λ (x : List ℕ). string_bytes c.args.out.now.text ++ x) (hall_text c.args.conns c.self.inside.hall c.apply.new.self c.args.entry.now c.told.result.now c.in_ok-verdict.ensures.ok c.told.ensures))
+    rw (← c.self.view_is) (c.in_ok-push_applied.ensures.text ∙ ap (λ (x : List ℕ). string_bytes c.args.out.now.text ++ x) (hall_text c.args.conns c.self.inside.hall c.args.entry.now c.as_slice.result.now (c.as_slice.ensures ∙ c.in_ok-made.ensures.notices)))
 
 pub returns-in_ok-begin-in-Some-clause-text : goal.returns-in_ok-begin-in-Some-clause-text
 returns-in_ok-begin-in-Some-clause-text c =
-    rw (← c.self.view_is) (c.in_ok-push_applied.ensures.text ∙ ap (λ (x : List ℕ). string_bytes c.args.out.now.text ++ x) (hall_text c.args.conns c.self.inside.hall c.apply.new.self c.args.entry.now c.told.result.now c.in_ok-verdict.ensures.ok c.told.ensures))
+    rw (← c.self.view_is) (c.in_ok-push_applied.ensures.text ∙ ap (λ (x : List ℕ). string_bytes c.args.out.now.text ++ x) (hall_text c.args.conns c.self.inside.hall c.args.entry.now c.as_slice.result.now (c.as_slice.ensures ∙ c.in_ok-made.ensures.notices)))

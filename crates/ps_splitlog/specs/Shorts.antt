@@ -1,0 +1,76 @@
+-- A log that forgets: what it has of a log whose beginning is gone.
+use Rattle.std.specs.Prelude.{◌≡◌, ◌≤◌, ◌-◌, ℕ, suc, List, [], ◌∷◌, ◌++◌, length, take, drop, if◌then◌else◌, ◌==◌, nat_lt, Some}
+use Rattle.ps_view.specs.declared.role.Role.{Role}
+use Rattle.ps_splitlog.specs.declared.stored.Stored.{Stored}
+use Rattle.ps_splitlog.specs.declared.entry.Joined.{Joined}
+use Rattle.ps_splitlog.specs.declared.entry.LogEntry.{LogEntry}
+use Rattle.ps_splitlog.specs.Entries.{logged_in, logged_lines, all_of_them, last_of, join_for, message_of}
+
+-- How many of the logged lines of the entries that are gone are kept at the most (`all_of_them` means all), these lines, the
+-- entries that aren't gone, and how many are.
+pub record Short : Type 0 where
+  pub most : ℕ
+  pub backlog : List Stored
+  pub kept : List LogEntry
+  pub gone : ℕ
+
+-- what it has of a log
+pub record IsShortOf (log : List LogEntry) (s : Short) : Type 0 where
+  pub backlog : s.backlog ≡ last_of s.most (logged_lines (take s.gone log))
+  pub kept : s.kept ≡ drop s.gone log
+  pub gone : s.gone ≤ length log
+
+-- with no entry
+abbrev pub started : ℕ → Short
+started most = record { most = most; backlog = []; kept = []; gone = 0 }
+
+-- with a further entry
+abbrev pub with_entry : LogEntry → Short → Short
+with_entry h s = record { most = s.most; backlog = s.backlog; kept = s.kept ++ h ∷ []; gone = s.gone }
+
+-- without the last entry that isn't gone
+abbrev pub taken_back : Short → Short
+taken_back s = record { most = s.most; backlog = s.backlog; kept = take (length s.kept - 1) s.kept; gone = s.gone }
+
+-- where these aren't gone: the first of them is
+abbrev pub gone_of : ℕ → List Stored → ℕ → List LogEntry → Short
+gone_of most backlog gone [] = record { most = most; backlog = backlog; kept = []; gone = gone }
+gone_of most backlog gone (h ∷ hs) = record { most = most; backlog = last_of most (backlog ++ logged_in h); kept = hs; gone = suc gone }
+
+-- with the first entry that isn't gone forgotten, but for its logged lines
+abbrev pub forgotten : Short → Short
+forgotten s = gone_of s.most s.backlog s.gone s.kept
+
+-- of what was logged before the next entry, what who joins by it may be sent
+abbrev pub lines_of : Short → List Stored
+lines_of s = last_of s.most (s.backlog ++ logged_lines s.kept)
+
+-- ---- for the code: how many lines who joins is sent, and where they begin
+
+-- the fewer of both, where one number means all
+abbrev pub fewer : ℕ → ℕ → ℕ
+fewer keep most = if keep == all_of_them then most else (if most == all_of_them then keep else (if nat_lt keep most then keep else most))
+
+-- of so many lines the index of the first that counts, where so many more follow them
+abbrev pub first_of : ℕ → ℕ → ℕ → ℕ
+first_of keep many more = if keep == all_of_them then 0 else many - (keep - more)
+
+-- and of those that follow
+abbrev pub skipped_of : ℕ → ℕ → ℕ
+skipped_of keep more = if keep == all_of_them then 0 else more - keep
+
+-- ---- laws
+
+-- the next entry's message is that of the whole log, where who joins is sent no more lines than are kept
+abbrev pub IsFew : ℕ → LogEntry → Type 0
+IsFew most h = (conn : ℕ) (j : Joined) → join_for conn h ≡ Some j → fewer j.keep most ≡ j.keep
+
+-- What is short of a log stays so, as entries come and are forgotten; and who joins is sent what it is sent of the log.
+pub record StaysShort (log : List LogEntry) (s : Short) : Type 0 where
+  pub pushed : (h : LogEntry) → IsShortOf (log ++ h ∷ []) (with_entry h s)
+  pub forgotten : IsShortOf log (forgotten s)
+  pub message : (conn : ℕ) (role : Role) (h : LogEntry) → IsFew s.most h → message_of conn role (lines_of s) h ≡ message_of conn role (logged_lines log) h
+
+pub record AreShort : Type 0 where
+  pub start : (most : ℕ) → IsShortOf [] (started most)
+  pub next : (log : List LogEntry) (s : Short) → IsShortOf log s → StaysShort log s
