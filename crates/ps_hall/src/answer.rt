@@ -93,16 +93,8 @@ pub(crate) fn told_wait(
         ((record_of state.now).searches ++ new.now ∷ []) conn me.now None) }
 {
     let games = all_games(&state.games);
-    let searches = searches_and(alloc, state.searches.list(), new)?;
-    told_of_search(
-        alloc,
-        &state.users,
-        &games,
-        searches.as_slice(),
-        conn,
-        me,
-        None,
-    )
+    let searches = searches_and(&state.searches, new);
+    told_of_search(alloc, &state.users, &games, &searches, conn, me, None)
 }
 
 /// Who is matched with this search starts this battle, if one starts.
@@ -121,12 +113,12 @@ pub(crate) fn told_match(
         (without (record_of state.now).searches me.now format.now rating) conn me.now (Some other.now)) }
 {
     let games = games_and(&state.games, game);
-    let searches = searches_but(alloc, state.searches.list(), me, format, rating)?;
+    let searches = searches_but(&state.searches, me, format, rating);
     told_of_search(
         alloc,
         &state.users,
         &games,
-        searches.as_slice(),
+        &searches,
         conn,
         me,
         Some(other),
@@ -142,8 +134,8 @@ pub(crate) fn told_cancel_search(
     ensures { IfOk result (λ l. l ≡ rows.told_of_cancel_search (after_cancel_search (record_of state.now) me.now).games (after_cancel_search (record_of state.now) me.now).searches conn me.now) }
 {
     let games = all_games(&state.games);
-    let searches = searches_not_of(alloc, state.searches.list(), me)?;
-    told_of_cancel_search(alloc, &games, searches.as_slice(), conn, me)
+    let searches = searches_not_of(&state.searches, me);
+    told_of_cancel_search(alloc, &games, &searches, conn, me)
 }
 
 // ---- challenges
@@ -220,13 +212,13 @@ pub(crate) fn told_accepted(
         conn me.now user.now) }
 {
     let games = games_and(&state.games, game);
-    let searches = all_searches(alloc, state.searches.list())?;
+    let searches = all_searches(&state.searches);
     let asked = asked_not_of(alloc, state.pms.challenges(), user, me)?;
     told_of_accept(
         alloc,
         &state.users,
         &games,
-        searches.as_slice(),
+        &searches,
         asked.as_slice(),
         conn,
         me,
@@ -329,12 +321,12 @@ pub(crate) fn told_game(
 {
     let (one, two) = ratings_after(alloc, &state.ladders, game, winner);
     let games = games_but(&state.games, number);
-    let searches = all_searches(alloc, state.searches.list())?;
+    let searches = all_searches(&state.searches);
     told_players(
         alloc,
         &state.users,
         &games,
-        searches.as_slice(),
+        &searches,
         one,
         two,
         game,

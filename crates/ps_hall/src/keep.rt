@@ -31,7 +31,7 @@ pub(crate) fn keep(
         Change::Users => with_users(alloc, state, conn, cmd),
         Change::Quit { me } => after_quit(alloc, state, conn, me.as_ref(), cmd),
         Change::Team { me, team } => after_team(alloc, state, &me, team),
-        Change::Wait { kept, search } => after_wait(state, kept, search),
+        Change::Wait { kept, search } => after_wait(alloc, state, kept, search),
         Change::Match {
             me,
             format,
@@ -40,7 +40,7 @@ pub(crate) fn keep(
             game,
         } => after_match(alloc, state, &me, &format, rating, &user, game),
         Change::CancelSearch { me } => {
-            after_cancel_search(state, &me);
+            after_cancel_search(alloc, state, &me);
             Ok(())
         }
         Change::Challenge { kept } => after_challenge(alloc, state, kept, cmd),

@@ -1,16 +1,16 @@
 //! The lines of the hall.
-ghost use Rattle.std.specs.Prelude.{◌≡◌, ◌∷◌, ◌++◌, [], find, map, codes, string_bytes, IfOk, OnOk};
+ghost use Rattle.std.specs.Prelude.{◌≡◌, ◌∷◌, ◌++◌, [], false, find, map, codes, string_bytes, IfOk, OnOk};
 ghost use Rattle.std.specs.List.{filter, join_with_byte};
 ghost use Rattle.std.specs.Option.{option_copied};
 ghost use Rattle.serde_json.specs.Data.{string, array, object, member, no_members, put as with_member};
 ghost use Rattle.serde_json.specs.View.{view, items_of, members_view};
 ghost use Rattle.serde_json.specs.Written.{comma_if, compact_text, items_text};
 ghost use Rattle.ps_pms.specs.Lookups.{is_by, is_to};
-ghost use Rattle.ps_hall.specs.Coming.{games_after};
+ghost use Rattle.ps_hall.specs.Coming.{formats_of, games_after, searches_after};
 ghost use Rattle.ps_hall.specs.Lookups.{games_of, searched};
 ghost use Rattle.ps_hall.specs.Lines.{challstr_line, guest_line, formats_line, open_lines, user_line, with_game, with_games, games_text, game_member, object_or_null, search_line, made_text, got_text, with_asked, challenge_line, whisper_line, rating_line, taken_by, taken_line, refused_line};
 
-use crate::coming::{ComingGames, own_games};
+use crate::coming::{ComingGames, ComingSearches, own_games, own_searches};
 use crate::game::Game;
 use json_text::quoted::push_quoted;
 use ps_base::badge::Badge;
@@ -226,27 +226,33 @@ fn push_comma_if(out: &mut String, later: bool) -> Result<(), AllocError>
     if later { out.push_str(",") } else { Ok(()) }
 }
 
-// The formats that a user searches, and the bracket that closes their array.
-fn push_formats(
-    out: &mut String,
-    later: bool,
-    searches: &[&Search],
-    id: &Id,
-) -> Result<(), AllocError>
+// The formats of these searches, and the bracket that closes their array.
+fn push_formats(out: &mut String, later: bool, searches: &[&Search]) -> Result<(), AllocError>
     ensures { OnOk result (string_bytes out.new ≡ string_bytes out.old
-        ++ items_text later (items_of (map string (searched (map (λ x. x.now) searches.now) id.now)))) }
+        ++ items_text later (items_of (map string (formats_of (map (λ x. x.now) searches.now))))) }
 {
     match searches {
         [] => out.push_str("]"),
         [search, rest @ ..] => {
-            if search.user.as_str() != id.as_str() {
-                return push_formats(out, later, rest, id);
-            }
             push_comma_if(out, later)?;
             push_quoted(out, search.format.as_str())?;
-            push_formats(out, true, rest, id)
+            push_formats(out, true, rest)
         }
     }
+}
+
+// The formats that a user searches, and the bracket that closes their array.
+fn push_own_formats(
+    alloc: Global,
+    out: &mut String,
+    searches: &ComingSearches,
+    id: &Id,
+) -> Result<(), AllocError>
+    ensures { OnOk result (string_bytes out.new ≡ string_bytes out.old
+        ++ items_text false (items_of (map string (searched (searches_after searches.now) id.now)))) }
+{
+    let own = own_searches(alloc, searches, id)?;
+    push_formats(out, false, own.as_slice())
 }
 
 /// The battles of a user that weren't reported, and the formats that it searches, in order of search: `|updatesearch|JSON`
@@ -254,16 +260,16 @@ fn push_formats(
 pub(crate) fn search_line(
     alloc: Global,
     games: &ComingGames,
-    searches: &[&Search],
+    searches: &ComingSearches,
     id: &Id,
 ) -> Result<Text, AllocError>
-    ensures { IfOk result (λ t. t ≡ search_line (games_after games.now) (map (λ x. x.now) searches.now) id.now) }
+    ensures { IfOk result (λ t. t ≡ search_line (games_after games.now) (searches_after searches.now) id.now) }
 {
     let mut line = String::with_capacity(alloc, ROOM_OF_LINE)?;
     line.push_str("|updatesearch|{\"games\":")?;
     push_own_games(alloc, &mut line, games, id)?;
     line.push_str(",\"searching\":[")?;
-    push_formats(&mut line, false, searches, id)?;
+    push_own_formats(alloc, &mut line, searches, id)?;
     line.push_str("}")?;
     Ok(Text::from_string(line))
 }

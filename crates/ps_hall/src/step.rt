@@ -49,10 +49,10 @@ pub(crate) fn with_pms(
 }
 
 /// CancelSearch.
-pub(crate) fn after_cancel_search(state: &mut State, me: &Id)
+pub(crate) fn after_cancel_search(alloc: Global, state: &mut State, me: &Id)
     ensures { record_of state.new ≡ after_cancel_search (record_of state.old) me.now }
 {
-    let _ = state.searches.cancel(me);
+    let _ = state.searches.cancel(alloc, me);
     drop_user(&mut state.search_teams, me);
 }
 
@@ -101,7 +101,7 @@ fn forget(alloc: Global, state: &mut State, me: &Id, cmd: &HallCmd) -> Result<()
     state.teams.remove(me.as_str());
     drop_either(&mut state.challenge_teams, me);
     drop_user(&mut state.search_teams, me);
-    let _ = state.searches.cancel(me);
+    let _ = state.searches.cancel(alloc, me);
     Ok(())
 }
 
@@ -177,6 +177,7 @@ pub(crate) fn after_challenge(
 
 /// Who is matched with nobody waits, with this team.
 pub(crate) fn after_wait(
+    alloc: Global,
     state: &mut State,
     kept: KeptTeam,
     search: Search,
@@ -185,7 +186,7 @@ pub(crate) fn after_wait(
     ensures err { OnErr result (record_of state.new ≡ record_of state.old) }
 {
     state.search_teams.reserve(1)?;
-    state.searches.wait(search)?;
+    state.searches.wait(alloc, search)?;
     state.search_teams.push(kept).unwrap();
     Ok(())
 }
@@ -219,7 +220,7 @@ pub(crate) fn after_match(
     ensures err { OnErr result (record_of state.new ≡ record_of state.old) }
 {
     begin(alloc, state, game)?;
-    state.searches.take(me, format, rating);
+    state.searches.take(alloc, me, format, rating);
     drop_kept(&mut state.search_teams, user, format);
     Ok(())
 }

@@ -1,11 +1,11 @@
 //! The rows of the hall table: whom each command tells what, where it is applied.
 ghost use Rattle.std.specs.Prelude.{◌≡◌, ◌∷◌, ◌++◌, [], map, Some, IfOk, OnOk};
 ghost use Rattle.std.specs.Option.{option_copied};
-ghost use Rattle.ps_hall.specs.Coming.{games_after};
+ghost use Rattle.ps_hall.specs.Coming.{games_after, searches_after};
 ghost use Rattle.ps_hall.specs.Lines.{search_line, challenge_line};
 ghost use Rattle.ps_hall.specs.Told.{notice, to_user, told_of_open, told_of_name, told_partners, told_of_quit, told_matched, told_of_search, told_of_cancel_search, told_both, told_of_cancel_challenge, accept_lines, told_of_accept, told_ends, told_whisper, told_of_pm, told_of_rank, rating_lines, told_player, told_players};
 
-use crate::coming::ComingGames;
+use crate::coming::{ComingGames, ComingSearches};
 use crate::game::Game;
 use crate::line::{challenge_line, open_lines, rating_line, search_line, user_line, whisper_line};
 use crate::notice::Notice;
@@ -165,11 +165,11 @@ fn push_searches(
     notices: &mut Vec<Notice>,
     users: &Users,
     games: &ComingGames,
-    searches: &[&Search],
+    searches: &ComingSearches,
     id: &Id,
 ) -> Result<(), AllocError>
     ensures { OnOk result (notices.new.items ≡ notices.old.items
-        ++ to_user users.now.online id.now (search_line (games_after games.now) (map (λ x. x.now) searches.now) id.now ∷ [])) }
+        ++ to_user users.now.online id.now (search_line (games_after games.now) (searches_after searches.now) id.now ∷ [])) }
 {
     let line = search_line(alloc, games, searches, id)?;
     let lines = one_line(alloc, line)?;
@@ -182,11 +182,11 @@ fn push_matched(
     notices: &mut Vec<Notice>,
     users: &Users,
     games: &ComingGames,
-    searches: &[&Search],
+    searches: &ComingSearches,
     other: Option<&Search>,
 ) -> Result<(), AllocError>
     ensures { OnOk result (notices.new.items ≡ notices.old.items
-        ++ told_matched users.now.online (games_after games.now) (map (λ x. x.now) searches.now) (option_copied other.entry)) }
+        ++ told_matched users.now.online (games_after games.now) (searches_after searches.now) (option_copied other.entry)) }
 {
     match other {
         None => Ok(()),
@@ -197,11 +197,11 @@ fn push_matched(
 fn told_searcher(
     alloc: Global,
     games: &ComingGames,
-    searches: &[&Search],
+    searches: &ComingSearches,
     conn: ConnNo,
     me: &Id,
 ) -> Result<Vec<Notice>, AllocError>
-    ensures { IfOk result (λ v. v.items ≡ told_of_cancel_search (games_after games.now) (map (λ x. x.now) searches.now) conn me.now) }
+    ensures { IfOk result (λ v. v.items ≡ told_of_cancel_search (games_after games.now) (searches_after searches.now) conn me.now) }
 {
     let line = search_line(alloc, games, searches, me)?;
     told_line(alloc, conn, line)
@@ -212,13 +212,13 @@ pub(crate) fn told_of_search(
     alloc: Global,
     users: &Users,
     games: &ComingGames,
-    searches: &[&Search],
+    searches: &ComingSearches,
     conn: ConnNo,
     me: &Id,
     other: Option<&Search>,
 ) -> Result<List<Notice>, AllocError>
     ensures { IfOk result (λ l. l
-        ≡ told_of_search users.now.online (games_after games.now) (map (λ x. x.now) searches.now) conn me.now (option_copied other.entry)) }
+        ≡ told_of_search users.now.online (games_after games.now) (searches_after searches.now) conn me.now (option_copied other.entry)) }
 {
     let mut notices = told_searcher(alloc, games, searches, conn, me)?;
     push_matched(alloc, &mut notices, users, games, searches, other)?;
@@ -229,11 +229,11 @@ pub(crate) fn told_of_search(
 pub(crate) fn told_of_cancel_search(
     alloc: Global,
     games: &ComingGames,
-    searches: &[&Search],
+    searches: &ComingSearches,
     conn: ConnNo,
     me: &Id,
 ) -> Result<List<Notice>, AllocError>
-    ensures { IfOk result (λ l. l ≡ told_of_cancel_search (games_after games.now) (map (λ x. x.now) searches.now) conn me.now) }
+    ensures { IfOk result (λ l. l ≡ told_of_cancel_search (games_after games.now) (searches_after searches.now) conn me.now) }
 {
     Ok(List::from_vec(told_searcher(alloc, games, searches, conn, me)?))
 }
@@ -277,12 +277,12 @@ pub(crate) fn told_of_cancel_challenge(
 fn accept_lines(
     alloc: Global,
     games: &ComingGames,
-    searches: &[&Search],
+    searches: &ComingSearches,
     asked: &[&Asked],
     id: &Id,
 ) -> Result<List<Text>, AllocError>
     ensures { IfOk result (λ l. l
-        ≡ accept_lines (games_after games.now) (map (λ x. x.now) searches.now) (map (λ x. x.now) asked.now) id.now) }
+        ≡ accept_lines (games_after games.now) (searches_after searches.now) (map (λ x. x.now) asked.now) id.now) }
 {
     let mut lines = Vec::with_capacity(alloc, 2)?;
     lines.push(challenge_line(alloc, asked, id)?)?;
@@ -295,14 +295,14 @@ pub(crate) fn told_of_accept(
     alloc: Global,
     users: &Users,
     games: &ComingGames,
-    searches: &[&Search],
+    searches: &ComingSearches,
     asked: &[&Asked],
     conn: ConnNo,
     me: &Id,
     user: &Id,
 ) -> Result<List<Notice>, AllocError>
     ensures { IfOk result (λ l. l
-        ≡ told_of_accept users.now.online (games_after games.now) (map (λ x. x.now) searches.now) (map (λ x. x.now) asked.now)
+        ≡ told_of_accept users.now.online (games_after games.now) (searches_after searches.now) (map (λ x. x.now) asked.now)
         conn me.now user.now) }
 {
     let lines = accept_lines(alloc, games, searches, asked, me)?;
@@ -416,14 +416,14 @@ fn push_rating(
 fn player_lines(
     alloc: Global,
     games: &ComingGames,
-    searches: &[&Search],
+    searches: &ComingSearches,
     rating: i32,
     game: &Game,
     winner: Option<u8>,
     id: &Id,
 ) -> Result<List<Text>, AllocError>
     ensures { IfOk result (λ l. l
-        ≡ search_line (games_after games.now) (map (λ x. x.now) searches.now) id.now
+        ≡ search_line (games_after games.now) (searches_after searches.now) id.now
         ∷ rating_lines rating game.now game.now.rated winner id.now) }
 {
     let mut lines = Vec::with_capacity(alloc, 2)?;
@@ -437,14 +437,14 @@ fn push_player(
     notices: &mut Vec<Notice>,
     users: &Users,
     games: &ComingGames,
-    searches: &[&Search],
+    searches: &ComingSearches,
     rating: i32,
     game: &Game,
     winner: Option<u8>,
     id: &Id,
 ) -> Result<(), AllocError>
     ensures { OnOk result (notices.new.items ≡ notices.old.items
-        ++ told_player users.now.online (games_after games.now) (map (λ x. x.now) searches.now) rating game.now winner id.now) }
+        ++ told_player users.now.online (games_after games.now) (searches_after searches.now) rating game.now winner id.now) }
 {
     let lines = player_lines(alloc, games, searches, rating, game, winner, id)?;
     push_to_user(notices, users, id, lines)
@@ -456,14 +456,14 @@ pub(crate) fn told_players(
     alloc: Global,
     users: &Users,
     games: &ComingGames,
-    searches: &[&Search],
+    searches: &ComingSearches,
     one: i32,
     two: i32,
     game: &Game,
     winner: Option<u8>,
 ) -> Result<List<Notice>, AllocError>
     ensures { IfOk result (λ l. l
-        ≡ told_players users.now.online (games_after games.now) (map (λ x. x.now) searches.now) one two game.now winner) }
+        ≡ told_players users.now.online (games_after games.now) (searches_after searches.now) one two game.now winner) }
 {
     let first = game.first_id();
     let second = game.second_id();

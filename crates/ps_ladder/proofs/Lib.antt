@@ -1,3 +1,3 @@
 pub mod MapLemmas
-pub mod IndexLemmas
+pub mod TableLemmas
 pub mod SumLemmas

@@ -1,3 +1,4 @@
 pub mod Gains
 pub mod Ratings
 pub mod Waiting
+pub mod Tables

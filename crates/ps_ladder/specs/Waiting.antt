@@ -1,6 +1,6 @@
 -- Who waits for a rated battle.
-use Rattle.std.specs.Prelude.{◌≡◌, ℕ, ◌<◌, Bool, true, false, not, ◌&&◌, nat_le, ℤ, List, [], ◌∷◌, ◌++◌, length, slice_index_or, Option, Some, None, filter, if◌then◌else◌}
-use Rattle.std.specs.List.{list_any, remove}
+use Rattle.std.specs.Prelude.{◌≡◌, ℕ, Bool, true, false, not, ◌&&◌, nat_le, ℤ, List, [], ◌∷◌, ◌++◌, Option, Some, None, filter, if◌then◌else◌}
+use Rattle.std.specs.List.{list_any}
 use Rattle.std.specs.Str.{bytes_eq}
 use Rattle.ps_ladder.specs.Gains.{distance}
 use Rattle.ps_ladder.specs.declared.searches.Search.{Search}
@@ -61,9 +61,3 @@ IsAddFault waiting NoMemory = waiting ≡ false
 -- the searches without those of a user
 abbrev pub cancelled : List Search → List ℕ → List Search
 cancelled list user = filter (λ s. not (has_user user s)) list
-
--- it is the index, counted from 0, of the search that is found
-pub record IsIndex (list : List Search) (user format : List ℕ) (rating : ℤ) (index : ℕ) : Type 0 where
-  pub below : index < length list
-  pub here : (other : Search) → found list user format rating ≡ Some (slice_index_or list index other)
-  pub left : without list user format rating ≡ remove list index

@@ -5,3 +5,4 @@ pub mod gain;
 pub mod ladder;
 pub mod scores;
 pub mod searches;
+mod table;

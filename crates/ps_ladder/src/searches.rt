@@ -1,11 +1,16 @@
 //! Who waits for a rated battle.
-ghost use Rattle.std.specs.Prelude.{◌≡◌, ◌++◌, ◌∷◌, OnOk, OnErr, IfOk, IfErr, IfNone, IfSome, None, Some, true, false, [], not};
+ghost use Rattle.std.specs.Prelude.{◌≡◌, ◌++◌, ◌∷◌, OnOk, OnErr, IfOk, IfErr, Some, false, [], map};
 ghost use Rattle.std.specs.List.{list_any, filter};
 ghost use Rattle.std.specs.Option.{option_copied};
-ghost use Rattle.ps_ladder.specs.Waiting.{has_user, is_for, is_near, suits, waits, found, without, added, answer, cancelled, IsIndex, IsAddFault};
+ghost use Rattle.ps_ladder.specs.Waiting.{has_user, is_for, is_near, suits, waits, found, without, added, answer, cancelled, IsAddFault};
+ghost use Rattle.ps_ladder.specs.Tables.{AreKept};
+ghost use Rattle.hall_index.specs.Numbered.{items_of};
 ghost use Rattle.ps_ladder.specs.declared.searches.AddFault.TheVariants.{NoMemory};
 
 use crate::gain::distance;
+use crate::table::{Table, any_for, any_of, end_all, find, push, take_found};
+use hall_index::id_index::IdIndex;
+use hall_index::numbered::Numbered;
 use ps_base::id::Id;
 use std::alloc::{AllocError, Global};
 use std::marker::Model;
@@ -50,19 +55,24 @@ impl From<AllocError> for AddFault {
     }
 }
 
-/// The searches, in order of search. Contracts see the list.
+/// The searches, in order of search, found by user and by format: a call costs what the searches of one user or of one format
+/// do, and the logarithm of how many there are. Contracts see the list.
 #[derive(Drop)]
 pub struct Searches {
-    list: Vec<Search>,
+    table: Table,
 }
 
 impl Model for Searches {
     ghost use Rattle.std.specs.Prelude.{List};
+    ghost use Rattle.hall_index.specs.Numbered.{items_of};
     ghost use Rattle.ps_ladder.specs.declared.searches.Search.{Search};
+    ghost use Rattle.ps_ladder.specs.Tables.{AreKept};
 
     ghost Value = { List Search };
 
-    ghost view = { λ s. s.list.items };
+    ghost view = { λ s. items_of s.table.waiting };
+
+    ghost invariant = { λ s. AreKept s.table };
 }
 
 /// Whether a search is of this user.
@@ -72,7 +82,8 @@ pub fn has_user(entry: &Search, user: &Id) -> bool
     entry.user.as_str() == user.as_str()
 }
 
-fn is_for(entry: &Search, user: &Id, format: &Id) -> bool
+/// Whether a search is of this user for this format.
+pub(crate) fn is_for(entry: &Search, user: &Id, format: &Id) -> bool
     ensures { result ≡ is_for user.now format.now entry.now }
 {
     has_user(entry, user) && entry.format.as_str() == format.as_str()
@@ -97,64 +108,6 @@ pub fn suits(entry: &Search, user: &Id, format: &Id, rating: i32) -> bool
         && is_near(entry.rating, rating)
 }
 
-fn waits(list: &[Search], user: &Id, format: &Id) -> bool
-    ensures { result ≡ waits list.now user.now format.now }
-{
-    for entry in list {
-        if is_for(entry, user, format) {
-            return true;
-        }
-    }
-    false
-}
-
-fn has_any(list: &[Search], user: &Id) -> bool
-    ensures { result ≡ list_any (has_user user.now) list.now }
-{
-    for entry in list {
-        if has_user(entry, user) {
-            return true;
-        }
-    }
-    false
-}
-
-// The search that has waited longest of those that suit.
-fn longest_waiting<'a>(
-    list: &'a [Search],
-    user: &Id,
-    format: &Id,
-    rating: i32,
-) -> Option<&'a Search>
-    ensures { option_copied result ≡ found list.now user.now format.now rating }
-{
-    for entry in list {
-        if suits(entry, user, format, rating) {
-            return Some(entry);
-        }
-    }
-    None
-}
-
-// The index of the search that has waited longest of those that suit.
-fn index_of(list: &[Search], user: &Id, format: &Id, rating: i32) -> Option<usize>
-    ensures none { IfNone result (found list.now user.now format.now rating ≡ None) }
-    ensures some { IfSome result (IsIndex list.now user.now format.now rating) }
-{
-    for i in 0..list.len() {
-        if suits(&list[i], user, format, rating) {
-            return Some(i);
-        }
-    }
-    None
-}
-
-fn take_out(list: &mut Vec<Search>, user: &Id)
-    ensures { list.new.items ≡ cancelled list.old.items user.now }
-{
-    list.retain(|entry| !has_user(entry, user));
-}
-
 fn new_search(alloc: Global, user: &Id, format: &Id, rating: i32) -> Result<Search, AllocError>
     ensures { IfOk result (λ s. s ≡ record { user = user.now; format = format.now; rating = rating }) }
 {
@@ -177,38 +130,25 @@ fn matched(other: Search) -> Found
 
 // A user who doesn't wait for the format is matched or waits.
 fn add_new(
-    list: &mut Vec<Search>,
     alloc: Global,
+    table: &mut Table,
     user: &Id,
     format: &Id,
     rating: i32,
 ) -> Result<Found, AllocError>
-    ensures found { IfOk result (λ f. f ≡ answer (found list.old.items user.now format.now rating)) }
-    ensures added { OnOk result (list.new.items ≡ added list.old.items user.now format.now rating) }
-    ensures err { OnErr result (list.new.items ≡ list.old.items) }
+    requires { AreKept table.old }
+    ensures kept { AreKept table.new }
+    ensures found { IfOk result (λ f. f ≡ answer (found (items_of table.old.waiting) user.now format.now rating)) }
+    ensures added { OnOk result (items_of table.new.waiting ≡ added (items_of table.old.waiting) user.now format.now rating) }
+    ensures err { OnErr result (items_of table.new.waiting ≡ items_of table.old.waiting) }
 {
-    match index_of(list.as_slice(), user, format, rating) {
+    match take_found(alloc, table, user, format, rating) {
         None => {
             let entry = new_search(alloc, user, format, rating)?;
-            list.push(entry)?;
+            push(alloc, table, entry)?;
             Ok(Found::Waiting)
         }
-        Some(index) => {
-            let other = list.remove(index);
-            Ok(matched(other))
-        }
-    }
-}
-
-// Takes out the search that has waited longest of those that suit.
-fn take_found(list: &mut Vec<Search>, user: &Id, format: &Id, rating: i32)
-    ensures { list.new.items ≡ without list.old.items user.now format.now rating }
-{
-    match index_of(list.as_slice(), user, format, rating) {
-        None => {}
-        Some(index) => {
-            let _ = list.remove(index);
-        }
+        Some(other) => Ok(matched(other)),
     }
 }
 
@@ -218,29 +158,38 @@ impl Searches {
         ensures { result ≡ [] }
     {
         Searches {
-            list: Vec::new(alloc),
+            table: Table {
+                next: 0,
+                waiting: Numbered::new(alloc),
+                users: IdIndex::new(alloc),
+                formats: IdIndex::new(alloc),
+            },
         }
     }
 
-    /// The searches, in order of search.
-    pub fn list(&self) -> &[Search]
-        ensures { result.now ≡ self.now }
+    /// The searches of a user, in order of search.
+    pub fn of(&self, alloc: Global, user: &Id) -> Result<Vec<&Search>, AllocError>
+        ensures { IfOk result (λ v. map (λ x. x.now) v.items ≡ filter (has_user user.now) self.now) }
     {
-        self.list.as_slice()
+        let numbers = self.table.users.at(user.as_str());
+        let found = self.table.waiting.items_at(alloc, numbers)?;
+        Ok(found)
     }
 
     /// Whether a user waits for a format.
     pub fn is_waiting(&self, user: &Id, format: &Id) -> bool
         ensures { result ≡ waits self.now user.now format.now }
     {
-        waits(self.list.as_slice(), user, format)
+        let numbers = self.table.users.at(user.as_str());
+        any_for(&self.table.waiting, numbers, user, format)
     }
 
     /// Whether a user waits for any format. Takes no memory.
     pub fn has(&self, user: &Id) -> bool
         ensures { result ≡ list_any (has_user user.now) self.now }
     {
-        has_any(self.list.as_slice(), user)
+        let numbers = self.table.users.at(user.as_str());
+        any_of(&self.table.waiting, numbers, user)
     }
 
     /// The search that a user at a rating would be matched with: the one that has waited longest of those of others for the
@@ -248,7 +197,7 @@ impl Searches {
     pub fn find(&self, user: &Id, format: &Id, rating: i32) -> Option<&Search>
         ensures { option_copied result ≡ found self.now user.now format.now rating }
     {
-        longest_waiting(self.list.as_slice(), user, format, rating)
+        find(&self.table, user, format, rating)
     }
 
     /// A user at a rating searches for a battle of a format.
@@ -269,36 +218,35 @@ impl Searches {
         ensures fault { IfErr result (IsAddFault (waits self.old user.now format.now)) }
         ensures err { OnErr result (self.new ≡ self.old) }
     {
-        if waits(self.list.as_slice(), user, format) {
+        if self.is_waiting(user, format) {
             return Err(AddFault::Already);
         }
-        let found = add_new(&mut self.list, alloc, user, format, rating)?;
+        let found = add_new(alloc, &mut self.table, user, format, rating)?;
         Ok(found)
     }
 
     /// Who is matched with nobody waits, behind the others. Where memory fails nothing changes.
-    pub fn wait(&mut self, search: Search) -> Result<(), AllocError>
+    pub fn wait(&mut self, alloc: Global, search: Search) -> Result<(), AllocError>
         ensures ok { OnOk result (self.new ≡ self.old ++ search ∷ []) }
         ensures err { OnErr result (self.new ≡ self.old) }
     {
-        self.list.push(search)?;
-        Ok(())
+        push(alloc, &mut self.table, search)
     }
 
     /// Who a user at a rating is matched with waits no more: the search that `find` gives. Takes no memory.
-    pub fn take(&mut self, user: &Id, format: &Id, rating: i32)
+    pub fn take(&mut self, alloc: Global, user: &Id, format: &Id, rating: i32)
         ensures { self.new ≡ without self.old user.now format.now rating }
     {
-        take_found(&mut self.list, user, format, rating);
+        let _ = take_found(alloc, &mut self.table, user, format, rating);
     }
 
     /// All searches of a user go; `false` exactly where there was none. Takes no memory.
-    pub fn cancel(&mut self, user: &Id) -> bool
+    pub fn cancel(&mut self, alloc: Global, user: &Id) -> bool
         ensures value { result ≡ list_any (has_user user.now) self.old }
         ensures after { self.new ≡ cancelled self.old user.now }
     {
-        let found = has_any(self.list.as_slice(), user);
-        take_out(&mut self.list, user);
+        let found = self.has(user);
+        end_all(alloc, &mut self.table, user);
         found
     }
 }

@@ -51,7 +51,13 @@ fn search(
 
 fn cancel(rt: &impl Abort, alloc: Global, searches: &mut Searches, user: &str) -> bool {
     let user = made::id(rt, alloc, user);
-    searches.cancel(&user)
+    searches.cancel(alloc, &user)
+}
+
+/// How many searches a user has.
+fn count_of(rt: &impl Abort, alloc: Global, searches: &Searches, user: &str) -> usize {
+    let user = made::id(rt, alloc, user);
+    searches.of(alloc, &user).expect(rt, "memory").len()
 }
 
 fn search_all(rt: &impl Abort, alloc: Global, searches: &mut Searches) {
@@ -65,7 +71,8 @@ fn search_all(rt: &impl Abort, alloc: Global, searches: &mut Searches) {
 fn assert_cancels(rt: &impl Abort, alloc: Global, searches: &mut Searches) {
     assert!(rt; cancel(rt, alloc, searches, "cy"));
     assert!(rt; !cancel(rt, alloc, searches, "cy"));
-    assert_eq!(rt; searches.list().len(), 1);
+    assert_eq!(rt; count_of(rt, alloc, searches, "cy"), 0);
+    assert_eq!(rt; count_of(rt, alloc, searches, "ann"), 1);
 }
 
 #[test]

@@ -1,6 +1,0 @@
-use Rattle.std.proofs.Common.{◌≡◌, ◌++◌, cond, map, drop}
-use Rattle.ps_ladder.specs.Waiting.{without}
-use Rattle.ps_hall.proofs.coming.searches_but.Given as goal
-
-abbrev pub invariant-loop-entry : goal.invariant-loop-entry
-invariant-loop-entry l = map (λ x. x.now) l.found.items ++ cond l.is_out (drop l.entry-index l.list) (without (drop l.entry-index l.list) l.user l.format l.rating) ≡ without l.list l.user l.format l.rating

@@ -1,0 +1,10 @@
+use Rattle.ps_ladder.proofs.TableLemmas.{kept_none, kept_gone}
+use Rattle.ps_ladder.proofs.table.remove.Goals as goal
+
+pub returns-in-None-clause-kept : goal.returns-in-None-clause-kept
+returns-in-None-clause-kept c = kept_none c.args.table.now c.requires c.args.number c.take.new.self c.take.ensures.after
+
+pub returns-in-Some-clause-kept : goal.returns-in-Some-clause-kept
+returns-in-Some-clause-kept c =
+    kept_gone c.args.table.now c.requires c.args.number c.take.new.self c.remove.new.self c.remove-in-Some.new.self c.as_str.result.now c.as_str-in-Some.result.now
+    c.take.ensures.after c.remove.ensures c.remove-in-Some.ensures
