@@ -1,2 +1,3 @@
 pub mod CharLemmas
+mod ClientLemmas
 pub mod PartLemmas

@@ -63,3 +63,27 @@ pub fn read_client(bytes: &[u8]) -> Result<ClientMsg<'_>, ClientFault>
         },
     }
 }
+
+// The bytes of a text, which are UTF-8.
+fn text_in(whole: &str) -> &str
+    ensures { text_of whole.now ≡ Some result.now }
+{
+    whole
+}
+
+/// Does as `read_client` does, with what is known to be UTF-8 already, and doesn't look at that again.
+#[tactic(auto, unfolding(crate::specs::Clients::client))]
+pub fn read_client_text(whole: &str) -> Result<ClientMsg<'_>, ClientFault>
+    ensures message { IfOk result (λ m. client whole.now ≡ Ok (m.room.now, m.text.now)) }
+    ensures fault { IfErr result (λ f. client whole.now ≡ Err f) }
+{
+    if whole.len() > MOST_TEXT {
+        return Err(ClientFault::Long {
+            bytes: counted(whole.len()),
+        });
+    }
+    match parts::at_bar(text_in(whole)) {
+        None => Err(ClientFault::NoBar),
+        Some((room, text)) => Ok(ClientMsg { room, text }),
+    }
+}

@@ -156,20 +156,33 @@ fn user_word(word: &str) -> Option<Word>
 fn room_word(word: &str) -> Option<Word>
     ensures { result ≡ room_word word.now }
 {
-    speaking_word(word)
-        .or(staff_word(word))
-        .or(rank_or_battle_word(word))
+    if let Some(found) = speaking_word(word) {
+        return Some(found);
+    }
+    if let Some(found) = staff_word(word) {
+        return Some(found);
+    }
+    rank_or_battle_word(word)
 }
 
 fn hall_word(word: &str) -> Option<Word>
     ensures { result ≡ hall_word word.now }
 {
-    own_word(word).or(challenge_word(word)).or(user_word(word))
+    if let Some(found) = own_word(word) {
+        return Some(found);
+    }
+    if let Some(found) = challenge_word(word) {
+        return Some(found);
+    }
+    user_word(word)
 }
 
 /// The command that a word names, if it is in one of the tables.
 pub fn word_of(word: &str) -> Option<Word>
     ensures { result ≡ word_of word.now }
 {
-    room_word(word).or(hall_word(word))
+    if let Some(found) = room_word(word) {
+        return Some(found);
+    }
+    hall_word(word)
 }

@@ -3,6 +3,7 @@ use Rattle.std.specs.Prelude.{◌≡◌, ℕ, Bool, true, false, List, Option, N
 use Rattle.ps_base.specs.declared.badge.Badge.{Badge}
 use Rattle.ps_lines.specs.Clients.{client}
 use Rattle.ps_lines.specs.Commands.{command}
+use Rattle.ps_lines.specs.declared.client.ClientMsg.{ClientMsg}
 use Rattle.ps_lines.specs.declared.client.ClientFault.{ClientFault}
 use Rattle.ps_lines.specs.declared.client.ClientFault.TheVariants as client_faults
 use Rattle.ps_lines.specs.declared.command.BadWhy.{BadWhy}
@@ -106,6 +107,11 @@ abbrev pub after_no_room : Record → Record
 after_no_room r = if is_full None r then r else counted None (uncounted r.last r)
 
 -- ---- for the code alone
+
+-- the room and the text that were read, wherever they stand
+abbrev pub parts_of : Result ClientMsg ClientFault → Result (List ℕ × List ℕ) ClientFault
+parts_of (Ok message) = Ok (message.room.now, message.text.now)
+parts_of (Err fault) = Err fault
 
 -- an order for a room leaves a connection with no more rooms than it may have
 abbrev pub Fits : Record → Order → Type 0

@@ -145,14 +145,19 @@ impl RoomCounts {
         self.joined
     }
 
-    /// Counts a text to a room. Where memory fails nothing changes.
-    pub(crate) fn count(&mut self, alloc: Global, id: &str) -> Result<(), AllocError>
+    /// Counts a text to a room, for which `get` gave the count so far. Where memory fails nothing changes.
+    pub(crate) fn count(
+        &mut self,
+        alloc: Global,
+        id: &str,
+        so_far: Option<u32>,
+    ) -> Result<(), AllocError>
+        requires so_far { so_far ≡ get self.old.rooms id.now }
         requires few { count_in id.now self.old.rooms + 1 < 2 ^ 32 }
         requires fit { get self.old.rooms id.now ≡ None → self.old.joined + 1 < 2 ^ 32 }
         ensures ok { OnOk result (self.new ≡ record { rooms = raised id.now self.old.rooms; joined = joined_with (get self.old.rooms id.now) self.old.joined; last = Some id.now }) }
         ensures err { OnErr result (self.new ≡ self.old) }
     {
-        let so_far = self.get(id);
         let count = so_far.unwrap_or(0) + 1;
         let joined = joined_with(so_far, self.joined);
         if is_last(&self.last, id) {

@@ -1,10 +1,9 @@
 //! One connection as a machine that takes its texts and gives its orders.
-ghost use Rattle.std.specs.Prelude.{◌≡◌, false, true, is_some, None, Some, Ok, IfOk, IfErr, IfSome, OnOk, OnErr};
+ghost use Rattle.std.specs.Prelude.{◌≡◌, true, if◌then◌else◌, is_some, None, Some, Ok, IfOk, IfErr, IfSome, OnOk, OnErr};
 ghost use Rattle.std.specs.Option.{option_copied};
 ghost use Rattle.ps_lines.specs.Commands.{command};
-ghost use Rattle.ps_session.specs.Counts.{count_in};
 ghost use Rattle.ps_session.specs.Sessions.{begun, is_full, is_past_rooms, counted, with_badge, without_badge};
-ghost use Rattle.ps_session.specs.Routes.{bad_order, room_named, room_refusal, to_room, by_command, order_of, place_of, taken, IsTakeFault, no_room, after_no_room, Fits};
+ghost use Rattle.ps_session.specs.Routes.{bad_order, room_named, room_refusal, to_room, by_command, by_client, parts_of, place_of, within_limit, taken, IsTakeFault, no_room, after_no_room, Fits};
 ghost use Rattle.ps_session.specs.Texts.{texts_of};
 ghost use Rattle.ps_session.specs.declared.session.TakeFault.TheVariants.{Limit, NoMemory};
 
@@ -14,7 +13,7 @@ use ps_base::badge::Badge;
 use ps_base::msg::Msg;
 use ps_base::number::ConnNo;
 use ps_base::text::Text;
-use ps_lines::client::{ClientFault, read_client};
+use ps_lines::client::{ClientFault, ClientMsg, read_client, read_client_text};
 use ps_lines::command::{BadWhy, Command, CommandFault, HallCmd, Parsed};
 use ps_lines::order::Order;
 use ps_lines::read::read_command;
@@ -195,13 +194,16 @@ impl Session {
         }
     }
 
-    // The order of a text, before any limit of texts.
-    #[tactic(auto, unfolding(crate::specs::Routes::order_of))]
-    fn order_of(&self, alloc: Global, bytes: &[u8]) -> Result<Option<Order>, AllocError>
-        ensures value { IfOk result (λ o. o ≡ order_of self.now.badge self.now bytes.now) }
+    // The order of a text, by what was read of it, before any limit of texts.
+    fn order_by(
+        &self,
+        alloc: Global,
+        read: Result<ClientMsg<'_>, ClientFault>,
+    ) -> Result<Option<Order>, AllocError>
+        ensures value { IfOk result (λ o. o ≡ by_client self.now.badge self.now (parts_of read.entry)) }
         ensures fits { IfOk result (λ o. IfSome o (λ order. Fits self.now order)) }
     {
-        match read_client(bytes) {
+        match read {
             Err(ClientFault::Long { .. }) => Ok(None),
             Err(ClientFault::NotUtf8) => Ok(None),
             Err(ClientFault::NoBar) => Ok(Some(bad_order(BadWhy::NoBar))),
@@ -212,39 +214,50 @@ impl Session {
         }
     }
 
-    fn texts_in(&self, id: &str) -> u32
-        ensures { result ≡ count_in id.now self.now.rooms }
-    {
-        match self.rooms.get(id) {
-            None => 0,
-            Some(count) => count,
-        }
-    }
-
-    // Whether the place of an order has as many texts as it takes.
-    fn is_full(&self, order: &Order) -> bool
-        ensures { result ≡ is_full (place_of order.now) self.now }
-    {
-        match order {
-            Order::Hall(_) => self.hall >= MOST_TEXTS,
-            Order::Room { id, .. } => self.texts_in(id.as_str()) >= MOST_TEXTS,
-        }
-    }
-
-    // Counts a text to the place of its order. Where memory fails nothing changes.
-    fn count(&mut self, alloc: Global, order: &Order) -> Result<(), AllocError>
-        requires below { is_full (place_of order.now) self.old ≡ false }
-        requires fit { Fits self.old order.now }
-        ensures ok { OnOk result (self.new ≡ counted (place_of order.now) self.old) }
+    // Counts a text to the place of its order, unless that is full, and tells whether it is. A room's count is looked up
+    // once for both. Where memory fails nothing changes.
+    fn is_full_or_count(&mut self, alloc: Global, order: &Order) -> Result<bool, AllocError>
+        requires { Fits self.old order.now }
+        ensures full { IfOk result (λ full. full ≡ is_full (place_of order.now) self.old) }
+        ensures after { IfOk result (λ full. self.new ≡ (if full then self.old else counted (place_of order.now) self.old)) }
         ensures err { OnErr result (self.new ≡ self.old) }
     {
         match order {
             Order::Hall(_) => {
+                if self.hall >= MOST_TEXTS {
+                    return Ok(true);
+                }
                 self.rooms.keep(alloc)?;
                 self.hall = self.hall + 1;
-                Ok(())
+                Ok(false)
             }
-            Order::Room { id, .. } => self.rooms.count(alloc, id.as_str()),
+            Order::Room { id, .. } => {
+                let so_far = self.rooms.get(id.as_str());
+                if so_far.unwrap_or(0) >= MOST_TEXTS {
+                    return Ok(true);
+                }
+                self.rooms.count(alloc, id.as_str(), so_far)?;
+                Ok(false)
+            }
+        }
+    }
+
+    // Takes the order of a text, if it is one, within the limit of its place. At each fault nothing changes.
+    fn take_order(&mut self, alloc: Global, order: Option<Order>) -> Result<Order, TakeFault>
+        requires { IfSome order (λ o. Fits self.old o) }
+        ensures order { IfOk result (λ o. within_limit self.old order ≡ Ok o) }
+        ensures fault { IfErr result (λ f. IsTakeFault f (within_limit self.old order)) }
+        ensures after { IfOk result (λ o. self.new ≡ counted (place_of o) self.old) }
+        ensures kept { OnErr result (self.new ≡ self.old) }
+    {
+        match order {
+            None => Err(TakeFault::BadText),
+            Some(order) => {
+                if self.is_full_or_count(alloc, &order)? {
+                    return Err(limit_of(order));
+                }
+                Ok(order)
+            }
         }
     }
 
@@ -263,17 +276,20 @@ impl Session {
         ensures after { IfOk result (λ o. self.new ≡ counted (place_of o) self.old) }
         ensures kept { OnErr result (self.new ≡ self.old) }
     {
-        match self.order_of(alloc, bytes) {
-            Err(_) => Err(TakeFault::NoMemory),
-            Ok(None) => Err(TakeFault::BadText),
-            Ok(Some(order)) => {
-                if self.is_full(&order) {
-                    return Err(limit_of(order));
-                }
-                self.count(alloc, &order)?;
-                Ok(order)
-            }
-        }
+        let order = self.order_by(alloc, read_client(bytes))?;
+        self.take_order(alloc, order)
+    }
+
+    /// Does as `take` does with the bytes of a text, which are known to be UTF-8, and doesn't look at that again: `BadText`
+    /// comes exactly where they are more than 8,192.
+    pub fn take_text(&mut self, alloc: Global, text: &str) -> Result<Order, TakeFault>
+        ensures order { IfOk result (λ o. taken self.old text.now ≡ Ok o) }
+        ensures fault { IfErr result (λ f. IsTakeFault f (taken self.old text.now)) }
+        ensures after { IfOk result (λ o. self.new ≡ counted (place_of o) self.old) }
+        ensures kept { OnErr result (self.new ≡ self.old) }
+    {
+        let order = self.order_by(alloc, read_client_text(text))?;
+        self.take_order(alloc, order)
     }
 
     /// Says that the room of the order just taken isn't there. Its text then counts to the hall and no more to that

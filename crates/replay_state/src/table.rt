@@ -368,7 +368,7 @@ fn push_text(
     ensures ledger { OnOk result (out.new.ledger ≡ happenings_ledger places.old (entry_happenings moment (now_in places.old) conn (text_entry moment (now_in places.old) conn text.now session.old)) out.old.ledger) }
     ensures ended { IfOk result (λ end. end ≡ end_by (now_in places.old) (text_entry moment (now_in places.old) conn text.now session.old)) }
 {
-    match session.take(alloc, text.as_bytes()) {
+    match session.take_text(alloc, text) {
         Err(TakeFault::NoMemory) => Err(AllocError),
         Err(TakeFault::BadText) => push_lent(
             alloc, places, session, moment, count, conn, None, out,

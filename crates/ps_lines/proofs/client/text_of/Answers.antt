@@ -1,12 +1,9 @@
 use Rattle.std.proofs.Common.{◌≡◌, ℕ, Bool, true, false, cond, List, Some, None, refl, sym}
 use Rattle.std.specs.Str.{IsUtf8, is_utf8}
-use Rattle.std.proofs.lemmas.Str.{IsUtf8-from_is_utf8, is_utf8-from_IsUtf8}
+use Rattle.std.proofs.lemmas.Str.{IsUtf8-from_is_utf8}
 use Rattle.ps_lines.specs.Clients.{text_of}
+use Rattle.ps_lines.proofs.ClientLemmas.{is_text}
 use Rattle.ps_lines.proofs.client.text_of.Goals as goal
-
-is_text : (bytes : List ℕ) → IsUtf8 bytes → text_of bytes ≡ Some bytes
-unfolding text_of
-is_text bytes h = rw (is_utf8-from_IsUtf8 bytes h) refl
 
 no_text : (bytes : List ℕ) → (IsUtf8 bytes → ⊥) → text_of bytes ≡ None
 unfolding text_of
