@@ -34,6 +34,19 @@ pub enum SendEnd {
     NoMemory,
 }
 
+/// Why a connection is ended by this side.
+#[derive(Clone, Copy, Debug, PartialEq, Eq)]
+pub enum CloseCause {
+    /// A text of the client has more bytes than a text may have.
+    TooLong,
+    /// A text of the client isn't UTF-8.
+    NotUtf8,
+    /// A text of the client is one more than its place takes.
+    Limit,
+    /// Memory was refused.
+    NoMemory,
+}
+
 /// What waits in the inbox of a link in memory.
 #[derive(Debug, Drop)]
 pub enum Arrival {
@@ -51,6 +64,9 @@ pub struct SentText {
 }
 
 /// One connection.
+///
+/// `attend` and `ring` are hints among the links of one door: who attends a place is told soon that something happened there. Nothing
+/// is promised of them, and a link may leave them be. A place is a room by its number, or the hall, which is `None`.
 pub trait Link {
     /// The inbox that is left, how many Texts and Quiets were answered, and the texts that were
     /// sent, each with that number before it, where the link makes them known.
@@ -73,6 +89,22 @@ pub trait Link {
     fn send(&mut self, text: &str) -> Result<(), SendEnd>
         ensures known { talk self.new ≡ after_send result text.now (talk self.old) }
         ensures cause { HasSendCause (counts self.old) (counts self.new) result };
+
+    /// Says whether the connection attends a room from now on. All connections attend the hall.
+    fn attend(&mut self, room: u32, attends: bool)
+        ensures known { talk self.new ≡ talk self.old }
+        ensures counts { counts self.new ≡ counts self.old };
+
+    /// Says that something happened in a place. As this link is next asked for what comes, the links that attend the place answer
+    /// Quiet, if they were waiting.
+    fn ring(&mut self, place: Option<u32>)
+        ensures known { talk self.new ≡ talk self.old }
+        ensures counts { counts self.new ≡ counts self.old };
+
+    /// Ends the connection, for this cause if there is one to tell, after it has rung where it was to. It is the last call of a link.
+    fn close(&mut self, cause: Option<CloseCause>)
+        ensures known { talk self.new ≡ talk self.old }
+        ensures counts { counts self.new ≡ counts self.old };
 }
 
 // Takes the first item of an inbox, if memory lasts for its bytes.
@@ -175,6 +207,12 @@ impl Link for SureLink {
             Err(_) => Err(SendEnd::NoMemory),
         }
     }
+
+    fn attend(&mut self, _room: u32, _attends: bool) {}
+
+    fn ring(&mut self, _place: Option<u32>) {}
+
+    fn close(&mut self, _cause: Option<CloseCause>) {}
 }
 
 /// A link in memory, whose calls fail at the numbers of two lists, counted from 1: one for `next`
@@ -270,4 +308,10 @@ impl Link for MemLink {
             Err(SendEnd::NoMemory) => Err(SendEnd::NoMemory),
         }
     }
+
+    fn attend(&mut self, _room: u32, _attends: bool) {}
+
+    fn ring(&mut self, _place: Option<u32>) {}
+
+    fn close(&mut self, _cause: Option<CloseCause>) {}
 }

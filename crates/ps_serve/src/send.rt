@@ -12,7 +12,8 @@ use crate::closed::End;
 use crate::session::Sitting;
 use ps_base::text::Text;
 use ps_hub::hub::Hub;
-use ps_hub::pass::RoomPass;
+use ps_hub::pass::{HallPass, RoomPass};
+use ps_hub::passes::Passes;
 use ps_outside::link::{Link, SendEnd};
 use std::alloc::Global;
 use std::sync::Wait;
@@ -44,7 +45,70 @@ fn held_by(pass: &RoomPass) -> Option<&str>
     }
 }
 
+// Rings at the place of a room that is held, if the connection has passed more there than it was told: it made entries there since
+// then. At one that isn't held, it attends no more.
+fn ring_room<L: Link>(pass: &RoomPass, link: &mut L)
+    ensures talk { L.talk link.new ≡ L.talk link.old }
+    ensures counts { L.counts link.new ≡ L.counts link.old }
+{
+    if pass.id.is_none() {
+        link.attend(pass.number, false);
+        return;
+    }
+    if pass.at < pass.cursor.passed {
+        link.attend(pass.number, true);
+        link.ring(Some(pass.number));
+    }
+}
+
+// The same for the hall, which all attend.
+fn ring_hall<L: Link>(hall: &Option<HallPass>, link: &mut L)
+    ensures talk { L.talk link.new ≡ L.talk link.old }
+    ensures counts { L.counts link.new ≡ L.counts link.old }
+{
+    match hall {
+        None => {}
+        Some(pass) => {
+            if pass.at < pass.cursor.passed {
+                link.ring(None);
+            }
+        }
+    }
+}
+
+// Rings for those who attend where entries were made.
+fn ring_places<L: Link>(passes: &Passes, link: &mut L)
+    ensures talk { L.talk link.new ≡ L.talk link.old }
+    ensures counts { L.counts link.new ≡ L.counts link.old }
+{
+    ring_hall(&passes.hall, link);
+    for pass in passes.rooms.as_slice() {
+        ring_room(pass, link);
+    }
+}
+
 impl Sitting {
+    /// Catches up after a text was obeyed, and lets the link ring where that made entries. The link rings as it is next asked for what
+    /// comes, so that who sent the text is answered first.
+    pub(crate) fn answer<R: Wait, L: Link>(
+        &mut self,
+        alloc: Global,
+        rt: &R,
+        hub: &Hub,
+        link: &mut L,
+    ) -> Option<End>
+        requires { AreOf hub.now self.old.passes }
+        ensures of { AreOf hub.now self.new.passes }
+        ensures same { (self.new.session ≡ self.old.session) × (self.new.passes.badge ≡ self.old.passes.badge) }
+        ensures counts { IfNone result (L.counts link.new ≡ L.counts link.old) }
+        ensures cause { IfSome result (λ end. IsBreak end (L.counts link.old) (L.counts link.new)) }
+        ensures told { IfNone result ((conn open_at : ℕ) (acts : List Act) (a : Act) (ss : List Sending) → Sits hub.now conn open_at (acts ++ a ∷ []) (length acts) ss self.old.session self.old.passes → Tells hub.now conn open_at acts a ss self.old.session (L.talk link.old) (L.talk link.new) self.new.passes) }
+        ensures broke { IfSome result (λ end. (conn open_at : ℕ) (acts : List Act) (a : Act) (ss : List Sending) → Sits hub.now conn open_at (acts ++ a ∷ []) (length acts) ss self.old.session self.old.passes → TellsPart end hub.now conn open_at acts a ss (L.talk link.old) (L.talk link.new) self.new.passes) }
+    {
+        ring_places(&self.passes, link);
+        self.catch_up(alloc, rt, hub, link)
+    }
+
     /// Looks once at the hall and at each room that is held, by rising numbers, and sends what wasn't sent yet. `None` where the
     /// session goes on.
     pub(crate) fn catch_up<R: Wait, L: Link>(

@@ -60,7 +60,7 @@ impl Sitting {
     {
         match link.next() {
             Next::Text(bytes) => match self.hear(alloc, rt, hub, bytes.as_slice(), clock) {
-                None => self.catch_up(alloc, rt, hub, link),
+                None => self.answer(alloc, rt, hub, link),
                 Some(stop) => Some(end_by(stop, bytes)),
             },
             Next::Quiet => self.catch_up(alloc, rt, hub, link),

@@ -4,6 +4,7 @@ ghost use Rattle.ps_outside.specs.Counts.{CountsErr};
 ghost use Rattle.ps_outside.specs.Doors.{given_after, HasAcceptCause};
 ghost use Rattle.ps_ws.specs.Sockets.{new_socket};
 
+use crate::bells::Bells;
 use crate::link::WsLink;
 use crate::wire::Wire;
 use ps_outside::Failed;
@@ -12,6 +13,7 @@ use std::alloc::Global;
 use std::io::ErrorKind;
 use std::marker::Model;
 use std::net::{Net, TcpListener, TcpStream, ToSocketAddrs};
+use std::sync::{Arc, Wait};
 use std::{io, rt};
 
 // Listens at the first of these addresses that can be had. As many clients may wait for an `accept` as the host lets wait: mio asks
@@ -29,6 +31,17 @@ fn listen<N: Net>(net: &N, address: &str) -> io::Result<TcpListener> {
         }
     }
     Err(last)
+}
+
+// Listens, and makes the bells of the links to come.
+fn listen_with_bells<N: Net>(
+    net: &N,
+    alloc: Global,
+    address: &str,
+) -> io::Result<(TcpListener, Arc<Bells>)> {
+    let bells = Arc::new(alloc, Bells::new(alloc))?;
+    let listener = listen(net, address)?;
+    Ok((listener, bells))
 }
 
 // Whether a connection was lost on its way, before it was taken from the queue of those that wait.
@@ -59,15 +72,18 @@ fn next_stream(listener: &TcpListener) -> io::Result<TcpStream> {
 /// The handshake of a link is done by the link's own first call, so a client that is slow to do it
 /// holds up nobody else.
 #[derive(Drop)]
-pub struct WsDoor<R: Net<Listener = TcpListener, Stream = TcpStream> + rt::Clock + Copy> {
+pub struct WsDoor<R: Net<Listener = TcpListener, Stream = TcpStream> + rt::Clock + Wait + Copy> {
     host: R,
     alloc: Global,
     listener: Option<TcpListener>,
+    // By which its links ring for each other: there where it listens.
+    bells: Option<Arc<Bells>>,
     given: u64,
     faults: u64,
 }
 
-impl<R: Net<Listener = TcpListener, Stream = TcpStream> + rt::Clock + Copy> Model for WsDoor<R> {
+impl<R: Net<Listener = TcpListener, Stream = TcpStream> + rt::Clock + Wait + Copy> Model
+    for WsDoor<R> {
     ghost use Rattle.ps_ws.specs.Sockets.{DoorState};
     ghost use Rattle.std.specs.Option.{is_some};
 
@@ -76,7 +92,7 @@ impl<R: Net<Listener = TcpListener, Stream = TcpStream> + rt::Clock + Copy> Mode
     ghost view = { λ d. record { listens = is_some d.listener; given = d.given; faults = d.faults } };
 }
 
-impl<R: Net<Listener = TcpListener, Stream = TcpStream> + rt::Clock + Copy> WsDoor<R> {
+impl<R: Net<Listener = TcpListener, Stream = TcpStream> + rt::Clock + Wait + Copy> WsDoor<R> {
     /// A door that isn't open. Takes no memory.
     pub fn new(host: R, alloc: Global) -> WsDoor<R>
         ensures { result ≡ record { listens = false; given = 0; faults = 0 } }
@@ -85,6 +101,7 @@ impl<R: Net<Listener = TcpListener, Stream = TcpStream> + rt::Clock + Copy> WsDo
             host,
             alloc,
             listener: None,
+            bells: None,
             given: 0,
             faults: 0,
         }
@@ -106,18 +123,20 @@ impl<R: Net<Listener = TcpListener, Stream = TcpStream> + rt::Clock + Copy> WsDo
         ensures fresh { IfOk result (λ link. link ≡ new_socket) }
         ensures shut { self.now.listens ≡ false → IsErr result }
     {
-        let Some(listener) = &self.listener else {
+        let (Some(listener), Some(bells)) = (&self.listener, &self.bells) else {
             return Err(io::Error::from(ErrorKind::NotConnected));
         };
+        let bells = bells.clone()?;
         let stream = next_stream(listener)?;
         // Short texts leave at once. Where the host refuses this they come late, and no more.
         let _ = stream.set_nodelay(true);
-        let wire = Wire::open(&self.host, self.host, self.alloc, stream)?;
+        let wire = Wire::open(&self.host, self.host, self.alloc, bells, stream)?;
         Ok(WsLink::over(wire))
     }
 }
 
-impl<R: Net<Listener = TcpListener, Stream = TcpStream> + rt::Clock + Copy> Door for WsDoor<R> {
+impl<R: Net<Listener = TcpListener, Stream = TcpStream> + rt::Clock + Wait + Copy> Door
+    for WsDoor<R> {
     type Link = WsLink<R>;
 
     ghost faults = { λ d. d.faults };
@@ -133,9 +152,10 @@ impl<R: Net<Listener = TcpListener, Stream = TcpStream> + rt::Clock + Copy> Door
         ensures opens { OnOk result (self.new.listens ≡ true) }
         ensures same { OnErr result (self.new.listens ≡ self.old.listens) }
     {
-        match listen(&self.host, address) {
-            Ok(listener) => {
+        match listen_with_bells(&self.host, self.alloc, address) {
+            Ok((listener, bells)) => {
                 self.listener = Some(listener);
+                self.bells = Some(bells);
                 Ok(())
             }
             Err(_) => {

@@ -3,6 +3,7 @@
 //! They tell nothing of what comes and goes, and count what they answer: the trusted edge of a server.
 #![tactic(auto)]
 
+mod bells;
 pub mod door;
 mod handshake;
 pub mod link;

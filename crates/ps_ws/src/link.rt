@@ -3,9 +3,10 @@ ghost use Rattle.std.specs.Prelude.{◌≡◌, Option, Some, None};
 ghost use Rattle.ps_outside.specs.Links.{IsNext, after_next, after_send, HasNextCause, HasSendCause};
 
 use crate::wire::Wire;
-use ps_outside::link::{Link, Next, SendEnd};
+use ps_outside::link::{CloseCause, Link, Next, SendEnd};
 use std::marker::Model;
 use std::rt;
+use std::sync::Wait;
 
 /// The most bytes of a message, and of a frame, that a link takes. It is above the 8,192 bytes that
 /// a client's text may have, so that a longer text comes whole to who answers that it is too long.
@@ -16,7 +17,7 @@ pub const MESSAGE_LIMIT: usize = 65_536;
 pub enum Ending {
     /// Both sides have said that they close.
     Closed,
-    /// The client broke the protocol or was too slow, or the connection was lost.
+    /// The client broke the protocol or was too slow, the connection was lost, or this side ended it.
     Broken,
 }
 
@@ -29,16 +30,19 @@ pub enum Ending {
 ///   malformed or of HTTP/1.0, has a body, or where Host, Upgrade, Connection or the key are missing, wrong or there twice.
 /// - A text message and a binary message are each a Text of its bytes, whole, of at most
 ///   [`MESSAGE_LIMIT`] bytes.
-/// - Quiet comes where nothing has come within 50 milliseconds, and at each ping and pong. A ping is
-///   answered.
+/// - Quiet comes where nothing has come within 5 seconds, soon after another link of its door rang at a place that this one attends,
+///   and at each ping and pong. A ping is answered. Where memory was refused for its bell, Quiet comes after 50 milliseconds.
 /// - End comes where both sides have said that they close, and from then on.
 /// - Failed comes at all else, and from then on: at a message over the limit, text that isn't UTF-8,
 ///   anything that the protocol forbids, and a connection that ends without a close. For the first three the client is sent a Close
 ///   frame before, with a reason and the code 1009, 1007 or 1002 (RFC 6455 7.4.1), for which its socket has 10 seconds.
 /// - Who was told why the connection ends has a second to end it, too, and then it is let go.
-/// - A text is sent within 10 seconds, or is Failed.
+/// - A text leaves as the link is next asked for what comes, or as 16,384 bytes wait to be sent, within 10 seconds, or that call is
+///   Failed.
+/// - A close for a cause is a Close frame: 1009 and 1007 for a text that is too long or isn't UTF-8, 1008 at a limit, and 1011 if out
+///   of memory.
 #[derive(Drop)]
-pub struct WsLink<R: rt::Clock + Copy> {
+pub struct WsLink<R: rt::Clock + Wait + Copy> {
     wire: Wire<R>,
     ended: Option<Ending>,
     faults: u64,
@@ -46,7 +50,7 @@ pub struct WsLink<R: rt::Clock + Copy> {
     ends: u64,
 }
 
-impl<R: rt::Clock + Copy> Model for WsLink<R> {
+impl<R: rt::Clock + Wait + Copy> Model for WsLink<R> {
     ghost use Rattle.ps_ws.specs.Sockets.{SocketState};
 
     ghost Value = { SocketState };
@@ -54,7 +58,7 @@ impl<R: rt::Clock + Copy> Model for WsLink<R> {
     ghost view = { λ l. record { counts = record { faults = l.faults; quiets = l.quiets; ends = l.ends }; ended = l.ended } };
 }
 
-impl<R: rt::Clock + Copy> WsLink<R> {
+impl<R: rt::Clock + Wait + Copy> WsLink<R> {
     ghost use Rattle.ps_ws.specs.Sockets.{new_socket, first_ending};
 
     // A link over a wire.
@@ -81,8 +85,9 @@ impl<R: rt::Clock + Copy> WsLink<R> {
     }
 }
 
-impl<R: rt::Clock + Copy> Link for WsLink<R> {
-    ghost use Rattle.ps_ws.specs.Sockets.{ended_after, ended_after_send, IsStillEnded, SendsNothing};
+impl<R: rt::Clock + Wait + Copy> Link for WsLink<R> {
+    ghost use Rattle.ps_ws.specs.Sockets.{first_ending, ended_after, ended_after_send, IsStillEnded, SendsNothing};
+    ghost use Rattle.ps_ws.specs.declared.link.Ending.TheVariants.{Broken};
 
     ghost talk = { λ _. None };
 
@@ -140,5 +145,30 @@ impl<R: rt::Clock + Copy> Link for WsLink<R> {
                 Err(SendEnd::Failed)
             }
         }
+    }
+
+    fn attend(&mut self, room: u32, attends: bool)
+        ensures same { self.new ≡ self.old }
+    {
+        self.wire.attend(room, attends);
+    }
+
+    fn ring(&mut self, place: Option<u32>)
+        ensures same { self.new ≡ self.old }
+    {
+        self.wire.ring(place);
+    }
+
+    /// What has ended sends no Close frame.
+    fn close(&mut self, cause: Option<CloseCause>)
+        ensures counts { self.new.counts ≡ self.old.counts }
+        ensures ended { self.new.ended ≡ first_ending self.old.ended Broken }
+    {
+        let cause = match self.ended {
+            None => cause,
+            Some(_) => None,
+        };
+        self.wire.end(cause);
+        self.end(Ending::Broken);
     }
 }

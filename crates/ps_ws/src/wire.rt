@@ -1,12 +1,14 @@
 //! A socket that speaks WebSocket, without any count.
 
+use crate::bells::{Bell, Bells};
 use crate::handshake::{Refusal, Request, judge};
 use crate::link::MESSAGE_LIMIT;
-use mio::{Events, Interest, Poll, Token};
-use ps_outside::link::{Next, SendEnd};
-use std::alloc::Global;
+use mio::{Events, Interest, Poll, Token, Waker};
+use ps_outside::link::{CloseCause, Next, SendEnd};
+use std::alloc::{AllocError, Global};
 use std::io::{ErrorKind, Read, Write};
 use std::net::{Net, Shutdown, TcpStream};
+use std::sync::{Arc, Wait};
 use std::time::{Duration, Instant};
 use std::{io, mem, rt};
 use tungstenite::{
@@ -22,8 +24,14 @@ const PATIENCE: u64 = 10_000;
 // How long the end of a client is waited for that was told why its connection ends, in milliseconds.
 const PARTING: u64 = 1_000;
 
-// How long one wait for the socket takes at most, in milliseconds.
+// How long one wait for the socket takes at most where something is under way, or no bell rings, in milliseconds.
 const POLL: u64 = 50;
+
+// How long a link waits for its client, or its bell, at most, in milliseconds.
+const IDLE: u64 = 5_000;
+
+// From how many bytes on what is to be sent leaves before the link is asked for what comes next.
+const WRITE_SIZE: usize = 16_384;
 
 // How many bytes one read of the socket asks for. A link keeps two buffers of this size.
 const READ_SIZE: usize = 8192;
@@ -48,19 +56,30 @@ enum Stage {
 
 /// A socket, what it waits by, and a message that is still to be answered.
 #[derive(Drop)]
-pub(crate) struct Wire<R: rt::Clock + Copy> {
+pub(crate) struct Wire<R: rt::Clock + Wait + Copy> {
     host: R,
     alloc: Global,
     poll: Poll,
     events: Events,
     stage: Stage,
     kept: Option<Message>,
+    bells: Arc<Bells>,
+    bell: Arc<Bell>,
+    // Its number among the bells, while it is one of them.
+    number: Option<u64>,
+    // The rooms that its connection attends.
+    rooms: Vec<u32>,
+    // Where it is to ring.
+    rings: Vec<Option<u32>>,
+    // Whether its bell is missing somewhere, since memory was refused: it then looks as often as one that has none.
+    is_deaf: bool,
 }
 
 // The limits of a socket.
 fn config() -> WebSocketConfig {
     WebSocketConfig::default()
         .read_buffer_size(READ_SIZE)
+        .write_buffer_size(WRITE_SIZE)
         .max_message_size(Some(MESSAGE_LIMIT))
         .max_frame_size(Some(MESSAGE_LIMIT))
 }
@@ -100,6 +119,19 @@ fn breach_of_protocol(cause: &ProtocolError) -> Option<&'static str> {
     }
 }
 
+// What a Close frame says where this side ends the connection (RFC 6455 7.4.1).
+fn told(cause: CloseCause) -> (CloseCode, &'static str) {
+    match cause {
+        CloseCause::TooLong => (CloseCode::Size, "a text has at most 8192 bytes"),
+        CloseCause::NotUtf8 => (CloseCode::Invalid, "a text has to be UTF-8"),
+        CloseCause::Limit => (
+            CloseCode::Policy,
+            "no more texts are taken of this connection",
+        ),
+        CloseCause::NoMemory => (CloseCode::Error, "the server is out of memory"),
+    }
+}
+
 // The next message. First the reply to the last one leaves, so that a client that asks for replies
 // and doesn't read them can't fill the memory. A close is answered and completed at once, if the
 // socket has room.
@@ -112,13 +144,20 @@ fn read_message(socket: &mut Socket) -> Result<Message, Error> {
     Ok(message)
 }
 
-impl<R: rt::Clock + Copy> Wire<R> {
-    /// A wire over a stream that doesn't block. Nothing is read or written yet. Where memory is
+// The bell that ends the waits of this poll.
+fn bell_of(alloc: Global, poll: &Poll) -> io::Result<Arc<Bell>> {
+    let waker = Waker::new(poll.registry(), Token(1))?;
+    Ok(Arc::new(alloc, Bell::new(waker))?)
+}
+
+impl<R: rt::Clock + Wait + Copy> Wire<R> {
+    /// A wire over a stream that doesn't block, among those whose bells these are. Nothing is read or written yet. Where memory is
     /// refused the error is of the kind OutOfMemory.
     pub(crate) fn open<N: Net>(
         net: &N,
         host: R,
         alloc: Global,
+        bells: Arc<Bells>,
         stream: TcpStream,
     ) -> io::Result<Wire<R>> {
         stream.set_nonblocking(true)?;
@@ -127,6 +166,7 @@ impl<R: rt::Clock + Copy> Wire<R> {
         let events = Events::with_capacity(alloc, 4)?;
         let both = Interest::READABLE | Interest::WRITABLE;
         poll.registry().register(&mut stream, Token(0), both)?;
+        let bell = bell_of(alloc, &poll)?;
         Ok(Wire {
             host,
             alloc,
@@ -134,6 +174,12 @@ impl<R: rt::Clock + Copy> Wire<R> {
             events,
             stage: Stage::Handshaking(stream),
             kept: None,
+            bells,
+            bell,
+            number: None,
+            rooms: Vec::new(alloc),
+            rings: Vec::new(alloc),
+            is_deaf: false,
         })
     }
 
@@ -141,20 +187,41 @@ impl<R: rt::Clock + Copy> Wire<R> {
     pub(crate) fn shut(&mut self) {
         self.stage = Stage::Over;
         self.kept = None;
+        self.part_from_bells();
+    }
+
+    /// Rings where it was to, tells the client this cause in a Close frame, and lets the socket go.
+    pub(crate) fn end(&mut self, cause: Option<CloseCause>) {
+        self.ring_bells();
+        if let Some(cause) = cause {
+            let (code, reason) = told(cause);
+            self.close(code, reason);
+        }
+        self.shut();
     }
 
     /// What comes next, after one wait where there is nothing. Quiet comes at once where this call ended the handshake.
     pub(crate) fn next(&mut self) -> Next {
+        let next = self.next_answer();
+        // What happens from now on is seen by the look that follows this answer, or ends the wait of the next call.
+        self.bell.make_ready();
+        next
+    }
+
+    fn next_answer(&mut self) -> Next {
         match self.shake_hands() {
             Ok(false) => {}
             Ok(true) => return Next::Quiet,
             Err(SendEnd::Failed) => return Next::Failed,
             Err(SendEnd::NoMemory) => return Next::NoMemory,
         }
+        if self.send_all().is_err() {
+            return Next::Failed;
+        }
         if let Some(next) = self.read() {
             return next;
         }
-        if self.wait(Duration::from_millis(POLL)).is_err() {
+        if !self.bell.has_rung() && self.wait(self.longest_wait()).is_err() {
             return Next::Failed;
         }
         match self.read() {
@@ -163,7 +230,105 @@ impl<R: rt::Clock + Copy> Wire<R> {
         }
     }
 
-    /// Sends a text, and waits for room where there is none.
+    // How long to wait for the client at most.
+    fn longest_wait(&self) -> Duration {
+        Duration::from_millis(if self.is_deaf { POLL } else { IDLE })
+    }
+
+    // Writes all that waits to be sent, and rings in between: a client that doesn't read holds up nobody else.
+    fn send_all(&mut self) -> Result<(), SendEnd> {
+        let Stage::Open(socket) = &mut self.stage else {
+            return Err(SendEnd::Failed);
+        };
+        let sent = socket.flush();
+        self.ring_bells();
+        match sent {
+            Ok(()) => Ok(()),
+            Err(error) => {
+                if would_block(&error) {
+                    self.flush()
+                } else {
+                    Err(SendEnd::Failed)
+                }
+            }
+        }
+    }
+
+    // Lets its bell hang with those of the others.
+    fn hang_bell(&mut self) {
+        match self.bells.add(&self.host, &self.bell) {
+            Ok(number) => self.number = Some(number),
+            Err(_) => self.is_deaf = true,
+        }
+    }
+
+    // Takes its bell from those of the others.
+    fn part_from_bells(&mut self) {
+        let Some(number) = self.number.take() else {
+            return;
+        };
+        for room in self.rooms.as_slice() {
+            self.bells.leave(&self.host, number, *room);
+        }
+        self.rooms.clear();
+        self.bells.remove(&self.host, number);
+    }
+
+    /// Lets its bell hang at a room as well, or no more: then it rings there, for those who see it leave.
+    pub(crate) fn attend(&mut self, room: u32, attends: bool) {
+        let index = self
+            .rooms
+            .as_slice()
+            .iter()
+            .position(|attended| *attended == room);
+        match (index, attends) {
+            (None, true) => {
+                if self.attend_room(room).is_err() {
+                    self.is_deaf = true;
+                }
+            }
+            (Some(index), false) => {
+                let _ = self.rooms.swap_remove(index);
+                if let Some(number) = self.number {
+                    self.bells.leave(&self.host, number, room);
+                }
+                self.ring(Some(room));
+            }
+            _ => {}
+        }
+    }
+
+    // Lets its bell hang at a room as well.
+    fn attend_room(&mut self, room: u32) -> Result<(), AllocError> {
+        let Some(number) = self.number else {
+            return Ok(());
+        };
+        self.rooms.push(room)?;
+        self.bells.attend(&self.host, number, &self.bell, room)
+    }
+
+    /// Rings at a place, as what is to be sent is sent.
+    pub(crate) fn ring(&mut self, place: Option<u32>) {
+        if self.rings.push(place).is_err() {
+            self.ring_at(place);
+        }
+    }
+
+    // Rings at a place for all others.
+    fn ring_at(&self, place: Option<u32>) {
+        self.bells.ring(&self.host, place, self.number.unwrap_or(0));
+    }
+
+    // Rings where it was to.
+    fn ring_bells(&mut self) {
+        for place in self.rings.as_slice() {
+            self.ring_at(*place);
+        }
+        self.rings.clear();
+    }
+
+    /// Sends a text: it leaves as the link is next asked for what comes, or when there is enough to send. Where the socket has no
+    /// room it waits for some.
     pub(crate) fn send(&mut self, text: &str) -> Result<(), SendEnd> {
         self.shake_hands()?;
         let Stage::Open(socket) = &mut self.stage else {
@@ -172,7 +337,7 @@ impl<R: rt::Clock + Copy> Wire<R> {
         let Ok(message) = Message::text(self.alloc, text) else {
             return Err(SendEnd::NoMemory);
         };
-        match socket.send(message) {
+        match socket.write(message) {
             Ok(()) => Ok(()),
             Err(Error::OutOfMemory) => Err(SendEnd::NoMemory),
             Err(error) => {
@@ -190,6 +355,7 @@ impl<R: rt::Clock + Copy> Wire<R> {
         match mem::replace(&mut self.stage, Stage::Over) {
             Stage::Handshaking(stream) => {
                 self.stage = Stage::Open(self.finish_handshake(stream)?);
+                self.hang_bell();
                 Ok(true)
             }
             Stage::Open(socket) => {

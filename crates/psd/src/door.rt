@@ -7,18 +7,19 @@ use ps_ws::link::WsLink;
 use std::io::Eprint;
 use std::net::{Net, TcpListener, TcpStream};
 use std::rt;
+use std::sync::Wait;
 
 /// A door over WebSocket. Once it listens it prints one line on standard error, `listening on ADDRESS:PORT`: the address as it
 /// was given, with the port that the host chose where that was 0.
 #[derive(Drop)]
 pub(crate) struct PrintingDoor<
-    R: Net<Listener = TcpListener, Stream = TcpStream> + rt::Clock + Copy,
+    R: Net<Listener = TcpListener, Stream = TcpStream> + rt::Clock + Wait + Copy,
 > {
     host: R,
     door: WsDoor<R>,
 }
 
-impl<R: Net<Listener = TcpListener, Stream = TcpStream> + rt::Clock + Copy> PrintingDoor<R> {
+impl<R: Net<Listener = TcpListener, Stream = TcpStream> + rt::Clock + Wait + Copy> PrintingDoor<R> {
     /// Prints for this door, which isn't open.
     pub(crate) fn new(host: R, door: WsDoor<R>) -> PrintingDoor<R> {
         PrintingDoor { host, door }
@@ -33,7 +34,7 @@ fn without_port(address: &str) -> &str {
     }
 }
 
-impl<R: Net<Listener = TcpListener, Stream = TcpStream> + rt::Clock + Eprint + Copy> Door
+impl<R: Net<Listener = TcpListener, Stream = TcpStream> + rt::Clock + Wait + Eprint + Copy> Door
     for PrintingDoor<R> {
     type Link = WsLink<R>;
 

@@ -14,15 +14,16 @@ use program_commands::config::config_or_standard;
 use program_commands::dex::dex_or_none;
 use program_commands::status::Status;
 use program_commands::words::{ServeWords, read_serve_words};
+use ps_base::limit::MOST_TEXT;
 use ps_base::number::ConnNo;
 use ps_dex::dex::Dex;
 use ps_hub::hub::Hub;
 use ps_outside::clock::Clock;
 use ps_outside::door::{Door, DoorEnd};
 use ps_outside::files::Files;
-use ps_outside::link::Link;
+use ps_outside::link::{CloseCause, Link};
 use ps_outside::spawner::{Spawner, start};
-use ps_serve::closed::Closed;
+use ps_serve::closed::{Closed, End};
 use ps_serve::session::serve_session;
 use rules_config::config::Config;
 use std::alloc::{AllocError, Global};
@@ -56,6 +57,31 @@ struct Shared<S: Serving> {
     ghost hub_is: { hub ≡ S.hub },
 }
 
+// The cause of an end that its client is told, where the client is still there.
+fn cause_of(end: &End) -> Option<CloseCause> {
+    match end {
+        End::BadText { bytes } => {
+            if bytes.len() > MOST_TEXT {
+                Some(CloseCause::TooLong)
+            } else {
+                Some(CloseCause::NotUtf8)
+            }
+        }
+        End::OwnLimit { .. } => Some(CloseCause::Limit),
+        End::NoMemory => Some(CloseCause::NoMemory),
+        End::Closed | End::LinkFault | End::Taken => None,
+    }
+}
+
+// Rings for those who are told of the end of a session, and ends the connection of its link.
+fn part<L: Link>(link: &mut L, closed: &Closed) {
+    link.ring(None);
+    for pass in closed.passes.rooms.as_slice() {
+        link.ring(Some(pass.number));
+    }
+    link.close(cause_of(&closed.end));
+}
+
 // The session of a link. Its last step hands in what it ended with.
 fn run<S, R, L, C>(
     rt: &R,
@@ -72,6 +98,7 @@ where
     C: Clock + Drop,
 {
     let closed = serve_session(alloc, rt, &shared.hub, conn, &mut link, &mut clock);
+    part(&mut link, &closed);
     // Its client sees the end of the connection before the server counts it.
     drop(link);
     shared.journal.hand_in(rt, conn, closed);

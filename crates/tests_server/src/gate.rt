@@ -2,7 +2,7 @@
 ghost use Rattle.std.specs.Prelude.{◌≡◌, None};
 
 use crate::flags::Flags;
-use ps_outside::link::{Link, Next, SendEnd};
+use ps_outside::link::{CloseCause, Link, Next, SendEnd};
 use std::alloc::Global;
 use std::sync::Arc;
 use std::thread;
@@ -132,4 +132,10 @@ impl Link for GateLink {
         self.hear(text);
         Ok(())
     }
+
+    fn attend(&mut self, _room: u32, _attends: bool) {}
+
+    fn ring(&mut self, _place: Option<u32>) {}
+
+    fn close(&mut self, _cause: Option<CloseCause>) {}
 }

@@ -12,46 +12,46 @@ returns-in-None-clause-sits g c =
     let hub = c.args.hub.now in
     let old = c.args.self.now in
     let mid = c.hear.new.self in
-    let new = c.catch_up.new.self in
+    let new = c.answer.new.self in
     let h0 = g.C.Clock.hours c.args.clock.now in
     let h1 = g.C.Clock.hours c.hear.new.clock in
     let was = g.L.Link.talk c.next.new.self in
-    let is = g.L.Link.talk c.catch_up.new.link in
+    let is = g.L.Link.talk c.answer.new.link in
     let hears = subst (λ (b : List ℕ). HearsAll hub old.session old.passes b h0 h1 mid.session mid.passes) c.as_slice.ensures.value c.in-None.ensures.heard in
-    if_none_two c.catch_up.result (TellsAll hub mid.session mid.passes was is new.passes) (TellsAll hub mid.session mid.passes was is new.passes) (IsSitting hub new.session new.passes) c.catch_up.ensures.told c.catch_up.ensures.told
-    (λ tells again. sits_text hub old.session mid.session new.session old.passes mid.passes new.passes c.in-Text.bytes.items h0 h1 was is c.requires hears tells c.catch_up.ensures.same.0)
+    if_none_two c.answer.result (TellsAll hub mid.session mid.passes was is new.passes) (TellsAll hub mid.session mid.passes was is new.passes) (IsSitting hub new.session new.passes) c.answer.ensures.told c.answer.ensures.told
+    (λ tells again. sits_text hub old.session mid.session new.session old.passes mid.passes new.passes c.in-Text.bytes.items h0 h1 was is c.requires hears tells c.answer.ensures.same.0)
 
 pub returns-in-None-clause-goes_on : goal.returns-in-None-clause-goes_on
 returns-in-None-clause-goes_on g c =
     let hub = c.args.hub.now in
     let old = c.args.self.now in
     let mid = c.hear.new.self in
-    let new = c.catch_up.new.self in
+    let new = c.answer.new.self in
     let h0 = g.C.Clock.hours c.args.clock.now in
     let h1 = g.C.Clock.hours c.hear.new.clock in
     let first = g.L.Link.talk c.args.link.now in
     let was = g.L.Link.talk c.next.new.self in
-    let is = g.L.Link.talk c.catch_up.new.link in
+    let is = g.L.Link.talk c.answer.new.link in
     let hears = subst (λ (b : List ℕ). HearsAll hub old.session old.passes b h0 h1 mid.session mid.passes) c.as_slice.ensures.value c.in-None.ensures.heard in
-    if_none_two c.catch_up.result (g.L.Link.counts c.catch_up.new.link ≡ g.L.Link.counts c.next.new.self) (TellsAll hub mid.session mid.passes was is new.passes) _ c.catch_up.ensures.counts c.catch_up.ensures.told
+    if_none_two c.answer.result (g.L.Link.counts c.answer.new.link ≡ g.L.Link.counts c.next.new.self) (TellsAll hub mid.session mid.passes was is new.passes) _ c.answer.ensures.counts c.answer.ensures.told
     (λ counts tells talk0 counts0 hours0 conn open_at acts ss st.
-    goes_text hub conn open_at acts ss talk0 counts0 hours0 old.session mid.session new.session old.passes mid.passes new.passes c.in-Text.bytes first was is (g.L.Link.counts c.args.link.now) (g.L.Link.counts c.next.new.self) (g.L.Link.counts c.catch_up.new.link) h0 h1 st c.in-Text.ensures.known c.in-Text.ensures.front c.in-Text.ensures.cause hears tells c.catch_up.ensures.same.0 counts)
+    goes_text hub conn open_at acts ss talk0 counts0 hours0 old.session mid.session new.session old.passes mid.passes new.passes c.in-Text.bytes first was is (g.L.Link.counts c.args.link.now) (g.L.Link.counts c.next.new.self) (g.L.Link.counts c.answer.new.link) h0 h1 st c.in-Text.ensures.known c.in-Text.ensures.front c.in-Text.ensures.cause hears tells c.answer.ensures.same.0 counts)
 
 pub returns-in-None-clause-rests : goal.returns-in-None-clause-rests
 returns-in-None-clause-rests g c =
     let hub = c.args.hub.now in
     let old = c.args.self.now in
     let mid = c.hear.new.self in
-    let new = c.catch_up.new.self in
+    let new = c.answer.new.self in
     let h0 = g.C.Clock.hours c.args.clock.now in
     let h1 = g.C.Clock.hours c.hear.new.clock in
     let first = g.L.Link.talk c.args.link.now in
     let was = g.L.Link.talk c.next.new.self in
-    let is = g.L.Link.talk c.catch_up.new.link in
+    let is = g.L.Link.talk c.answer.new.link in
     let hears = subst (λ (b : List ℕ). HearsAll hub old.session old.passes b h0 h1 mid.session mid.passes) c.as_slice.ensures.value c.in-None.ensures.heard in
-    if_some_two c.catch_up.result (λ end. IsBreak end (g.L.Link.counts c.next.new.self) (g.L.Link.counts c.catch_up.new.link)) (λ end. TellsSome end hub mid.session mid.passes was is new.passes) _ c.catch_up.ensures.cause c.catch_up.ensures.broke
+    if_some_two c.answer.result (λ end. IsBreak end (g.L.Link.counts c.next.new.self) (g.L.Link.counts c.answer.new.link)) (λ end. TellsSome end hub mid.session mid.passes was is new.passes) _ c.answer.ensures.cause c.answer.ensures.broke
     (λ end cause tells talk0 counts0 hours0 conn open_at left acts ss st.
-    broke_text hub conn open_at left acts ss talk0 counts0 hours0 end old.session mid.session old.passes mid.passes new.passes c.in-Text.bytes first was is (g.L.Link.counts c.args.link.now) (g.L.Link.counts c.next.new.self) (g.L.Link.counts c.catch_up.new.link) h0 h1 st c.in-Text.ensures.known c.in-Text.ensures.front c.in-Text.ensures.cause hears cause tells)
+    broke_text hub conn open_at left acts ss talk0 counts0 hours0 end old.session mid.session old.passes mid.passes new.passes c.in-Text.bytes first was is (g.L.Link.counts c.args.link.now) (g.L.Link.counts c.next.new.self) (g.L.Link.counts c.answer.new.link) h0 h1 st c.in-Text.ensures.known c.in-Text.ensures.front c.in-Text.ensures.cause hears cause tells)
 
 -- ---- a text ended the session
 
@@ -73,35 +73,35 @@ pub returns-in-Quiet-clause-sits : goal.returns-in-Quiet-clause-sits
 returns-in-Quiet-clause-sits g c =
     let hub = c.args.hub.now in
     let old = c.args.self.now in
-    let new = c.catch_up-in-Quiet.new.self in
+    let new = c.catch_up.new.self in
     let was = g.L.Link.talk c.next.new.self in
-    let is = g.L.Link.talk c.catch_up-in-Quiet.new.link in
-    if_none_two c.catch_up-in-Quiet.result (TellsAll hub old.session old.passes was is new.passes) (TellsAll hub old.session old.passes was is new.passes) (IsSitting hub new.session new.passes) c.catch_up-in-Quiet.ensures.told c.catch_up-in-Quiet.ensures.told
-    (λ tells again. sits_quiet hub old.session new.session old.passes new.passes was is c.requires tells c.catch_up-in-Quiet.ensures.same.0)
+    let is = g.L.Link.talk c.catch_up.new.link in
+    if_none_two c.catch_up.result (TellsAll hub old.session old.passes was is new.passes) (TellsAll hub old.session old.passes was is new.passes) (IsSitting hub new.session new.passes) c.catch_up.ensures.told c.catch_up.ensures.told
+    (λ tells again. sits_quiet hub old.session new.session old.passes new.passes was is c.requires tells c.catch_up.ensures.same.0)
 
 pub returns-in-Quiet-clause-goes_on : goal.returns-in-Quiet-clause-goes_on
 returns-in-Quiet-clause-goes_on g c =
     let hub = c.args.hub.now in
     let old = c.args.self.now in
-    let new = c.catch_up-in-Quiet.new.self in
+    let new = c.catch_up.new.self in
     let first = g.L.Link.talk c.args.link.now in
     let was = g.L.Link.talk c.next.new.self in
-    let is = g.L.Link.talk c.catch_up-in-Quiet.new.link in
-    if_none_two c.catch_up-in-Quiet.result (g.L.Link.counts c.catch_up-in-Quiet.new.link ≡ g.L.Link.counts c.next.new.self) (TellsAll hub old.session old.passes was is new.passes) _ c.catch_up-in-Quiet.ensures.counts c.catch_up-in-Quiet.ensures.told
+    let is = g.L.Link.talk c.catch_up.new.link in
+    if_none_two c.catch_up.result (g.L.Link.counts c.catch_up.new.link ≡ g.L.Link.counts c.next.new.self) (TellsAll hub old.session old.passes was is new.passes) _ c.catch_up.ensures.counts c.catch_up.ensures.told
     (λ counts tells talk0 counts0 hours0 conn open_at acts ss st.
-    goes_quiet hub conn open_at acts ss talk0 counts0 hours0 old.session new.session old.passes new.passes first was is (g.L.Link.counts c.args.link.now) (g.L.Link.counts c.next.new.self) (g.L.Link.counts c.catch_up-in-Quiet.new.link) (g.C.Clock.hours c.args.clock.now) st c.in-Quiet.ensures.known c.in-Quiet.ensures.front c.in-Quiet.ensures.cause tells c.catch_up-in-Quiet.ensures.same.0 counts)
+    goes_quiet hub conn open_at acts ss talk0 counts0 hours0 old.session new.session old.passes new.passes first was is (g.L.Link.counts c.args.link.now) (g.L.Link.counts c.next.new.self) (g.L.Link.counts c.catch_up.new.link) (g.C.Clock.hours c.args.clock.now) st c.in-Quiet.ensures.known c.in-Quiet.ensures.front c.in-Quiet.ensures.cause tells c.catch_up.ensures.same.0 counts)
 
 pub returns-in-Quiet-clause-rests : goal.returns-in-Quiet-clause-rests
 returns-in-Quiet-clause-rests g c =
     let hub = c.args.hub.now in
     let old = c.args.self.now in
-    let new = c.catch_up-in-Quiet.new.self in
+    let new = c.catch_up.new.self in
     let first = g.L.Link.talk c.args.link.now in
     let was = g.L.Link.talk c.next.new.self in
-    let is = g.L.Link.talk c.catch_up-in-Quiet.new.link in
-    if_some_two c.catch_up-in-Quiet.result (λ end. IsBreak end (g.L.Link.counts c.next.new.self) (g.L.Link.counts c.catch_up-in-Quiet.new.link)) (λ end. TellsSome end hub old.session old.passes was is new.passes) _ c.catch_up-in-Quiet.ensures.cause c.catch_up-in-Quiet.ensures.broke
+    let is = g.L.Link.talk c.catch_up.new.link in
+    if_some_two c.catch_up.result (λ end. IsBreak end (g.L.Link.counts c.next.new.self) (g.L.Link.counts c.catch_up.new.link)) (λ end. TellsSome end hub old.session old.passes was is new.passes) _ c.catch_up.ensures.cause c.catch_up.ensures.broke
     (λ end cause tells talk0 counts0 hours0 conn open_at left acts ss st.
-    broke_quiet hub conn open_at left acts ss talk0 counts0 hours0 end old.session old.passes new.passes first was is (g.L.Link.counts c.args.link.now) (g.L.Link.counts c.next.new.self) (g.L.Link.counts c.catch_up-in-Quiet.new.link) (g.C.Clock.hours c.args.clock.now) st c.in-Quiet.ensures.known c.in-Quiet.ensures.front c.in-Quiet.ensures.cause cause tells)
+    broke_quiet hub conn open_at left acts ss talk0 counts0 hours0 end old.session old.passes new.passes first was is (g.L.Link.counts c.args.link.now) (g.L.Link.counts c.next.new.self) (g.L.Link.counts c.catch_up.new.link) (g.C.Clock.hours c.args.clock.now) st c.in-Quiet.ensures.known c.in-Quiet.ensures.front c.in-Quiet.ensures.cause cause tells)
 
 -- ---- the link ended it
 
