@@ -1,6 +1,6 @@
 /* How long it takes until the members of a room have heard a text, of a server that runs.
  *
- *     cc -O2 -o /tmp/heard tools/heard.c && /tmp/heard PORT MEMBERS IDLE TEXTS [PAUSE]
+ *     cc -O2 -o heard tools/heard.c && ./heard PORT MEMBERS IDLE TEXTS [PAUSE]
  *
  * MEMBERS clients join the lobby, and IDLE more connect and are silent. Then TEXTS texts are said, one after the other, by one member
  * after the other, with PAUSE milliseconds (20 if it isn't given) between them. Prints, in microseconds from the call that sends a text,
