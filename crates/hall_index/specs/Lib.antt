@@ -1,2 +1,3 @@
 pub mod Numbered
 pub mod IdIndices
+pub mod Finds

@@ -3,8 +3,9 @@ ghost use Rattle.std.specs.Prelude.{◌≡◌, ℕ, ◌+◌, ◌++◌, ◌∷◌
 ghost use Rattle.std.specs.Option.{option_copied};
 ghost use Rattle.hall_index.specs.Numbered.{item_at, items_of, without};
 ghost use Rattle.hall_index.specs.IdIndices.{IsIndexed, numbers_at, with_number, without_number};
+ghost use Rattle.hall_index.specs.Finds.{any_at, first_at, first_number, holds_if};
 ghost use Rattle.ps_ladder.specs.Waiting.{has_user, is_for, suits, found, cancelled, without as without_found};
-ghost use Rattle.ps_ladder.specs.Tables.{any_at, first_at, first_number, holds_if, AreKept};
+ghost use Rattle.ps_ladder.specs.Tables.{AreKept};
 
 use crate::searches::{Search, has_user, is_for, suits};
 use hall_index::id_index::IdIndex;
@@ -82,7 +83,7 @@ fn first_suiting(
     format: &Id,
     rating: i32,
 ) -> Option<u64>
-    ensures { result ≡ first_at waiting.now numbers.now user.now format.now rating }
+    ensures { result ≡ first_at (suits user.now format.now rating) waiting.now numbers.now }
 {
     for number in numbers {
         if suits_at(waiting, *number, user, format, rating) {

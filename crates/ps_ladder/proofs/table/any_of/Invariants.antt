@@ -1,6 +1,6 @@
 use Rattle.std.proofs.Common.{◌≡◌, drop}
 use Rattle.ps_ladder.specs.Waiting.{has_user}
-use Rattle.ps_ladder.specs.Tables.{any_at}
+use Rattle.hall_index.specs.Finds.{any_at}
 use Rattle.ps_ladder.proofs.table.any_of.Given as goal
 
 abbrev pub invariant-loop-number : goal.invariant-loop-number

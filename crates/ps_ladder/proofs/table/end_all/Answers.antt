@@ -1,5 +1,6 @@
 use Rattle.std.proofs.Common.{◌≡◌, ◌∙◌, sym, None, rules}
-use Rattle.ps_ladder.proofs.TableLemmas.{ended, all_ended, fewer_numbers}
+use Rattle.hall_index.proofs.FindLemmas.{fewer_numbers}
+use Rattle.ps_ladder.proofs.TableLemmas.{ended, all_ended}
 use Rattle.ps_ladder.proofs.table.end_all.Goals as goal
 
 pub loop-number-smaller : goal.loop-number-smaller

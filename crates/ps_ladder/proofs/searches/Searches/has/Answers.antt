@@ -2,7 +2,7 @@ use Rattle.std.proofs.Common.{ap, ◌∙◌}
 use Rattle.std.specs.List.{list_any}
 use Rattle.hall_index.specs.IdIndices.{numbers_at}
 use Rattle.ps_ladder.specs.Waiting.{has_user}
-use Rattle.ps_ladder.specs.Tables.{any_at}
+use Rattle.hall_index.specs.Finds.{any_at}
 use Rattle.ps_ladder.proofs.TableLemmas.{has_is}
 use Rattle.ps_ladder.proofs.searches.Searches.has.Goals as goal
 
