@@ -13,3 +13,4 @@ pub mod ComingLemmas
 pub mod MatchLemmas
 pub mod PullLemmas
 pub mod StepLemmas
+mod SearchTeamLemmas

@@ -13,3 +13,4 @@ pub mod States
 pub mod Coming
 pub mod KeptIndices
 pub mod Changes
+pub mod SearchTeams

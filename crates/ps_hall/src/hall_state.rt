@@ -17,6 +17,7 @@ use crate::entry::HallEntry;
 use crate::game::Game;
 use crate::games::Games;
 use crate::outcome::Told;
+use crate::search_teams::SearchTeams;
 use crate::state::State;
 use ps_base::badge::Badge;
 use ps_base::hall_why::HallWhy;
@@ -83,7 +84,7 @@ fn opened(
         pms: Pms::new(alloc),
         teams: IdMap::new(alloc),
         challenge_teams: Vec::new(alloc),
-        search_teams: Vec::new(alloc),
+        search_teams: SearchTeams::new(alloc),
         searches: Searches::new(alloc),
         ladders: IdMap::new(alloc),
         games: Games::new(alloc),

@@ -47,7 +47,8 @@ pub(crate) fn new_kept(
     })
 }
 
-fn is_kept(kept: &KeptTeam, user: &Id, with_id: &Id) -> bool
+/// Whether a team is of a user and was kept with an id.
+pub(crate) fn is_kept(kept: &KeptTeam, user: &Id, with_id: &Id) -> bool
     ensures { result ≡ is_kept user.now with_id.now kept.now }
 {
     kept.name.id().as_str() == user.as_str() && kept.with_id.as_str() == with_id.as_str()

@@ -24,6 +24,7 @@ pub mod pack;
 mod prepare;
 mod refusal;
 mod report;
+mod search_teams;
 mod start;
 mod state;
 mod step;

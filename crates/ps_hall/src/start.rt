@@ -85,7 +85,7 @@ pub(crate) fn start_of_match(
     ensures next { IfOk result (λ o. IfSome o (λ s. s.number ≡ (record_of state.now).started + 1)) }
     ensures fit { IfOk result (λ o. IfSome o (λ s. IsFit s (record_of state.now).config (record_of state.now).dex)) }
 {
-    let kept = find_kept(state.search_teams.as_slice(), &other.user, format);
+    let kept = state.search_teams.find(&other.user, format);
     start_if(alloc, state, format, kept, name, legal)
 }
 

@@ -1,6 +1,7 @@
 //! The state of the hall.
 use crate::games::Games;
 use crate::kept::KeptTeam;
+use crate::search_teams::SearchTeams;
 use ps_base::id_map::IdMap;
 use ps_dex::dex::Dex;
 use ps_ladder::ladder::Ladder;
@@ -20,7 +21,7 @@ pub(crate) struct State {
     pub(crate) pms: Pms,
     pub(crate) teams: IdMap<Team>,
     pub(crate) challenge_teams: Vec<KeptTeam>,
-    pub(crate) search_teams: Vec<KeptTeam>,
+    pub(crate) search_teams: SearchTeams,
     pub(crate) searches: Searches,
     pub(crate) ladders: IdMap<Ladder>,
     pub(crate) games: Games,

@@ -53,7 +53,7 @@ pub(crate) fn after_cancel_search(alloc: Global, state: &mut State, me: &Id)
     ensures { record_of state.new ≡ after_cancel_search (record_of state.old) me.now }
 {
     let _ = state.searches.cancel(alloc, me);
-    drop_user(&mut state.search_teams, me);
+    state.search_teams.drop_user(alloc, me);
 }
 
 /// CancelChallenge.
@@ -100,7 +100,7 @@ fn forget(alloc: Global, state: &mut State, me: &Id, cmd: &HallCmd) -> Result<()
     with_pms(alloc, state, me, cmd)?;
     state.teams.remove(me.as_str());
     drop_either(&mut state.challenge_teams, me);
-    drop_user(&mut state.search_teams, me);
+    state.search_teams.drop_user(alloc, me);
     let _ = state.searches.cancel(alloc, me);
     Ok(())
 }
@@ -185,10 +185,9 @@ pub(crate) fn after_wait(
     ensures ok { OnOk result (record_of state.new ≡ waiting (record_of state.old) kept search) }
     ensures err { OnErr result (record_of state.new ≡ record_of state.old) }
 {
-    state.search_teams.reserve(1)?;
-    state.searches.wait(alloc, search)?;
-    state.search_teams.push(kept).unwrap();
-    Ok(())
+    state
+        .search_teams
+        .wait(alloc, &mut state.searches, kept, search)
 }
 
 // A battle starts, if one does. Where memory fails nothing changes.
@@ -221,7 +220,7 @@ pub(crate) fn after_match(
 {
     begin(alloc, state, game)?;
     state.searches.take(alloc, me, format, rating);
-    drop_kept(&mut state.search_teams, user, format);
+    state.search_teams.drop_kept(alloc, user, format);
     Ok(())
 }
 
