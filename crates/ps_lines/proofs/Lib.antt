@@ -1,3 +1,4 @@
 pub mod CharLemmas
+pub mod CleanLemmas
 mod ClientLemmas
 pub mod PartLemmas

@@ -1,4 +1,5 @@
 pub mod Arguments
+pub mod CleanTexts
 pub mod Clients
 pub mod Commands
 pub mod Faults

@@ -1,7 +1,9 @@
 //! What a client sends.
-ghost use Rattle.std.specs.Prelude.{◌≡◌, Ok, Err, IfOk, IfErr};
+ghost use Rattle.std.specs.Prelude.{◌≡◌, false, Ok, Err, IfOk, IfErr};
 ghost use Rattle.std.specs.Option.{option_copied};
+ghost use Rattle.ps_lines.specs.CleanTexts.{IsClean};
 ghost use Rattle.ps_lines.specs.Clients.{text_of, client};
+ghost use Rattle.ps_lines.specs.Commands.{has_control};
 
 use crate::parts;
 use ps_base::limit::MOST_TEXT;
@@ -82,6 +84,21 @@ pub fn read_client_text(whole: &str) -> Result<ClientMsg<'_>, ClientFault>
             bytes: counted(whole.len()),
         });
     }
+    match parts::at_bar(text_in(whole)) {
+        None => Err(ClientFault::NoBar),
+        Some((room, text)) => Ok(ClientMsg { room, text }),
+    }
+}
+
+/// Does as `read_client` does, with what is known to be a clean text already: UTF-8 of at most 8,192 bytes, with no character
+/// below U+0020. It looks at none of these again, so the one fault is `NoBar`. The text behind the bar is as clean.
+#[tactic(auto, unfolding(crate::specs::Clients::client))]
+pub fn read_clean_client(whole: &str) -> Result<ClientMsg<'_>, ClientFault>
+    requires { IsClean whole.now }
+    ensures message { IfOk result (λ m. client whole.now ≡ Ok (m.room.now, m.text.now)) }
+    ensures clean { IfOk result (λ m. has_control m.text.now ≡ false) }
+    ensures fault { IfErr result (λ f. client whole.now ≡ Err f) }
+{
     match parts::at_bar(text_in(whole)) {
         None => Err(ClientFault::NoBar),
         Some((room, text)) => Ok(ClientMsg { room, text }),

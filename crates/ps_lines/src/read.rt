@@ -1,5 +1,5 @@
 //! The command that a text stands for.
-ghost use Rattle.std.specs.Prelude.{◌≡◌, Ok, IfOk, IfErr};
+ghost use Rattle.std.specs.Prelude.{◌≡◌, false, Ok, IfOk, IfErr};
 ghost use Rattle.std.specs.Option.{option_copied};
 ghost use Rattle.ps_lines.specs.Faults.{Gives, IsFault};
 ghost use Rattle.ps_lines.specs.Commands.{row, has_control, worded, command};
@@ -80,24 +80,13 @@ fn worded(
     }
 }
 
-/// Reads a text of a client (PROTOCOL.md, the part behind the bar): a text without a slash at its
-/// front is said in the room, another is the command of the word behind the slash.
-///
-/// Arguments follow one space and count from 1. Two arguments are parted at the first comma, and one
-/// space behind it is dropped. USER and FORMAT are read by `to_id` and have an id that isn't empty.
-/// SYMBOL is one character, which may be the space. RQID follows the last bar and is as `read_u32`
-/// reads it. No text stands for Open, Quit, Bad and Report.
-///
-/// The faults, in the order in which they are reported: `UnknownCommand` where the text begins with `/`
-/// and its word, up to the first space or the end, is none of the commands'; `BadArgs` with `which`
-/// 0 where a character below U+0020 stands in the text; `BadArgs` with the lowest `which` whose
-/// argument isn't of its form. `NoMemory` may come at any text.
+/// The command of a text that has a control character or not.
 #[tactic(auto, unfolding(crate::specs::Commands::command))]
-pub fn read_command(alloc: Global, text: &str) -> Result<Parsed, CommandFault>
+fn command_in(alloc: Global, control: bool, text: &str) -> Result<Parsed, CommandFault>
+    requires { control ≡ has_control text.now }
     ensures command { IfOk result (λ p. command text.now ≡ Ok p) }
     ensures fault { IfErr result (λ f. IsFault f (command text.now)) }
 {
-    let control = has_control(text);
     match cut::after(text, "/") {
         None => {
             if control {
@@ -110,4 +99,34 @@ pub fn read_command(alloc: Global, text: &str) -> Result<Parsed, CommandFault>
             Some((word, rest)) => worded(alloc, control, word, Some(rest)),
         },
     }
+}
+
+/// Reads a text of a client (PROTOCOL.md, the part behind the bar): a text without a slash at its
+/// front is said in the room, another is the command of the word behind the slash.
+///
+/// Arguments follow one space and count from 1. Two arguments are parted at the first comma, and one
+/// space behind it is dropped. USER and FORMAT are read by `to_id` and have an id that isn't empty.
+/// SYMBOL is one character, which may be the space. RQID follows the last bar and is as `read_u32`
+/// reads it. No text stands for Open, Quit, Bad and Report.
+///
+/// The faults, in the order in which they are reported: `UnknownCommand` where the text begins with `/`
+/// and its word, up to the first space or the end, is none of the commands'; `BadArgs` with `which`
+/// 0 where a character below U+0020 stands in the text; `BadArgs` with the lowest `which` whose
+/// argument isn't of its form. `NoMemory` may come at any text.
+pub fn read_command(alloc: Global, text: &str) -> Result<Parsed, CommandFault>
+    ensures command { IfOk result (λ p. command text.now ≡ Ok p) }
+    ensures fault { IfErr result (λ f. IsFault f (command text.now)) }
+{
+    let control = has_control(text);
+    command_in(alloc, control, text)
+}
+
+/// Does as `read_command` does with a text in which no character below U+0020 stands, as is known, and doesn't look for one
+/// again: no `BadArgs` with `which` 0 comes.
+pub fn read_clean_command(alloc: Global, text: &str) -> Result<Parsed, CommandFault>
+    requires { has_control text.now ≡ false }
+    ensures command { IfOk result (λ p. command text.now ≡ Ok p) }
+    ensures fault { IfErr result (λ f. IsFault f (command text.now)) }
+{
+    command_in(alloc, false, text)
 }
