@@ -1,5 +1,5 @@
 -- When a door's calls may answer what, and which links it handed out.
-use Rattle.std.specs.Prelude.{◌≡◌, ℕ, List, [], ◌∷◌, Result, Ok, Err}
+use Rattle.std.specs.Prelude.{◌≡◌, ℕ, Bool, List, [], ◌∷◌, Result, Ok, Err}
 use Rattle.ps_outside.specs.Counts.{one_more, HasRisen}
 use Rattle.ps_outside.specs.declared.door.DoorEnd.{DoorEnd}
 use Rattle.ps_outside.specs.declared.door.DoorEnd.TheVariants.{Failed, NoMemory}
@@ -20,9 +20,10 @@ HasAcceptCause before now (Ok link) = now ≡ before
 HasAcceptCause before now (Err Failed) = HasRisen before now
 HasAcceptCause before now (Err NoMemory) = now ≡ before
 
--- the links that a door in memory has left, its counts, how often each call was made, and the calls that fail
+-- the links that a door in memory has left, whether it was closed, its counts, how often each call was made, and the calls that fail
 pub record MemEntry (L : Type 0) : Type 0 where
   pub links : List L
+  pub is_shut : Bool
   pub given : ℕ
   pub faults : ℕ
   pub open_calls : ℕ
@@ -30,7 +31,8 @@ pub record MemEntry (L : Type 0) : Type 0 where
   pub failing_open : List ℕ
   pub failing_accept : List ℕ
 
--- the links that a door in memory that never fails has left, and how many it handed out
+-- the links that a door in memory that never fails has left, whether it was closed, and how many it handed out
 pub record SureEntry (L : Type 0) : Type 0 where
   pub links : List L
+  pub is_shut : Bool
   pub given : ℕ

@@ -1,5 +1,5 @@
 //! Where links come from.
-ghost use Rattle.std.specs.Prelude.{◌≡◌, ◌++◌, ◌||◌, ◌==◌, ℕ, length};
+ghost use Rattle.std.specs.Prelude.{◌≡◌, ◌++◌, ◌||◌, ◌==◌, ℕ, Bool, true, false, length, IsErr};
 ghost use Rattle.std.specs.Result.{is_err};
 ghost use Rattle.ps_outside.specs.Counts.{CountsErr, is_listed, one_more};
 ghost use Rattle.ps_outside.specs.Doors.{given_after, links_of, HasAcceptCause};
@@ -30,6 +30,9 @@ pub trait Door {
     /// How many links it has handed out. The count stands still at the last value of a `u64`.
     ghost given: { Self → ℕ };
 
+    /// Whether it lets nobody in: it was closed, or never opened where that is needed.
+    ghost is_shut: { Self → Bool };
+
     /// Begins to listen at the address. `Failed` comes only where the count of faults rose.
     fn open(&mut self, address: &str) -> Result<(), Failed>
         ensures count { given self.new ≡ given self.old }
@@ -38,14 +41,22 @@ pub trait Door {
     /// The next link. Failed comes only where the count of faults rose.
     fn accept(&mut self) -> Result<Self::Link, DoorEnd>
         ensures count { given self.new ≡ given_after result (given self.old) }
-        ensures cause { HasAcceptCause (faults self.old) (faults self.new) result };
+        ensures cause { HasAcceptCause (faults self.old) (faults self.new) result }
+        ensures shut { is_shut self.old ≡ true → IsErr result };
+
+    /// Lets nobody in from now on: who waits at the door is refused, and who comes later. Links that were handed out go on.
+    fn close(&mut self)
+        ensures count { given self.new ≡ given self.old }
+        ensures faults { faults self.new ≡ faults self.old }
+        ensures shut { is_shut self.new ≡ true };
 }
 
 /// A door in memory, whose calls fail at the numbers of two lists, counted from 1: one for `open`
-/// and one for `accept`. Past its last link `accept` fails too.
+/// and one for `accept`. Past its last link `accept` fails too, and where the door was closed, which it stays.
 #[derive(Drop)]
 pub struct MemDoor<L: Link> {
     links: VecDeque<L>,
+    is_shut: bool,
     given: u64,
     faults: u64,
     open_calls: u64,
@@ -59,16 +70,17 @@ impl<L: Link> Model for MemDoor<L> {
 
     ghost Value = { MemEntry L };
 
-    ghost view = { λ d. record { links = d.links.items; given = d.given; faults = d.faults; open_calls = d.open_calls; accept_calls = d.accept_calls; failing_open = d.failing_open.items; failing_accept = d.failing_accept.items } };
+    ghost view = { λ d. record { links = d.links.items; is_shut = d.is_shut; given = d.given; faults = d.faults; open_calls = d.open_calls; accept_calls = d.accept_calls; failing_open = d.failing_open.items; failing_accept = d.failing_accept.items } };
 }
 
 impl<L: Link> MemDoor<L> {
     /// A door that hands out these links. Takes no memory.
     pub fn new(links: Vec<L>, failing_open: Vec<u64>, failing_accept: Vec<u64>) -> MemDoor<L>
-        ensures { result ≡ record { links = links.items; given = 0; faults = 0; open_calls = 0; accept_calls = 0; failing_open = failing_open.items; failing_accept = failing_accept.items } }
+        ensures { result ≡ record { links = links.items; is_shut = false; given = 0; faults = 0; open_calls = 0; accept_calls = 0; failing_open = failing_open.items; failing_accept = failing_accept.items } }
     {
         MemDoor {
             links: VecDeque::from_vec(links),
+            is_shut: false,
             given: 0,
             faults: 0,
             open_calls: 0,
@@ -85,6 +97,8 @@ impl<L: Link> Door for MemDoor<L> {
     ghost faults = { λ d. d.faults };
 
     ghost given = { λ d. d.given };
+
+    ghost is_shut = { λ d. d.is_shut };
 
     fn open(&mut self, _address: &str) -> Result<(), Failed>
         ensures count { self.new.given ≡ self.old.given }
@@ -104,11 +118,12 @@ impl<L: Link> Door for MemDoor<L> {
         ensures count { self.new.given ≡ given_after result self.old.given }
         ensures cause { HasAcceptCause self.old.faults self.new.faults result }
         ensures links { self.old.links ≡ links_of result ++ self.new.links }
-        ensures fails { is_err result ≡ (is_listed self.old.accept_calls self.old.failing_accept || length self.old.links == 0) }
+        ensures fails { is_err result ≡ (is_listed self.old.accept_calls self.old.failing_accept || (self.old.is_shut || length self.old.links == 0)) }
         ensures calls { self.new.accept_calls ≡ one_more self.old.accept_calls }
+        ensures shut { self.old.is_shut ≡ true → IsErr result }
     {
         self.accept_calls = self.accept_calls.saturating_add(1);
-        if self.failing_accept.contains(&self.accept_calls) {
+        if self.failing_accept.contains(&self.accept_calls) || self.is_shut {
             self.faults = self.faults.saturating_add(1);
             return Err(DoorEnd::Failed);
         }
@@ -123,13 +138,20 @@ impl<L: Link> Door for MemDoor<L> {
             }
         }
     }
+
+    fn close(&mut self)
+        ensures { self.new ≡ record self.old { is_shut = true } }
+    {
+        self.is_shut = true;
+    }
 }
 
 /// A door in memory that never fails. Past its last link `accept` answers NoMemory, as where a
-/// further link could not be made.
+/// further link could not be made, and where the door was closed, which it stays.
 #[derive(Drop)]
 pub struct SureDoor<L: Link> {
     links: VecDeque<L>,
+    is_shut: bool,
     given: u64,
 }
 
@@ -138,16 +160,17 @@ impl<L: Link> Model for SureDoor<L> {
 
     ghost Value = { SureEntry L };
 
-    ghost view = { λ d. record { links = d.links.items; given = d.given } };
+    ghost view = { λ d. record { links = d.links.items; is_shut = d.is_shut; given = d.given } };
 }
 
 impl<L: Link> SureDoor<L> {
     /// A door that hands out these links. Takes no memory.
     pub fn new(links: Vec<L>) -> SureDoor<L>
-        ensures { result ≡ record { links = links.items; given = 0 } }
+        ensures { result ≡ record { links = links.items; is_shut = false; given = 0 } }
     {
         SureDoor {
             links: VecDeque::from_vec(links),
+            is_shut: false,
             given: 0,
         }
     }
@@ -160,6 +183,8 @@ impl<L: Link> Door for SureDoor<L> {
 
     ghost given = { λ d. d.given };
 
+    ghost is_shut = { λ d. d.is_shut };
+
     fn open(&mut self, _address: &str) -> Result<(), Failed> {
         Ok(())
     }
@@ -168,7 +193,11 @@ impl<L: Link> Door for SureDoor<L> {
         ensures count { self.new.given ≡ given_after result self.old.given }
         ensures cause { HasAcceptCause 0 0 result }
         ensures links { self.old.links ≡ links_of result ++ self.new.links }
+        ensures shut { self.old.is_shut ≡ true → IsErr result }
     {
+        if self.is_shut {
+            return Err(DoorEnd::NoMemory);
+        }
         match self.links.pop_front() {
             None => Err(DoorEnd::NoMemory),
             Some(link) => {
@@ -176,5 +205,11 @@ impl<L: Link> Door for SureDoor<L> {
                 Ok(link)
             }
         }
+    }
+
+    fn close(&mut self)
+        ensures { self.new ≡ record self.old { is_shut = true } }
+    {
+        self.is_shut = true;
     }
 }

@@ -1,5 +1,5 @@
 //! Where connections over WebSocket come from.
-ghost use Rattle.std.specs.Prelude.{◌≡◌, true, false, IfOk, OnOk, OnErr, IsErr, IsNone};
+ghost use Rattle.std.specs.Prelude.{◌≡◌, true, false, not, IfOk, OnOk, OnErr, IsErr, IsNone};
 ghost use Rattle.ps_outside.specs.Counts.{CountsErr};
 ghost use Rattle.ps_outside.specs.Doors.{given_after, HasAcceptCause};
 ghost use Rattle.ps_ws.specs.Sockets.{new_socket};
@@ -143,6 +143,8 @@ impl<R: Net<Listener = TcpListener, Stream = TcpStream> + rt::Clock + Wait + Cop
 
     ghost given = { λ d. d.given };
 
+    ghost is_shut = { λ d. not d.listens };
+
     /// Binds a TCP listener: the address is an IP address or a host's name, and a port. Where that
     /// fails the door is as open as it was. As many clients may wait at the door as the host lets wait
     /// (`net.core.somaxconn` of Linux).
@@ -186,5 +188,12 @@ impl<R: Net<Listener = TcpListener, Stream = TcpStream> + rt::Clock + Wait + Cop
                 Err(DoorEnd::Failed)
             }
         }
+    }
+
+    /// Lets its socket go: the host refuses who waited for an `accept`, and who connects from now on.
+    fn close(&mut self)
+        ensures { self.new ≡ record self.old { listens = false } }
+    {
+        self.listener = None;
     }
 }

@@ -42,6 +42,8 @@ impl<R: Net<Listener = TcpListener, Stream = TcpStream> + rt::Clock + Wait + Epr
 
     ghost given = { λ d. d.door.given };
 
+    ghost is_shut = { λ d. not d.door.listens };
+
     /// Where the line can't be written the door listens all the same.
     fn open(&mut self, address: &str) -> Result<(), Failed> {
         self.door.open(address)?;
@@ -53,5 +55,9 @@ impl<R: Net<Listener = TcpListener, Stream = TcpStream> + rt::Clock + Wait + Epr
 
     fn accept(&mut self) -> Result<WsLink<R>, DoorEnd> {
         self.door.accept()
+    }
+
+    fn close(&mut self) {
+        self.door.close();
     }
 }

@@ -1,5 +1,5 @@
 //! All that a server does.
-ghost use Rattle.std.specs.Prelude.{◌≡◌, ◌≤◌, ℕ, [], map, string_bytes, length, None, OnOk, IfOk, IsSome};
+ghost use Rattle.std.specs.Prelude.{◌≡◌, ◌≤◌, ℕ, true, [], map, string_bytes, length, None, OnOk, IfOk, IsSome};
 ghost use Rattle.ps_outside.specs.Causes.{Rose};
 ghost use Rattle.ps_outside.specs.Counts.{one_more};
 ghost use Rattle.ps_outside.specs.Doors.{HasAcceptCause};
@@ -135,12 +135,23 @@ where
     Ok(())
 }
 
+// Behind the last link nobody is let in, also while its session runs here.
+fn close_behind<D: Door>(door: &mut D, is_last: bool)
+    ensures given { D.given door.new ≡ D.given door.old }
+    ensures faults { D.faults door.new ≡ D.faults door.old }
+{
+    if is_last {
+        door.close();
+    }
+}
+
 // Accepts a link, and begins its session.
 fn accept<S, R, D, C, P>(
     rt: R,
     alloc: Global,
     shared: &Arc<Shared<S>>,
     conn: ConnNo,
+    is_last: bool,
     door: &mut D,
     clock: &C,
     spawner: &mut P,
@@ -159,13 +170,64 @@ where
         Err(end) => return Err(end),
         Ok(link) => link,
     };
+    close_behind(door, is_last);
     match begin(rt, alloc, shared, conn, link, clock, spawner) {
         Err(_) => Err(DoorEnd::NoMemory),
         Ok(()) => Ok(()),
     }
 }
 
-// Gives so many links a session each, and answers after these have ended; or fewer, where there was no further link.
+// How many links have a session, and the status that their server ends with.
+#[derive(Drop)]
+struct Begun {
+    count: u32,
+    status: Status,
+}
+
+// Gives so many links a session each; or fewer, where there was no further link.
+fn let_in<S, R, D, C, P>(
+    rt: R,
+    alloc: Global,
+    shared: &Arc<Shared<S>>,
+    count: u32,
+    door: &mut D,
+    clock: &C,
+    spawner: &mut P,
+) -> Begun
+where
+    S: Serving + Send + Sync + 'static,
+    R: Threads + Wait + Copy + Send + Drop + 'static,
+    D: Door,
+    D::Link: Send + Drop + 'static,
+    C: Clock + Send + Drop + 'static,
+    P: Spawner,
+    requires { count ≤ 1024 }
+    ensures of { IsOfDoor result.status }
+    ensures given { result.status ≡ Status.Done → D.given door.new ≡ given_by count (D.given door.old) }
+    ensures door_fault { result.status ≡ Status.DoorFault → Rose (D.faults door.old) (D.faults door.new) }
+    ensures all { result.status ≡ Status.Done → result.count ≡ count }
+{
+    for begun in 0..count {
+        let conn = ConnNo(begun + 1);
+        let is_last = begun + 1 == count;
+        let status = match accept(rt, alloc, shared, conn, is_last, door, clock, spawner) {
+            Ok(()) => continue,
+            Err(DoorEnd::Failed) => Status::DoorFault,
+            Err(DoorEnd::NoMemory) => Status::NoMemory,
+        };
+        return Begun {
+            count: begun,
+            status,
+        };
+    }
+    Begun {
+        count,
+        status: Status::Done,
+    }
+}
+
+// Gives so many links a session each, or fewer, where there was no further link, closes the door, and answers after these sessions have
+// ended: who comes too late is refused, and waits for none of them.
 fn serve_links<S, R, D, C, P>(
     rt: R,
     alloc: Global,
@@ -186,31 +248,15 @@ where
     ensures of { IsOfDoor result.status }
     ensures given { result.status ≡ Status.Done → D.given door.new ≡ given_by count (D.given door.old) }
     ensures door_fault { result.status ≡ Status.DoorFault → Rose (D.faults door.old) (D.faults door.new) }
+    ensures shut { D.is_shut door.new ≡ true }
     ensures sessions { AreSessions S.hub result.sessions.items }
     ensures all { result.status ≡ Status.Done → length result.sessions.items ≡ count }
 {
-    for begun in 0..count {
-        match accept(rt, alloc, shared, ConnNo(begun + 1), door, clock, spawner) {
-            Ok(()) => {}
-            Err(DoorEnd::Failed) => {
-                let sessions = shared.journal.wait_for(&rt, alloc, begun);
-                return Finished {
-                    status: Status::DoorFault,
-                    sessions,
-                };
-            }
-            Err(DoorEnd::NoMemory) => {
-                let sessions = shared.journal.wait_for(&rt, alloc, begun);
-                return Finished {
-                    status: Status::NoMemory,
-                    sessions,
-                };
-            }
-        }
-    }
-    let sessions = shared.journal.wait_for(&rt, alloc, count);
+    let begun = let_in(rt, alloc, shared, count, door, clock, spawner);
+    door.close();
+    let sessions = shared.journal.wait_for(&rt, alloc, begun.count);
     Finished {
-        status: Status::Done,
+        status: begun.status,
         sessions,
     }
 }
@@ -257,6 +303,7 @@ where
     requires hub { hub ≡ S.hub }
     ensures of { IsOfDoor result.status }
     ensures given { result.status ≡ Status.Done → D.given door.new ≡ given_by words.entry.count (D.given door.old) }
+    ensures shut { result.status ≡ Status.Done → D.is_shut door.new ≡ true }
     ensures door_fault { result.status ≡ Status.DoorFault → Rose (D.faults door.old) (D.faults door.new) }
     ensures sessions { AreSessions S.hub result.sessions.items }
     ensures all { result.status ≡ Status.Done → length result.sessions.items ≡ words.entry.count }
@@ -307,6 +354,7 @@ where
     ensures door_fault { result.status ≡ Status.DoorFault → Rose (D.faults door.old) (D.faults door.new) }
     ensures untouched { KeepsDoor (D.faults door.old) (D.faults door.new) (D.given door.old) (D.given door.new) result.status }
     ensures given { result.status ≡ Status.Done → D.given door.new ≡ given_by words.entry.count (D.given door.old) }
+    ensures shut { result.status ≡ Status.Done → D.is_shut door.new ≡ true }
     ensures sessions { AreServed (F.contents files.old) (options_of words.entry.options) result.sessions.items }
     ensures all { result.status ≡ Status.Done → length result.sessions.items ≡ words.entry.count }
     ensures complete { SettlesServe (F.contents files.old) (options_of words.entry.options) (Rose (F.counts files.old).faults (F.counts files.new).faults) (Rose (D.faults door.old) (D.faults door.new)) result.status }
@@ -352,6 +400,7 @@ where
     ensures door_fault { result.status ≡ Status.DoorFault → Rose (D.faults door.old) (D.faults door.new) }
     ensures untouched { KeepsDoor (D.faults door.old) (D.faults door.new) (D.given door.old) (D.given door.new) result.status }
     ensures given { result.status ≡ Status.Done → D.given door.new ≡ given_by words.entry.count (D.given door.old) }
+    ensures shut { result.status ≡ Status.Done → D.is_shut door.new ≡ true }
     ensures sessions { AreServed (F.contents files.old) (options_of words.entry.options) result.sessions.items }
     ensures all { result.status ≡ Status.Done → length result.sessions.items ≡ words.entry.count }
     ensures complete { SettlesServe (F.contents files.old) (options_of words.entry.options) (Rose (F.counts files.old).faults (F.counts files.new).faults) (Rose (D.faults door.old) (D.faults door.new)) result.status }
@@ -368,8 +417,9 @@ where
 /// Serves connections: reads the dex file and the configuration, if the words name them, lets the door listen at the address of
 /// the words, and gives each of the next COUNT links that it hands out a session of its own (`serve_session`), in a thread
 /// where the spawner gives leave, and else here, before the next link. Connections count from 1, in the order in which the door
-/// hands out their links, and each has a clock of its own, made by `another` of this one. It answers after every session that
-/// it began has ended, each link let go, with what each ended with. There is room for that before the door is asked.
+/// hands out their links, and each has a clock of its own, made by `another` of this one. Behind the last link the door is closed,
+/// and also where it failed. It answers after every session that it began has ended, each link let go, with what each ended
+/// with. There is room for that before the door is asked.
 ///
 /// `Usage` tells the first word that can't stand in `serve ADDRESS COUNT [--dex NAME] [--config NAME]`. The statuses of files,
 /// of a dex and of a configuration are those of `run`, and come before the door is asked. `DoorFault` comes only where the
@@ -405,9 +455,10 @@ where
     ensures sessions { IfServe (serve_words_in (map string_bytes words.now)) (λ asked. AreServed (F.contents files.old) asked.options result.sessions.items) }
     ensures unserved { IsSome (usage_reported result.status) → result.sessions.items ≡ [] }
 
-    // At Done there is one for each connection from 1 to COUNT, and the door has handed out as many links.
+    // At Done there is one for each connection from 1 to COUNT, the door has handed out as many links, and it lets nobody in any more.
     ensures all { IfServe (serve_words_in (map string_bytes words.now)) (λ asked. result.status ≡ Status.Done → length result.sessions.items ≡ asked.count) }
     ensures given { IfServe (serve_words_in (map string_bytes words.now)) (λ asked. result.status ≡ Status.Done → D.given door.new ≡ given_by asked.count (D.given door.old)) }
+    ensures shut { result.status ≡ Status.Done → D.is_shut door.new ≡ true }
 
     // Faultless words and good files, known and without faults of the outside, end in Done or NoMemory.
     ensures complete { IfServe (serve_words_in (map string_bytes words.now)) (λ asked. SettlesServe (F.contents files.old) asked.options (Rose (F.counts files.old).faults (F.counts files.new).faults) (Rose (D.faults door.old) (D.faults door.new)) result.status) }

@@ -1,6 +1,6 @@
 use Rattle.std.proofs.Common.{◌≡◌}
 use Rattle.server_accept.specs.Servers.{given_by}
-use Rattle.server_accept.proofs.serve.serve_links.Given as goal
+use Rattle.server_accept.proofs.serve.let_in.Given as goal
 
 -- each link so far was handed out, and the door didn't fail
 abbrev pub invariant-loop-begun : goal.invariant-loop-begun
