@@ -83,7 +83,7 @@ key of the files.
 
 const VERSION: &str = "\
 psd 0.1.0
-rattle-kit-13f logic dac8208d650f15bf
+rattle-kit-13b logic dac8208d650f15bf
 ";
 
 /// Why there are no words: memory was refused, or one of them isn't UTF-8.
