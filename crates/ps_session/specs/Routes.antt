@@ -2,7 +2,7 @@
 use Rattle.std.specs.Prelude.{◌≡◌, ℕ, Bool, true, false, List, Option, None, Some, Result, Ok, Err, if◌then◌else◌}
 use Rattle.ps_base.specs.declared.badge.Badge.{Badge}
 use Rattle.ps_lines.specs.Clients.{client}
-use Rattle.ps_lines.specs.Commands.{command}
+use Rattle.ps_lines.specs.Commands.{has_control, command}
 use Rattle.ps_lines.specs.declared.client.ClientMsg.{ClientMsg}
 use Rattle.ps_lines.specs.declared.client.ClientFault.{ClientFault}
 use Rattle.ps_lines.specs.declared.client.ClientFault.TheVariants as client_faults
@@ -117,3 +117,8 @@ parts_of (Err fault) = Err fault
 abbrev pub Fits : Record → Order → Type 0
 Fits r (Hall cmd) = Unit {0}
 Fits r (Room id cmd) = is_past_rooms id r ≡ false
+
+-- the text that was read has no control character
+abbrev pub HasCleanText : Result (List ℕ × List ℕ) ClientFault → Type 0
+HasCleanText (Ok message) = has_control message.1 ≡ false
+HasCleanText (Err fault) = Unit {0}

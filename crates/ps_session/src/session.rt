@@ -1,9 +1,11 @@
 //! One connection as a machine that takes its texts and gives its orders.
-ghost use Rattle.std.specs.Prelude.{◌≡◌, true, if◌then◌else◌, is_some, None, Some, Ok, IfOk, IfErr, IfSome, OnOk, OnErr};
+ghost use Rattle.std.specs.Prelude.{◌≡◌, true, false, if◌then◌else◌, is_some, None, Some, Ok, IfOk, IfErr, IfSome, OnOk, OnErr};
 ghost use Rattle.std.specs.Option.{option_copied};
-ghost use Rattle.ps_lines.specs.Commands.{command};
+ghost use Rattle.ps_lines.specs.CleanTexts.{IsClean};
+ghost use Rattle.ps_lines.specs.Commands.{has_control, command};
+ghost use Rattle.ps_lines.specs.Faults.{IsFault};
 ghost use Rattle.ps_session.specs.Sessions.{begun, is_full, is_past_rooms, counted, with_badge, without_badge};
-ghost use Rattle.ps_session.specs.Routes.{bad_order, room_named, room_refusal, to_room, by_command, by_client, parts_of, place_of, within_limit, taken, IsTakeFault, no_room, after_no_room, Fits};
+ghost use Rattle.ps_session.specs.Routes.{bad_order, room_named, room_refusal, to_room, by_command, by_client, parts_of, place_of, within_limit, taken, IsTakeFault, no_room, after_no_room, Fits, HasCleanText};
 ghost use Rattle.ps_session.specs.Texts.{texts_of};
 ghost use Rattle.ps_session.specs.declared.session.TakeFault.TheVariants.{Limit, NoMemory};
 
@@ -13,10 +15,10 @@ use ps_base::badge::Badge;
 use ps_base::msg::Msg;
 use ps_base::number::ConnNo;
 use ps_base::text::Text;
-use ps_lines::client::{ClientFault, ClientMsg, read_client, read_client_text};
+use ps_lines::client::{ClientFault, ClientMsg, read_clean_client, read_client, read_client_text};
 use ps_lines::command::{BadWhy, Command, CommandFault, HallCmd, Parsed};
 use ps_lines::order::Order;
-use ps_lines::read::read_command;
+use ps_lines::read::{read_clean_command, read_command};
 use std::alloc::{AllocError, Global};
 use std::marker::Model;
 use thiserror::Error;
@@ -83,6 +85,19 @@ fn room_named<'a>(room: &'a str, cmd: &'a Command) -> &'a str
     match cmd {
         Command::Join { room: other } => other.as_str(),
         _ => room,
+    }
+}
+
+// The command of a text, which has no control character if it is known to be clean.
+fn command_of(alloc: Global, is_clean: bool, text: &str) -> Result<Parsed, CommandFault>
+    requires { is_clean ≡ true → has_control text.now ≡ false }
+    ensures command { IfOk result (λ p. command text.now ≡ Ok p) }
+    ensures fault { IfErr result (λ f. IsFault f (command text.now)) }
+{
+    if is_clean {
+        read_clean_command(alloc, text)
+    } else {
+        read_command(alloc, text)
     }
 }
 
@@ -178,11 +193,18 @@ impl Session {
     }
 
     // The order of a text behind the bar, with the room before it.
-    fn by_text(&self, alloc: Global, room: &str, text: &str) -> Result<Order, AllocError>
+    fn by_text(
+        &self,
+        alloc: Global,
+        is_clean: bool,
+        room: &str,
+        text: &str,
+    ) -> Result<Order, AllocError>
+        requires { is_clean ≡ true → has_control text.now ≡ false }
         ensures value { IfOk result (λ o. o ≡ by_command self.now.badge self.now room.now (command text.now)) }
         ensures fits { IfOk result (λ o. Fits self.now o) }
     {
-        match read_command(alloc, text) {
+        match command_of(alloc, is_clean, text) {
             Err(CommandFault::NoMemory) => Err(AllocError),
             Err(CommandFault::UnknownCommand) => Ok(bad_order(BadWhy::UnknownCommand)),
             Err(CommandFault::BadArgs { .. }) => Ok(bad_order(BadWhy::BadArgs)),
@@ -194,12 +216,14 @@ impl Session {
         }
     }
 
-    // The order of a text, by what was read of it, before any limit of texts.
+    // The order of a text, which may be known to be clean, by what was read of it, before any limit of texts.
     fn order_by(
         &self,
         alloc: Global,
+        is_clean: bool,
         read: Result<ClientMsg<'_>, ClientFault>,
     ) -> Result<Option<Order>, AllocError>
+        requires { is_clean ≡ true → HasCleanText (parts_of read) }
         ensures value { IfOk result (λ o. o ≡ by_client self.now.badge self.now (parts_of read.entry)) }
         ensures fits { IfOk result (λ o. IfSome o (λ order. Fits self.now order)) }
     {
@@ -208,7 +232,7 @@ impl Session {
             Err(ClientFault::NotUtf8) => Ok(None),
             Err(ClientFault::NoBar) => Ok(Some(bad_order(BadWhy::NoBar))),
             Ok(message) => {
-                let order = self.by_text(alloc, message.room, message.text)?;
+                let order = self.by_text(alloc, is_clean, message.room, message.text)?;
                 Ok(Some(order))
             }
         }
@@ -276,7 +300,7 @@ impl Session {
         ensures after { IfOk result (λ o. self.new ≡ counted (place_of o) self.old) }
         ensures kept { OnErr result (self.new ≡ self.old) }
     {
-        let order = self.order_by(alloc, read_client(bytes))?;
+        let order = self.order_by(alloc, false, read_client(bytes))?;
         self.take_order(alloc, order)
     }
 
@@ -288,7 +312,20 @@ impl Session {
         ensures after { IfOk result (λ o. self.new ≡ counted (place_of o) self.old) }
         ensures kept { OnErr result (self.new ≡ self.old) }
     {
-        let order = self.order_by(alloc, read_client_text(text))?;
+        let order = self.order_by(alloc, false, read_client_text(text))?;
+        self.take_order(alloc, order)
+    }
+
+    /// Does as `take` does with the bytes of a text that is known to be clean: UTF-8 of at most 8,192 bytes, with no character
+    /// below U+0020. It looks at none of these again, and `BadText` doesn't come.
+    pub fn take_clean(&mut self, alloc: Global, text: &str) -> Result<Order, TakeFault>
+        requires { IsClean text.now }
+        ensures order { IfOk result (λ o. taken self.old text.now ≡ Ok o) }
+        ensures fault { IfErr result (λ f. IsTakeFault f (taken self.old text.now)) }
+        ensures after { IfOk result (λ o. self.new ≡ counted (place_of o) self.old) }
+        ensures kept { OnErr result (self.new ≡ self.old) }
+    {
+        let order = self.order_by(alloc, true, read_clean_client(text))?;
         self.take_order(alloc, order)
     }
 
