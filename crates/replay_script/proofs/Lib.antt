@@ -1,3 +1,4 @@
+pub mod CleanLemmas
 pub mod InputLemmas
 pub mod ItemLemmas
 pub mod LimitLemmas

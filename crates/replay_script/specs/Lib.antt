@@ -1,3 +1,4 @@
+pub mod Cleans
 pub mod Controls
 pub mod Ends
 pub mod Items

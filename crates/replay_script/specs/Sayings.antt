@@ -23,4 +23,5 @@ item_by (forms.Moment n) text = Moment n
 item_by (forms.Group symbol) text = Group symbol text
 item_by (forms.Open n) text = Open n
 item_by (forms.Send n) text = Send n text
+item_by (forms.SendClean n) text = Send n text
 item_by (forms.Close n) text = Close n

@@ -1,5 +1,6 @@
 //! The lines of a script, each with its text where the script has it.
-ghost use Rattle.std.specs.Prelude.{◌≡◌, ◌++◌, ◌∷◌, [], IfOk, OnOk};
+ghost use Rattle.std.specs.Prelude.{◌≡◌, ◌++◌, ◌∷◌, [], true, IfOk, OnOk};
+ghost use Rattle.replay_script.specs.Cleans.{SendsClean};
 ghost use Rattle.replay_script.specs.Sayings.{item_of};
 
 use crate::item::Item;
@@ -32,10 +33,13 @@ enum Form {
     Group(char),
     Open(ConnNo),
     Send(ConnNo),
+    // A form of its own, since a flag beside it would take bytes.
+    SendClean(ConnNo),
     Close(ConnNo),
 }
 
-/// A line of a script. Contracts see what it says, whoever has its text. It takes 24 bytes.
+/// A line of a script. Contracts see what it says, whoever has its text. One that was read knows that the text that it sends
+/// is clean: at most 8,192 bytes, none of them below 0x20, and none 0x7F. It takes 24 bytes.
 #[derive(Drop)]
 pub struct Line<'a> {
     form: Form,
@@ -44,15 +48,18 @@ pub struct Line<'a> {
 
 impl<'a> Model for Line<'a> {
     ghost use Rattle.replay_script.specs.declared.item.Item.{Item};
+    ghost use Rattle.replay_script.specs.Cleans.{IsAsFormed};
     ghost use Rattle.replay_script.specs.Sayings.{item_by};
 
     ghost Value = { Item };
 
     ghost view = { λ l. item_by l.form l.text.now };
+
+    ghost invariant = { λ l. IsAsFormed l.form l.text.now };
 }
 
 impl<'a> Line<'a> {
-    /// A line that says this.
+    /// A line that says this. It doesn't know its text to be clean.
     pub fn new(said: Said<'a>) -> Line<'a>
         ensures { result ≡ item_of said.entry }
     {
@@ -94,7 +101,36 @@ impl<'a> Line<'a> {
             Form::Group(symbol) => Said::Group(symbol, self.text),
             Form::Open(n) => Said::Open(n),
             Form::Send(n) => Said::Send(n, self.text),
+            Form::SendClean(n) => Said::Send(n, self.text),
             Form::Close(n) => Said::Close(n),
+        }
+    }
+
+    /// Whether the text that it sends is known to be clean: at most 8,192 bytes, none of them below 0x20, and none 0x7F. The
+    /// text isn't looked at for that. A line that was made of an item, and not read, may answer false of any text.
+    pub fn is_clean(&self) -> bool
+        ensures { result ≡ true → SendsClean self.now }
+    {
+        match self.form {
+            Form::SendClean(_) => true,
+            _ => false,
+        }
+    }
+
+    /// The same line, which knows that the text that it sends is clean.
+    pub(crate) fn known_clean(&self) -> Line<'a>
+        requires { SendsClean self.now }
+        ensures { result ≡ self.now }
+    {
+        match self.form {
+            Form::Send(n) => Line {
+                form: Form::SendClean(n),
+                text: self.text,
+            },
+            _ => Line {
+                form: self.form,
+                text: self.text,
+            },
         }
     }
 }

@@ -248,7 +248,7 @@ impl<T: Drop> From<AllocFailed<T>> for ScriptEnd {
     }
 }
 
-// Reads a line after others.
+// Reads a line after others. What it looked at is known of the line from here on.
 fn read_line<'a>(seen: &Seen<'_>, line: &'a [u8]) -> Result<Line<'a>, ScriptKind>
     ensures found { IfOk result (λ i. IsLine line.now i × (fault_of seen.now i ≡ None)) }
     ensures bad { IfErr result (IsFault seen.now line.now) }
@@ -264,7 +264,7 @@ fn read_line<'a>(seen: &Seen<'_>, line: &'a [u8]) -> Result<Line<'a>, ScriptKind
         None => Err(ScriptKind::Form),
         Some(item) => match seen.fault_of(&item) {
             Some(kind) => Err(kind),
-            None => Ok(item),
+            None => Ok(item.known_clean()),
         },
     }
 }
