@@ -11,6 +11,6 @@ use Rattle.ps_hall.proofs.start.start_of_match.Goals as goal
 pub returns-clause-fit : goal.returns-clause-fit
 returns-clause-fit c =
     let h : Record = record_of c.args.state.now in
-    let k : option_copied c.find_kept-kept.result ≡ kept_team c.args.other.now.user c.args.format.now h.search_teams = search rules in
+    let k : option_copied c.find-kept.result ≡ kept_team c.args.other.now.user c.args.format.now h.search_teams = search rules in
     if_ok (λ (s : Start). IsFit s h.config h.dex) _ c.start_if.result c.start_if.ensures.value
     (fit_match h c.args.name.now c.args.format.now c.args.other.now _ (Some c.args.legal) c.requires.ready c.requires.other k (sym c.requires.legal) c.requires.legal_ready)
