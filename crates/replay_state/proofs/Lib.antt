@@ -23,3 +23,4 @@ pub mod EndLemmas
 pub mod LedgerLemmas
 pub mod HearerLemmas
 pub mod KeptLemmas
+pub mod CleanLemmas

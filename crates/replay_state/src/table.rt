@@ -1,12 +1,13 @@
 //! A replay's state.
-ghost use Rattle.std.specs.Prelude.{◌≡◌, ◌++◌, ◌∷◌, [], ◌-◌, ◌≤◌, IfOk, OnOk, map, string_bytes, length, is_some, true, Some, Ok};
+ghost use Rattle.std.specs.Prelude.{◌≡◌, ◌++◌, ◌∷◌, [], ◌-◌, ◌≤◌, IfOk, IfErr, OnOk, OnErr, map, string_bytes, length, is_some, true, Some, Ok};
 ghost use Rattle.std.specs.Arc.{arc_value};
 ghost use Rattle.ps_hall.specs.Halls as halls;
 ghost use Rattle.std.specs.FinMap as maps;
-ghost use Rattle.ps_session.specs.Routes.{no_room, after_no_room};
+ghost use Rattle.ps_session.specs.Routes.{no_room, after_no_room, taken, place_of, IsTakeFault};
+ghost use Rattle.replay_script.specs.Cleans.{IsClean};
 ghost use Rattle.replay_state.specs.declared.place.Happening.TheVariants as happening;
 ghost use Rattle.replay_state.specs.Houses.{now_in};
-ghost use Rattle.ps_session.specs.Sessions.{begun, without_badge};
+ghost use Rattle.ps_session.specs.Sessions.{begun, counted, without_badge};
 ghost use Rattle.replay_state.specs.Entries.{quits, ended, badged, report_of, entry_happenings, entry_in_room, entry_in_hall, numbered_entry, text_entry, text_session, order_entry, entry_out, badge_past, session_lent, session_past, lent_to_room, sent_by, session_of, opening, end_by, end_sent, IsCounted};
 ghost use Rattle.replay_state.specs.Tables.{happenings_text, happenings_after, happenings_ledger};
 
@@ -350,6 +351,27 @@ fn order_entry(
     }
 }
 
+// What a text is taken for, which isn't looked at again if it is known to be clean.
+#[tactic(auto, using(crate::proofs::CleanLemmas::clean_text))]
+fn take_sent(
+    alloc: Global,
+    session: &mut Session,
+    text: &str,
+    is_clean: bool,
+) -> Result<Order, TakeFault>
+    requires { is_clean ≡ true → IsClean text.now }
+    ensures order { IfOk result (λ o. taken session.old text.now ≡ Ok o) }
+    ensures fault { IfErr result (λ f. IsTakeFault f (taken session.old text.now)) }
+    ensures after { IfOk result (λ o. session.new ≡ counted (place_of o) session.old) }
+    ensures kept { OnErr result (session.new ≡ session.old) }
+{
+    if is_clean {
+        session.take_clean(alloc, text)
+    } else {
+        session.take_text(alloc, text)
+    }
+}
+
 // A text of a connection.
 #[tactic(auto, using(crate::proofs::OrderLemmas::counted_is, crate::proofs::OrderLemmas::session_whole))]
 fn push_text(
@@ -360,15 +382,17 @@ fn push_text(
     count: u32,
     conn: ConnNo,
     text: &str,
+    is_clean: bool,
     out: &mut Transcript,
 ) -> Result<Option<Ending>, AllocError>
+    requires { is_clean ≡ true → IsClean text.now }
     ensures state { OnOk result (places.new ≡ happenings_after places.old (entry_happenings moment (now_in places.old) conn (text_entry moment (now_in places.old) conn text.now session.old))) }
     ensures session { OnOk result (session.new ≡ text_session moment (now_in places.old) conn text.now session.old) }
     ensures text { OnOk result (string_bytes out.new.text ≡ string_bytes out.old.text ++ happenings_text count places.old (entry_happenings moment (now_in places.old) conn (text_entry moment (now_in places.old) conn text.now session.old))) }
     ensures ledger { OnOk result (out.new.ledger ≡ happenings_ledger places.old (entry_happenings moment (now_in places.old) conn (text_entry moment (now_in places.old) conn text.now session.old)) out.old.ledger) }
     ensures ended { IfOk result (λ end. end ≡ end_by (now_in places.old) (text_entry moment (now_in places.old) conn text.now session.old)) }
 {
-    match session.take_text(alloc, text) {
+    match take_sent(alloc, session, text, is_clean) {
         Err(TakeFault::NoMemory) => Err(AllocError),
         Err(TakeFault::BadText) => push_lent(
             alloc, places, session, moment, count, conn, None, out,
@@ -398,9 +422,11 @@ fn push_sent(
     count: u32,
     conn: ConnNo,
     text: &str,
+    is_clean: bool,
     out: &mut Transcript,
 ) -> Result<Option<Ending>, AllocError>
-    requires { count ≡ length sessions.old }
+    requires count { count ≡ length sessions.old }
+    requires clean { is_clean ≡ true → IsClean text.now }
     ensures state { OnOk result (places.new ≡ happenings_after places.old (sent_by (record { moment = moment; now = now_in places.old; sessions = sessions.old }) conn text.now (session_of conn sessions.old)).happenings) }
     ensures sessions { OnOk result (sessions.new ≡ (sent_by (record { moment = moment; now = now_in places.old; sessions = sessions.old }) conn text.now (session_of conn sessions.old)).sessions) }
     ensures text { OnOk result (string_bytes out.new.text ≡ string_bytes out.old.text ++ happenings_text count places.old (sent_by (record { moment = moment; now = now_in places.old; sessions = sessions.old }) conn text.now (session_of conn sessions.old)).happenings) }
@@ -419,6 +445,7 @@ fn push_sent(
         count,
         conn,
         text,
+        is_clean,
         out,
     )
 }
@@ -491,7 +518,7 @@ impl Table {
                 Ok(None)
             }
             Said::Open(conn) => self.play_open(alloc, conn, out),
-            Said::Send(conn, text) => self.play_send(alloc, conn, text, out),
+            Said::Send(conn, text) => { self.play_send(alloc, conn, text, item.is_clean(), out) }
             Said::Close(conn) => self.play_close(alloc, conn, out),
         }
     }
@@ -525,8 +552,10 @@ impl Table {
         alloc: Global,
         conn: ConnNo,
         text: &str,
+        is_clean: bool,
         out: &mut Transcript,
     ) -> Result<Option<Ending>, AllocError>
+        requires { is_clean ≡ true → IsClean text.now }
         ensures state { OnOk result (self.new ≡ item_after self.old (items.Send conn text.now)) }
         ensures text { OnOk result (string_bytes out.new.text ≡ string_bytes out.old.text ++ item_text self.old (items.Send conn text.now)) }
         ensures ledger { OnOk result (out.new.ledger ≡ item_ledger self.old (items.Send conn text.now) out.old.ledger) }
@@ -544,6 +573,7 @@ impl Table {
             count,
             conn,
             text,
+            is_clean,
             out,
         )
     }
