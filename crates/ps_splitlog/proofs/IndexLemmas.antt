@@ -118,7 +118,7 @@ without_last log h old_starts new_starts old_line_indices new_line_indices index
       line_indices = p ∙ ap (λ i. take i old_line_indices) start ∙ ap (take (length (line_indices_of 0 log))) line_indices ∙ take-append_seam (line_indices_of 0 log) (line_indices_of (length log) (h ∷ []));
     }
 
-parts : (log : List LogEntry) → (log ≡ []) ⊎ ((xs : List LogEntry) × (h : LogEntry) × (log ≡ xs ++ h ∷ []))
+pub parts : (log : List LogEntry) → (log ≡ []) ⊎ ((xs : List LogEntry) × (h : LogEntry) × (log ≡ xs ++ h ∷ []))
 parts [] = inl refl
 parts (h ∷ hs) = elim (parts hs) [
   | inl none ↦ inr ([], h, ap (λ l. h ∷ l) none)

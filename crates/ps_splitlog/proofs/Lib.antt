@@ -1,3 +1,4 @@
+pub mod FirstLemmas
 pub mod IndexLemmas
 pub mod MessageLemmas
 pub mod ReadLemmas

@@ -1,5 +1,6 @@
 pub mod Boxes
 pub mod Entries
+pub mod Firsts
 pub mod Indices
 pub mod Lines
 pub mod Reads

@@ -3,6 +3,7 @@
 
 pub mod cursor;
 pub mod entry;
+mod firsts;
 mod index;
 pub mod law;
 pub mod log;

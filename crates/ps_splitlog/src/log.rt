@@ -8,6 +8,7 @@ ghost use Rattle.ps_base.specs.Messages.{msg_lines};
 
 use crate::cursor::Cursor;
 use crate::entry::{Entry, LogEntry, log_entry_of};
+use crate::firsts::{begin, note_last};
 use crate::index::{Index, forget, none, note};
 use crate::read::{message_next, push_messages};
 use ps_base::list::List;
@@ -19,26 +20,41 @@ use ps_event::event::Event;
 use ps_view::names::Names;
 use ps_view::role::Role;
 use std::alloc::{AllocError, Global};
+use std::collections::BTreeMap;
 use std::marker::Model;
 
 /// A log of what a room told, each text once. Contracts see the list of its entries. Where each logged line stands is noted
-/// beside it, so that the last lines cost who joins as much as they are, however long the log is.
-#[derive(Drop)]
+/// beside it, so that the last lines cost who joins as much as they are, however long the log is; and where each connection is
+/// named first, so that a cursor before the first entry doesn't walk those that show it nothing.
 pub struct SplitLog {
     entries: Vec<LogEntry>,
     index: Index,
+    /// Of all entries but the last, which may be taken back or be given roles: so neither takes memory.
+    firsts: BTreeMap<u32, usize>,
+}
+
+// By hand, so that who drops a log has one call to prove, and no map.
+impl Drop for SplitLog {
+    fn drop(self) {
+        let SplitLog {
+            entries: _,
+            index: _,
+            firsts: _,
+        } = self;
+    }
 }
 
 impl Model for SplitLog {
     ghost use Rattle.std.specs.Prelude as prelude;
     ghost use Rattle.ps_splitlog.specs.declared.entry.LogEntry.{LogEntry};
     ghost use Rattle.ps_splitlog.specs.Indices.{IsIndex};
+    ghost use Rattle.ps_splitlog.specs.Firsts.{HasFirsts};
 
     ghost Value = { prelude.List LogEntry };
 
     ghost view = { λ l. l.entries.items };
 
-    ghost invariant = { λ l. IsIndex l.entries.items l.index.starts.items l.index.line_indices.items };
+    ghost invariant = { λ l. IsIndex l.entries.items l.index.starts.items l.index.line_indices.items × HasFirsts l.entries.items l.firsts };
 }
 
 // Gives the last entry these roles in place of its own.
@@ -60,6 +76,7 @@ impl SplitLog {
         SplitLog {
             entries: Vec::new(alloc),
             index: none(alloc),
+            firsts: BTreeMap::new(alloc),
         }
     }
 
@@ -70,6 +87,7 @@ impl SplitLog {
         ensures err { OnErr result (self.new ≡ self.old) }
     {
         let entry = self.entries.len();
+        note_last(&mut self.firsts, self.entries.as_slice())?;
         self.entries.reserve(1)?;
         note(&mut self.index, entry, log_entry.lines.as_slice())?;
         self.entries.push(log_entry).unwrap();
@@ -162,6 +180,13 @@ impl SplitLog {
         ensures end { OnOk result (cursor.new ≡ cursor_past cursor.old self.now) }
         ensures err { OnErr result (cursor.new ≡ cursor.old) }
     {
+        let from = begin(
+            self.entries.as_slice(),
+            &self.firsts,
+            cursor.conn,
+            cursor.role,
+            cursor.at,
+        );
         let mut messages = Vec::new(alloc);
         let role = push_messages(
             alloc,
@@ -170,7 +195,7 @@ impl SplitLog {
             &self.index,
             cursor.conn,
             cursor.role,
-            cursor.at,
+            from,
         )?;
         cursor.role = role;
         cursor.at = self.entries.len();
