@@ -1,7 +1,6 @@
 -- What the Open of a connection is in the history that its pass has seen.
-use Rattle.std.proofs.Common.{◌≡◌, ◌≢◌, ℕ, List, [], ◌∷◌, ◌++◌, length, Option, Some, sym, ap, ◌∙◌, subst, arith}
+use Rattle.std.proofs.Common.{◌≡◌, ◌≢◌, ℕ, List, [], ◌∷◌, ◌++◌, length, Some, None, sym, ap, ◌∙◌, subst, arith}
 use Rattle.std.proofs.lemmas.Option.{same_Some}
-use Rattle.ps_base.specs.declared.msg.Msg.{Msg}
 use Rattle.ps_lines.specs.declared.command.HallCmd.TheVariants as hall_commands
 use Rattle.ps_hall.specs.declared.entry.HallEntry.{HallEntry}
 use Rattle.ps_histlock.specs.declared.view.Entry.{Entry}
@@ -12,11 +11,10 @@ use Rattle.ps_histlock.specs.Locks.{IsNameTaken}
 use Rattle.ps_histlock.specs.Signs.{Speaks}
 use Rattle.ps_histlock.proofs.Lists.{own_more}
 use Rattle.server_places.specs.declared.site.Root.{Root}
-use Rattle.server_places.specs.Halls.{hall_signer, HallAnswers, HallPulls}
+use Rattle.server_places.specs.Halls.{hall_signer}
 use Rattle.ps_hub.specs.Hubs.{Hub}
-use Rattle.ps_hub.specs.Turns.{TurnsAtLast, TakesAtLast}
+use Rattle.ps_hub.specs.Turns.{TurnsAtLast}
 use Rattle.ps_hub.specs.declared.pass.HallPass.{HallPass}
-use Rattle.ps_hub.specs.declared.taken.Taken.TheVariants.{NameTaken}
 use Rattle.ps_hub.specs.Passes.{AreOf, IsHallPass}
 use Rattle.ps_hub.specs.Calls.{hall_entry, Admits, IsStranger}
 use Rattle.ps_hub.specs.declared.passes.Passes.{Passes}
@@ -55,12 +53,14 @@ pub heir_said : (r : Root) (by n : ℕ) (v w : View Root HallEntry) (e : HallEnt
 heir_said r by n v w e t is = ap (λ (u : View Root HallEntry). u.said) is ∙ first_said r by v e t ∙ ap (λ (u : View Root HallEntry). entry by e ∷ u.mine) (sym is)
 
 -- the opener met an entry under the number
-pub stranger : (hub : Hub) (conn moment : ℕ) (h k : HallPass) (kept more : List Msg) (back : Option HallEntry) → IsHallPass hub conn k → TakesAtLast HallAnswers HallPulls h.pass.1 h.cursor kept (Some (hall_entry conn moment hall_commands.Open)) (NameTaken back) k.pass.1 k.cursor more
+pub stranger : (hub : Hub) (conn moment : ℕ) (h k : HallPass) → IsHallPass hub conn k → TurnsAtLast h.pass.1 None k.pass.1
     → IsNameTaken hall_signer h.pass.1.said k.pass.1.seen (hall_entry conn moment hall_commands.Open) → IsStranger hub conn k
-stranger hub conn moment h k kept more back of told taken =
+stranger hub conn moment h k of turns taken =
     let same : conn ≡ taken.0 = same_Some conn taken.0 taken.1 in
     record {
       of = of;
-      silent = ap (λ (l : List (Entry HallEntry)). signed hall_signer conn (commands l)) (ap (λ (u : View Root HallEntry). u.said) told.1.1.2) ∙ subst (λ (c : ℕ). signed hall_signer c (commands h.pass.1.said) ≡ []) (sym same) taken.2;
+      silent = ap (λ (l : List (Entry HallEntry)). signed hall_signer conn (commands l))
+          (ap (λ (u : View Root HallEntry). u.said) turns.1.2) ∙ subst (λ (c : ℕ). signed hall_signer c (commands h.pass.1.said) ≡ [])
+          (sym same) taken.2;
       stands = subst (λ (c : ℕ). Speaks hall_signer c k.pass.1.seen) (sym same) taken.3;
     }

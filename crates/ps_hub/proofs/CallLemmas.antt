@@ -19,17 +19,16 @@ use Rattle.server_places.specs.declared.command.RoomCmd.TheVariants.{Begin, Play
 use Rattle.server_places.specs.declared.site.Site.{Site}
 use Rattle.server_places.specs.Sites.{room_signer}
 use Rattle.server_places.specs.Halls.{HallAnswers}
-use Rattle.server_places.specs.Rooms.{Answers, Pulls}
+use Rattle.server_places.specs.Rooms.{Answers}
 use Rattle.ps_hub.specs.Hubs.{Hub, root_of, site_of}
 use Rattle.ps_hub.specs.Passes.{IsHallPass, IsRoomPass, numbers, AreOf, Keeps}
-use Rattle.ps_hub.specs.Turns.{TurnsAtLast, FallsShortAtLast, TakesAtLast}
+use Rattle.ps_hub.specs.Turns.{TurnsAtLast, FallsShortAtLast}
 use Rattle.ps_hub.specs.Calls.{hall_entry, room_entry, BeginsAt, BeginsAtMost, Starts, LooksAtMost, HallCaught, Caught, HallOnly, CatchesUpHall, CatchesUp, LooksHall, LooksRoom, Counts, QuitsBy, QuitsRoom, QuitsRoomAtMost, QuitsHall, QuitsHallAtMost, QuitsUpTo, QuitsWith, Quits, IsShutOut, IsShutOutAmong, IsNotShutOut}
 use Rattle.ps_hub.specs.declared.out.QuitFault.{QuitFault}
 use Rattle.ps_hub.specs.declared.out.QuitFault.TheVariants as quit_faults
 use Rattle.ps_hub.specs.declared.pass.HallPass.{HallPass}
 use Rattle.ps_hub.specs.declared.pass.RoomPass.{RoomPass}
 use Rattle.ps_hub.specs.declared.passes.Passes.{Passes}
-use Rattle.ps_hub.specs.declared.taken.Taken.TheVariants.{NameTaken}
 use Rattle.ps_hub.proofs.QuitLemmas.{zip_weaker, zip_append, zip_self, IsDoneTo, parts_of}
 use Rattle.ps_hub.proofs.PassListLemmas.{kept_then, set_seam}
 use Rattle.ps_hub.proofs.ShortLemmas.{short_turns_at_last}
@@ -90,11 +89,12 @@ pub quits_short : (hub : Hub) (badge : Option Badge) (conn moment : ℕ) (h k : 
 quits_short hub badge conn moment h k id b held is same done = (subst IsSome (sym held) refl, b, is, done, same.0, same.1, same.2)
 
 -- its place is shut: an entry stands there under the number
-pub shut_out : (conn moment : ℕ) (b : Badge) (h k : RoomPass) (kept more : List Msg) (back : Option RoomCmd) → TakesAtLast Answers Pulls h.pass.1 h.cursor kept (Some (Play (room_entry conn b moment room_commands.Quit))) (NameTaken back) k.pass.1 k.cursor more
+pub shut_out : (conn moment : ℕ) (b : Badge) (h k : RoomPass) → TurnsAtLast h.pass.1 None k.pass.1
     → IsNameTaken room_signer h.pass.1.said k.pass.1.seen (Play (room_entry conn b moment room_commands.Quit)) → IsShutOut conn k quit_faults.Taken
-shut_out conn moment b h k kept more back told taken =
+shut_out conn moment b h k turns taken =
     let same : conn ≡ taken.0 = same_Some conn taken.0 taken.1 in (
-      ap (λ (u : View Site RoomCmd). signed room_signer conn (commands u.said)) told.1.1.2 ∙ subst (λ (c : ℕ). signed room_signer c (commands h.pass.1.said) ≡ []) (sym same) taken.2,
+      ap (λ (u : View Site RoomCmd). signed room_signer conn (commands u.said)) turns.1.2 ∙ subst
+          (λ (c : ℕ). signed room_signer c (commands h.pass.1.said) ≡ []) (sym same) taken.2,
       subst (λ (c : ℕ). Speaks room_signer c k.pass.1.seen) (sym same) taken.3,
     )
 

@@ -3,7 +3,6 @@ pub mod PassLemmas
 pub mod PassListLemmas
 pub mod LockLemmas
 pub mod NameLemmas
-pub mod BadgeLemmas
 pub mod EnterLemmas
 pub mod CatchLemmas
 pub mod MeetLemmas

@@ -16,7 +16,10 @@ use Rattle.ps_hub.specs.Hubs.{Hub, site_of}
 use Rattle.ps_hub.specs.Names.{Names}
 use Rattle.ps_hub.specs.Passes.{Adds, IsHallPass, IsRoomPass, numbers, IsRising, AreOf}
 use Rattle.ps_hub.specs.Turns.{FallsShort}
-use Rattle.ps_hub.specs.Calls.{hall_entry, room_entry, badge_after, Held, EntersAt, HallGoes, HallOrdered, HallFails, HallTakes, RoomGoes, RoomTakes, Orders}
+use Rattle.ps_hub.specs.Calls.{hall_entry, room_entry, badge_after, Held, EntersAt, EnterFails, not_entered, HallGoes, HallOrdered}
+use Rattle.ps_hub.specs.Calls.{HallFails, HallTakes, RoomGoes, RoomTakes, Orders}
+use Rattle.ps_hub.specs.declared.out.EnterFault.{EnterFault}
+use Rattle.ps_hub.specs.declared.out.EnterFault.TheVariants as enter_faults
 use Rattle.ps_hub.specs.declared.out.HubFault.{HubFault}
 use Rattle.ps_hub.specs.declared.out.HubFault.TheVariants.{OwnLimit, Taken, NoSuchRoom, Busy, NoMemory}
 use Rattle.ps_hub.specs.declared.out.HubOut.{HubOut}
@@ -70,6 +73,13 @@ pub hall_untried : (hub : Hub) (cmd : HallCmd) (moment : ℕ) (old : Passes) →
 hall_untried hub cmd moment old are = (refl, hall_goes _ old old are.hall_pass are.hall_pass are.hall are.hall refl refl refl (refl, inl refl))
 
 -- ---- a room
+
+-- its place isn't held
+pub room_not_entered : (hub : Hub) (id : List ℕ) (cmd : Command) (moment : ℕ) (old : Passes) (fault : EnterFault) (new : Passes)
+    → EnterFails hub id old fault new → Orders hub (Room id cmd) moment old (Err (not_entered fault id cmd)) new
+room_not_entered hub id cmd moment old enter_faults.NoSuchRoom new fails = inl fails
+room_not_entered hub id cmd moment old (enter_faults.Busy word) new fails = inl (refl, fails)
+room_not_entered hub id cmd moment old enter_faults.NoMemory new fails = inl fails
 
 room_goes : (hub : Hub) (id : List ℕ) (does : RoomPass → RoomPass → Type 0) (pass_index : ℕ) (old : Passes) (h k : RoomPass) (new : Passes) → slice_get old.rooms.items pass_index ≡ Some h → Names hub.config id h.number → h.id ≡ Some id
     → new ≡ record old { rooms = new.rooms } → new.rooms.items ≡ slice_set old.rooms.items pass_index k → (k.at ≡ h.at) × (k.number ≡ h.number) × (k.id ≡ h.id) → does h k → RoomGoes hub id does old new

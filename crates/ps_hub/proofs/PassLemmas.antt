@@ -5,8 +5,6 @@ use Rattle.std.proofs.lemmas.Bool.Decides.{nat_tests}
 use Rattle.std.proofs.lemmas.Option.{none-some}
 use Rattle.ps_base.specs.declared.msg.Msg.{Msg}
 use Rattle.ps_hall.specs.declared.entry.HallEntry.{HallEntry}
-use Rattle.ps_hall.specs.declared.outcome.HallOut.{HallOut}
-use Rattle.ps_room.specs.declared.outcome.RoomOut.{RoomOut}
 use Rattle.ps_room.specs.Openings.{Opening}
 use Rattle.ps_room.specs.Openings.{chat_opening}
 use Rattle.ps_room.specs.Stories.{story, Story}
@@ -24,8 +22,8 @@ use Rattle.server_places.specs.declared.cursor.RoomCursor.{RoomCursor}
 use Rattle.server_places.specs.declared.site.Root.{Root}
 use Rattle.server_places.specs.declared.site.Site.{Site}
 use Rattle.server_places.specs.Sites.{room_signer, chat_at, plays, TellsBy, Tells, view_told, id_told}
-use Rattle.server_places.specs.Rooms.{cursor_of, Answers, Pulls, Shows, Stands, StandsAt, site_in, IsAtRestInRoom}
-use Rattle.server_places.specs.Halls.{hall_cursor, hall_signer, HallAnswers, HallPulls, HallShows, HallStands, HallStandsAt, root_in, IsAtRestInHall}
+use Rattle.server_places.specs.Rooms.{cursor_of, Pulls, Shows, Stands, StandsAt, site_in, IsAtRestInRoom}
+use Rattle.server_places.specs.Halls.{hall_cursor, hall_signer, HallPulls, HallShows, HallStands, HallStandsAt, root_in, IsAtRestInHall}
 use Rattle.server_places.proofs.GoOnLemmas.{pulls_go_on}
 use Rattle.server_places.proofs.HallLemmas.{hall_goes_on}
 use Rattle.server_places.proofs.StandLemmas.{no_chat}
@@ -35,10 +33,8 @@ use Rattle.ps_hub.specs.Names.{IsChatId, Names}
 use Rattle.ps_hub.specs.Passes.{lines_of, IsTold, NeverFalls, IsHallPass, HeldBy, IsRoomPass, IsNewPass}
 use Rattle.ps_hub.specs.declared.pass.HallPass.{HallPass}
 use Rattle.ps_hub.specs.declared.pass.RoomPass.{RoomPass}
-use Rattle.ps_hub.specs.declared.taken.Taken.{Taken}
-use Rattle.ps_hub.specs.declared.taken.Taken.TheVariants.{Done}
-use Rattle.ps_hub.specs.Turns.{Takes, TakesAtLast}
-use Rattle.ps_hub.proofs.ToldLemmas.{GoesOn, told_new, told_after, told_handed, pulled_stands, Grows, grows_self, commands_grow, PullsOrNot, takes_grow, takes_pull, takes_grow_at_last, takes_pull_at_last, takes_say, takes_say_at_last, signs_after, said_after, never_falls}
+use Rattle.ps_hub.proofs.ToldLemmas.{GoesOn, told_new, told_after, told_handed, pulled_stands, Grows, grows_self, commands_grow}
+use Rattle.ps_hub.proofs.ToldLemmas.{PullsOrNot, Leaves, signs_after, said_after, never_falls}
 
 -- ---- the hall
 
@@ -63,27 +59,14 @@ hall_stays hub conn h k lock at rest looks signs own g pulls p = record {
 }
 
 -- after a turn
-pub hall_taken : (hub : Hub) (conn : ℕ) (h k : HallPass) (cmd : Option HallEntry) (t : Taken HallEntry HallOut) → k.pass.0 ≡ h.pass.0 → k.at ≡ h.at → (IsAtRestInHall h.pass.1 → IsAtRestInHall k.pass.1)
+pub hall_taken : (hub : Hub) (conn : ℕ) (h k : HallPass) (cmd : Option HallEntry) → k.pass.0 ≡ h.pass.0 → k.at ≡ h.at →
+    (IsAtRestInHall h.pass.1 → IsAtRestInHall k.pass.1)
     → (OwnSigns hall_signer h.pass.1 h.pass.1.known → OwnSigns hall_signer k.pass.1 k.pass.1.known) → IfSome cmd (IsOf hall_signer conn)
-    → Takes HallAnswers HallPulls h.pass.1 h.cursor (h.kept.items ++ h.fresh.items) cmd t k.pass.1 k.cursor (k.kept.items ++ k.fresh.items) → IsHallPass hub conn h → IsHallPass hub conn k
-hall_taken hub conn h k cmd t lock at rest own of told p = hall_stays hub conn h k lock at (rest p.rest)
-    (subst NeverFalls (sym (takes_say HallAnswers HallPulls h.pass.1 h.cursor (h.kept.items ++ h.fresh.items) cmd t k.pass.1 k.cursor (k.kept.items ++ k.fresh.items) told).looks) p.looks)
-    (signs_after hall_signer conn h.pass.1 k.pass.1 cmd of (takes_say HallAnswers HallPulls h.pass.1 h.cursor (h.kept.items ++ h.fresh.items) cmd t k.pass.1 k.cursor (k.kept.items ++ k.fresh.items) told) p.signs)
-    (own p.own)
-    (takes_grow HallAnswers HallPulls h.pass.1 h.cursor (h.kept.items ++ h.fresh.items) cmd t k.pass.1 k.cursor (k.kept.items ++ k.fresh.items) told)
-    (takes_pull HallAnswers HallPulls h.pass.1 h.cursor (h.kept.items ++ h.fresh.items) cmd t k.pass.1 k.cursor (k.kept.items ++ k.fresh.items) told)
-    p
-
-pub hall_taken_at_last : (hub : Hub) (conn : ℕ) (h k : HallPass) (cmd : Option HallEntry) (t : Taken HallEntry HallOut) → k.pass.0 ≡ h.pass.0 → k.at ≡ h.at → (IsAtRestInHall h.pass.1 → IsAtRestInHall k.pass.1)
-    → (OwnSigns hall_signer h.pass.1 h.pass.1.known → OwnSigns hall_signer k.pass.1 k.pass.1.known) → IfSome cmd (IsOf hall_signer conn)
-    → TakesAtLast HallAnswers HallPulls h.pass.1 h.cursor (h.kept.items ++ h.fresh.items) cmd t k.pass.1 k.cursor (k.kept.items ++ k.fresh.items) → IsHallPass hub conn h → IsHallPass hub conn k
-hall_taken_at_last hub conn h k cmd t lock at rest own of told p = hall_stays hub conn h k lock at (rest p.rest)
-    (subst NeverFalls (sym (takes_say_at_last HallAnswers HallPulls h.pass.1 h.cursor (h.kept.items ++ h.fresh.items) cmd t k.pass.1 k.cursor (k.kept.items ++ k.fresh.items) told).looks) p.looks)
-    (signs_after hall_signer conn h.pass.1 k.pass.1 cmd of (takes_say_at_last HallAnswers HallPulls h.pass.1 h.cursor (h.kept.items ++ h.fresh.items) cmd t k.pass.1 k.cursor (k.kept.items ++ k.fresh.items) told) p.signs)
-    (own p.own)
-    (takes_grow_at_last HallAnswers HallPulls h.pass.1 h.cursor (h.kept.items ++ h.fresh.items) cmd t k.pass.1 k.cursor (k.kept.items ++ k.fresh.items) told)
-    (takes_pull_at_last HallAnswers HallPulls h.pass.1 h.cursor (h.kept.items ++ h.fresh.items) cmd t k.pass.1 k.cursor (k.kept.items ++ k.fresh.items) told)
-    p
+    → Leaves HallPulls h.pass.1 h.cursor (h.kept.items ++ h.fresh.items) cmd k.pass.1 k.cursor (k.kept.items ++ k.fresh.items) → IsHallPass
+    hub conn h → IsHallPass hub conn k
+hall_taken hub conn h k cmd lock at rest own of left p = hall_stays hub conn h k lock at (rest p.rest)
+    (subst NeverFalls (sym left.says.looks) p.looks) (signs_after hall_signer conn h.pass.1 k.pass.1 cmd of left.says p.signs) (own p.own)
+    left.grows left.pulled p
 
 -- after a look
 pub hall_looked : (hub : Hub) (conn : ℕ) (h k : HallPass) (n : ℕ) → k ≡ record h { pass = (h.pass.0, after_look h.pass.1 n) } → length h.pass.1.known ≤ n → All (λ (m : ℕ). m ≤ n) h.pass.1.looks → IsHallPass hub conn h → IsHallPass hub conn k
@@ -202,29 +185,14 @@ room_stays hub conn h k lock at number id rest looks said signs own g pulls p = 
 }
 
 -- after a turn
-pub room_taken : (hub : Hub) (conn : ℕ) (h k : RoomPass) (cmd : Option RoomCmd) (t : Taken RoomCmd (Option RoomOut)) → k.pass.0 ≡ h.pass.0 → (k.at ≡ h.at) × (k.number ≡ h.number) × (k.id ≡ h.id) → (IsAtRestInRoom h.pass.1 → IsAtRestInRoom k.pass.1)
+pub room_taken : (hub : Hub) (conn : ℕ) (h k : RoomPass) (cmd : Option RoomCmd) → k.pass.0 ≡ h.pass.0 → (k.at ≡ h.at) ×
+    (k.number ≡ h.number) × (k.id ≡ h.id) → (IsAtRestInRoom h.pass.1 → IsAtRestInRoom k.pass.1)
     → (OwnSigns room_signer h.pass.1 h.pass.1.known → OwnSigns room_signer k.pass.1 k.pass.1.known) → IfSome cmd (IsOf room_signer conn)
-    → Takes Answers Pulls h.pass.1 h.cursor (h.kept.items ++ h.fresh.items) cmd t k.pass.1 k.cursor (k.kept.items ++ k.fresh.items) → IsRoomPass hub conn h → IsRoomPass hub conn k
-room_taken hub conn h k cmd t lock same rest own of told p = room_stays hub conn h k lock same.0 same.1 same.2 (rest p.rest)
-    (subst NeverFalls (sym (takes_say Answers Pulls h.pass.1 h.cursor (h.kept.items ++ h.fresh.items) cmd t k.pass.1 k.cursor (k.kept.items ++ k.fresh.items) told).looks) p.looks)
-    (said_after h.pass.1 k.pass.1 cmd (takes_say Answers Pulls h.pass.1 h.cursor (h.kept.items ++ h.fresh.items) cmd t k.pass.1 k.cursor (k.kept.items ++ k.fresh.items) told) p.said)
-    (signs_after room_signer conn h.pass.1 k.pass.1 cmd of (takes_say Answers Pulls h.pass.1 h.cursor (h.kept.items ++ h.fresh.items) cmd t k.pass.1 k.cursor (k.kept.items ++ k.fresh.items) told) p.signs)
-    (own p.own)
-    (takes_grow Answers Pulls h.pass.1 h.cursor (h.kept.items ++ h.fresh.items) cmd t k.pass.1 k.cursor (k.kept.items ++ k.fresh.items) told)
-    (takes_pull Answers Pulls h.pass.1 h.cursor (h.kept.items ++ h.fresh.items) cmd t k.pass.1 k.cursor (k.kept.items ++ k.fresh.items) told)
-    p
-
-pub room_taken_at_last : (hub : Hub) (conn : ℕ) (h k : RoomPass) (cmd : Option RoomCmd) (t : Taken RoomCmd (Option RoomOut)) → k.pass.0 ≡ h.pass.0 → (k.at ≡ h.at) × (k.number ≡ h.number) × (k.id ≡ h.id) → (IsAtRestInRoom h.pass.1 → IsAtRestInRoom k.pass.1)
-    → (OwnSigns room_signer h.pass.1 h.pass.1.known → OwnSigns room_signer k.pass.1 k.pass.1.known) → IfSome cmd (IsOf room_signer conn)
-    → TakesAtLast Answers Pulls h.pass.1 h.cursor (h.kept.items ++ h.fresh.items) cmd t k.pass.1 k.cursor (k.kept.items ++ k.fresh.items) → IsRoomPass hub conn h → IsRoomPass hub conn k
-room_taken_at_last hub conn h k cmd t lock same rest own of told p = room_stays hub conn h k lock same.0 same.1 same.2 (rest p.rest)
-    (subst NeverFalls (sym (takes_say_at_last Answers Pulls h.pass.1 h.cursor (h.kept.items ++ h.fresh.items) cmd t k.pass.1 k.cursor (k.kept.items ++ k.fresh.items) told).looks) p.looks)
-    (said_after h.pass.1 k.pass.1 cmd (takes_say_at_last Answers Pulls h.pass.1 h.cursor (h.kept.items ++ h.fresh.items) cmd t k.pass.1 k.cursor (k.kept.items ++ k.fresh.items) told) p.said)
-    (signs_after room_signer conn h.pass.1 k.pass.1 cmd of (takes_say_at_last Answers Pulls h.pass.1 h.cursor (h.kept.items ++ h.fresh.items) cmd t k.pass.1 k.cursor (k.kept.items ++ k.fresh.items) told) p.signs)
-    (own p.own)
-    (takes_grow_at_last Answers Pulls h.pass.1 h.cursor (h.kept.items ++ h.fresh.items) cmd t k.pass.1 k.cursor (k.kept.items ++ k.fresh.items) told)
-    (takes_pull_at_last Answers Pulls h.pass.1 h.cursor (h.kept.items ++ h.fresh.items) cmd t k.pass.1 k.cursor (k.kept.items ++ k.fresh.items) told)
-    p
+    → Leaves Pulls h.pass.1 h.cursor (h.kept.items ++ h.fresh.items) cmd k.pass.1 k.cursor (k.kept.items ++ k.fresh.items) → IsRoomPass hub
+    conn h → IsRoomPass hub conn k
+room_taken hub conn h k cmd lock same rest own of left p = room_stays hub conn h k lock same.0 same.1 same.2 (rest p.rest)
+    (subst NeverFalls (sym left.says.looks) p.looks) (said_after h.pass.1 k.pass.1 cmd left.says p.said)
+    (signs_after room_signer conn h.pass.1 k.pass.1 cmd of left.says p.signs) (own p.own) left.grows left.pulled p
 
 pub room_handed : (hub : Hub) (conn : ℕ) (h k : RoomPass) → k.pass ≡ h.pass → k.cursor ≡ h.cursor → k.number ≡ h.number → k.id ≡ h.id → k.kept.items ++ k.fresh.items ≡ [] → k.at ≡ k.cursor.passed → IsRoomPass hub conn h → IsRoomPass hub conn k
 room_handed hub conn h k pass cursor number id none at p = record {
@@ -306,10 +274,3 @@ room_told hub conn h k msgs high number g pulls p =
     let at : StandsAt conn (site_of hub h.number) (commands h.pass.1.seen ++ later.0) k.cursor = pulled_stands (Shows conn (site_of hub h.number)) (StandsAt conn (site_of hub h.number)) (Pulls (site_of hub h.number)) (room_law conn (site_of hub h.number)) (commands h.pass.1.seen) later.0 h.cursor k.cursor h.cursor.passed (lines_of (h.kept.items ++ h.fresh.items)) h.at msgs p.told here in
     let on : StandsAt conn (site_of hub h.number) (commands k.pass.1.seen) k.cursor = subst (λ (l : List RoomCmd). StandsAt conn (site_of hub h.number) l k.cursor) later.1 at in
     subst (λ (n : ℕ). (told : Option Story) × Tells (site_of hub n) (commands k.pass.1.seen) told × (id_told told ≡ k.cursor.id)) (sym number) (known_id conn (site_of hub h.number) (commands k.pass.1.seen) k.cursor high on)
-
--- the same, after a turn that was taken
-pub room_told_at_done : (hub : Hub) (conn : ℕ) (h k : RoomPass) (cmd : Option RoomCmd) (out : Option (Option RoomOut)) → 16 ≤ h.number → k.number ≡ h.number
-    → Takes Answers Pulls h.pass.1 h.cursor (h.kept.items ++ h.fresh.items) cmd (Done out) k.pass.1 k.cursor (k.kept.items ++ k.fresh.items) → IsRoomPass hub conn h
-    → (told : Option Story) × Tells (site_of hub k.number) (commands k.pass.1.seen) told × (id_told told ≡ k.cursor.id)
-room_told_at_done hub conn h k cmd out high number told p = room_told hub conn h k told.4 high number
-    (takes_grow Answers Pulls h.pass.1 h.cursor (h.kept.items ++ h.fresh.items) cmd (Done out) k.pass.1 k.cursor (k.kept.items ++ k.fresh.items) told) told.5 p

@@ -1,5 +1,6 @@
 -- What was handed out and what is kept, when a pass sees more, pulls more and hands out.
-use Rattle.std.proofs.Common.{◌≡◌, ◌≢◌, ◌⊎◌, ℕ, zero, suc, ◌%◌, ◌<◌, ◌≤◌, List, [], ◌∷◌, ◌++◌, length, take, drop, Option, Some, None, refl, sym, ap, ◌∙◌, subst, inl, inr, ⊎_elim, arith, append_assoc}
+use Rattle.std.proofs.Common.{◌≡◌, ◌≢◌, ◌⊎◌, ℕ, zero, suc, ◌%◌, ◌<◌, ◌≤◌, List, [], ◌∷◌, ◌++◌, length, take, drop, Option, Some, None}
+use Rattle.std.proofs.Common.{Result, Ok, Err, refl, sym, ap, ◌∙◌, subst, inl, inr, ⊎_elim, arith, append_assoc}
 use Rattle.std.proofs.lemmas.List.{take-append-le, take-append-drop, take_all, length-append, length-map, map-append, append-nil}
 use Rattle.std.proofs.Math.Seq.{get_or-append_seam}
 use Rattle.std.specs.Prelude.{All, IfSome}
@@ -18,9 +19,14 @@ use Rattle.ps_histlock.proofs.SignLemmas.{signs_more}
 use Rattle.std.proofs.lemmas.List.Elements.{All-append}
 use Rattle.ps_hub.specs.Passes.{lines_of, IsTold, Adds, NeverFalls}
 use Rattle.ps_hub.specs.Calls.{IsFresh, LooksAnd, LooksAtMost, HandsOut}
-use Rattle.ps_hub.specs.Turns.{Turns, TurnsAtLast, Takes, TakesAtLast}
+use Rattle.ps_hub.specs.Turns.{Turns, TurnsAtLast, Gives, GivesAtLast, Reads, ReadsAtLast, Takes, TakesAtLast}
+use Rattle.ps_hub.specs.declared.taken.Ended.{Ended}
+use Rattle.ps_hub.specs.declared.taken.Ended.TheVariants as ends
+use Rattle.ps_hub.specs.declared.taken.Read.{Read}
+use Rattle.ps_hub.specs.declared.taken.Read.TheVariants as reads
 use Rattle.ps_hub.specs.declared.taken.Taken.{Taken}
-use Rattle.ps_hub.specs.declared.taken.Taken.TheVariants.{Done, Late, Busy, OwnLimit, NameTaken, NoMemory}
+use Rattle.ps_hub.specs.declared.taken.Taken.TheVariants.{Done, Busy, OwnLimit, NameTaken, NoMemory}
+use Rattle.ps_hub.proofs.ShortLemmas.{gives_turn, gives_turn_at_last}
 
 module _ {C X : Type 0} (shows : List C → List (List (List ℕ)) → Type 0) (stands_at : List C → X → Type 0) where
   pub told_new : (x : X) → stands_at [] x → shows [] [] → IsTold shows stands_at [] x 0 [] 0
@@ -199,39 +205,6 @@ module _ {O C X : Type 0} (shows : List C → List (List (List ℕ)) → Type 0)
         end = end ∙ all;
       }
 
-module _ {O C U X : Type 0} (answers : O → List C → C → U → Type 0) (pulls : O → List C → X → List Msg → X → Type 0) where
-  pub takes_grow : (v : View O C) (x : X) (kept : List Msg) (cmd : Option C) (t : Taken C U) (w : View O C) (y : X) (more : List Msg) → Takes answers pulls v x kept cmd t w y more → Grows v w
-  takes_grow v x kept cmd (Done out) w y more told = turns_grow v cmd w (told.0, told.1, told.2)
-  takes_grow v x kept cmd (Late out) w y more told = turns_grow v cmd w (told.0, told.1, told.2)
-  takes_grow v x kept cmd (Busy word back) w y more told = busy_grows v w word told.0
-  takes_grow v x kept cmd (OwnLimit back) w y more told = subst (Grows v) (sym told.3) (grows_self v)
-  takes_grow v x kept cmd (NameTaken back) w y more told = turns_grow v None w told.1
-  takes_grow v x kept cmd NoMemory w y more told = same_or_grows v w told.0
-
-  pub takes_pull : (v : View O C) (x : X) (kept : List Msg) (cmd : Option C) (t : Taken C U) (w : View O C) (y : X) (more : List Msg) → Takes answers pulls v x kept cmd t w y more → PullsOrNot pulls v x kept w y more
-  takes_pull v x kept cmd (Done out) w y more told = inl (told.4, told.5, told.6)
-  takes_pull v x kept cmd (Late out) w y more told = inr (told.4, told.5)
-  takes_pull v x kept cmd (Busy word back) w y more told = inr (told.2, told.3)
-  takes_pull v x kept cmd (OwnLimit back) w y more told = inr (told.4, told.5)
-  takes_pull v x kept cmd (NameTaken back) w y more told = inr (told.3, told.4)
-  takes_pull v x kept cmd NoMemory w y more told = inr (told.1, told.2)
-
-  pub takes_grow_at_last : (v : View O C) (x : X) (kept : List Msg) (cmd : Option C) (t : Taken C U) (w : View O C) (y : X) (more : List Msg) → TakesAtLast answers pulls v x kept cmd t w y more → Grows v w
-  takes_grow_at_last v x kept cmd (Done out) w y more told = of_tries v w told.0 (takes_grow (record v { met = v.met ++ told.0 }) x kept cmd (Done out) w y more told.1)
-  takes_grow_at_last v x kept cmd (Late out) w y more told = of_tries v w told.0 (takes_grow (record v { met = v.met ++ told.0 }) x kept cmd (Late out) w y more told.1)
-  takes_grow_at_last v x kept cmd (Busy word back) w y more told = absurd told
-  takes_grow_at_last v x kept cmd (OwnLimit back) w y more told = takes_grow v x kept cmd (OwnLimit back) w y more told
-  takes_grow_at_last v x kept cmd (NameTaken back) w y more told = turns_grow_at_last v None w told.1
-  takes_grow_at_last v x kept cmd NoMemory w y more told = ⊎_elim (λ (e : w ≡ v). subst (Grows v) (sym e) (grows_self v)) (λ (t : TurnsAtLast v None w). turns_grow_at_last v None w t) told.0
-
-  pub takes_pull_at_last : (v : View O C) (x : X) (kept : List Msg) (cmd : Option C) (t : Taken C U) (w : View O C) (y : X) (more : List Msg) → TakesAtLast answers pulls v x kept cmd t w y more → PullsOrNot pulls v x kept w y more
-  takes_pull_at_last v x kept cmd (Done out) w y more told = takes_pull (record v { met = v.met ++ told.0 }) x kept cmd (Done out) w y more told.1
-  takes_pull_at_last v x kept cmd (Late out) w y more told = takes_pull (record v { met = v.met ++ told.0 }) x kept cmd (Late out) w y more told.1
-  takes_pull_at_last v x kept cmd (Busy word back) w y more told = absurd told
-  takes_pull_at_last v x kept cmd (OwnLimit back) w y more told = takes_pull v x kept cmd (OwnLimit back) w y more told
-  takes_pull_at_last v x kept cmd (NameTaken back) w y more told = inr (told.3, told.4)
-  takes_pull_at_last v x kept cmd NoMemory w y more told = inr (told.1, told.2)
-
 -- ---- what a turn lets its pass say
 
 -- It looks no more often. It makes no entry, or that of the command, and says so.
@@ -267,23 +240,99 @@ module _ {O C : Type 0} where
   of_more_tries : (v w : View O C) (cmd : Option C) (words : List ℕ) → Says (record v { met = v.met ++ words }) cmd w → Says v cmd w
   of_more_tries v w cmd words t = record { looks = t.looks; made = t.made }
 
-module _ {O C U X : Type 0} (answers : O → List C → C → U → Type 0) (pulls : O → List C → X → List Msg → X → Type 0) where
-  pub takes_say : (v : View O C) (x : X) (kept : List Msg) (cmd : Option C) (t : Taken C U) (w : View O C) (y : X) (more : List Msg) → Takes answers pulls v x kept cmd t w y more → Says v cmd w
-  takes_say v x kept cmd (Done out) w y more told = turns_say v cmd w (told.0, told.1, told.2)
-  takes_say v x kept cmd (Late out) w y more told = turns_say v cmd w (told.0, told.1, told.2)
-  takes_say v x kept cmd (Busy word back) w y more told = busy_silent v w word cmd told.0
-  takes_say v x kept cmd (OwnLimit back) w y more told = same_says v w cmd told.3
-  takes_say v x kept cmd (NameTaken back) w y more told = turns_silent v w cmd told.1
-  takes_say v x kept cmd NoMemory w y more told = ⊎_elim (λ (e : w ≡ v). same_says v w cmd e) (λ (t : Turns v None w). turns_silent v w cmd t) told.0
+-- ---- what a turn leaves, whatever it gave
 
-  pub takes_say_at_last : (v : View O C) (x : X) (kept : List Msg) (cmd : Option C) (t : Taken C U) (w : View O C) (y : X) (more : List Msg) → TakesAtLast answers pulls v x kept cmd t w y more → Says v cmd w
-  takes_say_at_last v x kept cmd (Done out) w y more told = of_more_tries v w cmd told.0 (takes_say (record v { met = v.met ++ told.0 }) x kept cmd (Done out) w y more told.1)
-  takes_say_at_last v x kept cmd (Late out) w y more told = of_more_tries v w cmd told.0 (takes_say (record v { met = v.met ++ told.0 }) x kept cmd (Late out) w y more told.1)
-  takes_say_at_last v x kept cmd (Busy word back) w y more told = absurd told
-  takes_say_at_last v x kept cmd (OwnLimit back) w y more told = takes_say v x kept cmd (OwnLimit back) w y more told
-  takes_say_at_last v x kept cmd (NameTaken back) w y more told = of_more_tries v w cmd told.1.0 (turns_silent (record v { met = v.met ++ told.1.0 }) w cmd told.1.1)
-  takes_say_at_last v x kept cmd NoMemory w y more told =
-      ⊎_elim (λ (e : w ≡ v). same_says v w cmd e) (λ (t : TurnsAtLast v None w). of_more_tries v w cmd t.0 (turns_silent (record v { met = v.met ++ t.0 }) w cmd t.1)) told.0
+module _ {O C X : Type 0} (pulls : O → List C → X → List Msg → X → Type 0) where
+  pub record Leaves (v : View O C) (x : X) (kept : List Msg) (cmd : Option C) (w : View O C) (y : X) (more : List Msg) : Type 0 where
+    pub grows : Grows v w
+    pub pulled : PullsOrNot pulls v x kept w y more
+    pub says : Says v cmd w
+
+  turn_leaves : (v : View O C) (x : X) (kept : List Msg) (cmd : Option C) (w : View O C) (y : X) (more : List Msg)
+      → Turns v cmd w → PullsOrNot pulls v x kept w y more → Leaves v x kept cmd w y more
+  turn_leaves v x kept cmd w y more t pulled = record { grows = turns_grow v cmd w t; pulled = pulled; says = turns_say v cmd w t }
+
+  -- a turn without an entry
+  silent_leaves : (v : View O C) (x : X) (kept : List Msg) (cmd : Option C) (w : View O C) (y : X) (more : List Msg)
+      → Turns v None w → PullsOrNot pulls v x kept w y more → Leaves v x kept cmd w y more
+  silent_leaves v x kept cmd w y more t pulled = record { grows = turns_grow v None w t; pulled = pulled; says = turns_silent v w cmd t }
+
+  -- no turn
+  same_leaves : (v : View O C) (x : X) (kept : List Msg) (cmd : Option C) (w : View O C) (y : X) (more : List Msg)
+      → w ≡ v → PullsOrNot pulls v x kept w y more → Leaves v x kept cmd w y more
+  same_leaves v x kept cmd w y more e pulled =
+      record { grows = subst (Grows v) (sym e) (grows_self v); pulled = pulled; says = same_says v w cmd e }
+
+  busy_leaves : (v : View O C) (x : X) (kept : List Msg) (cmd : Option C) (word : ℕ) (w : View O C) (y : X) (more : List Msg)
+      → IsBusy v word w → PullsOrNot pulls v x kept w y more → Leaves v x kept cmd w y more
+  busy_leaves v x kept cmd word w y more busy pulled =
+      record { grows = busy_grows v w word busy; pulled = pulled; says = busy_silent v w word cmd busy }
+
+  -- what is left after tries in vain
+  tries_leave : (v : View O C) (x : X) (kept : List Msg) (cmd : Option C) (w : View O C) (y : X) (more : List Msg) (words : List ℕ)
+      → Leaves (record v { met = v.met ++ words }) x kept cmd w y more → Leaves v x kept cmd w y more
+  tries_leave v x kept cmd w y more words l =
+      record { grows = of_tries v w words l.grows; pulled = l.pulled; says = of_more_tries v w cmd words l.says }
+
+  silent_leaves_at_last : (v : View O C) (x : X) (kept : List Msg) (cmd : Option C) (w : View O C) (y : X) (more : List Msg)
+      → TurnsAtLast v None w → PullsOrNot pulls v x kept w y more → Leaves v x kept cmd w y more
+  silent_leaves_at_last v x kept cmd w y more t pulled =
+      tries_leave v x kept cmd w y more t.0 (silent_leaves (record v { met = v.met ++ t.0 }) x kept cmd w y more t.1 pulled)
+
+  turn_leaves_at_last : (v : View O C) (x : X) (kept : List Msg) (cmd : Option C) (w : View O C) (y : X) (more : List Msg)
+      → TurnsAtLast v cmd w → PullsOrNot pulls v x kept w y more → Leaves v x kept cmd w y more
+  turn_leaves_at_last v x kept cmd w y more t pulled =
+      tries_leave v x kept cmd w y more t.0 (turn_leaves (record v { met = v.met ++ t.0 }) x kept cmd w y more t.1 pulled)
+
+  pub reads_leave : (v : View O C) (x : X) (kept : List Msg) (r : Read) (w : View O C) (y : X) (more : List Msg)
+      → Reads pulls v x kept r w y more → Leaves v x kept None w y more
+  reads_leave v x kept reads.Done w y more told = turn_leaves v x kept None w y more told.0 (inl told.1)
+  reads_leave v x kept (reads.Busy word) w y more told = busy_leaves v x kept None word w y more told.0 (inr (told.1, told.2))
+  reads_leave v x kept reads.NoMemory w y more told = ⊎_elim
+      (λ (e : w ≡ v). same_leaves v x kept None w y more e (inr (told.1, told.2)))
+      (λ (t : Turns v None w). turn_leaves v x kept None w y more t (inr (told.1, told.2)))
+      told.0
+
+  pub reads_leave_at_last : {T E : Type 0} (v : View O C) (x : X) (kept : List Msg) (result : Result T E) (w : View O C) (y : X)
+      (more : List Msg) → ReadsAtLast pulls v x kept result w y more → Leaves v x kept None w y more
+  reads_leave_at_last v x kept (Ok done) w y more told = turn_leaves_at_last v x kept None w y more told.0 (inl told.1)
+  reads_leave_at_last v x kept (Err error) w y more told = ⊎_elim
+      (λ (e : w ≡ v). same_leaves v x kept None w y more e (inr (told.1, told.2)))
+      (λ (t : TurnsAtLast v None w). turn_leaves_at_last v x kept None w y more t (inr (told.1, told.2)))
+      told.0
+
+module _ {O C U X : Type 0} (answers : O → List C → C → U → Type 0) (pulls : O → List C → X → List Msg → X → Type 0) where
+  pub takes_leave : (v : View O C) (x : X) (kept : List Msg) (c : C) (t : Taken C U) (w : View O C) (y : X) (more : List Msg)
+      → Takes answers pulls v x kept c t w y more → Leaves pulls v x kept (Some c) w y more
+  takes_leave v x kept c (Done out) w y more told = turn_leaves pulls v x kept (Some c) w y more (told.0, told.1, told.2) (inl told.4)
+  takes_leave v x kept c (Busy word back) w y more told = busy_leaves pulls v x kept (Some c) word w y more told.0 (inr (told.2, told.3))
+  takes_leave v x kept c OwnLimit w y more told = same_leaves pulls v x kept (Some c) w y more told.1 (inr (told.2, told.3))
+  takes_leave v x kept c NameTaken w y more told = silent_leaves pulls v x kept (Some c) w y more told.0 (inr (told.1, told.2))
+  takes_leave v x kept c NoMemory w y more told =
+      let none : PullsOrNot pulls v x kept w y more = inr (told.0.0, told.1) in
+      ⊎_elim
+      (λ (e : w ≡ v). same_leaves pulls v x kept (Some c) w y more e none)
+      (λ (rest : Turns v None w ⊎ Gives (answers v.origin) v c w). ⊎_elim
+      (λ (t : Turns v None w). silent_leaves pulls v x kept (Some c) w y more t none)
+      (λ (g : Gives (answers v.origin) v c w). turn_leaves pulls v x kept (Some c) w y more (gives_turn (answers v.origin) v c w g) none)
+      rest)
+      told.0.1
+
+  pub takes_leave_at_last : (v : View O C) (x : X) (kept : List Msg) (c : C) (t : Ended) (w : View O C) (y : X) (more : List Msg)
+      → TakesAtLast answers pulls v x kept c t w y more → Leaves pulls v x kept (Some c) w y more
+  takes_leave_at_last v x kept c ends.Done w y more told = turn_leaves_at_last pulls v x kept (Some c) w y more told.0 (inl told.1)
+  takes_leave_at_last v x kept c ends.NameTaken w y more told =
+      silent_leaves_at_last pulls v x kept (Some c) w y more told.0 (inr (told.1, told.2))
+  takes_leave_at_last v x kept c ends.NoMemory w y more told =
+      let none : PullsOrNot pulls v x kept w y more = inr (told.0.0, told.1) in
+      ⊎_elim
+      (λ (e : w ≡ v). same_leaves pulls v x kept (Some c) w y more e none)
+      (λ (rest : TurnsAtLast v None w ⊎ GivesAtLast (answers v.origin) v c w). ⊎_elim
+      (λ (t : TurnsAtLast v None w). silent_leaves_at_last pulls v x kept (Some c) w y more t none)
+      (λ (g : GivesAtLast (answers v.origin) v c w).
+      turn_leaves_at_last pulls v x kept (Some c) w y more (gives_turn_at_last (answers v.origin) v c w g) none)
+      rest)
+      told.0.1
 
 module _ {O C : Type 0} where
   -- all that it has said is signed as before

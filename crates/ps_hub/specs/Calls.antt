@@ -223,6 +223,12 @@ EntryFails hub id cmd old hub_faults.NoSuchRoom new = EnterFails hub id old ente
 EntryFails hub id cmd old (hub_faults.Busy word order) new = (order ≡ Room id cmd) × EnterFails hub id old (enter_faults.Busy word) new
 EntryFails hub id cmd old hub_faults.NoMemory new = EnterFails hub id old enter_faults.NoMemory new
 
+-- why an order made no entry, by why its place isn't held
+abbrev pub not_entered : EnterFault → List ℕ → Command → HubFault
+not_entered enter_faults.NoSuchRoom id cmd = hub_faults.NoSuchRoom
+not_entered (enter_faults.Busy word) id cmd = hub_faults.Busy word (Room id cmd)
+not_entered enter_faults.NoMemory id cmd = hub_faults.NoMemory
+
 -- What an order does: to a room it enters the place first, as `enter`, which changes nothing where the place is held by that id.
 abbrev pub Orders : Hub → Order → ℕ → Passes → Result HubOut HubFault → Passes → Type 0
 Orders hub (Hall cmd) moment old (Ok out) new = HallOrdered hub cmd moment old out new

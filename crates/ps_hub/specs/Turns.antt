@@ -1,14 +1,26 @@
 -- What a turn leaves of a pass, its cursor and the messages that are kept.
-use Rattle.std.specs.Prelude.{◌≡◌, ◌⊎◌, ℕ, List, ◌++◌, length, Option, Some, None, IsSome}
+use Rattle.std.specs.Prelude.{◌≡◌, ◌⊎◌, ℕ, List, ◌++◌, length, Option, Some, None, Result, Ok, Err}
 use Rattle.ps_base.specs.declared.msg.Msg.{Msg}
 use Rattle.ps_histlock.specs.declared.view.Entry.{Entry}
 use Rattle.ps_histlock.specs.declared.view.View.{View}
 use Rattle.ps_histlock.specs.declared.lock.TheConstants.{OWN_LIMIT}
 use Rattle.ps_histlock.specs.Histories.{commands}
 use Rattle.ps_histlock.specs.Views.{Extends}
-use Rattle.ps_histlock.specs.Turns.{turned, IsBusy, Answered}
+use Rattle.ps_histlock.specs.Turns.{turned, IsBusy}
+use Rattle.ps_hall.specs.declared.entry.HallEntry.{HallEntry}
+use Rattle.ps_hall.specs.declared.outcome.HallOut.{HallOut}
+use Rattle.ps_room.specs.declared.outcome.RoomOut.{RoomOut}
+use Rattle.server_places.specs.declared.command.RoomCmd.{RoomCmd}
+use Rattle.server_places.specs.Halls.{HallAnswers, HallPulls}
+use Rattle.server_places.specs.Rooms.{Answers, Pulls}
+use Rattle.ps_hub.specs.declared.pass.HallPass.{HallPass}
+use Rattle.ps_hub.specs.declared.pass.RoomPass.{RoomPass}
+use Rattle.ps_hub.specs.declared.taken.Ended.{Ended}
+use Rattle.ps_hub.specs.declared.taken.Ended.TheVariants as ends
+use Rattle.ps_hub.specs.declared.taken.Read.{Read}
+use Rattle.ps_hub.specs.declared.taken.Read.TheVariants as reads
 use Rattle.ps_hub.specs.declared.taken.Taken.{Taken}
-use Rattle.ps_hub.specs.declared.taken.Taken.TheVariants.{Done, Late, Busy, OwnLimit, NameTaken, NoMemory}
+use Rattle.ps_hub.specs.declared.taken.Taken.TheVariants.{Done, Busy, OwnLimit, NameTaken, NoMemory}
 
 module _ {O C : Type 0} where
   -- a turn that found a history, which begins with what the pass had seen
@@ -37,33 +49,81 @@ module _ {O C U : Type 0} (answers : List C → C → U → Type 0) where
   abbrev pub FallsShortAtLast : {X : Type 0} → View O C → X → C → View O C → X → Type 0
   FallsShortAtLast v x c w y = (y ≡ x) × ((w ≡ v) ⊎ TurnsAtLast v None w ⊎ GivesAtLast v c w)
 
+module _ {O C X : Type 0} (pulls : O → List C → X → List Msg → X → Type 0) where
+  -- of the commands of a history, and the cursor and the messages kept before, the two after: what was pulled stands behind
+  abbrev pub PullsMore : O → List C → X → List Msg → X → List Msg → Type 0
+  PullsMore o cmds x kept y more = (msgs : List Msg) × pulls o cmds x msgs y × (more ≡ kept ++ msgs)
+
+  -- Of the view, the cursor and the messages kept before, how a turn without a command ended, and the three after
+  abbrev pub Reads : View O C → X → List Msg → Read → View O C → X → List Msg → Type 0
+  Reads v x kept reads.Done w y more = Turns v None w × PullsMore v.origin (commands w.seen) x kept y more
+  Reads v x kept (reads.Busy word) w y more = IsBusy v word w × (y ≡ x) × (more ≡ kept)
+  Reads v x kept reads.NoMemory w y more = ((w ≡ v) ⊎ Turns v None w) × (y ≡ x) × (more ≡ kept)
+
+  -- the same after tries in vain: it isn't busy then
+  abbrev pub ReadsAtLast : {T E : Type 0} → View O C → X → List Msg → Result T E → View O C → X → List Msg → Type 0
+  ReadsAtLast v x kept (Ok done) w y more = TurnsAtLast v None w × PullsMore v.origin (commands w.seen) x kept y more
+  ReadsAtLast v x kept (Err e) w y more = ((w ≡ v) ⊎ TurnsAtLast v None w) × (y ≡ x) × (more ≡ kept)
+
 module _ {O C U X : Type 0} (answers : O → List C → C → U → Type 0) (pulls : O → List C → X → List Msg → X → Type 0) where
-  -- Of the view, the cursor, the messages kept and the command before, the answer, and the three after
-  abbrev pub Takes : View O C → X → List Msg → Option C → Taken C U → View O C → X → List Msg → Type 0
-  Takes v x kept cmd (Done out) w y more = (log : List (Entry C)) × Extends v log × (w ≡ turned v log cmd) × Answered answers pulls v.origin log cmd out × (msgs : List Msg) × pulls v.origin (commands w.seen) x msgs y × (more ≡ kept ++ msgs)
-  Takes v x kept cmd (Late out) w y more = (log : List (Entry C)) × Extends v log × (w ≡ turned v log cmd) × Answered answers pulls v.origin log cmd out × (y ≡ x) × (more ≡ kept)
-  Takes v x kept cmd (Busy word back) w y more = IsBusy v word w × (back ≡ cmd) × (y ≡ x) × (more ≡ kept)
-  Takes v x kept cmd (OwnLimit back) w y more = IsSome cmd × (length v.mine ≡ OWN_LIMIT) × (back ≡ cmd) × (w ≡ v) × (y ≡ x) × (more ≡ kept)
-  Takes v x kept cmd (NameTaken back) w y more = IsSome cmd × Turns v None w × (back ≡ cmd) × (y ≡ x) × (more ≡ kept)
-  Takes v x kept cmd NoMemory w y more = ((w ≡ v) ⊎ Turns v None w) × (y ≡ x) × (more ≡ kept)
+  -- Of the view, the cursor, the messages kept and the command before, what a turn with it gave, and the three after
+  abbrev pub Takes : View O C → X → List Msg → C → Taken C U → View O C → X → List Msg → Type 0
+  Takes v x kept c (Done out) w y more =
+      (log : List (Entry C)) × Extends v log × (w ≡ turned v log (Some c)) × answers v.origin (commands log) c out
+      × PullsMore pulls v.origin (commands w.seen) x kept y more
+  Takes v x kept c (Busy word back) w y more = IsBusy v word w × (back ≡ c) × (y ≡ x) × (more ≡ kept)
+  Takes v x kept c OwnLimit w y more = (length v.mine ≡ OWN_LIMIT) × (w ≡ v) × (y ≡ x) × (more ≡ kept)
+  Takes v x kept c NameTaken w y more = Turns v None w × (y ≡ x) × (more ≡ kept)
+  Takes v x kept c NoMemory w y more = FallsShort (answers v.origin) v x c w y × (more ≡ kept)
 
-  -- the same after tries in vain, which met these words. It isn't busy then; at its limit, or without memory at once, it tries nothing
-  abbrev pub TakesAtLast : View O C → X → List Msg → Option C → Taken C U → View O C → X → List Msg → Type 0
-  TakesAtLast v x kept cmd (Done out) w y more = (words : List ℕ) × Takes (record v { met = v.met ++ words }) x kept cmd (Done out) w y more
-  TakesAtLast v x kept cmd (Late out) w y more = (words : List ℕ) × Takes (record v { met = v.met ++ words }) x kept cmd (Late out) w y more
-  TakesAtLast v x kept cmd (Busy word back) w y more = ⊥
-  TakesAtLast v x kept cmd (OwnLimit back) w y more = Takes v x kept cmd (OwnLimit back) w y more
-  TakesAtLast v x kept cmd (NameTaken back) w y more = IsSome cmd × TurnsAtLast v None w × (back ≡ cmd) × (y ≡ x) × (more ≡ kept)
-  TakesAtLast v x kept cmd NoMemory w y more = ((w ≡ v) ⊎ TurnsAtLast v None w) × (y ≡ x) × (more ≡ kept)
+  -- The same after tries in vain. It isn't busy then; at its limit, or without memory at once, it tries nothing
+  abbrev pub TakesAtLast : View O C → X → List Msg → C → Ended → View O C → X → List Msg → Type 0
+  TakesAtLast v x kept c ends.Done w y more = TurnsAtLast v (Some c) w × PullsMore pulls v.origin (commands w.seen) x kept y more
+  TakesAtLast v x kept c ends.NameTaken w y more = TurnsAtLast v None w × (y ≡ x) × (more ≡ kept)
+  TakesAtLast v x kept c ends.NoMemory w y more = FallsShortAtLast (answers v.origin) v x c w y × (more ≡ kept)
 
-module _ {C U : Type 0} where
-  -- where the command came back since an entry is signed as it is, this holds of the command
-  abbrev pub IfKeptOut : Option C → Taken C U → (C → Type 0) → Type 0
-  IfKeptOut (Some cmd) (NameTaken back) P = P cmd
-  IfKeptOut cmd other P = Unit {0}
+-- this holds where there is no entry, since one stands that is signed as the command is
+abbrev pub IfKeptOut : {C U : Type 0} → Taken C U → Type 0 → Type 0
+IfKeptOut NameTaken P = P
+IfKeptOut other P = Unit {0}
 
-  -- no entry was made, since the pass may make no more, or for being out of memory
-  abbrev pub IsLimited : Taken C U → Type 0
-  IsLimited (OwnLimit back) = Unit {0}
-  IsLimited NoMemory = Unit {0}
-  IsLimited other = ⊥
+abbrev pub IfKeptOutAtLast : Ended → Type 0 → Type 0
+IfKeptOutAtLast ends.NameTaken P = P
+IfKeptOutAtLast other P = Unit {0}
+
+-- no entry was made, since the pass may make no more, or for being out of memory
+abbrev pub IsLimited : {C U : Type 0} → Taken C U → Type 0
+IsLimited OwnLimit = Unit {0}
+IsLimited NoMemory = Unit {0}
+IsLimited other = ⊥
+
+-- ---- of the two kinds of passes
+
+abbrev pub HallTurn : HallPass → HallEntry → Taken HallEntry HallOut → HallPass → Type 0
+HallTurn h cmd t k =
+    Takes HallAnswers HallPulls h.pass.1 h.cursor (h.kept.items ++ h.fresh.items) cmd t k.pass.1 k.cursor (k.kept.items ++ k.fresh.items)
+
+abbrev pub HallTurnAtLast : HallPass → HallEntry → Ended → HallPass → Type 0
+HallTurnAtLast h cmd t k =
+    TakesAtLast HallAnswers HallPulls h.pass.1 h.cursor (h.kept.items ++ h.fresh.items) cmd t k.pass.1 k.cursor
+    (k.kept.items ++ k.fresh.items)
+
+abbrev pub HallReadAtLast : {T E : Type 0} → HallPass → Result T E → HallPass → Type 0
+HallReadAtLast h result k =
+    ReadsAtLast HallPulls h.pass.1 h.cursor (h.kept.items ++ h.fresh.items) result k.pass.1 k.cursor (k.kept.items ++ k.fresh.items)
+
+abbrev pub RoomTurn : RoomPass → RoomCmd → Taken RoomCmd (Option RoomOut) → RoomPass → Type 0
+RoomTurn h cmd t k =
+    Takes Answers Pulls h.pass.1 h.cursor (h.kept.items ++ h.fresh.items) cmd t k.pass.1 k.cursor (k.kept.items ++ k.fresh.items)
+
+abbrev pub RoomTurnAtLast : RoomPass → RoomCmd → Ended → RoomPass → Type 0
+RoomTurnAtLast h cmd t k =
+    TakesAtLast Answers Pulls h.pass.1 h.cursor (h.kept.items ++ h.fresh.items) cmd t k.pass.1 k.cursor (k.kept.items ++ k.fresh.items)
+
+abbrev pub RoomRead : RoomPass → Read → RoomPass → Type 0
+RoomRead h t k =
+    Reads Pulls h.pass.1 h.cursor (h.kept.items ++ h.fresh.items) t k.pass.1 k.cursor (k.kept.items ++ k.fresh.items)
+
+abbrev pub RoomReadAtLast : {T E : Type 0} → RoomPass → Result T E → RoomPass → Type 0
+RoomReadAtLast h result k =
+    ReadsAtLast Pulls h.pass.1 h.cursor (h.kept.items ++ h.fresh.items) result k.pass.1 k.cursor (k.kept.items ++ k.fresh.items)

@@ -7,7 +7,7 @@ use crate::hub::Hub;
 use crate::out::AdmitFault;
 use crate::pass::HallPass;
 use crate::passes::Passes;
-use crate::taken::Taken;
+use crate::taken::{Ended, let_go};
 use ps_base::number::{ConnNo, Moment};
 use ps_hall::entry::HallEntry;
 use ps_lines::command::HallCmd;
@@ -29,16 +29,18 @@ impl Hub {
             moment,
             cmd: HallCmd::Open,
         };
-        match opener.turn(rt, lock, Some(entry)) {
-            Taken::Done { out: _ } => {}
-            Taken::Late { out: _ } => return Err(AdmitFault::NoMemory),
-            Taken::Busy { word: _, cmd: _ } => unreachable!(),
-            Taken::OwnLimit { cmd: _ } => unreachable!(),
-            Taken::NameTaken { cmd: _ } => return Err(AdmitFault::Taken { opener }),
-            Taken::NoMemory => return Err(AdmitFault::NoMemory),
+        match opener.turn(rt, lock, entry) {
+            Ended::Done => Ok(Passes {
+                conn,
+                badge: None,
+                hall: Some(opener.heir(lock)),
+                rooms: Vec::new(self.alloc),
+            }),
+            Ended::NameTaken => Err(AdmitFault::Taken { opener }),
+            Ended::NoMemory => {
+                let_go(opener);
+                Err(AdmitFault::NoMemory)
+            }
         }
-        let mut passes = Passes::none(self.alloc, conn);
-        passes.hall = Some(opener.heir(lock));
-        Ok(passes)
     }
 }

@@ -9,7 +9,6 @@ ghost use Rattle.ps_hub.specs.Calls.{LooksAnd, LooksAtMost, HallCaught, Caught, 
 use crate::hub::Hub;
 use crate::pass::{HallPass, RoomPass};
 use crate::passes::Passes;
-use crate::taken::Taken;
 use ps_base::msg::Msg;
 use ps_histlock::HistLock;
 use server_places::hall_place::HallPlace;
@@ -31,14 +30,7 @@ impl HallPass {
         if self.look(lock) <= self.cursor.passed {
             return Ok(());
         }
-        match self.turn(rt, lock, None) {
-            Taken::Done { out: _ } => Ok(()),
-            Taken::Late { out: _ } => Err(AllocError),
-            Taken::Busy { word: _, cmd: _ } => unreachable!(),
-            Taken::OwnLimit { cmd: _ } => unreachable!(),
-            Taken::NameTaken { cmd: _ } => unreachable!(),
-            Taken::NoMemory => Err(AllocError),
-        }
+        self.read(rt, lock)
     }
 
     // The same, and hands all out.
@@ -73,14 +65,7 @@ impl RoomPass {
         if self.look(lock) <= self.cursor.passed {
             return Ok(());
         }
-        match self.turn(rt, lock, None) {
-            Taken::Done { out: _ } => Ok(()),
-            Taken::Late { out: _ } => Err(AllocError),
-            Taken::Busy { word: _, cmd: _ } => unreachable!(),
-            Taken::OwnLimit { cmd: _ } => unreachable!(),
-            Taken::NameTaken { cmd: _ } => unreachable!(),
-            Taken::NoMemory => Err(AllocError),
-        }
+        self.read(rt, lock)
     }
 
     // The same, and hands all out.
@@ -155,10 +140,8 @@ impl Hub {
         ensures does { CatchesUp self.now pass_index passes.old result passes.new }
     {
         let pass = &mut passes.rooms[pass_index];
-        match self.lock(pass.number) {
-            None => unreachable!(),
-            Some(lock) => pass.catch_up(rt, self.alloc, lock),
-        }
+        let lock = self.lock(pass.number);
+        pass.catch_up(rt, self.alloc, lock)
     }
 
     /// How many entries the hall (`None`), or the room that the connection holds by this id, has at this moment, by a look.
@@ -187,9 +170,7 @@ impl Hub {
         ensures of { (conn : ℕ) → IsRoomPass self.now conn pass.old → IsRoomPass self.now conn pass.new }
         ensures does { LooksRoom result pass.old pass.new }
     {
-        match self.lock(pass.number) {
-            None => unreachable!(),
-            Some(lock) => pass.look(lock),
-        }
+        let lock = self.lock(pass.number);
+        pass.look(lock)
     }
 }

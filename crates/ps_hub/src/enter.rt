@@ -10,7 +10,7 @@ use crate::hub::Hub;
 use crate::out::EnterFault;
 use crate::pass::{RoomPass, is_held};
 use crate::passes::Passes;
-use crate::taken::Taken;
+use crate::taken::Read;
 use ps_base::text::Text;
 use ps_room::opening::FIRST_BATTLE;
 use server_places::cursor::RoomCursor;
@@ -79,10 +79,8 @@ impl Hub {
             Some(pass_index) => return Ok(pass_index),
             None => {}
         }
-        match self.lock(number) {
-            None => unreachable!(),
-            Some(lock) => passes.add(RoomPass::new(self.alloc, passes.conn, number, lock)),
-        }
+        let lock = self.lock(number);
+        passes.add(RoomPass::new(self.alloc, passes.conn, number, lock))
     }
 
     // Holds the place of a pass by an id that names it.
@@ -118,17 +116,11 @@ impl Hub {
         ensures does { Holds self.now name pass.old result pass.new }
         ensures number { pass.new.number ≡ pass.old.number }
     {
-        let lock = match self.lock(pass.number) {
-            None => unreachable!(),
-            Some(lock) => lock,
-        };
-        match pass.try_turn(lock, None) {
-            Taken::Done { out: _ } => {}
-            Taken::Late { out: _ } => return Err(EnterFault::NoMemory),
-            Taken::Busy { word, cmd: _ } => return Err(EnterFault::Busy { word }),
-            Taken::OwnLimit { cmd: _ } => unreachable!(),
-            Taken::NameTaken { cmd: _ } => unreachable!(),
-            Taken::NoMemory => return Err(EnterFault::NoMemory),
+        let lock = self.lock(pass.number);
+        match pass.try_read(lock) {
+            Read::Done => {}
+            Read::Busy { word } => return Err(EnterFault::Busy { word }),
+            Read::NoMemory => return Err(EnterFault::NoMemory),
         }
         if !is_found(&pass.cursor, name.as_str()) {
             return Err(EnterFault::NoSuchRoom);

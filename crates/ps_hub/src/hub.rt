@@ -168,8 +168,6 @@ impl Hub {
         ensures battles { IfOk result (λ h. length h.hub.battles ≡ most_battles) }
         ensures empty { IfOk result (λ h. IsEmpty h) }
     {
-        let place = HallPlace::new(alloc, config.clone()?, dex.clone()?)?;
-        let (hall, opener) = HistLock::closed(alloc, place)?;
         let Closed {
             locks: chats,
             openers: chat_openers,
@@ -178,6 +176,9 @@ impl Hub {
             locks: battles,
             openers: battle_openers,
         } = battles(alloc, &config, &dex)?;
+        // The hall comes last: no exit behind it has to let it go.
+        let place = HallPlace::new(alloc, config.clone()?, dex.clone()?)?;
+        let (hall, opener) = HistLock::closed(alloc, place)?;
         let hub = Hub {
             alloc,
             config,
@@ -236,8 +237,20 @@ impl Hub {
         room_of_battle(number)
     }
 
-    /// The lock of a room's place.
-    pub(crate) fn lock(&self, number: u32) -> Option<&HistLock<RoomPlace>>
+    /// The lock of a room's place that there is.
+    pub(crate) fn lock(&self, number: u32) -> &HistLock<RoomPlace>
+        requires { lock_of self.now number ≢ None }
+        ensures name { lock_of self.now number ≡ Some result.now.0 }
+        ensures origin { result.now.1 ≡ site_of self.now number }
+    {
+        match self.find_lock(number) {
+            None => unreachable!(),
+            Some(lock) => lock,
+        }
+    }
+
+    // The lock of a room's place.
+    fn find_lock(&self, number: u32) -> Option<&HistLock<RoomPlace>>
         ensures found { IfSome result (λ l. (lock_of self.now number ≡ Some l.now.0) × (l.now.1 ≡ site_of self.now number)) }
         ensures none { IfNone result (lock_of self.now number ≡ None) }
     {

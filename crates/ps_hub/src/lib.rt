@@ -17,3 +17,4 @@ pub mod passes;
 mod quit;
 mod start;
 mod taken;
+mod turn;

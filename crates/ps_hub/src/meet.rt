@@ -75,9 +75,7 @@ impl Hub {
         let Some(another) = other.position(number) else {
             return;
         };
-        match self.lock(number) {
-            None => unreachable!(),
-            Some(lock) => passes.rooms[one].meet(lock, &mut other.rooms[another]),
-        }
+        let lock = self.lock(number);
+        passes.rooms[one].meet(lock, &mut other.rooms[another])
     }
 }

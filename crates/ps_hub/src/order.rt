@@ -6,14 +6,16 @@ ghost use Rattle.ps_histlock.specs.Signs.{SignsAs, Speaks};
 ghost use Rattle.server_places.specs.Halls.{hall_signer};
 ghost use Rattle.ps_hub.specs.Hubs.{Hub, site_of};
 ghost use Rattle.ps_hub.specs.Passes.{Adds, AreOf, IsHallPass, IsRoomPass};
-ghost use Rattle.ps_hub.specs.Calls.{Orders, HallTakes, RoomTakes, NeedsBadge, name_asked, badge_after};
+ghost use Rattle.ps_hub.specs.Calls.{Orders, HallTakes, RoomTakes, NeedsBadge, name_asked, badge_after, not_entered};
+ghost use Rattle.ps_room.specs.declared.entry.Entry.{Entry};
+ghost use Rattle.server_places.specs.declared.command.RoomCmd.TheVariants.{Play};
 ghost use Rattle.ps_room.specs.Logs.{ended_in};
 
 use crate::hub::Hub;
 use crate::out::{EnterFault, HubFault, HubOut};
 use crate::pass::{HallPass, RoomPass};
 use crate::passes::Passes;
-use crate::taken::Taken;
+use crate::taken::{Taken, let_go};
 use ps_base::badge::Badge;
 use ps_base::name::Name;
 use ps_base::number::Moment;
@@ -59,6 +61,39 @@ fn keep_badge(kept: &mut Option<Badge>, gave: &HallOut, name: Option<Name>)
     }
 }
 
+// Why an order made no entry, whose place isn't held.
+fn not_entered(fault: EnterFault, id: Text, cmd: Command) -> HubFault
+    ensures { result ≡ not_entered fault id cmd }
+{
+    match fault {
+        EnterFault::NoSuchRoom => {
+            let_go(id);
+            let_go(cmd);
+            HubFault::NoSuchRoom
+        }
+        EnterFault::Busy { word } => HubFault::Busy {
+            word,
+            order: Order::Room { id, cmd },
+        },
+        EnterFault::NoMemory => {
+            let_go(id);
+            let_go(cmd);
+            HubFault::NoMemory
+        }
+    }
+}
+
+// The order of an entry that comes back.
+fn order_again(id: Text, cmd: RoomCmd) -> Order
+    requires { (entry : Entry) × (cmd ≡ Play entry) }
+    ensures { (entry : Entry) → cmd ≡ Play entry → result ≡ Room id entry.cmd }
+{
+    match cmd {
+        RoomCmd::Begin(_) => unreachable!(),
+        RoomCmd::Play(entry) => Order::Room { id, cmd: entry.cmd },
+    }
+}
+
 // The end of a battle that an entry of a room gave.
 fn ended_in(gave: Option<RoomOut>) -> Option<Ending>
     ensures { result ≡ ended_in gave }
@@ -79,21 +114,14 @@ impl HallPass {
         ensures does { HallTakes entry self.old result self.new }
         ensures at { self.new.at ≡ self.old.at }
     {
-        match self.try_turn(lock, Some(entry)) {
-            Taken::Done { out } => match out {
-                None => unreachable!(),
-                Some(out) => Ok(out),
-            },
-            Taken::Late { out: _ } => Err(HubFault::NoMemory),
-            Taken::Busy { word, cmd } => match cmd {
-                None => unreachable!(),
-                Some(entry) => Err(HubFault::Busy {
-                    word,
-                    order: Order::Hall(entry.cmd),
-                }),
-            },
-            Taken::OwnLimit { cmd: _ } => Err(HubFault::OwnLimit { room: None }),
-            Taken::NameTaken { cmd: _ } => unreachable!(),
+        match self.try_turn(lock, entry) {
+            Taken::Done { out } => Ok(out),
+            Taken::Busy { word, cmd } => Err(HubFault::Busy {
+                word,
+                order: Order::Hall(cmd.cmd),
+            }),
+            Taken::OwnLimit => Err(HubFault::OwnLimit { room: None }),
+            Taken::NameTaken => unreachable!(),
             Taken::NoMemory => Err(HubFault::NoMemory),
         }
     }
@@ -140,6 +168,7 @@ impl Hub {
         ensures does { Orders self.now (Hall cmd) moment passes.old result passes.new }
     {
         let Ok(name) = name_of(self.alloc, &cmd) else {
+            let_go(cmd);
             return Err(HubFault::NoMemory);
         };
         let entry = HallEntry {
@@ -179,19 +208,19 @@ impl Hub {
             None => unreachable!(),
             Some(badge) => match badge.copy(self.alloc) {
                 Ok(badge) => badge,
-                Err(_) => return Err(HubFault::NoMemory),
+                Err(_) => {
+                    let_go(id);
+                    let_go(cmd);
+                    return Err(HubFault::NoMemory);
+                }
             },
         };
         let pass_index = match self.enter_at(passes, id.as_str()) {
             Ok(pass_index) => pass_index,
-            Err(EnterFault::NoSuchRoom) => return Err(HubFault::NoSuchRoom),
-            Err(EnterFault::Busy { word }) => {
-                return Err(HubFault::Busy {
-                    word,
-                    order: Order::Room { id, cmd },
-                });
+            Err(fault) => {
+                let_go(badge);
+                return Err(not_entered(fault, id, cmd));
             }
-            Err(EnterFault::NoMemory) => return Err(HubFault::NoMemory),
         };
         let entry = Entry {
             conn: passes.conn,
@@ -209,29 +238,19 @@ impl Hub {
         ensures does { RoomTakes (site_of self.now pass.old.number) id entry pass.old result pass.new }
         ensures same { (pass.new.at ≡ pass.old.at) × (pass.new.number ≡ pass.old.number) × (pass.new.id ≡ pass.old.id) }
     {
-        let lock = match self.lock(pass.number) {
-            None => unreachable!(),
-            Some(lock) => lock,
-        };
-        match pass.try_turn(lock, Some(RoomCmd::Play(entry))) {
-            Taken::Done { out } => match out {
-                None => unreachable!(),
-                Some(gave) => Ok(HubOut {
-                    badge: None,
-                    start: None,
-                    ended: ended_in(gave),
-                }),
-            },
-            Taken::Late { out: _ } => Err(HubFault::NoMemory),
-            Taken::Busy { word, cmd } => match cmd {
-                Some(RoomCmd::Play(entry)) => Err(HubFault::Busy {
-                    word,
-                    order: Order::Room { id, cmd: entry.cmd },
-                }),
-                _ => unreachable!(),
-            },
-            Taken::OwnLimit { cmd: _ } => Err(HubFault::OwnLimit { room: Some(id) }),
-            Taken::NameTaken { cmd: _ } => Err(HubFault::Taken),
+        let lock = self.lock(pass.number);
+        match pass.try_turn(lock, RoomCmd::Play(entry)) {
+            Taken::Done { out } => Ok(HubOut {
+                badge: None,
+                start: None,
+                ended: ended_in(out),
+            }),
+            Taken::Busy { word, cmd } => Err(HubFault::Busy {
+                word,
+                order: order_again(id, cmd),
+            }),
+            Taken::OwnLimit => Err(HubFault::OwnLimit { room: Some(id) }),
+            Taken::NameTaken => Err(HubFault::Taken),
             Taken::NoMemory => Err(HubFault::NoMemory),
         }
     }

@@ -1,24 +1,26 @@
 //! What a connection has of one place.
-ghost use Rattle.std.specs.Prelude.{◌≡◌, ◌≢◌, ◌≤◌, None, Some, IsTrue, IsFalse, ◌++◌, ◌∷◌, ℕ, [], List, IfOk, IfSome, OnErr, IsSome, length};
+ghost use Rattle.std.specs.Prelude.{◌≡◌, ◌≢◌, ◌≤◌, None, Some, IsTrue, IsFalse, ◌++◌, ◌∷◌, ℕ, [], List, IfOk, OnErr, length};
 ghost use Rattle.ps_histlock.specs.Views.{newcomer, heir_of, with_number, after_look};
-ghost use Rattle.ps_histlock.specs.Locks.{SignsOn, IsNameTaken, OwnSigns};
+ghost use Rattle.ps_histlock.specs.Locks.{SignsOn, IsNameTaken};
 ghost use Rattle.ps_histlock.specs.Signs.{IsOf};
 ghost use Rattle.ps_histlock.specs.declared.lock.TheConstants.{OWN_LIMIT};
-ghost use Rattle.server_places.specs.Halls.{hall_cursor, hall_signer, HallAnswers, HallPulls, IsAtRestInHall};
+ghost use Rattle.server_places.specs.Halls.{hall_cursor, hall_signer, IsAtRestInHall};
 ghost use Rattle.server_places.specs.Sites.{room_signer};
-ghost use Rattle.server_places.specs.Rooms.{cursor_of, Answers, Pulls, IsAtRestInRoom};
+ghost use Rattle.server_places.specs.Rooms.{cursor_of};
 ghost use Rattle.ps_hub.specs.Hubs.{Hub, root_of, lock_of, site_of};
-ghost use Rattle.ps_hub.specs.Turns.{Takes, TakesAtLast, IsLimited, IfKeptOut};
+ghost use Rattle.ps_hub.specs.Turns.{HallTurn, HallTurnAtLast, HallReadAtLast, RoomTurn, RoomTurnAtLast, RoomRead, RoomReadAtLast};
+ghost use Rattle.ps_hub.specs.Turns.{IsLimited, IfKeptOut, IfKeptOutAtLast};
 ghost use Rattle.ps_hub.specs.Passes.{Adds, IsHallPass, IsRoomPass, IsNewPass};
 ghost use Rattle.ps_hub.specs.Calls.{IsFresh};
 
-use crate::taken::Taken;
+use crate::taken::{Ended, Read, Taken};
+use crate::turn::{read, take, try_read, try_take};
 use ps_base::msg::Msg;
 use ps_base::number::ConnNo;
 use ps_base::text::Text;
 use ps_hall::entry::HallEntry;
 use ps_hall::outcome::HallOut;
-use ps_histlock::{HistLock, Pass, TurnOf};
+use ps_histlock::{HistLock, Pass};
 use ps_room::outcome::RoomOut;
 use server_places::command::RoomCmd;
 use server_places::cursor::{HallCursor, RoomCursor};
@@ -131,108 +133,80 @@ impl HallPass {
         }
     }
 
-    /// One turn, whose messages are kept. Waits for nobody.
+    /// One turn with a command, whose messages are kept. Waits for nobody.
     pub(crate) fn try_turn(
         &mut self,
         lock: &HistLock<HallPlace>,
-        cmd: Option<HallEntry>,
+        cmd: HallEntry,
     ) -> Taken<HallEntry, HallOut>
         requires lock { self.old.pass.0 ≡ lock.now.0 }
-        requires sign { IfSome cmd (SignsOn hall_signer self.old.pass.1.said) }
+        requires sign { SignsOn hall_signer self.old.pass.1.said cmd }
         ensures lock { self.new.pass.0 ≡ self.old.pass.0 }
-        ensures does { Takes HallAnswers HallPulls self.old.pass.1 self.old.cursor (self.old.kept.items ++ self.old.fresh.items) cmd result self.new.pass.1 self.new.cursor (self.new.kept.items ++ self.new.fresh.items) }
-        ensures limit { IsSome cmd → length self.old.pass.1.mine ≡ OWN_LIMIT → IsLimited result }
-        ensures taken { IfKeptOut cmd result (IsNameTaken hall_signer self.old.pass.1.said self.new.pass.1.seen) }
-        ensures of { (hub : Hub) (conn : ℕ) → IfSome cmd (IsOf hall_signer conn) → IsHallPass hub conn self.old → IsHallPass hub conn self.new }
+        ensures does { HallTurn self.old cmd result self.new }
+        ensures limit { length self.old.pass.1.mine ≡ OWN_LIMIT → IsLimited result }
+        ensures taken { IfKeptOut result (IsNameTaken hall_signer self.old.pass.1.said self.new.pass.1.seen cmd) }
+        ensures of { (hub : Hub) (conn : ℕ) → IsOf hall_signer conn cmd → IsHallPass hub conn self.old → IsHallPass hub conn self.new }
         ensures adds { Adds self.old.pass.1 self.new.pass.1 }
         ensures at { self.new.at ≡ self.old.at }
     {
-        self.take(lock, cmd)
+        try_take(
+            lock,
+            &mut self.pass,
+            &mut self.cursor,
+            &mut self.kept,
+            &mut self.fresh,
+            cmd,
+        )
     }
 
-    // The same, and no more than that turn tells.
-    fn take(
-        &mut self,
-        lock: &HistLock<HallPlace>,
-        cmd: Option<HallEntry>,
-    ) -> Taken<HallEntry, HallOut>
-        requires lock { self.old.pass.0 ≡ lock.now.0 }
-        requires sign { IfSome cmd (SignsOn hall_signer self.old.pass.1.said) }
-        ensures lock { self.new.pass.0 ≡ self.old.pass.0 }
-        ensures does { Takes HallAnswers HallPulls self.old.pass.1 self.old.cursor (self.old.kept.items ++ self.old.fresh.items) cmd result self.new.pass.1 self.new.cursor (self.new.kept.items ++ self.new.fresh.items) }
-        ensures limit { IsSome cmd → length self.old.pass.1.mine ≡ OWN_LIMIT → IsLimited result }
-        ensures taken { IfKeptOut cmd result (IsNameTaken hall_signer self.old.pass.1.said self.new.pass.1.seen) }
-        ensures rest { IsAtRestInHall self.old.pass.1 → IsAtRestInHall self.new.pass.1 }
-        ensures own { OwnSigns hall_signer self.old.pass.1 self.old.pass.1.known → OwnSigns hall_signer self.new.pass.1 self.new.pass.1.known }
-        ensures at { self.new.at ≡ self.old.at }
-    {
-        if self.kept.append(&mut self.fresh).is_err() {
-            return Taken::NoMemory;
-        }
-        match lock.try_turn(&mut self.pass, &mut self.cursor, cmd) {
-            TurnOf::Done { out, msgs } => {
-                self.fresh = msgs;
-                Taken::Done { out }
-            }
-            TurnOf::Late { out } => Taken::Late { out },
-            TurnOf::Busy { word, cmd } => Taken::Busy { word, cmd },
-            TurnOf::OwnLimit { cmd } => Taken::OwnLimit { cmd },
-            TurnOf::Taken { cmd } => Taken::NameTaken { cmd },
-            TurnOf::NoMemory => Taken::NoMemory,
-        }
-    }
-
-    /// One turn, whose messages are kept, after waiting for it.
+    /// The same after waiting for the turn.
     pub(crate) fn turn<R: Wait>(
         &mut self,
         rt: &R,
         lock: &HistLock<HallPlace>,
-        cmd: Option<HallEntry>,
-    ) -> Taken<HallEntry, HallOut>
+        cmd: HallEntry,
+    ) -> Ended
         requires lock { self.old.pass.0 ≡ lock.now.0 }
-        requires sign { IfSome cmd (SignsOn hall_signer self.old.pass.1.said) }
+        requires sign { SignsOn hall_signer self.old.pass.1.said cmd }
         ensures lock { self.new.pass.0 ≡ self.old.pass.0 }
-        ensures does { TakesAtLast HallAnswers HallPulls self.old.pass.1 self.old.cursor (self.old.kept.items ++ self.old.fresh.items) cmd result self.new.pass.1 self.new.cursor (self.new.kept.items ++ self.new.fresh.items) }
-        ensures limit { IsSome cmd → length self.old.pass.1.mine ≡ OWN_LIMIT → IsLimited result }
-        ensures taken { IfKeptOut cmd result (IsNameTaken hall_signer self.old.pass.1.said self.new.pass.1.seen) }
-        ensures of { (hub : Hub) (conn : ℕ) → IfSome cmd (IsOf hall_signer conn) → IsHallPass hub conn self.old → IsHallPass hub conn self.new }
+        ensures does { HallTurnAtLast self.old cmd result self.new }
+        ensures taken { IfKeptOutAtLast result (IsNameTaken hall_signer self.old.pass.1.said self.new.pass.1.seen cmd) }
+        ensures of { (hub : Hub) (conn : ℕ) → IsOf hall_signer conn cmd → IsHallPass hub conn self.old → IsHallPass hub conn self.new }
         ensures adds { Adds self.old.pass.1 self.new.pass.1 }
         ensures at { self.new.at ≡ self.old.at }
     {
-        self.take_at_last(rt, lock, cmd)
+        take(
+            rt,
+            lock,
+            &mut self.pass,
+            &mut self.cursor,
+            &mut self.kept,
+            &mut self.fresh,
+            cmd,
+        )
     }
 
-    // The same, and no more than that turn tells.
-    fn take_at_last<R: Wait>(
+    /// One turn without a command, whose messages are kept, after waiting for the turn. `AllocError` if out of memory for the messages.
+    pub(crate) fn read<R: Wait>(
         &mut self,
         rt: &R,
         lock: &HistLock<HallPlace>,
-        cmd: Option<HallEntry>,
-    ) -> Taken<HallEntry, HallOut>
-        requires lock { self.old.pass.0 ≡ lock.now.0 }
-        requires sign { IfSome cmd (SignsOn hall_signer self.old.pass.1.said) }
+    ) -> Result<(), AllocError>
+        requires { self.old.pass.0 ≡ lock.now.0 }
         ensures lock { self.new.pass.0 ≡ self.old.pass.0 }
-        ensures does { TakesAtLast HallAnswers HallPulls self.old.pass.1 self.old.cursor (self.old.kept.items ++ self.old.fresh.items) cmd result self.new.pass.1 self.new.cursor (self.new.kept.items ++ self.new.fresh.items) }
-        ensures limit { IsSome cmd → length self.old.pass.1.mine ≡ OWN_LIMIT → IsLimited result }
-        ensures taken { IfKeptOut cmd result (IsNameTaken hall_signer self.old.pass.1.said self.new.pass.1.seen) }
-        ensures rest { IsAtRestInHall self.old.pass.1 → IsAtRestInHall self.new.pass.1 }
-        ensures own { OwnSigns hall_signer self.old.pass.1 self.old.pass.1.known → OwnSigns hall_signer self.new.pass.1 self.new.pass.1.known }
+        ensures does { HallReadAtLast self.old result self.new }
+        ensures of { (hub : Hub) (conn : ℕ) → IsHallPass hub conn self.old → IsHallPass hub conn self.new }
+        ensures adds { Adds self.old.pass.1 self.new.pass.1 }
         ensures at { self.new.at ≡ self.old.at }
     {
-        if self.kept.append(&mut self.fresh).is_err() {
-            return Taken::NoMemory;
-        }
-        match lock.turn(rt, &mut self.pass, &mut self.cursor, cmd) {
-            TurnOf::Done { out, msgs } => {
-                self.fresh = msgs;
-                Taken::Done { out }
-            }
-            TurnOf::Late { out } => Taken::Late { out },
-            TurnOf::Busy { word: _, cmd: _ } => unreachable!(),
-            TurnOf::OwnLimit { cmd } => Taken::OwnLimit { cmd },
-            TurnOf::Taken { cmd } => Taken::NameTaken { cmd },
-            TurnOf::NoMemory => Taken::NoMemory,
-        }
+        read(
+            rt,
+            lock,
+            &mut self.pass,
+            &mut self.cursor,
+            &mut self.kept,
+            &mut self.fresh,
+        )
     }
 
     /// How many entries the hall has.
@@ -283,108 +257,98 @@ impl RoomPass {
         }
     }
 
-    /// One turn, whose messages are kept. Waits for nobody.
+    /// One turn with a command, whose messages are kept. Waits for nobody.
     pub(crate) fn try_turn(
         &mut self,
         lock: &HistLock<RoomPlace>,
-        cmd: Option<RoomCmd>,
+        cmd: RoomCmd,
     ) -> Taken<RoomCmd, Option<RoomOut>>
         requires lock { self.old.pass.0 ≡ lock.now.0 }
-        requires sign { IfSome cmd (SignsOn room_signer self.old.pass.1.said) }
+        requires sign { SignsOn room_signer self.old.pass.1.said cmd }
         ensures lock { self.new.pass.0 ≡ self.old.pass.0 }
-        ensures does { Takes Answers Pulls self.old.pass.1 self.old.cursor (self.old.kept.items ++ self.old.fresh.items) cmd result self.new.pass.1 self.new.cursor (self.new.kept.items ++ self.new.fresh.items) }
-        ensures limit { IsSome cmd → length self.old.pass.1.mine ≡ OWN_LIMIT → IsLimited result }
-        ensures taken { IfKeptOut cmd result (IsNameTaken room_signer self.old.pass.1.said self.new.pass.1.seen) }
-        ensures of { (hub : Hub) (conn : ℕ) → IfSome cmd (IsOf room_signer conn) → IsRoomPass hub conn self.old → IsRoomPass hub conn self.new }
+        ensures does { RoomTurn self.old cmd result self.new }
+        ensures limit { length self.old.pass.1.mine ≡ OWN_LIMIT → IsLimited result }
+        ensures taken { IfKeptOut result (IsNameTaken room_signer self.old.pass.1.said self.new.pass.1.seen cmd) }
+        ensures of { (hub : Hub) (conn : ℕ) → IsOf room_signer conn cmd → IsRoomPass hub conn self.old → IsRoomPass hub conn self.new }
         ensures adds { Adds self.old.pass.1 self.new.pass.1 }
         ensures same { (self.new.at ≡ self.old.at) × (self.new.number ≡ self.old.number) × (self.new.id ≡ self.old.id) }
     {
-        self.take(lock, cmd)
+        try_take(
+            lock,
+            &mut self.pass,
+            &mut self.cursor,
+            &mut self.kept,
+            &mut self.fresh,
+            cmd,
+        )
     }
 
-    // The same, and no more than that turn tells.
-    fn take(
-        &mut self,
-        lock: &HistLock<RoomPlace>,
-        cmd: Option<RoomCmd>,
-    ) -> Taken<RoomCmd, Option<RoomOut>>
-        requires lock { self.old.pass.0 ≡ lock.now.0 }
-        requires sign { IfSome cmd (SignsOn room_signer self.old.pass.1.said) }
-        ensures lock { self.new.pass.0 ≡ self.old.pass.0 }
-        ensures does { Takes Answers Pulls self.old.pass.1 self.old.cursor (self.old.kept.items ++ self.old.fresh.items) cmd result self.new.pass.1 self.new.cursor (self.new.kept.items ++ self.new.fresh.items) }
-        ensures limit { IsSome cmd → length self.old.pass.1.mine ≡ OWN_LIMIT → IsLimited result }
-        ensures taken { IfKeptOut cmd result (IsNameTaken room_signer self.old.pass.1.said self.new.pass.1.seen) }
-        ensures rest { IsAtRestInRoom self.old.pass.1 → IsAtRestInRoom self.new.pass.1 }
-        ensures own { OwnSigns room_signer self.old.pass.1 self.old.pass.1.known → OwnSigns room_signer self.new.pass.1 self.new.pass.1.known }
-        ensures same { (self.new.at ≡ self.old.at) × (self.new.number ≡ self.old.number) × (self.new.id ≡ self.old.id) }
-    {
-        if self.kept.append(&mut self.fresh).is_err() {
-            return Taken::NoMemory;
-        }
-        match lock.try_turn(&mut self.pass, &mut self.cursor, cmd) {
-            TurnOf::Done { out, msgs } => {
-                self.fresh = msgs;
-                Taken::Done { out }
-            }
-            TurnOf::Late { out } => Taken::Late { out },
-            TurnOf::Busy { word, cmd } => Taken::Busy { word, cmd },
-            TurnOf::OwnLimit { cmd } => Taken::OwnLimit { cmd },
-            TurnOf::Taken { cmd } => Taken::NameTaken { cmd },
-            TurnOf::NoMemory => Taken::NoMemory,
-        }
-    }
-
-    /// One turn, whose messages are kept, after waiting for it.
+    /// The same after waiting for the turn.
     pub(crate) fn turn<R: Wait>(
         &mut self,
         rt: &R,
         lock: &HistLock<RoomPlace>,
-        cmd: Option<RoomCmd>,
-    ) -> Taken<RoomCmd, Option<RoomOut>>
+        cmd: RoomCmd,
+    ) -> Ended
         requires lock { self.old.pass.0 ≡ lock.now.0 }
-        requires sign { IfSome cmd (SignsOn room_signer self.old.pass.1.said) }
+        requires sign { SignsOn room_signer self.old.pass.1.said cmd }
         ensures lock { self.new.pass.0 ≡ self.old.pass.0 }
-        ensures does { TakesAtLast Answers Pulls self.old.pass.1 self.old.cursor (self.old.kept.items ++ self.old.fresh.items) cmd result self.new.pass.1 self.new.cursor (self.new.kept.items ++ self.new.fresh.items) }
-        ensures limit { IsSome cmd → length self.old.pass.1.mine ≡ OWN_LIMIT → IsLimited result }
-        ensures taken { IfKeptOut cmd result (IsNameTaken room_signer self.old.pass.1.said self.new.pass.1.seen) }
-        ensures of { (hub : Hub) (conn : ℕ) → IfSome cmd (IsOf room_signer conn) → IsRoomPass hub conn self.old → IsRoomPass hub conn self.new }
+        ensures does { RoomTurnAtLast self.old cmd result self.new }
+        ensures taken { IfKeptOutAtLast result (IsNameTaken room_signer self.old.pass.1.said self.new.pass.1.seen cmd) }
+        ensures of { (hub : Hub) (conn : ℕ) → IsOf room_signer conn cmd → IsRoomPass hub conn self.old → IsRoomPass hub conn self.new }
         ensures adds { Adds self.old.pass.1 self.new.pass.1 }
         ensures same { (self.new.at ≡ self.old.at) × (self.new.number ≡ self.old.number) × (self.new.id ≡ self.old.id) }
     {
-        self.take_at_last(rt, lock, cmd)
+        take(
+            rt,
+            lock,
+            &mut self.pass,
+            &mut self.cursor,
+            &mut self.kept,
+            &mut self.fresh,
+            cmd,
+        )
     }
 
-    // The same, and no more than that turn tells.
-    fn take_at_last<R: Wait>(
+    /// One turn without a command, whose messages are kept. Waits for nobody.
+    pub(crate) fn try_read(&mut self, lock: &HistLock<RoomPlace>) -> Read
+        requires { self.old.pass.0 ≡ lock.now.0 }
+        ensures lock { self.new.pass.0 ≡ self.old.pass.0 }
+        ensures does { RoomRead self.old result self.new }
+        ensures of { (hub : Hub) (conn : ℕ) → IsRoomPass hub conn self.old → IsRoomPass hub conn self.new }
+        ensures adds { Adds self.old.pass.1 self.new.pass.1 }
+        ensures same { (self.new.at ≡ self.old.at) × (self.new.number ≡ self.old.number) × (self.new.id ≡ self.old.id) }
+    {
+        try_read(
+            lock,
+            &mut self.pass,
+            &mut self.cursor,
+            &mut self.kept,
+            &mut self.fresh,
+        )
+    }
+
+    /// The same after waiting for the turn. `AllocError` if out of memory for the messages.
+    pub(crate) fn read<R: Wait>(
         &mut self,
         rt: &R,
         lock: &HistLock<RoomPlace>,
-        cmd: Option<RoomCmd>,
-    ) -> Taken<RoomCmd, Option<RoomOut>>
-        requires lock { self.old.pass.0 ≡ lock.now.0 }
-        requires sign { IfSome cmd (SignsOn room_signer self.old.pass.1.said) }
+    ) -> Result<(), AllocError>
+        requires { self.old.pass.0 ≡ lock.now.0 }
         ensures lock { self.new.pass.0 ≡ self.old.pass.0 }
-        ensures does { TakesAtLast Answers Pulls self.old.pass.1 self.old.cursor (self.old.kept.items ++ self.old.fresh.items) cmd result self.new.pass.1 self.new.cursor (self.new.kept.items ++ self.new.fresh.items) }
-        ensures limit { IsSome cmd → length self.old.pass.1.mine ≡ OWN_LIMIT → IsLimited result }
-        ensures taken { IfKeptOut cmd result (IsNameTaken room_signer self.old.pass.1.said self.new.pass.1.seen) }
-        ensures rest { IsAtRestInRoom self.old.pass.1 → IsAtRestInRoom self.new.pass.1 }
-        ensures own { OwnSigns room_signer self.old.pass.1 self.old.pass.1.known → OwnSigns room_signer self.new.pass.1 self.new.pass.1.known }
+        ensures does { RoomReadAtLast self.old result self.new }
+        ensures of { (hub : Hub) (conn : ℕ) → IsRoomPass hub conn self.old → IsRoomPass hub conn self.new }
+        ensures adds { Adds self.old.pass.1 self.new.pass.1 }
         ensures same { (self.new.at ≡ self.old.at) × (self.new.number ≡ self.old.number) × (self.new.id ≡ self.old.id) }
     {
-        if self.kept.append(&mut self.fresh).is_err() {
-            return Taken::NoMemory;
-        }
-        match lock.turn(rt, &mut self.pass, &mut self.cursor, cmd) {
-            TurnOf::Done { out, msgs } => {
-                self.fresh = msgs;
-                Taken::Done { out }
-            }
-            TurnOf::Late { out } => Taken::Late { out },
-            TurnOf::Busy { word: _, cmd: _ } => unreachable!(),
-            TurnOf::OwnLimit { cmd } => Taken::OwnLimit { cmd },
-            TurnOf::Taken { cmd } => Taken::NameTaken { cmd },
-            TurnOf::NoMemory => Taken::NoMemory,
-        }
+        read(
+            rt,
+            lock,
+            &mut self.pass,
+            &mut self.cursor,
+            &mut self.kept,
+            &mut self.fresh,
+        )
     }
 
     /// How many commands the place has taken.

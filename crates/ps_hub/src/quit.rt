@@ -8,7 +8,7 @@ use crate::hub::Hub;
 use crate::out::QuitFault;
 use crate::pass::RoomPass;
 use crate::passes::Passes;
-use crate::taken::Taken;
+use crate::taken::Ended;
 use ps_base::badge::Badge;
 use ps_base::number::{ConnNo, Moment};
 use ps_hall::entry::HallEntry;
@@ -99,17 +99,11 @@ impl Hub {
             moment,
             cmd: Command::Quit,
         };
-        let lock = match self.lock(pass.number) {
-            None => unreachable!(),
-            Some(lock) => lock,
-        };
-        match pass.turn(rt, lock, Some(RoomCmd::Play(entry))) {
-            Taken::Done { out: _ } => Ok(()),
-            Taken::Late { out: _ } => Err(QuitFault::NoMemory),
-            Taken::Busy { word: _, cmd: _ } => unreachable!(),
-            Taken::OwnLimit { cmd: _ } => Err(QuitFault::NoMemory),
-            Taken::NameTaken { cmd: _ } => Err(QuitFault::Taken),
-            Taken::NoMemory => Err(QuitFault::NoMemory),
+        let lock = self.lock(pass.number);
+        match pass.turn(rt, lock, RoomCmd::Play(entry)) {
+            Ended::Done => Ok(()),
+            Ended::NameTaken => Err(QuitFault::Taken),
+            Ended::NoMemory => Err(QuitFault::NoMemory),
         }
     }
 
@@ -135,13 +129,10 @@ impl Hub {
             None => unreachable!(),
             Some(hall) => hall,
         };
-        match hall.turn(rt, self.hall_lock(), Some(entry)) {
-            Taken::Done { out: _ } => Ok(()),
-            Taken::Late { out: _ } => Err(QuitFault::NoMemory),
-            Taken::Busy { word: _, cmd: _ } => unreachable!(),
-            Taken::OwnLimit { cmd: _ } => Err(QuitFault::NoMemory),
-            Taken::NameTaken { cmd: _ } => unreachable!(),
-            Taken::NoMemory => Err(QuitFault::NoMemory),
+        match hall.turn(rt, self.hall_lock(), entry) {
+            Ended::Done => Ok(()),
+            Ended::NameTaken => unreachable!(),
+            Ended::NoMemory => Err(QuitFault::NoMemory),
         }
     }
 }

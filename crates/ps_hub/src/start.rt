@@ -10,7 +10,7 @@ ghost use Rattle.ps_hub.specs.Calls.{Starts, BeginsAtMost};
 use crate::hub::Hub;
 use crate::pass::RoomPass;
 use crate::passes::Passes;
-use crate::taken::Taken;
+use crate::taken::{Ended, let_go};
 use rules_start::start::Start;
 use server_places::command::RoomCmd;
 use std::alloc::AllocError;
@@ -32,8 +32,13 @@ impl Hub {
         ensures of { AreOf self.now passes.new }
         ensures does { Starts self.now start passes.old result passes.new }
     {
-        let pass_index = self.keep(passes, self.place_of_battle(start.number))?;
-        self.begin(rt, &mut passes.rooms[pass_index], start)
+        match self.keep(passes, self.place_of_battle(start.number)) {
+            Ok(pass_index) => self.begin(rt, &mut passes.rooms[pass_index], start),
+            Err(error) => {
+                let_go(start);
+                Err(error)
+            }
+        }
     }
 
     // The Begin, by the pass of a place.
@@ -44,17 +49,11 @@ impl Hub {
         ensures err { OnErr result (BeginsAtMost self.now start pass.old pass.new) }
         ensures same { (pass.new.at ≡ pass.old.at) × (pass.new.number ≡ pass.old.number) × (pass.new.id ≡ pass.old.id) }
     {
-        let lock = match self.lock(pass.number) {
-            None => unreachable!(),
-            Some(lock) => lock,
-        };
-        match pass.turn(rt, lock, Some(RoomCmd::Begin(start))) {
-            Taken::Done { out: _ } => Ok(()),
-            Taken::Late { out: _ } => Err(AllocError),
-            Taken::Busy { word: _, cmd: _ } => unreachable!(),
-            Taken::OwnLimit { cmd: _ } => Err(AllocError),
-            Taken::NameTaken { cmd: _ } => unreachable!(),
-            Taken::NoMemory => Err(AllocError),
+        let lock = self.lock(pass.number);
+        match pass.turn(rt, lock, RoomCmd::Begin(start)) {
+            Ended::Done => Ok(()),
+            Ended::NameTaken => unreachable!(),
+            Ended::NoMemory => Err(AllocError),
         }
     }
 }

@@ -3,18 +3,16 @@ use Rattle.ps_hub.proofs.EnterLemmas.{found_of}
 use Rattle.ps_hub.proofs.hub.Hub.ask.Goals as goal
 
 pub returns-in-Busy-clause-of : goal.returns-in-Busy-clause-of
-returns-in-Busy-clause-of c = λ conn p. c.try_turn.ensures.of c.args.self.now conn tt p
-
-pub returns-in-Late-clause-of : goal.returns-in-Late-clause-of
-returns-in-Late-clause-of c = λ conn p. c.try_turn.ensures.of c.args.self.now conn tt p
+returns-in-Busy-clause-of c = λ conn p. c.try_read.ensures.of c.args.self.now conn p
 
 pub returns-in-NoMemory-clause-of : goal.returns-in-NoMemory-clause-of
-returns-in-NoMemory-clause-of c = λ conn p. c.try_turn.ensures.of c.args.self.now conn tt p
+returns-in-NoMemory-clause-of c = λ conn p. c.try_read.ensures.of c.args.self.now conn p
 
 pub returns-then-not-is_found-clause-of : goal.returns-then-not-is_found-clause-of
-returns-then-not-is_found-clause-of c = λ conn p. c.try_turn.ensures.of c.args.self.now conn tt p
+returns-then-not-is_found-clause-of c = λ conn p. c.try_read.ensures.of c.args.self.now conn p
 
 pub returns-clause-of : goal.returns-clause-of
 returns-clause-of c =
-    let found : c.try_turn.new.self.cursor.id ≡ Some c.args.name = search rules in
-    λ conn p. found_of c.args.self.now conn c.args.pass.now c.try_turn.new.self _ c.args.name c.in-Done.out c.requires.battle c.try_turn.ensures.same.1 c.in-Done.ensures.does found refl p (c.try_turn.ensures.of c.args.self.now conn tt p)
+    let found : c.try_read.new.self.cursor.id ≡ Some c.args.name = search rules in
+    λ conn p. found_of c.args.self.now conn c.args.pass.now c.try_read.new.self _ c.args.name c.requires.battle c.try_read.ensures.same.1
+    c.in-Done.ensures.does found refl p (c.try_read.ensures.of c.args.self.now conn p)

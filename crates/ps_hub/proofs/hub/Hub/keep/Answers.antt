@@ -7,5 +7,8 @@ returns-in-Some-clause-ok c =
     (found.0, keeps_there c.args.self.now c.args.number c.in-Some.pass_index c.args.passes.now found.0 found.1 found.2)
 
 pub returns-clause-ok : goal.returns-clause-ok
-returns-clause-ok c = if_ok_then _ _ c.add.result c.add.ensures.ok (λ pass_index added.
-    (c.new.result, keeps_added c.args.self.now c.args.number pass_index c.args.passes.now c.new.result c.add.new.self c.in-None.ensures.none (c.new.ensures c.args.self.now c.in-Some-lock.ensures.found.0 c.in-Some-lock.ensures.found.1) added))
+returns-clause-ok c = if_ok_then _ _ c.add.result c.add.ensures.ok (λ pass_index added. (
+  c.new.result,
+  keeps_added c.args.self.now c.args.number pass_index c.args.passes.now c.new.result c.add.new.self
+      c.in-None.ensures.none (c.new.ensures c.args.self.now c.lock-lock.ensures.name c.lock-lock.ensures.origin) added,
+))

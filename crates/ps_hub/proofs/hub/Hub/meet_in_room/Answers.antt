@@ -18,8 +18,8 @@ index_mut-requires c =
     let within : c.in-Some.one < length c.args.passes.now.rooms.items = slice_get_within c.args.passes.now.rooms.items c.in-Some.one found.0 found.1 in
     omega (arith, c.args.passes.now.rooms.ok.0)
 
-pub index_mut-requires-in-Some-lock : goal.index_mut-requires-in-Some-lock
-index_mut-requires-in-Some-lock c =
+pub index_mut-requires-2 : goal.index_mut-requires-2
+index_mut-requires-2 c =
     let found = c.in-Some-position.ensures.found in
     let within : c.in-Some-position.another < length c.args.other.now.rooms.items = slice_get_within c.args.other.now.rooms.items c.in-Some-position.another found.0 found.1 in
     omega (arith, c.args.other.now.rooms.ok.0)
@@ -29,13 +29,18 @@ meet-requires c =
     let found = c.in-Some.ensures.found in
     let other_found = c.in-Some-position.ensures.found in
     let there = read_there c.args.passes.now.rooms.items c.in-Some.one found.0 c.index_mut.result.now found.1 c.index_mut.ensures.value in
-    let other_there = read_there c.args.other.now.rooms.items c.in-Some-position.another other_found.0 c.index_mut-in-Some-lock.result.now other_found.1 c.index_mut-in-Some-lock.ensures.value in
+    let other_there = read_there c.args.other.now.rooms.items c.in-Some-position.another other_found.0 c.index_mut-2.result.now
+    other_found.1 c.index_mut-2.ensures.value in
     let is : c.index_mut.result.now ≡ found.0 = c.index_mut.ensures.value ∙ get_or_from_slice_get c.args.passes.now.rooms.items c.in-Some.one found.0 c.index_mut.result.now found.1 in
-    let other_is : c.index_mut-in-Some-lock.result.now ≡ other_found.0 = c.index_mut-in-Some-lock.ensures.value ∙ get_or_from_slice_get c.args.other.now.rooms.items c.in-Some-position.another other_found.0 c.index_mut-in-Some-lock.result.now other_found.1 in
+    let other_is : c.index_mut-2.result.now ≡ other_found.0 = c.index_mut-2.ensures.value ∙ get_or_from_slice_get
+    c.args.other.now.rooms.items c.in-Some-position.another other_found.0 c.index_mut-2.result.now other_found.1 in
     let pass : IsRoomPass c.args.self.now c.args.passes.now.conn c.index_mut.result.now = read_pass c.args.self.now c.args.passes.now c.in-Some.one c.index_mut.result.now c.requires.0 there in
-    let other_pass : IsRoomPass c.args.self.now c.args.other.now.conn c.index_mut-in-Some-lock.result.now = read_pass c.args.self.now c.args.other.now c.in-Some-position.another c.index_mut-in-Some-lock.result.now c.requires.1 other_there in (
-      at_lock c.args.self.now c.index_mut.result.now.number c.args.number c.index_mut.result.now.pass.0 c.in-Some-lock.lock.now.0 pass.lock (ap (λ (k : RoomPass). k.number) is ∙ found.2) c.in-Some-lock.ensures.found.0,
-      at_lock c.args.self.now c.index_mut-in-Some-lock.result.now.number c.args.number c.index_mut-in-Some-lock.result.now.pass.0 c.in-Some-lock.lock.now.0 other_pass.lock (ap (λ (k : RoomPass). k.number) other_is ∙ other_found.2) c.in-Some-lock.ensures.found.0,
+    let other_pass : IsRoomPass c.args.self.now c.args.other.now.conn c.index_mut-2.result.now = read_pass c.args.self.now c.args.other.now
+    c.in-Some-position.another c.index_mut-2.result.now c.requires.1 other_there in (
+      at_lock c.args.self.now c.index_mut.result.now.number c.args.number c.index_mut.result.now.pass.0 c.lock-lock.result.now.0 pass.lock
+          (ap (λ (k : RoomPass). k.number) is ∙ found.2) c.lock-lock.ensures.name,
+      at_lock c.args.self.now c.index_mut-2.result.now.number c.args.number c.index_mut-2.result.now.pass.0 c.lock-lock.result.now.0
+          other_pass.lock (ap (λ (k : RoomPass). k.number) other_is ∙ other_found.2) c.lock-lock.ensures.name,
     )
 
 pub returns-clause-of : goal.returns-clause-of
@@ -43,11 +48,14 @@ returns-clause-of c =
     let found = c.in-Some.ensures.found in
     let other_found = c.in-Some-position.ensures.found in
     let there = read_there c.args.passes.now.rooms.items c.in-Some.one found.0 c.index_mut.result.now found.1 c.index_mut.ensures.value in
-    let other_there = read_there c.args.other.now.rooms.items c.in-Some-position.another other_found.0 c.index_mut-in-Some-lock.result.now other_found.1 c.index_mut-in-Some-lock.ensures.value in (
+    let other_there = read_there c.args.other.now.rooms.items c.in-Some-position.another other_found.0 c.index_mut-2.result.now
+    other_found.1 c.index_mut-2.ensures.value in (
       are_set c.args.self.now c.args.passes.now _ c.in-Some.one c.index_mut.result.now c.meet.new.self c.requires.0 there (ap (λ (k : RoomPass). k.number) c.meet.ensures.same) refl refl
           (c.meet.ensures.of c.args.self.now c.args.passes.now.conn (read_pass c.args.self.now c.args.passes.now c.in-Some.one c.index_mut.result.now c.requires.0 there)),
-      are_set c.args.self.now c.args.other.now _ c.in-Some-position.another c.index_mut-in-Some-lock.result.now c.meet.new.other c.requires.1 other_there (ap (λ (k : RoomPass). k.number) c.meet.ensures.same_other) refl refl
-          (c.meet.ensures.of_other c.args.self.now c.args.other.now.conn (read_pass c.args.self.now c.args.other.now c.in-Some-position.another c.index_mut-in-Some-lock.result.now c.requires.1 other_there)),
+      are_set c.args.self.now c.args.other.now _ c.in-Some-position.another c.index_mut-2.result.now c.meet.new.other c.requires.1
+          other_there (ap (λ (k : RoomPass). k.number) c.meet.ensures.same_other) refl refl
+          (c.meet.ensures.of_other c.args.self.now c.args.other.now.conn
+          (read_pass c.args.self.now c.args.other.now c.in-Some-position.another c.index_mut-2.result.now c.requires.1 other_there)),
     )
 
 pub returns-clause-met : goal.returns-clause-met
@@ -55,17 +63,19 @@ returns-clause-met c =
     let found = c.in-Some.ensures.found in
     let other_found = c.in-Some-position.ensures.found in
     let is : c.index_mut.result.now ≡ found.0 = c.index_mut.ensures.value ∙ get_or_from_slice_get c.args.passes.now.rooms.items c.in-Some.one found.0 c.index_mut.result.now found.1 in
-    let other_is : c.index_mut-in-Some-lock.result.now ≡ other_found.0 = c.index_mut-in-Some-lock.ensures.value ∙ get_or_from_slice_get c.args.other.now.rooms.items c.in-Some-position.another other_found.0 c.index_mut-in-Some-lock.result.now other_found.1 in
+    let other_is : c.index_mut-2.result.now ≡ other_found.0 = c.index_mut-2.ensures.value ∙ get_or_from_slice_get
+    c.args.other.now.rooms.items c.in-Some-position.another other_found.0 c.index_mut-2.result.now other_found.1 in
     inl record {
       at = c.in-Some.one;
       other_at = c.in-Some-position.another;
       one = c.index_mut.result.now;
       one_after = c.meet.new.self;
-      another = c.index_mut-in-Some-lock.result.now;
+      another = c.index_mut-2.result.now;
       another_after = c.meet.new.other;
       was = read_there c.args.passes.now.rooms.items c.in-Some.one found.0 c.index_mut.result.now found.1 c.index_mut.ensures.value;
       is = refl;
-      other_was = read_there c.args.other.now.rooms.items c.in-Some-position.another other_found.0 c.index_mut-in-Some-lock.result.now other_found.1 c.index_mut-in-Some-lock.ensures.value;
+      other_was = read_there c.args.other.now.rooms.items c.in-Some-position.another other_found.0 c.index_mut-2.result.now other_found.1
+          c.index_mut-2.ensures.value;
       other_is = refl;
       number_is = ap (λ (k : RoomPass). k.number) is ∙ found.2;
       other_number = ap (λ (k : RoomPass). k.number) other_is ∙ other_found.2;

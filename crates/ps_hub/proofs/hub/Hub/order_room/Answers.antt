@@ -1,20 +1,18 @@
-use Rattle.std.proofs.Common.{◌≡◌, ◌<◌, ℕ, List, length, Some, refl, sym, ap, subst, inl, ◌∙◌, arith}
+use Rattle.std.proofs.Common.{◌≡◌, ◌<◌, ℕ, List, length, Some, refl, sym, ap, subst, ◌∙◌, arith}
 use Rattle.std.proofs.lemmas.Option.{slice_get_within, get_or_from_slice_get}
 use Rattle.ps_base.specs.declared.badge.Badge.{Badge}
 use Rattle.ps_hub.specs.Names.{Names}
 use Rattle.ps_hub.specs.Calls.{Held, EntersAt, EnterFails}
-use Rattle.ps_hub.specs.declared.out.EnterFault.{EnterFault}
-use Rattle.ps_hub.specs.declared.out.EnterFault.TheVariants.{NoSuchRoom, Busy}
 use Rattle.ps_hub.specs.declared.pass.RoomPass.{RoomPass}
 use Rattle.ps_hub.proofs.PassListLemmas.{are_set, read_there, read_pass}
-use Rattle.ps_hub.proofs.OrderLemmas.{room_orders}
+use Rattle.ps_hub.proofs.OrderLemmas.{room_not_entered, room_orders}
 use Rattle.ps_hub.proofs.hub.Hub.order_room.Goals as goal
 
-pub returns-in-Err-NoSuchRoom-clause-does : goal.returns-in-Err-NoSuchRoom-clause-does
-returns-in-Err-NoSuchRoom-clause-does c = inl (subst (λ (id : List ℕ). EnterFails c.args.self.now id c.args.passes.now NoSuchRoom c.enter_at.new.passes) c.as_str.ensures.value (subst (λ (f : EnterFault). EnterFails c.args.self.now c.as_str.result.now c.args.passes.now f c.enter_at.new.passes) c.in-Err-NoSuchRoom.field-0-is c.in-Err-NoSuchRoom.ensures.does))
-
-pub returns-in-Err-Busy-clause-does : goal.returns-in-Err-Busy-clause-does
-returns-in-Err-Busy-clause-does c = inl (refl, rw c.in-Err-Busy.field-0-is (subst (λ (id : List ℕ). EnterFails c.args.self.now id c.args.passes.now (Busy c.in-Err-Busy.word) c.enter_at.new.passes) c.as_str.ensures.value (subst (λ (f : EnterFault). EnterFails c.args.self.now c.as_str.result.now c.args.passes.now f c.enter_at.new.passes) c.in-Err-Busy.field-0-is c.in-Err-Busy.ensures.does)))
+pub returns-in-Err-enter_at-clause-does : goal.returns-in-Err-enter_at-clause-does
+returns-in-Err-enter_at-clause-does c = rw c.not_entered.ensures (room_not_entered c.args.self.now c.args.id c.args.cmd c.args.moment
+    c.args.passes.now c.in-Err-enter_at.fault c.enter_at.new.passes
+    (subst (λ (id : List ℕ). EnterFails c.args.self.now id c.args.passes.now c.in-Err-enter_at.fault c.enter_at.new.passes)
+    c.as_str.ensures.value c.in-Err-enter_at.ensures.does))
 
 pub index_mut-requires : goal.index_mut-requires
 index_mut-requires c =

@@ -7,14 +7,13 @@ use Rattle.ps_hub.proofs.hub.Hub.play.Goals as goal
 pub try_turn-requires-clause-sign : goal.try_turn-requires-clause-sign
 try_turn-requires-clause-sign c = signs_on room_signer c.args.entry.conn c.args.pass.now.pass.1.said (Play c.args.entry) (of_room c.args.entry.conn c.args.entry.badge c.args.entry.moment c.args.entry.cmd) c.requires.signs
 
-pub returns-in-Some-out-clause-of : goal.returns-in-Some-out-clause-of
-returns-in-Some-out-clause-of c = c.try_turn.ensures.of c.args.self.now c.args.entry.conn (of_room c.args.entry.conn c.args.entry.badge c.args.entry.moment c.args.entry.cmd) c.requires
+pub returns-in-Done-clause-of : goal.returns-in-Done-clause-of
+returns-in-Done-clause-of c = c.try_turn.ensures.of c.args.self.now c.args.entry.conn
+    (of_room c.args.entry.conn c.args.entry.badge c.args.entry.moment c.args.entry.cmd) c.requires
 
-pub returns-in-Late-clause-of : goal.returns-in-Late-clause-of
-returns-in-Late-clause-of c = c.try_turn.ensures.of c.args.self.now c.args.entry.conn (of_room c.args.entry.conn c.args.entry.badge c.args.entry.moment c.args.entry.cmd) c.requires
-
-pub returns-in-Some-Play-clause-of : goal.returns-in-Some-Play-clause-of
-returns-in-Some-Play-clause-of c = c.try_turn.ensures.of c.args.self.now c.args.entry.conn (of_room c.args.entry.conn c.args.entry.badge c.args.entry.moment c.args.entry.cmd) c.requires
+pub returns-in-Busy-clause-of : goal.returns-in-Busy-clause-of
+returns-in-Busy-clause-of c = c.try_turn.ensures.of c.args.self.now c.args.entry.conn
+    (of_room c.args.entry.conn c.args.entry.badge c.args.entry.moment c.args.entry.cmd) c.requires
 
 pub returns-in-NoMemory-clause-of : goal.returns-in-NoMemory-clause-of
 returns-in-NoMemory-clause-of c = c.try_turn.ensures.of c.args.self.now c.args.entry.conn (of_room c.args.entry.conn c.args.entry.badge c.args.entry.moment c.args.entry.cmd) c.requires

@@ -1,15 +1,15 @@
-use Rattle.std.proofs.Common.{◌≡◌, Some, sym, ap, ◌∙◌}
+use Rattle.std.proofs.Common.{◌≡◌, Some, sym, ap, subst, inl, inr, ◌∙◌}
 use Rattle.ps_base.specs.declared.badge.Badge.{Badge}
 use Rattle.ps_histlock.proofs.SignLemmas.{signs_on}
 use Rattle.server_places.specs.declared.command.RoomCmd.TheVariants.{Play}
 use Rattle.server_places.specs.Sites.{room_signer}
-use Rattle.server_places.specs.Rooms.{Answers, Pulls}
+use Rattle.server_places.specs.Rooms.{Answers}
+use Rattle.server_places.specs.declared.site.Site.{Site}
 use Rattle.ps_hub.specs.Calls.{room_entry}
-use Rattle.ps_hub.specs.Hubs.{site_of}
+use Rattle.ps_hub.specs.Turns.{FallsShortAtLast}
 use Rattle.ps_lines.specs.declared.command.Command.TheVariants.{Quit}
 use Rattle.ps_hub.proofs.OfLemmas.{of_room}
 use Rattle.ps_hub.proofs.CallLemmas.{quits_by, quits_short, shut_out}
-use Rattle.ps_hub.proofs.ShortLemmas.{last_short_at_late, last_short_at_limit, last_short_at_name, last_short_at_no_memory}
 use Rattle.ps_hub.proofs.hub.Hub.quit_room.Goals as goal
 
 pub turn-requires-clause-sign : goal.turn-requires-clause-sign
@@ -21,26 +21,8 @@ returns-in-Done-clause-of g c = c.turn.ensures.of c.args.self.now c.args.conn (o
 pub returns-in-Done-clause-ok : goal.returns-in-Done-clause-ok
 returns-in-Done-clause-ok g c =
     let badge : c.args.badge.now ≡ Some c.in-Ok.badge = c.in-Some-badge.is ∙ ap (λ (b : Badge). Some b) (sym c.in-Ok.ensures) in
-    let told = c.in-Done.ensures.does in
-    quits_by c.args.badge.now c.args.conn c.args.moment c.args.pass.now c.turn.new.self c.in-Some.field-0 c.in-Ok.badge c.in-Some.is badge (told.0, (told.1.0, told.1.1, told.1.2)) c.turn.ensures.same
-
-pub returns-in-Late-clause-of : goal.returns-in-Late-clause-of
-returns-in-Late-clause-of g c = c.turn.ensures.of c.args.self.now c.args.conn (of_room c.args.conn c.in-Ok.badge c.args.moment Quit) c.requires.of
-
-pub returns-in-Late-clause-err : goal.returns-in-Late-clause-err
-returns-in-Late-clause-err g c =
-    let badge : c.args.badge.now ≡ Some c.in-Ok.badge = c.in-Some-badge.is ∙ ap (λ (b : Badge). Some b) (sym c.in-Ok.ensures) in
-    quits_short c.args.self.now c.args.badge.now c.args.conn c.args.moment c.args.pass.now c.turn.new.self c.in-Some.field-0 c.in-Ok.badge c.in-Some.is badge c.turn.ensures.same
-    (last_short_at_late Answers Pulls (site_of c.args.self.now c.args.pass.now.number) c.args.pass.now.pass.1 c.args.pass.now.cursor _ _ c.in-Late.out c.turn.new.self.pass.1 c.turn.new.self.cursor _ c.requires.of.origin c.in-Late.ensures.does)
-
-pub returns-in-OwnLimit-clause-of : goal.returns-in-OwnLimit-clause-of
-returns-in-OwnLimit-clause-of g c = c.turn.ensures.of c.args.self.now c.args.conn (of_room c.args.conn c.in-Ok.badge c.args.moment Quit) c.requires.of
-
-pub returns-in-OwnLimit-clause-err : goal.returns-in-OwnLimit-clause-err
-returns-in-OwnLimit-clause-err g c =
-    let badge : c.args.badge.now ≡ Some c.in-Ok.badge = c.in-Some-badge.is ∙ ap (λ (b : Badge). Some b) (sym c.in-Ok.ensures) in
-    quits_short c.args.self.now c.args.badge.now c.args.conn c.args.moment c.args.pass.now c.turn.new.self c.in-Some.field-0 c.in-Ok.badge c.in-Some.is badge c.turn.ensures.same
-    (last_short_at_limit Answers Pulls (site_of c.args.self.now c.args.pass.now.number) c.args.pass.now.pass.1 c.args.pass.now.cursor _ _ c.in-OwnLimit.cmd c.turn.new.self.pass.1 c.turn.new.self.cursor _ c.in-OwnLimit.ensures.does)
+    quits_by c.args.badge.now c.args.conn c.args.moment c.args.pass.now c.turn.new.self c.in-Some.field-0 c.in-Ok.badge c.in-Some.is badge
+    c.in-Done.ensures.does.0 c.turn.ensures.same
 
 pub returns-in-NameTaken-clause-of : goal.returns-in-NameTaken-clause-of
 returns-in-NameTaken-clause-of g c = c.turn.ensures.of c.args.self.now c.args.conn (of_room c.args.conn c.in-Ok.badge c.args.moment Quit) c.requires.of
@@ -49,16 +31,20 @@ pub returns-in-NameTaken-clause-err : goal.returns-in-NameTaken-clause-err
 returns-in-NameTaken-clause-err g c =
     let badge : c.args.badge.now ≡ Some c.in-Ok.badge = c.in-Some-badge.is ∙ ap (λ (b : Badge). Some b) (sym c.in-Ok.ensures) in
     quits_short c.args.self.now c.args.badge.now c.args.conn c.args.moment c.args.pass.now c.turn.new.self c.in-Some.field-0 c.in-Ok.badge c.in-Some.is badge c.turn.ensures.same
-    (last_short_at_name Answers Pulls (site_of c.args.self.now c.args.pass.now.number) c.args.pass.now.pass.1 c.args.pass.now.cursor _ _ c.in-NameTaken.cmd c.turn.new.self.pass.1 c.turn.new.self.cursor _ c.in-NameTaken.ensures.does)
+    (c.in-NameTaken.ensures.does.1, inr (inl c.in-NameTaken.ensures.does.0))
 
 pub returns-in-NameTaken-clause-taken : goal.returns-in-NameTaken-clause-taken
-returns-in-NameTaken-clause-taken g c = shut_out c.args.conn c.args.moment c.in-Ok.badge c.args.pass.now c.turn.new.self _ _ c.in-NameTaken.cmd c.in-NameTaken.ensures.does c.in-NameTaken.ensures.taken
+returns-in-NameTaken-clause-taken g c = shut_out c.args.conn c.args.moment c.in-Ok.badge c.args.pass.now c.turn.new.self
+    c.in-NameTaken.ensures.does.0 c.in-NameTaken.ensures.taken
 
-pub returns-clause-of : goal.returns-clause-of
-returns-clause-of g c = c.turn.ensures.of c.args.self.now c.args.conn (of_room c.args.conn c.in-Ok.badge c.args.moment Quit) c.requires.of
+pub returns-in-NoMemory-clause-of : goal.returns-in-NoMemory-clause-of
+returns-in-NoMemory-clause-of g c = c.turn.ensures.of c.args.self.now c.args.conn (of_room c.args.conn c.in-Ok.badge c.args.moment Quit)
+    c.requires.of
 
-pub returns-clause-err : goal.returns-clause-err
-returns-clause-err g c =
+pub returns-in-NoMemory-clause-err : goal.returns-in-NoMemory-clause-err
+returns-in-NoMemory-clause-err g c =
     let badge : c.args.badge.now ≡ Some c.in-Ok.badge = c.in-Some-badge.is ∙ ap (λ (b : Badge). Some b) (sym c.in-Ok.ensures) in
     quits_short c.args.self.now c.args.badge.now c.args.conn c.args.moment c.args.pass.now c.turn.new.self c.in-Some.field-0 c.in-Ok.badge c.in-Some.is badge c.turn.ensures.same
-    (last_short_at_no_memory Answers Pulls (site_of c.args.self.now c.args.pass.now.number) c.args.pass.now.pass.1 c.args.pass.now.cursor _ _ c.turn.new.self.pass.1 c.turn.new.self.cursor _ c.in-NoMemory.ensures.does)
+    (subst (λ (site : Site). FallsShortAtLast (Answers site) c.args.pass.now.pass.1 c.args.pass.now.cursor
+    (Play (room_entry c.args.conn c.in-Ok.badge c.args.moment Quit)) c.turn.new.self.pass.1 c.turn.new.self.cursor)
+    c.requires.of.origin c.in-NoMemory.ensures.does.0)

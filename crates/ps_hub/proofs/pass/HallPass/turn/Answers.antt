@@ -1,11 +1,17 @@
-use Rattle.std.proofs.Common.{◌++◌}
+use Rattle.std.proofs.Common.{◌++◌, Some, refl}
 use Rattle.server_places.specs.Halls.{HallAnswers, HallPulls}
-use Rattle.ps_hub.proofs.ToldLemmas.{takes_grow_at_last}
-use Rattle.ps_hub.proofs.PassLemmas.{hall_taken_at_last}
+use Rattle.ps_hub.proofs.ToldLemmas.{takes_leave_at_last}
+use Rattle.ps_hub.proofs.PassLemmas.{hall_taken}
 use Rattle.ps_hub.proofs.pass.HallPass.turn.Goals as goal
 
 pub returns-clause-of : goal.returns-clause-of
-returns-clause-of g c = λ hub conn of p. hall_taken_at_last hub conn c.args.self.now c.take_at_last.new.self c.args.cmd c.take_at_last.result c.take_at_last.ensures.lock c.take_at_last.ensures.at c.take_at_last.ensures.rest c.take_at_last.ensures.own of c.take_at_last.ensures.does p
+returns-clause-of g c = λ hub conn of p. hall_taken hub conn c.args.self.now _ (Some c.args.cmd) c.take.ensures.lock refl
+    c.take.ensures.rest c.take.ensures.own of
+    (takes_leave_at_last HallAnswers HallPulls c.args.self.now.pass.1 c.args.self.now.cursor
+    (c.args.self.now.kept.items ++ c.args.self.now.fresh.items) c.args.cmd c.take.result c.take.new.pass.1 c.take.new.cursor
+    (c.take.new.kept.items ++ c.take.new.fresh.items) c.take.ensures.does) p
 
 pub returns-clause-adds : goal.returns-clause-adds
-returns-clause-adds g c = (takes_grow_at_last HallAnswers HallPulls c.args.self.now.pass.1 c.args.self.now.cursor (c.args.self.now.kept.items ++ c.args.self.now.fresh.items) c.args.cmd c.take_at_last.result c.take_at_last.new.self.pass.1 c.take_at_last.new.self.cursor (c.take_at_last.new.self.kept.items ++ c.take_at_last.new.self.fresh.items) c.take_at_last.ensures.does).adds
+returns-clause-adds g c = (takes_leave_at_last HallAnswers HallPulls c.args.self.now.pass.1 c.args.self.now.cursor
+    (c.args.self.now.kept.items ++ c.args.self.now.fresh.items) c.args.cmd c.take.result c.take.new.pass.1 c.take.new.cursor
+    (c.take.new.kept.items ++ c.take.new.fresh.items) c.take.ensures.does).grows.adds

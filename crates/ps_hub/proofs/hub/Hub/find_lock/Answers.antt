@@ -3,7 +3,7 @@ use Rattle.std.specs.Arc.{arc_value}
 use Rattle.std.proofs.lemmas.Option.{IfSome_then}
 use Rattle.ps_hub.proofs.LockLemmas.{chat_found, battle_found, chat_missing, battle_missing, if_none_then}
 use Rattle.ps_hub.specs.Hubs.{Hub}
-use Rattle.ps_hub.proofs.hub.Hub.lock.Goals as goal
+use Rattle.ps_hub.proofs.hub.Hub.find_lock.Goals as goal
 
 pub returns-then-number-lt-FIRST_BATTLE-clause-found : goal.returns-then-number-lt-FIRST_BATTLE-clause-found
 returns-then-number-lt-FIRST_BATTLE-clause-found c = IfSome_then c.lock_at.result c.lock_at.ensures.found (λ l there.

@@ -1,0 +1,151 @@
+//! The turns of a pass at a lock, whatever stands behind it: a connection has the same of the hall and of a room.
+//!
+//! A turn's messages stand in `fresh` then, behind those that are kept, for which `kept` makes room before.
+ghost use Rattle.std.specs.Prelude.{◌≡◌, ◌++◌, length};
+ghost use Rattle.ps_histlock.specs.Locks.{SignsOn, IsNameTaken, OwnSigns};
+ghost use Rattle.ps_histlock.specs.Views.{IsAtRest};
+ghost use Rattle.ps_histlock.specs.declared.lock.TheConstants.{OWN_LIMIT};
+ghost use Rattle.ps_hub.specs.Turns.{Takes, TakesAtLast, Reads, ReadsAtLast, IsLimited, IfKeptOut, IfKeptOutAtLast};
+
+use crate::taken::{Ended, Read, Taken};
+use ps_base::msg::Msg;
+use ps_histlock::{HistLock, Kept, Pass, TurnOf};
+use std::alloc::AllocError;
+use std::sync::Wait;
+
+/// One turn with a command. Waits for nobody.
+pub(crate) fn try_take<U: Drop, K: Kept<Msg = Msg, Out = U>>(
+    lock: &HistLock<K>,
+    pass: &mut Pass<K>,
+    cursor: &mut K::Cursor,
+    kept: &mut Vec<Msg>,
+    fresh: &mut Vec<Msg>,
+    cmd: K::Cmd,
+) -> Taken<K::Cmd, U>
+    requires lock { pass.old.0 ≡ lock.now.0 }
+    requires sign { SignsOn K.signer pass.old.1.said cmd }
+    ensures lock { pass.new.0 ≡ pass.old.0 }
+    ensures does { Takes K.answers K.pulls pass.old.1 cursor.old (kept.old.items ++ fresh.old.items) cmd result
+        pass.new.1 cursor.new (kept.new.items ++ fresh.new.items) }
+    ensures limit { length pass.old.1.mine ≡ OWN_LIMIT → IsLimited result }
+    ensures taken { IfKeptOut result (IsNameTaken K.signer pass.old.1.said pass.new.1.seen cmd) }
+    ensures rest { IsAtRest K.origin K.stands pass.old.1 → IsAtRest K.origin K.stands pass.new.1 }
+    ensures own { OwnSigns K.signer pass.old.1 pass.old.1.known → OwnSigns K.signer pass.new.1 pass.new.1.known }
+{
+    if kept.append(fresh).is_err() {
+        return Taken::NoMemory;
+    }
+    match lock.try_turn(pass, cursor, Some(cmd)) {
+        TurnOf::Done { out, msgs } => match out {
+            None => unreachable!(),
+            Some(out) => {
+                *fresh = msgs;
+                Taken::Done { out }
+            }
+        },
+        TurnOf::Late { out: _ } => Taken::NoMemory,
+        TurnOf::Busy { word, cmd } => match cmd {
+            None => unreachable!(),
+            Some(cmd) => Taken::Busy { word, cmd },
+        },
+        TurnOf::OwnLimit { cmd: _ } => Taken::OwnLimit,
+        TurnOf::Taken { cmd: _ } => Taken::NameTaken,
+        TurnOf::NoMemory => Taken::NoMemory,
+    }
+}
+
+/// The same after waiting for the turn.
+pub(crate) fn take<R: Wait, U: Drop, K: Kept<Msg = Msg, Out = U>>(
+    rt: &R,
+    lock: &HistLock<K>,
+    pass: &mut Pass<K>,
+    cursor: &mut K::Cursor,
+    kept: &mut Vec<Msg>,
+    fresh: &mut Vec<Msg>,
+    cmd: K::Cmd,
+) -> Ended
+    requires lock { pass.old.0 ≡ lock.now.0 }
+    requires sign { SignsOn K.signer pass.old.1.said cmd }
+    ensures lock { pass.new.0 ≡ pass.old.0 }
+    ensures does { TakesAtLast K.answers K.pulls pass.old.1 cursor.old (kept.old.items ++ fresh.old.items) cmd result
+        pass.new.1 cursor.new (kept.new.items ++ fresh.new.items) }
+    ensures taken { IfKeptOutAtLast result (IsNameTaken K.signer pass.old.1.said pass.new.1.seen cmd) }
+    ensures rest { IsAtRest K.origin K.stands pass.old.1 → IsAtRest K.origin K.stands pass.new.1 }
+    ensures own { OwnSigns K.signer pass.old.1 pass.old.1.known → OwnSigns K.signer pass.new.1 pass.new.1.known }
+{
+    if kept.append(fresh).is_err() {
+        return Ended::NoMemory;
+    }
+    match lock.turn(rt, pass, cursor, Some(cmd)) {
+        TurnOf::Done { out: _, msgs } => {
+            *fresh = msgs;
+            Ended::Done
+        }
+        TurnOf::Late { out: _ } => Ended::NoMemory,
+        TurnOf::Busy { word: _, cmd: _ } => unreachable!(),
+        TurnOf::OwnLimit { cmd: _ } => Ended::NoMemory,
+        TurnOf::Taken { cmd: _ } => Ended::NameTaken,
+        TurnOf::NoMemory => Ended::NoMemory,
+    }
+}
+
+/// One turn without a command. Waits for nobody.
+pub(crate) fn try_read<U: Drop, K: Kept<Msg = Msg, Out = U>>(
+    lock: &HistLock<K>,
+    pass: &mut Pass<K>,
+    cursor: &mut K::Cursor,
+    kept: &mut Vec<Msg>,
+    fresh: &mut Vec<Msg>,
+) -> Read
+    requires { pass.old.0 ≡ lock.now.0 }
+    ensures lock { pass.new.0 ≡ pass.old.0 }
+    ensures does { Reads K.pulls pass.old.1 cursor.old (kept.old.items ++ fresh.old.items) result
+        pass.new.1 cursor.new (kept.new.items ++ fresh.new.items) }
+    ensures rest { IsAtRest K.origin K.stands pass.old.1 → IsAtRest K.origin K.stands pass.new.1 }
+    ensures own { OwnSigns K.signer pass.old.1 pass.old.1.known → OwnSigns K.signer pass.new.1 pass.new.1.known }
+{
+    if kept.append(fresh).is_err() {
+        return Read::NoMemory;
+    }
+    match lock.try_turn(pass, cursor, None) {
+        TurnOf::Done { out: _, msgs } => {
+            *fresh = msgs;
+            Read::Done
+        }
+        TurnOf::Late { out: _ } => Read::NoMemory,
+        TurnOf::Busy { word, cmd: _ } => Read::Busy { word },
+        TurnOf::OwnLimit { cmd: _ } => unreachable!(),
+        TurnOf::Taken { cmd: _ } => unreachable!(),
+        TurnOf::NoMemory => Read::NoMemory,
+    }
+}
+
+/// The same after waiting for the turn. `AllocError` if out of memory for the messages.
+pub(crate) fn read<R: Wait, U: Drop, K: Kept<Msg = Msg, Out = U>>(
+    rt: &R,
+    lock: &HistLock<K>,
+    pass: &mut Pass<K>,
+    cursor: &mut K::Cursor,
+    kept: &mut Vec<Msg>,
+    fresh: &mut Vec<Msg>,
+) -> Result<(), AllocError>
+    requires { pass.old.0 ≡ lock.now.0 }
+    ensures lock { pass.new.0 ≡ pass.old.0 }
+    ensures does { ReadsAtLast K.pulls pass.old.1 cursor.old (kept.old.items ++ fresh.old.items) result
+        pass.new.1 cursor.new (kept.new.items ++ fresh.new.items) }
+    ensures rest { IsAtRest K.origin K.stands pass.old.1 → IsAtRest K.origin K.stands pass.new.1 }
+    ensures own { OwnSigns K.signer pass.old.1 pass.old.1.known → OwnSigns K.signer pass.new.1 pass.new.1.known }
+{
+    kept.append(fresh)?;
+    match lock.turn(rt, pass, cursor, None) {
+        TurnOf::Done { out: _, msgs } => {
+            *fresh = msgs;
+            Ok(())
+        }
+        TurnOf::Late { out: _ } => Err(AllocError),
+        TurnOf::Busy { word: _, cmd: _ } => unreachable!(),
+        TurnOf::OwnLimit { cmd: _ } => unreachable!(),
+        TurnOf::Taken { cmd: _ } => unreachable!(),
+        TurnOf::NoMemory => Err(AllocError),
+    }
+}
