@@ -4,10 +4,10 @@ use Rattle.std.proofs.Common.{◌∷◌, ◌++◌, length, take, drop, get_or, O
 use Rattle.std.specs.List.{list_any}
 use Rattle.std.specs.Ordering.{nat_cmp, is_eq}
 use Rattle.std.specs.BTreeMap.{BTreeMap, Updates, get}
-use Rattle.std.proofs.lemmas.Bool.{or_parts, or_from, ltb-true, ltb-false, lt-ltb, le-ltb, cases_Bool}
-use Rattle.std.proofs.lemmas.Bool.{cases_lt, cases_eq, ne_eqb, eqb-false, eqb-true, cond-true, cond-false}
+use Rattle.std.proofs.lemmas.Bool.{or_parts, or_from, ltb-true, ltb-false, lt-ltb}
+use Rattle.std.proofs.lemmas.Bool.{ne_eqb, eqb-false, cond-true, cond-false}
 use Rattle.std.proofs.lemmas.Bool.Decides.{eqb_tells}
-use Rattle.std.proofs.lemmas.List.{append-nil, length-append, length-take, take-take, take-append-drop, take_all, take_more, take-append-le}
+use Rattle.std.proofs.lemmas.List.{append-nil, length-append, length-take, take-take, take-append-drop, take_all}
 use Rattle.std.proofs.Math.Seq.{take-append_seam, get_or-append_seam}
 use Rattle.std.specs.declared.cmp.Ordering.{Ordering}
 use Rattle.std.specs.declared.cmp.Ordering.TheVariants.{Less, Equal, Greater}
@@ -18,15 +18,14 @@ use Rattle.ps_event.specs.declared.audience.Audience.TheVariants as audiences
 use Rattle.ps_event.specs.declared.side.Side.TheVariants.{P1, P2}
 use Rattle.ps_view.specs.declared.role.Role.{Role}
 use Rattle.ps_view.specs.declared.role.Role.TheVariants.{Outside}
-use Rattle.ps_splitlog.specs.declared.cursor.Cursor.{Cursor}
 use Rattle.ps_splitlog.specs.declared.stored.Stored.{Stored}
 use Rattle.ps_splitlog.specs.declared.stored.Stored.TheVariants.{Same, Split}
 use Rattle.ps_splitlog.specs.declared.entry.Joined.{Joined}
 use Rattle.ps_splitlog.specs.declared.entry.LogEntry.{LogEntry}
-use Rattle.ps_splitlog.specs.Lines.{shown, shown_lines, sees}
-use Rattle.ps_splitlog.specs.Entries.{changed, join_for, joined_or, logged_lines, message_of}
-use Rattle.ps_splitlog.specs.Reads.{messages_of, role_past, read_past}
-use Rattle.ps_splitlog.specs.Firsts.{owner_in, owner_of, joiner_by, joiner_of, is_that, is_owner}
+use Rattle.ps_splitlog.specs.Lines.{shown, shown_lines}
+use Rattle.ps_splitlog.specs.Entries.{changed, joined_or, logged_lines, message_of}
+use Rattle.ps_splitlog.specs.Reads.{messages_of, role_past}
+use Rattle.ps_splitlog.specs.Firsts.{owner_in, joiner_by, joiner_of, is_that, is_owner}
 use Rattle.ps_splitlog.specs.Firsts.{is_given, is_named, first_or, first_for, AreFirsts, IsSameBefore, AreNoted}
 use Rattle.ps_splitlog.proofs.IndexLemmas.{parts}
 

@@ -1,4 +1,4 @@
-use Rattle.std.proofs.Common.{◌≡◌, Bool, false, take, arith, rules}
+use Rattle.std.proofs.Common.{◌≡◌, false, take, arith, rules}
 use Rattle.std.specs.List.{list_any}
 use Rattle.ps_splitlog.specs.Firsts.{is_named}
 use Rattle.ps_splitlog.proofs.FirstLemmas.{unnamed_before, messages_behind, role_behind}
