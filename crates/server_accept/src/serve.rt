@@ -210,15 +210,21 @@ where
     for begun in 0..count {
         let conn = ConnNo(begun + 1);
         let is_last = begun + 1 == count;
-        let status = match accept(rt, alloc, shared, conn, is_last, door, clock, spawner) {
-            Ok(()) => continue,
-            Err(DoorEnd::Failed) => Status::DoorFault,
-            Err(DoorEnd::NoMemory) => Status::NoMemory,
-        };
-        return Begun {
-            count: begun,
-            status,
-        };
+        match accept(rt, alloc, shared, conn, is_last, door, clock, spawner) {
+            Ok(()) => {}
+            Err(DoorEnd::Failed) => {
+                return Begun {
+                    count: begun,
+                    status: Status::DoorFault,
+                };
+            }
+            Err(DoorEnd::NoMemory) => {
+                return Begun {
+                    count: begun,
+                    status: Status::NoMemory,
+                };
+            }
+        }
     }
     Begun {
         count,
