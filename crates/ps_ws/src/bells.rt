@@ -50,6 +50,8 @@ struct Places {
     next: u64,
     hall: Attending,
     rooms: BTreeMap<u32, Attending>,
+    // That of the door, if somebody may stop it.
+    door: Option<Arc<Bell>>,
 }
 
 impl Places {
@@ -89,6 +91,8 @@ fn ring_all(attending: &Attending, but: u64) {
 #[derive(Drop)]
 pub(crate) struct Bells {
     alloc: Global,
+    // Whether the door and all its links are to end.
+    are_over: AtomicBool,
     places: Mutex<Places>,
 }
 
@@ -97,10 +101,12 @@ impl Bells {
     pub(crate) fn new(alloc: Global) -> Bells {
         Bells {
             alloc,
+            are_over: AtomicBool::new(false),
             places: Mutex::new(Places {
                 next: 1,
                 hall: BTreeMap::new(alloc),
                 rooms: BTreeMap::new(alloc),
+                door: None,
             }),
         }
     }
@@ -174,6 +180,25 @@ impl Bells {
         };
         drop(places);
         for bell in ready.as_slice() {
+            bell.ring();
+        }
+    }
+
+    /// Hangs up the bell of the door.
+    pub(crate) fn hang_at_door<R: Wait>(&self, rt: &R, bell: Arc<Bell>) {
+        self.places.lock(rt).door = Some(bell);
+    }
+
+    /// Whether the door and all its links are to end.
+    pub(crate) fn are_over(&self) -> bool {
+        self.are_over.load(Ordering::SeqCst)
+    }
+
+    /// Says that the door and all its links are to end, and rings for all of them.
+    pub(crate) fn end<R: Wait>(&self, rt: &R) {
+        self.are_over.store(true, Ordering::SeqCst);
+        self.ring(rt, None, 0);
+        if let Some(bell) = &self.places.lock(rt).door {
             bell.ring();
         }
     }

@@ -4,7 +4,9 @@
 #![tactic(auto)]
 
 mod bells;
+mod bucket;
 pub mod door;
 mod handshake;
 pub mod link;
+pub mod settings;
 mod wire;

@@ -15,7 +15,7 @@ pub const MESSAGE_LIMIT: usize = 65_536;
 /// How a link has ended. Nothing is read and nothing sent any more.
 #[derive(Clone, Copy, Debug, PartialEq, Eq)]
 pub enum Ending {
-    /// Both sides have said that they close.
+    /// Both sides have said that they close, or its door was stopped, and this side has said so.
     Closed,
     /// The client broke the protocol or was too slow, the connection was lost, or this side ended it.
     Broken,
@@ -32,10 +32,14 @@ pub enum Ending {
 ///   [`MESSAGE_LIMIT`] bytes.
 /// - Quiet comes where nothing has come within 5 seconds, soon after another link of its door rang at a place that this one attends,
 ///   and at each ping and pong. A ping is answered. Where memory was refused for its bell, Quiet comes after 50 milliseconds.
-/// - End comes where both sides have said that they close, and from then on.
+/// - End comes where both sides have said that they close, and from then on; and where its door was stopped: what was to be sent has
+///   left, with a Close frame of the code 1001. One that is in its handshake then has failed.
 /// - Failed comes at all else, and from then on: at a message over the limit, text that isn't UTF-8,
 ///   anything that the protocol forbids, and a connection that ends without a close. For the first three the client is sent a Close
 ///   frame before, with a reason and the code 1009, 1007 or 1002 (RFC 6455 7.4.1), for which its socket has 10 seconds.
+/// - Where its door has settings that say so ([`crate::settings::Settings`]): a client that was silent is pinged, which comes as Quiet,
+///   and after twice that silence the link has failed. Anything whole that comes ends a silence. Of a client that says more than it
+///   may no more is read until it may again: what it said stays in the socket.
 /// - Who was told why the connection ends has a second to end it, too, and then it is let go.
 /// - A text leaves as the link is next asked for what comes, or as 16,384 bytes wait to be sent, within 10 seconds, or that call is
 ///   Failed.

@@ -1,8 +1,11 @@
 //! A socket that speaks WebSocket, without any count.
 
 use crate::bells::{Bell, Bells};
+use crate::bucket::Bucket;
 use crate::handshake::{Refusal, Request, judge};
 use crate::link::MESSAGE_LIMIT;
+use crate::settings::Settings;
+use bytes::Bytes;
 use mio::{Events, Interest, Poll, Token, Waker};
 use ps_outside::link::{CloseCause, Next, SendEnd};
 use std::alloc::{AllocError, Global};
@@ -54,6 +57,42 @@ enum Stage {
     Over,
 }
 
+/// What a wire waits by. It takes all the descriptors of a wire but its socket.
+#[derive(Drop)]
+pub(crate) struct Seat {
+    poll: Poll,
+    events: Events,
+    bell: Arc<Bell>,
+}
+
+impl Seat {
+    /// Where memory is refused the error is of the kind OutOfMemory.
+    pub(crate) fn new<N: Net>(net: &N, alloc: Global) -> io::Result<Seat> {
+        let poll = Poll::new(net)?;
+        let events = Events::with_capacity(alloc, 4)?;
+        let waker = Waker::new(poll.registry(), Token(1))?;
+        let bell = Arc::new(alloc, Bell::new(waker))?;
+        Ok(Seat { poll, events, bell })
+    }
+
+    /// Ends its waits at this listener, too.
+    pub(crate) fn watch(&self, listener: &mut mio::net::TcpListener) -> io::Result<()> {
+        self.poll
+            .registry()
+            .register(listener, Token(0), Interest::READABLE)
+    }
+
+    /// The bell that ends its waits.
+    pub(crate) fn bell(&self) -> Result<Arc<Bell>, AllocError> {
+        self.bell.clone()
+    }
+
+    /// Waits for what it waits by, for so long at most.
+    pub(crate) fn wait(&mut self, most: Duration) -> io::Result<()> {
+        self.poll.poll(&mut self.events, Some(most))
+    }
+}
+
 /// A socket, what it waits by, and a message that is still to be answered.
 #[derive(Drop)]
 pub(crate) struct Wire<R: rt::Clock + Wait + Copy> {
@@ -63,6 +102,16 @@ pub(crate) struct Wire<R: rt::Clock + Wait + Copy> {
     events: Events,
     stage: Stage,
     kept: Option<Message>,
+    settings: Settings,
+    // When it began, where its settings have to do with time.
+    begun: Option<Instant>,
+    // When something last came, since it began.
+    heard: Duration,
+    // When its client was pinged since then, if it was.
+    pinged: Option<Duration>,
+    bucket: Bucket,
+    // Whether nothing was read at the last look, since its client says too much.
+    is_held: bool,
     bells: Arc<Bells>,
     bell: Arc<Bell>,
     // Its number among the bells, while it is one of them.
@@ -144,29 +193,27 @@ fn read_message(socket: &mut Socket) -> Result<Message, Error> {
     Ok(message)
 }
 
-// The bell that ends the waits of this poll.
-fn bell_of(alloc: Global, poll: &Poll) -> io::Result<Arc<Bell>> {
-    let waker = Waker::new(poll.registry(), Token(1))?;
-    Ok(Arc::new(alloc, Bell::new(waker))?)
-}
-
 impl<R: rt::Clock + Wait + Copy> Wire<R> {
-    /// A wire over a stream that doesn't block, among those whose bells these are. Nothing is read or written yet. Where memory is
-    /// refused the error is of the kind OutOfMemory.
-    pub(crate) fn open<N: Net>(
-        net: &N,
+    /// A wire over a stream, which waits by this seat, among those whose bells these are. Nothing is read or written yet. Where memory
+    /// is refused the error is of the kind OutOfMemory.
+    pub(crate) fn open(
         host: R,
         alloc: Global,
+        settings: Settings,
         bells: Arc<Bells>,
+        seat: Seat,
         stream: TcpStream,
     ) -> io::Result<Wire<R>> {
+        let Seat { poll, events, bell } = seat;
         stream.set_nonblocking(true)?;
         let mut stream = Stream::from_std(stream);
-        let poll = Poll::new(net)?;
-        let events = Events::with_capacity(alloc, 4)?;
         let both = Interest::READABLE | Interest::WRITABLE;
         poll.registry().register(&mut stream, Token(0), both)?;
-        let bell = bell_of(alloc, &poll)?;
+        let begun = if settings.need_clock() {
+            Some(Instant::now(&host)?)
+        } else {
+            None
+        };
         Ok(Wire {
             host,
             alloc,
@@ -174,6 +221,12 @@ impl<R: rt::Clock + Wait + Copy> Wire<R> {
             events,
             stage: Stage::Handshaking(stream),
             kept: None,
+            settings,
+            begun,
+            heard: Duration::ZERO,
+            pinged: None,
+            bucket: Bucket::new(settings.rate),
+            is_held: false,
             bells,
             bell,
             number: None,
@@ -218,21 +271,111 @@ impl<R: rt::Clock + Wait + Copy> Wire<R> {
         if self.send_all().is_err() {
             return Next::Failed;
         }
-        if let Some(next) = self.read() {
-            return next;
+        if self.bells.are_over() {
+            self.close(CloseCode::Away, "the server goes down");
+            return Next::End;
         }
-        if !self.bell.has_rung() && self.wait(self.longest_wait()).is_err() {
-            return Next::Failed;
-        }
-        match self.read() {
-            Some(next) => next,
-            None => Next::Quiet,
+        match self.next_of_client() {
+            Ok(next) => next,
+            Err(_) => Next::Failed,
         }
     }
 
+    // What the client says, after one wait where there is nothing.
+    fn next_of_client(&mut self) -> io::Result<Next> {
+        if let Some(next) = self.read_in_turn()? {
+            return Ok(next);
+        }
+        self.rest()?;
+        match self.read_in_turn()? {
+            Some(next) => Ok(next),
+            None => self.judge_silence(),
+        }
+    }
+
+    // How long ago it began; zero where its settings have nothing to do with time.
+    fn now(&self) -> io::Result<Duration> {
+        match &self.begun {
+            None => Ok(Duration::ZERO),
+            Some(begun) => begun.elapsed(&self.host),
+        }
+    }
+
+    // What the socket gives now, and None where it has nothing, or where its client said so much that it is read later.
+    fn read_in_turn(&mut self) -> io::Result<Option<Next>> {
+        let now = self.now()?;
+        self.is_held = !self.bucket.wait(now).is_zero();
+        if self.is_held {
+            return Ok(None);
+        }
+        let next = self.read();
+        if next.is_some() {
+            self.bucket.take(now);
+            self.heard = now;
+            self.pinged = None;
+        }
+        Ok(next)
+    }
+
+    // Waits for the client or for the bell. Where the client isn't read yet, it waits for the time at which it is, and not for the socket,
+    // which tells of what came only once; and it looks again when it is woken by more.
+    fn rest(&mut self) -> io::Result<()> {
+        for _ in 0..u64::MAX {
+            if self.bell.has_rung() {
+                return Ok(());
+            }
+            let now = self.now()?;
+            let most = self.longest_wait(now);
+            let held = self.bucket.wait(now);
+            if !self.is_held || self.is_deaf {
+                return self.wait(most);
+            }
+            if held.is_zero() {
+                return Ok(());
+            }
+            self.wait(held)?;
+        }
+        Ok(())
+    }
+
+    // How much of its time a client still has that said nothing since it was heard, or pinged.
+    fn patience_left(&self, seconds: u32, now: Duration) -> Duration {
+        let since = self.pinged.unwrap_or(self.heard);
+        Duration::from_secs(u64::from(seconds)).saturating_sub(now.saturating_sub(since))
+    }
+
     // How long to wait for the client at most.
-    fn longest_wait(&self) -> Duration {
-        Duration::from_millis(if self.is_deaf { POLL } else { IDLE })
+    fn longest_wait(&self, now: Duration) -> Duration {
+        let most = Duration::from_millis(if self.is_deaf { POLL } else { IDLE });
+        match self.settings.ping {
+            None => most,
+            Some(seconds) => {
+                let least = Duration::from_millis(POLL);
+                most.min(self.patience_left(seconds, now).max(least))
+            }
+        }
+    }
+
+    // Pings a client that was silent for long, and gives up one that doesn't answer. Of one that isn't read yet nothing is known.
+    fn judge_silence(&mut self) -> io::Result<Next> {
+        let Some(seconds) = self.settings.ping else {
+            return Ok(Next::Quiet);
+        };
+        let now = self.now()?;
+        if self.is_held || !self.patience_left(seconds, now).is_zero() {
+            return Ok(Next::Quiet);
+        }
+        if self.pinged.is_some() {
+            return Ok(Next::Failed);
+        }
+        match self.put(Message::Ping(Bytes::from_static(b""))) {
+            Ok(()) => {
+                self.pinged = Some(now);
+                Ok(Next::Quiet)
+            }
+            Err(SendEnd::NoMemory) => Ok(Next::Quiet),
+            Err(SendEnd::Failed) => Ok(Next::Failed),
+        }
     }
 
     // Writes all that waits to be sent, and rings in between: a client that doesn't read holds up nobody else.
@@ -331,11 +474,16 @@ impl<R: rt::Clock + Wait + Copy> Wire<R> {
     /// room it waits for some.
     pub(crate) fn send(&mut self, text: &str) -> Result<(), SendEnd> {
         self.shake_hands()?;
+        match Message::text(self.alloc, text) {
+            Ok(message) => self.put(message),
+            Err(_) => Err(SendEnd::NoMemory),
+        }
+    }
+
+    // Puts a message to what is to be sent.
+    fn put(&mut self, message: Message) -> Result<(), SendEnd> {
         let Stage::Open(socket) = &mut self.stage else {
             return Err(SendEnd::Failed);
-        };
-        let Ok(message) = Message::text(self.alloc, text) else {
-            return Err(SendEnd::NoMemory);
         };
         match socket.write(message) {
             Ok(()) => Ok(()),
@@ -356,7 +504,13 @@ impl<R: rt::Clock + Wait + Copy> Wire<R> {
             Stage::Handshaking(stream) => {
                 self.stage = Stage::Open(self.finish_handshake(stream)?);
                 self.hang_bell();
-                Ok(true)
+                match self.now() {
+                    Ok(now) => {
+                        self.heard = now;
+                        Ok(true)
+                    }
+                    Err(_) => Err(SendEnd::Failed),
+                }
             }
             Stage::Open(socket) => {
                 self.stage = Stage::Open(socket);
@@ -451,7 +605,7 @@ impl<R: rt::Clock + Wait + Copy> Wire<R> {
                     }
                 }
             }
-            if self.wait_since(begun, PATIENCE).is_err() {
+            if self.bells.are_over() || self.wait_since(begun, PATIENCE).is_err() {
                 return Err(SendEnd::Failed);
             }
         }
@@ -533,7 +687,13 @@ impl<R: rt::Clock + Wait + Copy> Wire<R> {
             return Err(SendEnd::Failed);
         };
         for _ in 0..u64::MAX {
-            if self.wait_since(begun, PATIENCE).is_err() {
+            // One that holds up the end of a server has less time.
+            let patience = if self.bells.are_over() {
+                PARTING
+            } else {
+                PATIENCE
+            };
+            if self.wait_since(begun, patience).is_err() {
                 return Err(SendEnd::Failed);
             }
             let Stage::Open(socket) = &mut self.stage else {
