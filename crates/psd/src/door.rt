@@ -36,6 +36,8 @@ fn without_port(address: &str) -> &str {
 
 impl<R: Net<Listener = TcpListener, Stream = TcpStream> + rt::Clock + Wait + Eprint + Copy> Door
     for PrintingDoor<R> {
+    ghost use Rattle.std.specs.Prelude.{not};
+
     type Link = WsLink<R>;
 
     ghost faults = { λ d. d.door.faults };
