@@ -1,2 +1,3 @@
+pub mod AlwaysWords
 pub mod Servers
 pub mod Journals

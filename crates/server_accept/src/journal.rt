@@ -28,6 +28,8 @@ impl Serving for Brand {
 #[derive(Drop)]
 pub(crate) struct Row<S: Serving> {
     ends: Vec<Option<Closed>>,
+    // How many sessions have ended, with a place or without. It stands still at the last value of a `u32`.
+    ended: u32,
     of: PhantomData<S>,
 }
 
@@ -67,6 +69,7 @@ impl<S: Serving> Row<S> {
         }
         Ok(Row {
             ends,
+            ended: 0,
             of: PhantomData,
         })
     }
@@ -85,6 +88,18 @@ impl<S: Serving> Row<S> {
         }
     }
 
+    // One more session has ended.
+    fn count_end(&mut self)
+        ensures { self.new ≡ self.old }
+    {
+        self.ended = self.ended.saturating_add(1);
+    }
+
+    // How many sessions have ended.
+    fn ended(&self) -> u32 {
+        self.ended
+    }
+
     // The ends at the first so many places, once none of them is empty.
     fn take(&mut self, alloc: Global, begun: u32) -> Option<Vec<Option<Closed>>>
         ensures sessions { IfSome result (λ ends. AreSessions S.hub ends.items) }
@@ -99,7 +114,7 @@ impl<S: Serving> Row<S> {
     }
 }
 
-/// What the sessions of a server ended with. Threads share it by reference.
+/// What the sessions of a server ended with, and how many have ended. One without a place keeps no end. Threads share it by reference.
 #[derive(Drop)]
 pub(crate) struct Journal<S: Serving> {
     row: Mutex<Row<S>>,
@@ -122,8 +137,31 @@ impl<S: Serving> Journal<S> {
     {
         let mut row = self.row.lock(rt);
         row.put(conn, closed);
+        row.count_end();
         drop(row);
         self.rose.notify_all();
+    }
+
+    /// Waits until so many sessions have ended.
+    pub(crate) fn wait_until<R: Wait>(&self, rt: &R, ended: u32) {
+        let mut row = self.row.lock(rt);
+        for _ in rt.forever() {
+            if row.ended() >= ended {
+                return;
+            }
+            row = self.rose.wait(rt, row);
+        }
+        unreachable!()
+    }
+
+    /// A session that was to begin didn't: it counts as one that has ended.
+    pub(crate) fn pass_over<R: Wait>(&self, rt: &R) {
+        self.row.lock(rt).count_end();
+    }
+
+    /// How many sessions have ended.
+    pub(crate) fn ended<R: Wait>(&self, rt: &R) -> u32 {
+        self.row.lock(rt).ended()
     }
 
     /// Waits until the sessions of the connections from 1 to this number have ended, and takes their ends.

@@ -51,9 +51,9 @@ impl Finished {
 
 /// What the sessions of a server share.
 #[derive(Drop)]
-struct Shared<S: Serving> {
+pub(crate) struct Shared<S: Serving> {
     hub: Hub,
-    journal: Journal<S>,
+    pub(crate) journal: Journal<S>,
     ghost hub_is: { hub ≡ S.hub },
 }
 
@@ -83,7 +83,7 @@ fn part<L: Link>(link: &mut L, closed: &Closed) {
 }
 
 // The session of a link. Its last step hands in what it ended with.
-fn run<S, R, L, C>(
+pub(crate) fn run<S, R, L, C>(
     rt: &R,
     alloc: Global,
     shared: &Shared<S>,
@@ -179,9 +179,9 @@ where
 
 // How many links have a session, and the status that their server ends with.
 #[derive(Drop)]
-struct Begun {
-    count: u32,
-    status: Status,
+pub(crate) struct Begun {
+    pub(crate) count: u32,
+    pub(crate) status: Status,
 }
 
 // Gives so many links a session each; or fewer, where there was no further link.
@@ -268,7 +268,7 @@ where
 }
 
 // A hub in which nobody is connected.
-fn make_hub(alloc: Global, config: Config, dex: Dex) -> Result<Hub, AllocError>
+pub(crate) fn make_hub(alloc: Global, config: Config, dex: Dex) -> Result<Hub, AllocError>
     ensures { IfOk result (λ h. (h.config ≡ config) × (h.dex ≡ dex)) }
 {
     let config = Arc::new(alloc, config)?;
@@ -277,7 +277,7 @@ fn make_hub(alloc: Global, config: Config, dex: Dex) -> Result<Hub, AllocError>
 }
 
 // What the sessions of this hub share, with room for the ends of so many.
-fn make_shared<S: Serving>(
+pub(crate) fn make_shared<S: Serving>(
     alloc: Global,
     hub: Hub,
     count: u32,

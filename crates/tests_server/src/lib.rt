@@ -3,6 +3,8 @@
 #![tactic(auto)]
 
 #[cfg(test)]
+mod always_tests;
+#[cfg(test)]
 mod door_tests;
 #[cfg(test)]
 mod flags;
