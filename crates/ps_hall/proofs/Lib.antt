@@ -12,5 +12,6 @@ pub mod GameLemmas
 pub mod ComingLemmas
 pub mod MatchLemmas
 pub mod PullLemmas
+mod PieceLemmas
 pub mod StepLemmas
 mod SearchTeamLemmas

@@ -1,5 +1,5 @@
 -- What an entry does to the hall, and what each connection is sent at it.
-use Rattle.std.specs.Prelude.{◌≡◌, ℕ, List, [], ◌∷◌, ◌++◌, ◌==◌, ◌-◌, length, drop, slice_get, unwrap_or, Option, Some, None, if◌then◌else◌}
+use Rattle.std.specs.Prelude.{◌≡◌, ℕ, List, [], ◌∷◌, ◌++◌, ◌==◌, ◌-◌, length, take, drop, slice_get, unwrap_or, Option, Some, None, if◌then◌else◌}
 use Rattle.std.specs.List.{flat_map}
 use Rattle.ps_base.specs.declared.hall_why.HallWhy.{HallWhy}
 use Rattle.ps_base.specs.Messages.{sent}
@@ -107,6 +107,10 @@ first_cursor conn = record { conn = conn; at = 0 }
 -- at the end of what is kept
 abbrev pub cursor_past : Cursor → Seen → Cursor
 cursor_past c s = record { conn = c.conn; at = length s.log }
+
+-- of what was kept, all but what the last so many entries told
+abbrev pub before_last : ℕ → Seen → Seen
+before_last left s = record s { log = take (length s.log - left) s.log }
 
 -- What who has passed the history `before` is given of a hall whose history goes on with `later`: the part of its view past
 -- that place, and the cursor stands at the end.

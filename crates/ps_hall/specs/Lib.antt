@@ -9,6 +9,7 @@ pub mod Steps
 pub mod Lines
 pub mod Told
 pub mod Halls
+pub mod Pieces
 pub mod States
 pub mod Coming
 pub mod KeptIndices

@@ -1,5 +1,5 @@
 //! The hall.
-ghost use Rattle.std.specs.Prelude.{◌≡◌, ◌++◌, ◌∷◌, [], IfOk, IfSome, OnOk, OnErr, map};
+ghost use Rattle.std.specs.Prelude.{◌≡◌, ◌+◌, ◌<◌, ◌≤◌, ◌⊎◌, ◌++◌, ◌∷◌, [], IfOk, IfSome, OnOk, OnErr, length, map};
 ghost use Rattle.std.specs.Option.{option_copied};
 ghost use Rattle.std.specs.Arc.{arc_value};
 ghost use Rattle.rules_start.specs.Fits.{IsFit};
@@ -7,7 +7,8 @@ ghost use Rattle.ps_users.specs.Seats.{is_seat};
 ghost use Rattle.ps_hall.specs.Records.{opened};
 ghost use Rattle.ps_hall.specs.Lookups.{badge_of, game_in};
 ghost use Rattle.ps_hall.specs.Refusals.{refusal};
-ghost use Rattle.ps_hall.specs.Halls.{seen_opened, seen_after, after, notices, out_of, pulled_past, cursor_past, last_told};
+ghost use Rattle.ps_hall.specs.Halls.{seen_opened, seen_after, after, notices, out_of, pulled_past, cursor_past, before_last, last_told};
+ghost use Rattle.ps_hall.specs.Pieces.{IsEnough, IsShort};
 ghost use Rattle.ps_base.specs.Messages.{msg_lines};
 
 use crate::cursor::Cursor;
@@ -17,6 +18,7 @@ use crate::hall_state::HallState;
 use crate::log::{past, push_pulled};
 use crate::notice::Notice;
 use crate::outcome::{HallOut, Told};
+use crate::piece::{HallPiece, piece_past};
 use ps_base::badge::Badge;
 use ps_base::hall_why::HallWhy;
 use ps_base::id_map::IdMap;
@@ -169,5 +171,30 @@ impl Hall {
         push_pulled(alloc, &mut messages, cursor.conn, log)?;
         cursor.at = self.log.len();
         Ok(messages)
+    }
+
+    /// The messages past a cursor in one piece, behind which the cursor is then. The piece ends as soon as it has
+    /// `PIECE_MESSAGES` messages, or lines of `PIECE_BYTES` bytes in all, or `least` entries are left behind it; but it goes
+    /// on while more than `most` are left. So a message is never cut. Where memory fails the cursor stays. The cursor is one
+    /// of this hall; past where `least` are left, nothing is read.
+    pub fn pull_piece(
+        &self,
+        alloc: Global,
+        cursor: &mut Cursor,
+        least: usize,
+        most: usize,
+    ) -> Result<HallPiece, AllocError>
+        ensures messages { IfOk result (λ p. map msg_lines p.messages.items ≡ pulled_past cursor.old (before_last p.left self.now)) }
+        ensures end { IfOk result (λ p. cursor.new ≡ cursor_past cursor.old (before_last p.left self.now)) }
+        ensures least { IfOk result (λ p. cursor.old.at + least ≤ length self.now.log → least ≤ p.left) }
+        ensures most { IfOk result (λ p. least ≤ most → p.left ≤ most) }
+        ensures short { IfOk result (λ p. IsShort (map msg_lines p.messages.items) ⊎ (most ≤ p.left)) }
+        ensures enough { IfOk result (λ p. least < p.left → IsEnough (map msg_lines p.messages.items)) }
+        ensures err { OnErr result (cursor.new ≡ cursor.old) }
+    {
+        let log = self.log.as_slice();
+        let piece = piece_past(alloc, cursor.conn, log, cursor.at, least, most)?;
+        cursor.at = log.len() - piece.left;
+        Ok(piece)
     }
 }

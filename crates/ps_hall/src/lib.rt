@@ -21,6 +21,7 @@ mod lookup;
 pub mod notice;
 pub mod outcome;
 pub mod pack;
+pub mod piece;
 mod prepare;
 mod refusal;
 mod report;

@@ -38,8 +38,12 @@ fn push_notices(
     Ok(())
 }
 
-// What a connection is told by these notices.
-fn message_of(alloc: Global, conn: ConnNo, notices: &[Notice]) -> Result<List<Text>, AllocError>
+/// What a connection is told by these notices.
+pub(crate) fn message_of(
+    alloc: Global,
+    conn: ConnNo,
+    notices: &[Notice],
+) -> Result<List<Text>, AllocError>
     ensures { IfOk result (λ l. l ≡ message_of conn notices.now) }
 {
     let mut lines = Vec::new(alloc);
