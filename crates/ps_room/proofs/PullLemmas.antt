@@ -1,5 +1,5 @@
 -- What is given to who looks is its view.
-use Rattle.std.proofs.Common.{◌≡◌, ℕ, suc, ◌+◌, ◌==◌, Bool, true, false, cond, List, [], ◌∷◌, ◌++◌, length, take, drop, Option, Some, None, refl, sym, ap, ◌∙◌, append_assoc, subst}
+use Rattle.std.proofs.Common.{◌≡◌, ◌≤◌, ℕ, suc, ◌+◌, ◌-◌, ◌==◌, Bool, true, false, cond, List, [], ◌∷◌, ◌++◌, length, take, drop, Option, Some, None, refl, sym, ap, ◌∙◌, append_assoc, subst, arith}
 use Rattle.std.proofs.lemmas.List.{append-nil, length-append}
 use Rattle.std.proofs.Math.Seq.{take-append_seam, drop-append_seam}
 use Rattle.rules_start.specs.declared.start.Start.{Start}
@@ -161,6 +161,40 @@ pulls_all conn o h = record {
         role = (first_role_by conn o o.battle (logs (opened o) h) ∙ ap (λ (x : Role). role_past conn x (logs (opened o) h)) (sym (nobody_inside conn o)) ∙ role_past_is conn (opened o) h) i;
       });
 }
+
+-- ---- what was logged before the last entries
+
+whole_log : (o : Opening) (h more : List Entry) → (run_seen (seen_opened o) (h ++ more)).log
+    ≡ (run_seen (seen_opened o) h).log ++ logs (run_record (opened o) h) more
+whole_log o h more =
+    ap (λ (s : Seen). s.log) (room_is o (h ++ more)) ∙ parts o h more
+    ∙ ap (λ (s : Seen). s.log ++ logs (run_record (opened o) h) more) (sym (room_is o h))
+
+-- with each entry the log has one more
+pub log_grows : (o : Opening) (h more : List Entry)
+    → length (run_seen (seen_opened o) (h ++ more)).log ≡ length (run_seen (seen_opened o) h).log + length more
+log_grows o h more =
+    ap length (whole_log o h more)
+    ∙ length-append (run_seen (seen_opened o) h).log (logs (run_record (opened o) h) more)
+    ∙ ap (λ n. length (run_seen (seen_opened o) h).log + n) (length_logs (run_record (opened o) h) more)
+
+pub log_holds : (o : Opening) (h more : List Entry) → length more ≤ length (run_seen (seen_opened o) (h ++ more)).log
+log_holds o h more = omega (arith, log_grows o h more)
+
+-- without the last entries it is the log that was before them
+pub log_before : (o : Opening) (h more : List Entry)
+    → take (length (run_seen (seen_opened o) (h ++ more)).log - length more) (run_seen (seen_opened o) (h ++ more)).log ≡ (run_seen (seen_opened o) h).log
+log_before o h more =
+    let before : List LogEntry = (run_seen (seen_opened o) h).log in
+    let later : List LogEntry = logs (run_record (opened o) h) more in
+    let rest : length (run_seen (seen_opened o) (h ++ more)).log - length more ≡ length before = omega (arith, log_grows o h more) in
+    ap (λ n. take n (run_seen (seen_opened o) (h ++ more)).log) rest
+    ∙ ap (take (length before)) (whole_log o h more)
+    ∙ take-append_seam before later
+
+-- who has read a history stands at the end of its log
+pub cursor_stands : (conn : ℕ) (o : Opening) (h : List Entry) → (cursor_at conn o h).at ≡ length (run_seen (seen_opened o) h).log
+cursor_stands conn o h = place_is o h ∙ ap (λ (s : Seen). length s.log) (sym (room_is o h))
 
 -- ---- the next entry
 

@@ -1,5 +1,5 @@
 //! The room.
-ghost use Rattle.std.specs.Prelude.{◌≡◌, ◌↔◌, true, IfOk, OnOk, OnErr, map};
+ghost use Rattle.std.specs.Prelude.{◌≡◌, ◌≤◌, ◌-◌, ◌⊎◌, ◌↔◌, true, length, IfOk, OnOk, OnErr, map};
 ghost use Rattle.std.specs.Option.{option_to_list};
 ghost use Rattle.ps_splitlog.specs.Entries.{logged_lines, message_of};
 ghost use Rattle.ps_room.specs.Records.{presents_of};
@@ -20,6 +20,7 @@ use ps_lines::command::Command;
 use ps_splitlog::cursor::Cursor;
 use ps_splitlog::entry::LogEntry;
 use ps_splitlog::log::SplitLog;
+use ps_splitlog::piece::Piece;
 use ps_view::role::Role;
 use std::alloc::{AllocError, Global};
 use std::marker::Model;
@@ -64,6 +65,7 @@ impl Room {
     ghost use Rattle.ps_room.specs.Rooms.{verdict, role};
     ghost use Rattle.ps_room.specs.Logs.{record_in, given, seen_opened, seen_after, out_of, Goes, MakesNone};
     ghost use Rattle.ps_splitlog.specs.Reads.{cursor_past, read_past};
+    ghost use Rattle.ps_splitlog.specs.Pieces.{without_last, fewest_left, IsShort, IsFull};
     ghost use Rattle.ps_base.specs.Messages.{msg_lines};
 
     /// Whether a room can have this opening: where it has a battle, that can start under the configuration and the dex. Takes
@@ -203,5 +205,27 @@ impl Room {
         ensures err { OnErr result (cursor.new ≡ cursor.old) }
     {
         self.log.read_from(alloc, cursor)
+    }
+
+    /// The messages past a cursor as far as a piece of the log goes, to whose end the cursor moves: see `SplitLog::read_piece`.
+    /// Where memory fails the cursor stays. The cursor is one of this room.
+    pub fn pull_piece(
+        &self,
+        alloc: Global,
+        cursor: &mut Cursor,
+        least: usize,
+        most: usize,
+    ) -> Result<Piece, AllocError>
+        requires { least ≤ most }
+        ensures messages { IfOk result (λ p. map msg_lines p.messages.items ≡ read_past cursor.old (without_last p.left self.now.log)) }
+        ensures end { IfOk result (λ p. cursor.new ≡ cursor_past cursor.old (without_last p.left self.now.log)) }
+        ensures high { IfOk result (λ p. p.left ≤ most) }
+        ensures low { IfOk result (λ p. fewest_left least cursor.old self.now.log ≤ p.left) }
+        ensures onward { IfOk result (λ p. p.left ≤ length self.now.log - cursor.old.at) }
+        ensures short { IfOk result (λ p. IsShort (map msg_lines p.messages.items) ⊎ (p.left ≡ most)) }
+        ensures whole { IfOk result (λ p. (p.left ≡ fewest_left least cursor.old self.now.log) ⊎ IsFull (map msg_lines p.messages.items)) }
+        ensures err { OnErr result (cursor.new ≡ cursor.old) }
+    {
+        self.log.read_piece(alloc, cursor, least, most)
     }
 }

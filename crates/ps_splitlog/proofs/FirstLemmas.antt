@@ -220,7 +220,7 @@ list_any-append test (x ∷ xs) ys none others =
     let both = or_parts (test x) (list_any test xs) none in
     or_from (test x) (list_any test (xs ++ ys)) both.0 (list_any-append test xs ys both.1 others)
 
-none_in_front : {X : Type 0} (test : X → Bool) (n : ℕ) (xs : List X) → list_any test xs ≡ false → list_any test (take n xs) ≡ false
+pub none_in_front : {X : Type 0} (test : X → Bool) (n : ℕ) (xs : List X) → list_any test xs ≡ false → list_any test (take n xs) ≡ false
 none_in_front test zero xs none = refl
 none_in_front test (suc n) [] none = refl
 none_in_front test (suc n) (x ∷ xs) none =

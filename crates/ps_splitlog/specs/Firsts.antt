@@ -8,6 +8,7 @@ use Rattle.std.specs.BTreeMap.{BTreeMap, get}
 use Rattle.ps_event.specs.declared.audience.Audience.{Audience}
 use Rattle.ps_event.specs.declared.audience.Audience.TheVariants as audiences
 use Rattle.ps_view.specs.declared.role.Role.{Role}
+use Rattle.ps_view.specs.declared.role.Role.TheVariants.{Outside}
 use Rattle.ps_splitlog.specs.declared.stored.Stored.{Stored}
 use Rattle.ps_splitlog.specs.declared.stored.Stored.TheVariants.{Same, Split}
 use Rattle.ps_splitlog.specs.declared.entry.Joined.{Joined}
@@ -71,6 +72,12 @@ HasFirsts log firsts = AreFirsts (length log - 1) log firsts
 -- the messages of the entries from this one on
 abbrev pub messages_from : ℕ → Role → ℕ → List LogEntry → List (List (List ℕ))
 messages_from conn role at log = messages_of conn role (take at log) (drop at log)
+
+-- who is outside and has passed none, of the first so many entries that don't name it
+pub record IsUnnamed (reader : ℕ) (role : Role) (at count : ℕ) (log : List LogEntry) : Type 0 where
+  pub outside : role ≡ Outside
+  pub begins : at ≡ 0
+  pub none : list_any (is_named reader) (take count log) ≡ false
 
 -- ---- what is noted at the entry behind so many
 

@@ -1,10 +1,12 @@
 //! Where each connection is named first: before that, who is outside is shown nothing.
-ghost use Rattle.std.specs.Prelude.{◌≡◌, ◌==◌, nat_lt, length, drop, OnOk, if◌then◌else◌};
+ghost use Rattle.std.specs.Prelude.{◌≡◌, ◌⊎◌, ◌==◌, nat_lt, length, drop, OnOk, if◌then◌else◌};
 ghost use Rattle.std.specs.List.{list_any};
 ghost use Rattle.ps_splitlog.specs.Firsts.{owner_in, owner_of, joiner_of, is_that, is_owner, is_given, is_named};
-ghost use Rattle.ps_splitlog.specs.Firsts.{first_for, AreFirsts, HasFirsts, IsSameBefore, AreNoted, messages_from};
+ghost use Rattle.ps_splitlog.specs.Firsts.{first_for, AreFirsts, HasFirsts, IsSameBefore, AreNoted, messages_from, IsUnnamed};
 ghost use Rattle.ps_splitlog.specs.Reads.{role_past};
+ghost use Rattle.ps_splitlog.specs.Pieces.{ReadsOn};
 
+use crate::cursor::Cursor;
 use crate::entry::LogEntry;
 use crate::stored::Stored;
 use ps_base::number::ConnNo;
@@ -167,6 +169,7 @@ pub(crate) fn begin(
     requires { HasFirsts entries.now firsts.now }
     ensures messages { messages_from conn role result entries.now ≡ messages_from conn role at entries.now }
     ensures role { role_past conn role (drop result entries.now) ≡ role_past conn role (drop at entries.now) }
+    ensures unnamed { (result ≡ at) ⊎ IsUnnamed conn role at result entries.now }
 {
     if at > 0 {
         return at;
@@ -175,5 +178,27 @@ pub(crate) fn begin(
         Role::Outside => first_for(firsts, entries.len().saturating_sub(1), conn.0),
         Role::Spectator { .. } => at,
         Role::Player { .. } => at,
+    }
+}
+
+/// A cursor that reads the same, past entries that show it nothing, but leaves so many unread. Takes no memory.
+pub(crate) fn start_of(
+    entries: &[LogEntry],
+    firsts: &BTreeMap<u32, usize>,
+    cursor: Cursor,
+    least: usize,
+) -> Cursor
+    requires { HasFirsts entries.now firsts.now }
+    ensures { (result ≡ cursor) ⊎ ReadsOn cursor result least entries.now }
+{
+    let first = begin(entries, firsts, cursor.conn, cursor.role, cursor.at);
+    let at = first.min(entries.len().saturating_sub(least));
+    if at <= cursor.at {
+        return cursor;
+    }
+    Cursor {
+        conn: cursor.conn,
+        at,
+        role: cursor.role,
     }
 }

@@ -7,6 +7,7 @@ mod firsts;
 mod index;
 pub mod law;
 pub mod log;
+pub mod piece;
 pub mod read;
 pub mod short_log;
 pub mod stored;

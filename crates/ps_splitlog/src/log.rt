@@ -1,15 +1,17 @@
 //! The log.
-ghost use Rattle.std.specs.Prelude.{◌≡◌, ◌++◌, ◌∷◌, [], length, map, None, IfOk, OnOk, OnErr};
+ghost use Rattle.std.specs.Prelude.{◌≡◌, ◌≤◌, ◌⊎◌, ◌-◌, ◌++◌, ◌∷◌, [], length, map, None, IfOk, OnOk, OnErr};
 ghost use Rattle.std.specs.Prelude as prelude;
 ghost use Rattle.ps_splitlog.specs.declared.entry.LogEntry.{LogEntry};
 ghost use Rattle.ps_splitlog.specs.Entries.{log_entry_of, logged_lines, message_of};
 ghost use Rattle.ps_splitlog.specs.Reads.{cursor_past, read_past};
+ghost use Rattle.ps_splitlog.specs.Pieces.{without_last, fewest_left, IsShort, IsFull};
 ghost use Rattle.ps_base.specs.Messages.{msg_lines};
 
 use crate::cursor::Cursor;
 use crate::entry::{Entry, LogEntry, log_entry_of};
-use crate::firsts::{begin, note_last};
+use crate::firsts::{begin, note_last, start_of};
 use crate::index::{Index, forget, none, note};
+use crate::piece::{Piece, walk};
 use crate::read::{message_next, push_messages};
 use ps_base::list::List;
 use ps_base::msg::Msg;
@@ -200,5 +202,33 @@ impl SplitLog {
         cursor.role = role;
         cursor.at = self.entries.len();
         Ok(messages)
+    }
+
+    /// The messages past a cursor as far as a piece goes, to whose end the cursor moves. A piece ends at the first entry behind
+    /// which it is full, by `PIECE_MESSAGES` or `PIECE_BYTES`, or `least` entries are left, but not while more than `most` are
+    /// left. Where memory fails the cursor stays. The cursor is one of this log; with fewer than `least` entries behind it, it
+    /// reads nothing.
+    pub fn read_piece(
+        &self,
+        alloc: Global,
+        cursor: &mut Cursor,
+        least: usize,
+        most: usize,
+    ) -> Result<Piece, AllocError>
+        requires { least ≤ most }
+        ensures messages { IfOk result (λ p. map msg_lines p.messages.items ≡ read_past cursor.old (without_last p.left self.now)) }
+        ensures end { IfOk result (λ p. cursor.new ≡ cursor_past cursor.old (without_last p.left self.now)) }
+        ensures high { IfOk result (λ p. p.left ≤ most) }
+        ensures low { IfOk result (λ p. fewest_left least cursor.old self.now ≤ p.left) }
+        ensures onward { IfOk result (λ p. p.left ≤ length self.now - cursor.old.at) }
+        ensures short { IfOk result (λ p. IsShort (map msg_lines p.messages.items) ⊎ (p.left ≡ most)) }
+        ensures whole { IfOk result (λ p. (p.left ≡ fewest_left least cursor.old self.now) ⊎ IsFull (map msg_lines p.messages.items)) }
+        ensures err { OnErr result (cursor.new ≡ cursor.old) }
+    {
+        let entries = self.entries.as_slice();
+        let start = start_of(entries, &self.firsts, *cursor, least);
+        let walked = walk(alloc, entries, &self.index, start, least, most)?;
+        *cursor = walked.cursor;
+        Ok(walked.piece)
     }
 }

@@ -158,7 +158,7 @@ pub fn join_for(conn: ConnNo, log_entry: &LogEntry) -> Option<&Joined>
 }
 
 // What a connection in this role is sent at the entry at an index.
-fn message(
+pub(crate) fn message(
     alloc: Global,
     entries: &[LogEntry],
     index: &Index,
@@ -204,7 +204,7 @@ pub(crate) fn message_next(
 }
 
 // The role after these changes: the first that names the connection counts.
-fn changed(conn: ConnNo, changes: &[(ConnNo, Role)], role: Role) -> Role
+pub(crate) fn changed(conn: ConnNo, changes: &[(ConnNo, Role)], role: Role) -> Role
     ensures { result ≡ changed conn changes.now role }
 {
     for change in changes {

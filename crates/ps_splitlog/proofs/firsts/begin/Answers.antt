@@ -1,4 +1,4 @@
-use Rattle.std.proofs.Common.{◌≡◌, false, take, arith, rules}
+use Rattle.std.proofs.Common.{◌≡◌, false, take, inr, arith, rules}
 use Rattle.std.specs.List.{list_any}
 use Rattle.ps_splitlog.specs.Firsts.{is_named}
 use Rattle.ps_splitlog.proofs.FirstLemmas.{unnamed_before, messages_behind, role_behind}
@@ -17,3 +17,12 @@ returns-in-Outside-clause-role c =
     unnamed_before c.args.firsts.now c.args.entries.now c.args.conn _ _ c.first_for.result c.first_for.ensures (search rules)
     (search rules) c.requires in
     role_behind c.args.conn c.args.role c.args.at c.first_for.result c.args.entries.now (search rules) (omega arith) none
+
+pub returns-in-Outside-clause-unnamed : goal.returns-in-Outside-clause-unnamed
+returns-in-Outside-clause-unnamed c = inr (record {
+  outside = search rules;
+  begins = omega arith;
+  none =
+      unnamed_before c.args.firsts.now c.args.entries.now c.args.conn _ _ c.first_for.result c.first_for.ensures (search rules)
+      (search rules) c.requires;
+})
