@@ -2,8 +2,11 @@
 
 use ps_outside::Failed;
 use ps_outside::door::{Door, DoorEnd};
-use ps_ws::door::WsDoor;
+use ps_ws::door::{Stopper, WsDoor};
 use ps_ws::link::WsLink;
+use ps_ws::settings::Settings;
+use server_accept::always::AlwaysDoor;
+use std::alloc::{AllocError, Global};
 use std::io::Eprint;
 use std::net::{Net, TcpListener, TcpStream};
 use std::rt;
@@ -20,9 +23,29 @@ pub(crate) struct PrintingDoor<
 }
 
 impl<R: Net<Listener = TcpListener, Stream = TcpStream> + rt::Clock + Wait + Copy> PrintingDoor<R> {
-    /// Prints for this door, which isn't open.
-    pub(crate) fn new(host: R, door: WsDoor<R>) -> PrintingDoor<R> {
-        PrintingDoor { host, door }
+    /// A door that isn't open. Takes no memory.
+    pub(crate) fn new(host: R, alloc: Global) -> PrintingDoor<R> {
+        PrintingDoor {
+            host,
+            door: WsDoor::new(host, alloc),
+        }
+    }
+
+    /// A door that isn't open, whose links have these settings, and which may be stopped.
+    pub(crate) fn with_settings(
+        host: R,
+        alloc: Global,
+        settings: Settings,
+    ) -> Result<PrintingDoor<R>, AllocError> {
+        match WsDoor::with_settings(host, alloc, settings) {
+            Ok(door) => Ok(PrintingDoor { host, door }),
+            Err(error) => Err(error),
+        }
+    }
+
+    /// What stops it. `None` where it may not be stopped, or memory is refused.
+    pub(crate) fn stopper(&self) -> Option<Stopper<R>> {
+        self.door.stopper()
     }
 }
 
@@ -61,5 +84,17 @@ impl<R: Net<Listener = TcpListener, Stream = TcpStream> + rt::Clock + Wait + Epr
 
     fn close(&mut self) {
         self.door.close();
+    }
+}
+
+impl<
+    R: Net<Listener = TcpListener, Stream = TcpStream> + rt::Clock + Wait + Eprint + Copy,
+> AlwaysDoor for PrintingDoor<R> {
+    fn accept_or_stop(&mut self) -> Result<Option<WsLink<R>>, DoorEnd> {
+        self.door.accept_or_stop()
+    }
+
+    fn stop(&mut self) {
+        self.door.stop();
     }
 }

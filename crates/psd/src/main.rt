@@ -2,28 +2,20 @@
 #![tactic(auto)]
 
 mod door;
+mod server;
 
-use crate::door::PrintingDoor;
+use crate::server::{always_status, serve_status};
 use program_commands::kept_words::read_kept_words;
 use program_commands::status::Status;
 use program_show::show::show;
 use ps_keep::sql_keeper::SqlKeeper;
-use ps_outside::host_clock::HostClock;
 use ps_outside::host_files::HostFiles;
 use ps_outside::sink::StdSink;
 use ps_outside::source::StdSource;
-use ps_outside::spawner::ThreadSpawner;
 use ps_replay::run::run;
 use ps_replay::run_kept::run_kept;
-use ps_ws::door::WsDoor;
-use server_accept::serve::serve;
-use std::alloc::Global;
-use std::io::Eprint;
-use std::net::{Net, TcpListener, TcpStream};
 use std::process::ExitCode;
-use std::sync::Wait;
-use std::thread::Threads;
-use std::{env, io, rt};
+use std::{env, io};
 
 const HELP: &str = "\
 psd, a battle server of the kind that Pokemon Showdown players connect to.
@@ -34,6 +26,13 @@ Usage:
       connections over WebSocket, 1 to 1024; ends when all of them have ended.
       Once it listens it prints `listening on ADDRESS:PORT` on standard error;
       the port 0 lets the host choose one
+  psd serve ADDRESS always [--at-once N] [--ping S] [--rate N] [--stop-at-end]
+      [--dex NAME] [--config NAME]
+      the same, but lets in connections as others end, N of them at once, 1024 if
+      not said, at most 16384; further ones wait. A client that was silent for S
+      seconds, 30 if not said, is pinged, and parted from after twice that. Of each
+      client N messages a second are read, 5 if not said, after four times as many
+      at once; 0 is no bound. With --stop-at-end the end of standard input ends it
   psd replay [--dex NAME] [--config NAME]
       reads a recorded script of connections from standard input, and writes what
       each connection is sent to standard output
@@ -83,7 +82,7 @@ key of the files.
 
 const VERSION: &str = "\
 psd 0.1.0
-rattle-kit-13b logic dac8208d650f15bf
+rattle-kit-13f logic dac8208d650f15bf
 ";
 
 /// Why there are no words: memory was refused, or one of them isn't UTF-8.
@@ -110,6 +109,8 @@ enum Asked {
     Text(&'static str),
     /// A server, and the words are its own to read.
     Server,
+    /// A server that stays up, and the words are its own to read.
+    Always,
     /// A page on the two files, and the words are its own to read.
     Page,
     /// A run, and the words are its own to read.
@@ -128,6 +129,14 @@ fn text_or_nothing(text: &'static str, rest: &[String]) -> Asked {
     }
 }
 
+/// What `serve` asks for, by the words behind it.
+fn server_by(rest: &[String]) -> Asked {
+    match rest {
+        [_address, word, ..] if word.as_str() == "always" => Asked::Always,
+        _ => Asked::Server,
+    }
+}
+
 /// What the first word asks for.
 fn asked_by(words: &[String]) -> Asked {
     match words {
@@ -135,7 +144,7 @@ fn asked_by(words: &[String]) -> Asked {
         [first, rest @ ..] => match first.as_str() {
             "--help" => text_or_nothing(HELP, rest),
             "--version" => text_or_nothing(VERSION, rest),
-            "serve" => Asked::Server,
+            "serve" => server_by(rest),
             "show" => Asked::Page,
             "archive" | "standings" => Asked::Kept,
             _ => Asked::Run,
@@ -149,27 +158,6 @@ fn text_status(rt: &HostRuntime, text: &str) -> Status {
         Ok(()) => Status::Done,
         Err(_) => Status::WriteFault,
     }
-}
-
-fn serve_status<R>(host: R, alloc: Global, words: &[String]) -> Status
-where
-    R: Threads + Wait + rt::Files + rt::Clock + Eprint + Copy + Send + Drop + 'static,
-    R: Net<Listener = TcpListener, Stream = TcpStream>,
-{
-    let mut files = HostFiles::new(&host);
-    let mut door = PrintingDoor::new(host, WsDoor::new(host, alloc));
-    let mut clock = HostClock::new(host);
-    let mut spawner = ThreadSpawner::new();
-    serve(
-        host,
-        alloc,
-        words,
-        &mut files,
-        &mut door,
-        &mut clock,
-        &mut spawner,
-    )
-    .into_status()
 }
 
 fn show_status(rt: &HostRuntime, words: &[String]) -> Status {
@@ -211,6 +199,7 @@ fn main(rt: HostRuntime) -> ExitCode {
         Ok(words) => match asked_by(&words) {
             Asked::Text(text) => text_status(&rt, text),
             Asked::Server => serve_status(rt, rt.alloc(), &words),
+            Asked::Always => always_status(rt, rt.alloc(), &words, rt.stdin()),
             Asked::Page => show_status(&rt, &words),
             Asked::Run => run_status(&rt, &words),
             Asked::Kept => kept_status(&rt, &words),
