@@ -139,10 +139,16 @@ impl Watch {
 }
 
 /// Stops a door, from any thread.
-#[derive(Drop)]
 pub struct Stopper<R: Wait + Copy> {
     host: R,
     bells: Arc<Bells>,
+}
+
+// By hand, so that whoever drops one has one step of its proof for that.
+impl<R: Wait + Copy> Drop for Stopper<R> {
+    fn drop(self) {
+        let Stopper { host: _, bells: _ } = self;
+    }
 }
 
 impl<R: Wait + Copy> Stopper<R> {
@@ -160,7 +166,6 @@ impl<R: Wait + Copy> Stopper<R> {
 ///
 /// One that is made with settings may be stopped. It waits out a want of descriptors and of memory: where there is none for one more
 /// connection, it tries again every 100 milliseconds, and who connects waits in the host's queue.
-#[derive(Drop)]
 pub struct WsDoor<R: Net<Listener = TcpListener, Stream = TcpStream> + rt::Clock + Wait + Copy> {
     host: R,
     alloc: Global,
@@ -173,6 +178,24 @@ pub struct WsDoor<R: Net<Listener = TcpListener, Stream = TcpStream> + rt::Clock
     may_stop: bool,
     given: u64,
     faults: u64,
+}
+
+// By hand, as that of a `Stopper`.
+impl<R: Net<Listener = TcpListener, Stream = TcpStream> + rt::Clock + Wait + Copy> Drop
+    for WsDoor<R> {
+    fn drop(self) {
+        let WsDoor {
+            host: _,
+            alloc: _,
+            settings: _,
+            listener: _,
+            bells: _,
+            watch: _,
+            may_stop: _,
+            given: _,
+            faults: _,
+        } = self;
+    }
 }
 
 impl<R: Net<Listener = TcpListener, Stream = TcpStream> + rt::Clock + Wait + Copy> Model

@@ -45,13 +45,25 @@ pub enum Ending {
 ///   Failed.
 /// - A close for a cause is a Close frame: 1009 and 1007 for a text that is too long or isn't UTF-8, 1008 at a limit, and 1011 if out
 ///   of memory.
-#[derive(Drop)]
 pub struct WsLink<R: rt::Clock + Wait + Copy> {
     wire: Wire<R>,
     ended: Option<Ending>,
     faults: u64,
     quiets: u64,
     ends: u64,
+}
+
+// By hand, so that whoever drops one has one step of its proof for that.
+impl<R: rt::Clock + Wait + Copy> Drop for WsLink<R> {
+    fn drop(self) {
+        let WsLink {
+            wire: _,
+            ended: _,
+            faults: _,
+            quiets: _,
+            ends: _,
+        } = self;
+    }
 }
 
 impl<R: rt::Clock + Wait + Copy> Model for WsLink<R> {
