@@ -3,8 +3,10 @@ import os
 import re
 import resource
 import select
+import signal
 import socket
 import subprocess
+import sys
 import time
 
 TOP = os.path.dirname(os.path.dirname(os.path.abspath(__file__)))
@@ -22,7 +24,8 @@ class Wrong(Exception):
 
 
 def take_all_descriptors():
-    """Lets this process, and the servers that it starts, have as many descriptors as the host allows."""
+    """Lets this process, and the servers that it starts, have as many descriptors as the host allows; who ends it ends them."""
+    signal.signal(signal.SIGTERM, lambda *_: sys.exit(143))
     most = resource.getrlimit(resource.RLIMIT_NOFILE)[1]
     resource.setrlimit(resource.RLIMIT_NOFILE, (most, most))
 
