@@ -22,8 +22,8 @@ use Rattle.server_places.specs.Halls.{HallAnswers}
 use Rattle.server_places.specs.Rooms.{Answers}
 use Rattle.ps_hub.specs.Hubs.{Hub, root_of, site_of}
 use Rattle.ps_hub.specs.Passes.{IsHallPass, IsRoomPass, numbers, AreOf, Keeps}
-use Rattle.ps_hub.specs.Turns.{TurnsAtLast, FallsShortAtLast}
-use Rattle.ps_hub.specs.Calls.{hall_entry, room_entry, BeginsAt, BeginsAtMost, Starts, LooksAtMost, HallCaught, Caught, HallOnly, CatchesUpHall, CatchesUp, LooksHall, LooksRoom, Counts, QuitsBy, QuitsRoom, QuitsRoomAtMost, QuitsHall, QuitsHallAtMost, QuitsUpTo, QuitsWith, Quits, IsShutOut, IsShutOutAmong, IsNotShutOut}
+use Rattle.ps_hub.specs.Turns.{TurnsAtLast, Rereads, FallsShortAtLast}
+use Rattle.ps_hub.specs.Calls.{hall_entry, room_entry, BeginsAt, BeginsAtMost, Starts, LooksAtMost, HallCaught, HallHanded, Caught, Handed, HallOnly, CatchesUpHall, CatchesUp, HandsOnHall, HandsOn, LooksHall, LooksRoom, Counts, QuitsBy, QuitsRoom, QuitsRoomAtMost, QuitsHall, QuitsHallAtMost, QuitsUpTo, QuitsWith, Quits, IsShutOut, IsShutOutAmong, IsNotShutOut}
 use Rattle.ps_hub.specs.declared.out.QuitFault.{QuitFault}
 use Rattle.ps_hub.specs.declared.out.QuitFault.TheVariants as quit_faults
 use Rattle.ps_hub.specs.declared.pass.HallPass.{HallPass}
@@ -58,6 +58,20 @@ pub caught_room : {E : Type 0} (hub : Hub) (pass_index : ℕ) (old new : Passes)
 caught_room hub pass_index old new h k (Ok msgs) p was rest pass_list same ok err =
     record { before = h; behind = k; was = was; rooms = pass_list; number = same.0; id = same.1; done = ok hub old.conn p; conn = ap (λ (q : Passes). q.conn) rest; badge = ap (λ (q : Passes). q.badge) rest; hall = ap (λ (q : Passes). q.hall) rest }
 caught_room hub pass_index old new h k (Err e) p was rest pass_list same ok err =
+    record { before = h; behind = k; was = was; rooms = pass_list; number = same.0; id = same.1; done = err; conn = ap (λ (q : Passes). q.conn) rest; badge = ap (λ (q : Passes). q.badge) rest; hall = ap (λ (q : Passes). q.hall) rest }
+
+-- ---- handing on
+
+pub handed_hall : {E : Type 0} (hub : Hub) (old new : Passes) (h k : HallPass) (result : Result (Vec Msg Global) E) → IsHallPass hub old.conn h → old.hall ≡ Some h → new.hall ≡ Some k → new.rooms.items ≡ old.rooms.items → new.conn ≡ old.conn → new.badge ≡ old.badge
+    → IfOk result (λ msgs. (hub : Hub) (conn : ℕ) → IsHallPass hub conn h → HallHanded hub conn msgs.items h k) → OnErr result (Rereads h.pass.1 k.pass.1 × (k.at ≡ h.at)) → HandsOnHall hub old result new
+handed_hall hub old new h k (Ok msgs) p was is pass_lists conn badge ok err = record { before = h; behind = k; was = was; is = is; done = ok hub old.conn p; rooms = pass_lists; conn = conn; badge = badge }
+handed_hall hub old new h k (Err e) p was is pass_lists conn badge ok err = record { before = h; behind = k; was = was; is = is; done = err; rooms = pass_lists; conn = conn; badge = badge }
+
+pub handed_room : {E : Type 0} (hub : Hub) (pass_index : ℕ) (old new : Passes) (h k : RoomPass) (result : Result (Vec Msg Global) E) → IsRoomPass hub old.conn h → slice_get old.rooms.items pass_index ≡ Some h → new ≡ record old { rooms = new.rooms } → new.rooms.items ≡ slice_set old.rooms.items pass_index k
+    → (k.number ≡ h.number) × (k.id ≡ h.id) → IfOk result (λ msgs. (hub : Hub) (conn : ℕ) → IsRoomPass hub conn h → Handed hub conn msgs.items h k) → OnErr result (Rereads h.pass.1 k.pass.1 × (k.at ≡ h.at)) → HandsOn hub pass_index old result new
+handed_room hub pass_index old new h k (Ok msgs) p was rest pass_list same ok err =
+    record { before = h; behind = k; was = was; rooms = pass_list; number = same.0; id = same.1; done = ok hub old.conn p; conn = ap (λ (q : Passes). q.conn) rest; badge = ap (λ (q : Passes). q.badge) rest; hall = ap (λ (q : Passes). q.hall) rest }
+handed_room hub pass_index old new h k (Err e) p was rest pass_list same ok err =
     record { before = h; behind = k; was = was; rooms = pass_list; number = same.0; id = same.1; done = err; conn = ap (λ (q : Passes). q.conn) rest; badge = ap (λ (q : Passes). q.badge) rest; hall = ap (λ (q : Passes). q.hall) rest }
 
 -- ---- counting

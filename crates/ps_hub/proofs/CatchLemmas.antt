@@ -1,6 +1,6 @@
--- Catching up, from what a look, a turn and handing out do to a pass.
-use Rattle.std.proofs.Common.{◌≡◌, ℕ, ◌<◌, ◌≤◌, List, ◌++◌, length, None, Result, Ok, Err, sym, ap, ◌∙◌, subst, inl, inr, ⊎_elim}
-use Rattle.std.specs.Prelude.{OnOk, OnErr}
+-- Catching up, from what a look, turns and handing out do to a pass.
+use Rattle.std.proofs.Common.{◌≡◌, ℕ, ◌<◌, ◌≤◌, List, ◌++◌, length, Result, Ok, Err, sym, ap, subst, ◌∙◌, arith}
+use Rattle.std.specs.Prelude.{OnErr}
 use Rattle.ps_base.specs.declared.msg.Msg.{Msg}
 use Rattle.ps_hall.specs.declared.entry.HallEntry.{HallEntry}
 use Rattle.ps_histlock.specs.declared.view.View.{View}
@@ -8,128 +8,117 @@ use Rattle.ps_histlock.specs.Histories.{commands}
 use Rattle.ps_histlock.specs.Seated.{TableId}
 use Rattle.ps_histlock.specs.Views.{after_look}
 use Rattle.server_places.specs.declared.command.RoomCmd.{RoomCmd}
-use Rattle.server_places.specs.declared.cursor.HallCursor.{HallCursor}
-use Rattle.server_places.specs.declared.cursor.RoomCursor.{RoomCursor}
 use Rattle.server_places.specs.declared.site.Root.{Root}
 use Rattle.server_places.specs.declared.site.Site.{Site}
-use Rattle.server_places.specs.Rooms.{Pulls, Shows, StandsAt}
-use Rattle.server_places.specs.Halls.{HallPulls, HallShows, HallStandsAt}
+use Rattle.server_places.specs.Rooms.{PullsUpTo, Shows, StandsAt}
+use Rattle.server_places.specs.Halls.{HallPullsUpTo, HallShows, HallStandsAt}
 use Rattle.ps_hub.specs.Hubs.{Hub, root_of, site_of}
 use Rattle.ps_hub.specs.Passes.{lines_of, IsTold, IsHallPass, IsRoomPass}
-use Rattle.ps_hub.specs.Turns.{TurnsAtLast, PullsMore, HallReadAtLast, RoomReadAtLast}
-use Rattle.ps_hub.specs.Calls.{IsFresh, LooksAnd, LooksAtMost, HandsOut, HallCaught, Caught}
+use Rattle.ps_hub.specs.Turns.{Rereads, ReadsAtLast, HallReadUpTo, RoomReadUpTo}
+use Rattle.ps_hub.specs.Calls.{IsFresh, LooksAnd, LooksAtMost, HandsOut, HallCaught, HallHanded, Caught, Handed}
 use Rattle.ps_hub.specs.declared.pass.HallPass.{HallPass}
 use Rattle.ps_hub.specs.declared.pass.RoomPass.{RoomPass}
-use Rattle.ps_hub.proofs.ToldLemmas.{pulled_stands, Grows, grows_looked, turns_grow_at_last, commands_grow, looks_and_turns, hands_out}
-use Rattle.ps_hub.proofs.PassLemmas.{hall_law, hall_passed, room_law, room_passed}
+use Rattle.ps_hub.proofs.ToldLemmas.{DidRead, Grows, grows_looked, grows_on, rereads_grow, rereads_more, hands_out}
+use Rattle.ps_hub.proofs.PassLemmas.{hall_count, room_count}
 
-looked_on : {O C : Type 0} (v w : View O C) (n : ℕ) → Grows (after_look v n) w → Grows v w
-looked_on v w n g = record { origin = g.origin; seen = g.seen; adds = g.adds }
+module _ {O C X : Type 0} (pulls : O → List C → X → List Msg → X → Type 0) where
+  -- what a turn without an entry does to a view
+  pub did_read : {T E : Type 0} (v : View O C) (x : X) (kept : List Msg) (result : Result T E) (w : View O C) (y : X) (more : List Msg) → ReadsAtLast pulls v x kept result w y more → DidRead v result w
+  did_read v x kept (Ok done) w y more told = told.0
+  did_read v x kept (Err e) w y more told = told.0
 
-looks_grow : {O C : Type 0} (v w : View O C) (passed : ℕ) → LooksAnd v passed w → Grows v w
-looks_grow {O} {C} v w passed l =
-    ⊎_elim
-    (λ (a : (l.0 ≤ passed) × (w ≡ after_look v l.0)). subst (λ (u : View O C). Grows v u) (sym a.1) (grows_looked v l.0))
-    (λ (b : (passed < l.0) × TurnsAtLast (after_look v l.0) None w). looked_on v w l.0 (turns_grow_at_last (after_look v l.0) None w b.1))
-    l.3
+-- so it is, whatever the answer
+pub on_err_given : {T E : Type 0} (P : Type 0) (result : Result T E) → P → OnErr result P
+on_err_given P (Ok done) p = tt
+on_err_given P (Err e) p = p
+
+-- a loop that ends once so much was passed didn't begin
+pub still_idle : {P : Type 0} (shown : ℕ) (passed : P → ℕ) (first now next : P) → (shown ≤ passed first → now ≡ first) → passed now < shown → shown ≤ passed first → next ≡ first
+still_idle shown passed first now next same less le = let is : passed now ≡ passed first = ap passed (same le) in absurd (omega arith)
+
+module _ {O C : Type 0} where
+  looks_grow : (v w : View O C) (n : ℕ) → Rereads (after_look v n) w → Grows v w
+  looks_grow v w n r = grows_on v (after_look v n) w (grows_looked v n) (rereads_grow (after_look v n) w r)
+
+  -- a look, the turns after it, and what is handed out then
+  looks_and : (v m w : View O C) (n passed now : ℕ) → m ≡ after_look v n → length v.seen ≤ n → IsFresh v n → Rereads m w → (n ≤ passed → w ≡ m) → n ≤ now → LooksAnd v passed w now
+  looks_and v m w n passed now is seen fresh read idle answered = record {
+    shown = n;
+    seen = seen;
+    fresh = fresh;
+    read = subst (λ (u : View O C). Rereads u w) is read;
+    idle = λ le. subst (λ (u : View O C). w ≡ u) is (idle le);
+    answered = answered;
+  }
+
+  looks_less : (v m w : View O C) (n : ℕ) → m ≡ after_look v n → length v.seen ≤ n → IsFresh v n → Rereads m w → LooksAtMost v w
+  looks_less v m w n is seen fresh read = (n, seen, subst (λ (u : View O C). Rereads u w) is read, fresh)
 
 -- ---- the hall
 
--- a turn that was taken pulled the messages of all that its pass sees
-pub hall_all : (hub : Hub) (conn : ℕ) (h k : HallPass) → TurnsAtLast h.pass.1 None k.pass.1
-    → PullsMore HallPulls h.pass.1.origin (commands k.pass.1.seen) h.cursor (h.kept.items ++ h.fresh.items) k.cursor
-    (k.kept.items ++ k.fresh.items) → IsHallPass hub conn h
-    → k.cursor.passed ≡ length (commands k.pass.1.seen)
-hall_all hub conn h k turns pulled p =
-    let g : Grows h.pass.1 k.pass.1 = turns_grow_at_last h.pass.1 None k.pass.1 turns in
-    let later = commands_grow h.pass.1 k.pass.1 g in
-    let msgs : List Msg = pulled.0 in
-    let here : HallPulls (root_of hub) (commands h.pass.1.seen ++ later.0) h.cursor msgs k.cursor = subst
-    (λ (l : List HallEntry). HallPulls (root_of hub) l h.cursor msgs k.cursor) (sym later.1)
-    (subst (λ (r : Root). HallPulls r (commands k.pass.1.seen) h.cursor msgs k.cursor) p.origin pulled.1) in
-    hall_passed conn (root_of hub) (commands h.pass.1.seen ++ later.0) k.cursor
-    (pulled_stands (HallShows conn (root_of hub)) (HallStandsAt conn (root_of hub)) (HallPulls (root_of hub)) (hall_law conn (root_of hub)) (commands h.pass.1.seen) later.0 h.cursor k.cursor h.cursor.passed (lines_of (h.kept.items ++ h.fresh.items)) h.at msgs p.told here)
-    ∙ ap length later.1
+-- a turn more
+pub hall_read_more : {T E : Type 0} (first now next : HallPass) (result : Result T E) → Rereads first.pass.1 now.pass.1 → HallReadUpTo now result next → Rereads first.pass.1 next.pass.1
+hall_read_more first now next result r does = rereads_more first.pass.1 now.pass.1 next.pass.1 result r
+    (did_read HallPullsUpTo now.pass.1 now.cursor (now.kept.items ++ now.fresh.items) result next.pass.1 next.cursor (next.kept.items ++ next.fresh.items) does)
 
--- a look that shows more than was pulled, and a turn without a command
-pub hall_read : {T E : Type 0} (hub : Hub) (conn : ℕ) (h m k : HallPass) (n : ℕ) (result : Result T E)
-    → m ≡ record h { pass = (h.pass.0, after_look h.pass.1 n) } → length h.pass.1.seen ≤ n → IsFresh h.pass.1 n → h.cursor.passed < n
-    → IsHallPass hub conn m → HallReadAtLast m result k
-    → OnOk result (LooksAnd h.pass.1 h.cursor.passed k.pass.1 × (k.cursor.passed ≡ length (commands k.pass.1.seen)))
-hall_read hub conn h m k n (Ok done) is seen fresh more p told = (
-  looks_and_turns h.pass.1 m.pass.1 k.pass.1 n h.cursor.passed (ap (λ (q : HallPass). q.pass.1) is) seen fresh more told.0,
-  hall_all hub conn m k told.0 told.1 p,
-)
-hall_read hub conn h m k n (Err error) is seen fresh more p told = tt
+hall_out : (hub : Hub) (conn : ℕ) (h m k : HallPass) (msgs : List Msg) → IsHallPass hub conn h → IsHallPass hub conn m → Grows h.pass.1 m.pass.1 → m.at ≡ h.at → msgs ≡ m.kept.items ++ m.fresh.items → k.pass ≡ m.pass → k.at ≡ m.cursor.passed
+    → HandsOut (HallShows conn (root_of hub)) (commands h.pass.1.seen) h.at msgs (commands k.pass.1.seen) k.at
+hall_out hub conn h m k msgs p q grows at given same end =
+    let told : IsTold (HallShows conn (root_of hub)) (HallStandsAt conn (root_of hub)) (commands m.pass.1.seen) m.cursor m.cursor.passed (lines_of msgs) h.at = subst (λ (n : ℕ). IsTold (HallShows conn (root_of hub)) (HallStandsAt conn (root_of hub)) (commands m.pass.1.seen) m.cursor m.cursor.passed (lines_of msgs) n) at (subst (λ (ms : List Msg). IsTold (HallShows conn (root_of hub)) (HallStandsAt conn (root_of hub)) (commands m.pass.1.seen) m.cursor m.cursor.passed (lines_of ms) m.at) (sym given) q.told) in
+    subst (λ (s : TableId × View Root HallEntry). HandsOut (HallShows conn (root_of hub)) (commands h.pass.1.seen) h.at msgs (commands s.1.seen) k.at) (sym same)
+    (hands_out (HallShows conn (root_of hub)) (HallStandsAt conn (root_of hub)) hall_count h.pass.1 m.pass.1 h.cursor m.cursor (h.kept.items ++ h.fresh.items) msgs h.at k.at p.told grows told end)
 
--- and if out of memory, at the most that
-pub hall_read_less : {T E : Type 0} (h m k : HallPass) (n : ℕ) (result : Result T E)
-    → m ≡ record h { pass = (h.pass.0, after_look h.pass.1 n) } → length h.pass.1.seen ≤ n → IsFresh h.pass.1 n
-    → HallReadAtLast m result k → OnErr result (LooksAtMost h.pass.1 k.pass.1)
-hall_read_less h m k n (Ok done) is seen fresh told = tt
-hall_read_less h m k n (Err error) is seen fresh told =
-    let looked = ap (λ (q : HallPass). q.pass.1) is in (
-      n,
-      seen,
-      ⊎_elim (λ (e : k.pass.1 ≡ m.pass.1). inl (e ∙ looked)) (λ (t : TurnsAtLast m.pass.1 None k.pass.1). inr
-          (subst (λ v. TurnsAtLast v None k.pass.1) looked t)) told.0,
-      fresh,
+-- from `h` by a look to `l`, by turns to `m`, and by handing out to `k`
+pub hall_caught : (hub : Hub) (conn : ℕ) (h l m k : HallPass) (n : ℕ) (msgs : List Msg) → IsHallPass hub conn h → IsHallPass hub conn m → l ≡ record h { pass = (h.pass.0, after_look h.pass.1 n) } → length h.pass.1.seen ≤ n → IsFresh h.pass.1 n
+    → Rereads l.pass.1 m.pass.1 → (n ≤ l.cursor.passed → m ≡ l) → n ≤ m.cursor.passed → m.at ≡ l.at → msgs ≡ m.kept.items ++ m.fresh.items → k.pass ≡ m.pass → k.at ≡ m.cursor.passed → HallCaught hub conn msgs h k
+hall_caught hub conn h l m k n msgs p q is seen fresh read idle answered at given same end =
+    let looked : l.pass.1 ≡ after_look h.pass.1 n = ap (λ (x : HallPass). x.pass.1) is in
+    let view : k.pass.1 ≡ m.pass.1 = ap (λ (s : TableId × View Root HallEntry). s.1) same in
+    let further : Rereads (after_look h.pass.1 n) m.pass.1 = subst (λ (u : View Root HallEntry). Rereads u m.pass.1) looked read in (
+      looks_and h.pass.1 l.pass.1 k.pass.1 n h.cursor.passed k.at looked seen fresh (subst (λ (u : View Root HallEntry). Rereads l.pass.1 u) (sym view) read)
+          (λ le. view ∙ ap (λ (x : HallPass). x.pass.1) (idle (subst (λ (x : HallPass). n ≤ x.cursor.passed) (sym is) le))) (subst (λ (a : ℕ). n ≤ a) (sym end) answered),
+      hall_out hub conn h m k msgs p q (looks_grow h.pass.1 m.pass.1 n further) (at ∙ ap (λ (x : HallPass). x.at) is) given same end,
     )
 
-pub hall_caught : (hub : Hub) (conn : ℕ) (h m k : HallPass) (msgs : List Msg) → IsHallPass hub conn h → IsHallPass hub conn m → LooksAnd h.pass.1 h.cursor.passed m.pass.1 → m.cursor.passed ≡ length (commands m.pass.1.seen) → m.at ≡ h.at
-    → msgs ≡ m.kept.items ++ m.fresh.items → k.pass ≡ m.pass → k.at ≡ m.cursor.passed → HallCaught hub conn msgs h k
-hall_caught hub conn h m k msgs p q looks all at given same end =
-    let told : IsTold (HallShows conn (root_of hub)) (HallStandsAt conn (root_of hub)) (commands m.pass.1.seen) m.cursor m.cursor.passed (lines_of msgs) h.at = subst (λ (n : ℕ). IsTold (HallShows conn (root_of hub)) (HallStandsAt conn (root_of hub)) (commands m.pass.1.seen) m.cursor m.cursor.passed (lines_of msgs) n) at (subst (λ (ms : List Msg). IsTold (HallShows conn (root_of hub)) (HallStandsAt conn (root_of hub)) (commands m.pass.1.seen) m.cursor m.cursor.passed (lines_of ms) m.at) (sym given) q.told) in
-    let out : HandsOut (HallShows conn (root_of hub)) (commands h.pass.1.seen) h.at msgs (commands m.pass.1.seen) k.at = hands_out (HallShows conn (root_of hub)) (HallStandsAt conn (root_of hub)) (λ (x : HallCursor). x.passed) h.pass.1 m.pass.1 h.cursor m.cursor (h.kept.items ++ h.fresh.items) msgs h.at k.at p.told (looks_grow h.pass.1 m.pass.1 h.cursor.passed looks) told all end in
-    subst (λ (s : TableId × View Root HallEntry). LooksAnd h.pass.1 h.cursor.passed s.1 × HandsOut (HallShows conn (root_of hub)) (commands h.pass.1.seen) h.at msgs (commands s.1.seen) k.at) (sym same) (looks, out)
+pub hall_less : (h l m : HallPass) (n : ℕ) → l ≡ record h { pass = (h.pass.0, after_look h.pass.1 n) } → length h.pass.1.seen ≤ n → IsFresh h.pass.1 n → Rereads l.pass.1 m.pass.1 → LooksAtMost h.pass.1 m.pass.1
+hall_less h l m n is seen fresh read = looks_less h.pass.1 l.pass.1 m.pass.1 n (ap (λ (x : HallPass). x.pass.1) is) seen fresh read
+
+pub hall_handed_on : (hub : Hub) (conn : ℕ) (h m k : HallPass) (msgs : List Msg) → IsHallPass hub conn h → IsHallPass hub conn m → Rereads h.pass.1 m.pass.1 → m.at ≡ h.at → msgs ≡ m.kept.items ++ m.fresh.items → k.pass ≡ m.pass → k.at ≡ m.cursor.passed → HallHanded hub conn msgs h k
+hall_handed_on hub conn h m k msgs p q read at given same end = (
+  subst (λ (s : TableId × View Root HallEntry). Rereads h.pass.1 s.1) (sym same) read,
+  hall_out hub conn h m k msgs p q (rereads_grow h.pass.1 m.pass.1 read) at given same end,
+)
 
 -- ---- a room
 
-pub room_all : (hub : Hub) (conn : ℕ) (h k : RoomPass) → TurnsAtLast h.pass.1 None k.pass.1
-    → PullsMore Pulls h.pass.1.origin (commands k.pass.1.seen) h.cursor (h.kept.items ++ h.fresh.items) k.cursor
-    (k.kept.items ++ k.fresh.items) → IsRoomPass hub conn h
-    → k.cursor.passed ≡ length (commands k.pass.1.seen)
-room_all hub conn h k turns pulled p =
-    let site : Site = site_of hub h.number in
-    let g : Grows h.pass.1 k.pass.1 = turns_grow_at_last h.pass.1 None k.pass.1 turns in
-    let later = commands_grow h.pass.1 k.pass.1 g in
-    let msgs : List Msg = pulled.0 in
-    let here : Pulls site (commands h.pass.1.seen ++ later.0) h.cursor msgs k.cursor = subst
-    (λ (l : List RoomCmd). Pulls site l h.cursor msgs k.cursor) (sym later.1)
-    (subst (λ (s : Site). Pulls s (commands k.pass.1.seen) h.cursor msgs k.cursor) p.origin pulled.1) in
-    room_passed conn site (commands h.pass.1.seen ++ later.0) k.cursor
-    (pulled_stands (Shows conn site) (StandsAt conn site) (Pulls site) (room_law conn site) (commands h.pass.1.seen) later.0 h.cursor k.cursor h.cursor.passed (lines_of (h.kept.items ++ h.fresh.items)) h.at msgs p.told here)
-    ∙ ap length later.1
+pub room_read_more : {T E : Type 0} (first now next : RoomPass) (result : Result T E) → Rereads first.pass.1 now.pass.1 → RoomReadUpTo now result next → Rereads first.pass.1 next.pass.1
+room_read_more first now next result r does = rereads_more first.pass.1 now.pass.1 next.pass.1 result r
+    (did_read PullsUpTo now.pass.1 now.cursor (now.kept.items ++ now.fresh.items) result next.pass.1 next.cursor (next.kept.items ++ next.fresh.items) does)
 
--- a look that shows more than was pulled, and a turn without a command
-pub room_read : {T E : Type 0} (hub : Hub) (conn : ℕ) (h m k : RoomPass) (n : ℕ) (result : Result T E)
-    → m ≡ record h { pass = (h.pass.0, after_look h.pass.1 n) } → length h.pass.1.seen ≤ n → IsFresh h.pass.1 n → h.cursor.passed < n
-    → IsRoomPass hub conn m → RoomReadAtLast m result k
-    → OnOk result (LooksAnd h.pass.1 h.cursor.passed k.pass.1 × (k.cursor.passed ≡ length (commands k.pass.1.seen)))
-room_read hub conn h m k n (Ok done) is seen fresh more p told = (
-  looks_and_turns h.pass.1 m.pass.1 k.pass.1 n h.cursor.passed (ap (λ (q : RoomPass). q.pass.1) is) seen fresh more told.0,
-  room_all hub conn m k told.0 told.1 p,
-)
-room_read hub conn h m k n (Err error) is seen fresh more p told = tt
-
--- and if out of memory, at the most that
-pub room_read_less : {T E : Type 0} (h m k : RoomPass) (n : ℕ) (result : Result T E)
-    → m ≡ record h { pass = (h.pass.0, after_look h.pass.1 n) } → length h.pass.1.seen ≤ n → IsFresh h.pass.1 n
-    → RoomReadAtLast m result k → OnErr result (LooksAtMost h.pass.1 k.pass.1)
-room_read_less h m k n (Ok done) is seen fresh told = tt
-room_read_less h m k n (Err error) is seen fresh told =
-    let looked = ap (λ (q : RoomPass). q.pass.1) is in (
-      n,
-      seen,
-      ⊎_elim (λ (e : k.pass.1 ≡ m.pass.1). inl (e ∙ looked)) (λ (t : TurnsAtLast m.pass.1 None k.pass.1). inr
-          (subst (λ v. TurnsAtLast v None k.pass.1) looked t)) told.0,
-      fresh,
-    )
-
-pub room_caught : (hub : Hub) (conn : ℕ) (h m k : RoomPass) (msgs : List Msg) → IsRoomPass hub conn h → IsRoomPass hub conn m → LooksAnd h.pass.1 h.cursor.passed m.pass.1 → m.cursor.passed ≡ length (commands m.pass.1.seen) → m.at ≡ h.at → m.number ≡ h.number
-    → msgs ≡ m.kept.items ++ m.fresh.items → k.pass ≡ m.pass → k.at ≡ m.cursor.passed → Caught hub conn msgs h k
-room_caught hub conn h m k msgs p q looks all at number given same end =
+room_out : (hub : Hub) (conn : ℕ) (h m k : RoomPass) (msgs : List Msg) → IsRoomPass hub conn h → IsRoomPass hub conn m → Grows h.pass.1 m.pass.1 → m.at ≡ h.at → m.number ≡ h.number → msgs ≡ m.kept.items ++ m.fresh.items → k.pass ≡ m.pass → k.at ≡ m.cursor.passed
+    → HandsOut (Shows conn (site_of hub h.number)) (commands h.pass.1.seen) h.at msgs (commands k.pass.1.seen) k.at
+room_out hub conn h m k msgs p q grows at number given same end =
     let here : IsTold (Shows conn (site_of hub h.number)) (StandsAt conn (site_of hub h.number)) (commands m.pass.1.seen) m.cursor m.cursor.passed (lines_of (m.kept.items ++ m.fresh.items)) m.at = subst (λ (n : ℕ). IsTold (Shows conn (site_of hub n)) (StandsAt conn (site_of hub n)) (commands m.pass.1.seen) m.cursor m.cursor.passed (lines_of (m.kept.items ++ m.fresh.items)) m.at) number q.told in
     let told : IsTold (Shows conn (site_of hub h.number)) (StandsAt conn (site_of hub h.number)) (commands m.pass.1.seen) m.cursor m.cursor.passed (lines_of msgs) h.at = subst (λ (n : ℕ). IsTold (Shows conn (site_of hub h.number)) (StandsAt conn (site_of hub h.number)) (commands m.pass.1.seen) m.cursor m.cursor.passed (lines_of msgs) n) at (subst (λ (ms : List Msg). IsTold (Shows conn (site_of hub h.number)) (StandsAt conn (site_of hub h.number)) (commands m.pass.1.seen) m.cursor m.cursor.passed (lines_of ms) m.at) (sym given) here) in
-    let out : HandsOut (Shows conn (site_of hub h.number)) (commands h.pass.1.seen) h.at msgs (commands m.pass.1.seen) k.at = hands_out (Shows conn (site_of hub h.number)) (StandsAt conn (site_of hub h.number)) (λ (x : RoomCursor). x.passed) h.pass.1 m.pass.1 h.cursor m.cursor (h.kept.items ++ h.fresh.items) msgs h.at k.at p.told (looks_grow h.pass.1 m.pass.1 h.cursor.passed looks) told all end in
-    subst (λ (s : TableId × View Site RoomCmd). LooksAnd h.pass.1 h.cursor.passed s.1 × HandsOut (Shows conn (site_of hub h.number)) (commands h.pass.1.seen) h.at msgs (commands s.1.seen) k.at) (sym same) (looks, out)
+    subst (λ (s : TableId × View Site RoomCmd). HandsOut (Shows conn (site_of hub h.number)) (commands h.pass.1.seen) h.at msgs (commands s.1.seen) k.at) (sym same)
+    (hands_out (Shows conn (site_of hub h.number)) (StandsAt conn (site_of hub h.number)) room_count h.pass.1 m.pass.1 h.cursor m.cursor (h.kept.items ++ h.fresh.items) msgs h.at k.at p.told grows told end)
+
+pub room_caught : (hub : Hub) (conn : ℕ) (h l m k : RoomPass) (n : ℕ) (msgs : List Msg) → IsRoomPass hub conn h → IsRoomPass hub conn m → l ≡ record h { pass = (h.pass.0, after_look h.pass.1 n) } → length h.pass.1.seen ≤ n → IsFresh h.pass.1 n
+    → Rereads l.pass.1 m.pass.1 → (n ≤ l.cursor.passed → m ≡ l) → n ≤ m.cursor.passed → m.at ≡ l.at → m.number ≡ l.number → msgs ≡ m.kept.items ++ m.fresh.items → k.pass ≡ m.pass → k.at ≡ m.cursor.passed → Caught hub conn msgs h k
+room_caught hub conn h l m k n msgs p q is seen fresh read idle answered at number given same end =
+    let looked : l.pass.1 ≡ after_look h.pass.1 n = ap (λ (x : RoomPass). x.pass.1) is in
+    let view : k.pass.1 ≡ m.pass.1 = ap (λ (s : TableId × View Site RoomCmd). s.1) same in
+    let further : Rereads (after_look h.pass.1 n) m.pass.1 = subst (λ (u : View Site RoomCmd). Rereads u m.pass.1) looked read in (
+      looks_and h.pass.1 l.pass.1 k.pass.1 n h.cursor.passed k.at looked seen fresh (subst (λ (u : View Site RoomCmd). Rereads l.pass.1 u) (sym view) read)
+          (λ le. view ∙ ap (λ (x : RoomPass). x.pass.1) (idle (subst (λ (x : RoomPass). n ≤ x.cursor.passed) (sym is) le))) (subst (λ (a : ℕ). n ≤ a) (sym end) answered),
+      room_out hub conn h m k msgs p q (looks_grow h.pass.1 m.pass.1 n further) (at ∙ ap (λ (x : RoomPass). x.at) is) (number ∙ ap (λ (x : RoomPass). x.number) is) given same end,
+    )
+
+pub room_less : (h l m : RoomPass) (n : ℕ) → l ≡ record h { pass = (h.pass.0, after_look h.pass.1 n) } → length h.pass.1.seen ≤ n → IsFresh h.pass.1 n → Rereads l.pass.1 m.pass.1 → LooksAtMost h.pass.1 m.pass.1
+room_less h l m n is seen fresh read = looks_less h.pass.1 l.pass.1 m.pass.1 n (ap (λ (x : RoomPass). x.pass.1) is) seen fresh read
+
+pub room_handed_on : (hub : Hub) (conn : ℕ) (h m k : RoomPass) (msgs : List Msg) → IsRoomPass hub conn h → IsRoomPass hub conn m → Rereads h.pass.1 m.pass.1 → m.at ≡ h.at → m.number ≡ h.number → msgs ≡ m.kept.items ++ m.fresh.items → k.pass ≡ m.pass → k.at ≡ m.cursor.passed → Handed hub conn msgs h k
+room_handed_on hub conn h m k msgs p q read at number given same end = (
+  subst (λ (s : TableId × View Site RoomCmd). Rereads h.pass.1 s.1) (sym same) read,
+  room_out hub conn h m k msgs p q (rereads_grow h.pass.1 m.pass.1 read) at number given same end,
+)

@@ -22,7 +22,7 @@ pub found_of : (hub : Hub) (conn : ℕ) (h m k : RoomPass) (id : List ℕ) → 1
     m.cursor.id ≡ Some id → k ≡ record m { id = Some id }
     → IsRoomPass hub conn h → IsRoomPass hub conn m → IsRoomPass hub conn k
 found_of hub conn h m k id high number told found is p q =
-    let room = room_told hub conn h m told.1.0 high number (turns_grow h.pass.1 None m.pass.1 told.0) told.1.1 p in
+    let room = room_told hub conn h m told.1.0 high number told.1.1 p q in
     room_held hub conn m k id is (room.0, room.1, room.2 ∙ found) q
 
 -- a chat room is held at once

@@ -1,5 +1,5 @@
 -- What keeps a pass one of a hub.
-use Rattle.std.proofs.Common.{◌≡◌, ℕ, ◌+◌, ◌<◌, ◌≤◌, true, List, [], ◌++◌, length, Option, Some, None, refl, sym, ap, ◌∙◌, subst, inl, inr, arith}
+use Rattle.std.proofs.Common.{◌≡◌, ℕ, ◌+◌, ◌<◌, ◌≤◌, true, List, [], ◌++◌, length, take, Option, Some, None, Result, Ok, Err, refl, sym, ap, ◌∙◌, subst, inl, inr, arith}
 use Rattle.std.specs.Prelude.{nat_lt, All, IfSome}
 use Rattle.std.proofs.lemmas.Bool.Decides.{nat_tests}
 use Rattle.std.proofs.lemmas.Option.{none-some}
@@ -22,30 +22,39 @@ use Rattle.server_places.specs.declared.cursor.RoomCursor.{RoomCursor}
 use Rattle.server_places.specs.declared.site.Root.{Root}
 use Rattle.server_places.specs.declared.site.Site.{Site}
 use Rattle.server_places.specs.Sites.{room_signer, chat_at, plays, TellsBy, Tells, view_told, id_told}
-use Rattle.server_places.specs.Rooms.{cursor_of, Pulls, Shows, Stands, StandsAt, site_in, IsAtRestInRoom}
-use Rattle.server_places.specs.Halls.{hall_cursor, hall_signer, HallPulls, HallShows, HallStands, HallStandsAt, root_in, IsAtRestInHall}
-use Rattle.server_places.proofs.GoOnLemmas.{pulls_go_on}
-use Rattle.server_places.proofs.HallLemmas.{hall_goes_on}
+use Rattle.server_places.specs.Rooms.{cursor_of, Pulls, bounded, PullsUpTo, Shows, Stands, StandsAt, site_in, IsAtRestInRoom}
+use Rattle.server_places.specs.Rooms.{GoesOn as Goes}
+use Rattle.server_places.specs.Halls.{hall_cursor, hall_signer, HallPulls, hall_bounded, HallPullsUpTo, HallGoesOn, HallShows, HallStands, HallStandsAt, root_in, IsAtRestInHall}
+use Rattle.server_places.proofs.GoOnLemmas.{pulls_go_on, pulls_free, stands_free, id_of_all}
+use Rattle.server_places.proofs.HallLemmas.{hall_goes_on, hall_free, hall_pulls_free}
 use Rattle.server_places.proofs.StandLemmas.{no_chat}
 use Rattle.server_places.proofs.TellLemmas.{tells_more, going_on}
 use Rattle.ps_hub.specs.Hubs.{Hub, root_of, site_of, lock_of}
 use Rattle.ps_hub.specs.Names.{IsChatId, Names}
 use Rattle.ps_hub.specs.Passes.{lines_of, IsTold, NeverFalls, IsHallPass, HeldBy, IsRoomPass, IsNewPass}
+use Rattle.ps_hub.specs.Turns.{ReadsAtLast}
 use Rattle.ps_hub.specs.declared.pass.HallPass.{HallPass}
 use Rattle.ps_hub.specs.declared.pass.RoomPass.{RoomPass}
-use Rattle.ps_hub.proofs.ToldLemmas.{GoesOn, told_new, told_after, told_handed, pulled_stands, Grows, grows_self, commands_grow}
-use Rattle.ps_hub.proofs.ToldLemmas.{PullsOrNot, Leaves, signs_after, said_after, never_falls}
+use Rattle.ps_hub.proofs.ToldLemmas.{GoesOn, told_new, told_after, told_handed, Grows, grows_self, commands_grow}
+use Rattle.ps_hub.proofs.ToldLemmas.{PullsOrNot, pulls_map, Leaves, signs_after, said_after, never_falls}
 
 -- ---- the hall
 
-pub hall_law : (conn : ℕ) (r : Root) → GoesOn (HallShows conn r) (HallStandsAt conn r) (HallPulls r)
-hall_law conn r before later x y ms msgs at shows p = hall_goes_on conn r before later x y ms msgs at shows p
+abbrev pub hall_count : HallCursor → ℕ
+hall_count x = x.passed
 
-pub hall_passed : (conn : ℕ) (r : Root) (cmds : List HallEntry) (x : HallCursor) → HallStandsAt conn r cmds x → x.passed ≡ length cmds
-hall_passed conn r cmds x at = ap (λ (c : HallCursor). c.passed) at
+pub hall_law : (conn : ℕ) (r : Root) → GoesOn (HallShows conn r) (HallStandsAt conn r) (HallPullsUpTo r) hall_count
+hall_law conn r before later x y ms msgs at shows p = let on : HallGoesOn conn r before later (ms ++ lines_of msgs) y = hall_goes_on conn r before later x y ms msgs at shows p in (on.on, on.within, on.shows, on.stands)
+
+-- between two calls a cursor has no bound
+pub hall_unbound : (hub : Hub) (conn : ℕ) (h : HallPass) → IsHallPass hub conn h → hall_bounded None h.cursor ≡ h.cursor
+hall_unbound hub conn h p = hall_free conn (root_of hub) (take h.cursor.passed (commands h.pass.1.seen)) h.cursor p.told.cursor
+
+pub hall_until_none : (hub : Hub) (conn : ℕ) (h : HallPass) → IsHallPass hub conn h → h.cursor.until ≡ None
+hall_until_none hub conn h p = sym (ap (λ (c : HallCursor). c.until) (hall_unbound hub conn h p))
 
 -- what follows for a pass from what a call left of it
-pub hall_stays : (hub : Hub) (conn : ℕ) (h k : HallPass) → k.pass.0 ≡ h.pass.0 → k.at ≡ h.at → IsAtRestInHall k.pass.1 → NeverFalls k.pass.1.looks → SignsAs hall_signer conn k.pass.1.said → OwnSigns hall_signer k.pass.1 k.pass.1.known → Grows h.pass.1 k.pass.1 → PullsOrNot HallPulls h.pass.1 h.cursor (h.kept.items ++ h.fresh.items) k.pass.1 k.cursor (k.kept.items ++ k.fresh.items)
+pub hall_stays : (hub : Hub) (conn : ℕ) (h k : HallPass) → k.pass.0 ≡ h.pass.0 → k.at ≡ h.at → IsAtRestInHall k.pass.1 → NeverFalls k.pass.1.looks → SignsAs hall_signer conn k.pass.1.said → OwnSigns hall_signer k.pass.1 k.pass.1.known → Grows h.pass.1 k.pass.1 → PullsOrNot HallPullsUpTo h.pass.1 h.cursor (h.kept.items ++ h.fresh.items) k.pass.1 k.cursor (k.kept.items ++ k.fresh.items)
     → IsHallPass hub conn h → IsHallPass hub conn k
 hall_stays hub conn h k lock at rest looks signs own g pulls p = record {
   lock = lock ∙ p.lock;
@@ -55,18 +64,28 @@ hall_stays hub conn h k lock at rest looks signs own g pulls p = record {
   signs = signs;
   own = own;
   told = subst (λ (n : ℕ). IsTold (HallShows conn (root_of hub)) (HallStandsAt conn (root_of hub)) (commands k.pass.1.seen) k.cursor k.cursor.passed (lines_of (k.kept.items ++ k.fresh.items)) n) (sym at)
-      (told_after HallPulls (HallShows conn (root_of hub)) (HallStandsAt conn (root_of hub)) (λ (x : HallCursor). x.passed) (root_of hub) (hall_law conn (root_of hub)) (hall_passed conn (root_of hub)) h.pass.1 h.cursor (h.kept.items ++ h.fresh.items) k.pass.1 k.cursor (k.kept.items ++ k.fresh.items) h.at p.origin p.told g pulls);
+      (told_after HallPullsUpTo (HallShows conn (root_of hub)) (HallStandsAt conn (root_of hub)) hall_count (root_of hub) (hall_law conn (root_of hub)) h.pass.1 h.cursor (h.kept.items ++ h.fresh.items) k.pass.1 k.cursor (k.kept.items ++ k.fresh.items) h.at p.origin p.told g pulls);
 }
 
--- after a turn
-pub hall_taken : (hub : Hub) (conn : ℕ) (h k : HallPass) (cmd : Option HallEntry) → k.pass.0 ≡ h.pass.0 → k.at ≡ h.at →
-    (IsAtRestInHall h.pass.1 → IsAtRestInHall k.pass.1)
+-- after a turn that pulled up to a bound
+pub hall_read_on : (hub : Hub) (conn : ℕ) (h k : HallPass) (cmd : Option HallEntry) → k.pass.0 ≡ h.pass.0 → k.at ≡ h.at → (IsAtRestInHall h.pass.1 → IsAtRestInHall k.pass.1)
     → (OwnSigns hall_signer h.pass.1 h.pass.1.known → OwnSigns hall_signer k.pass.1 k.pass.1.known) → IfSome cmd (IsOf hall_signer conn)
-    → Leaves HallPulls h.pass.1 h.cursor (h.kept.items ++ h.fresh.items) cmd k.pass.1 k.cursor (k.kept.items ++ k.fresh.items) → IsHallPass
-    hub conn h → IsHallPass hub conn k
-hall_taken hub conn h k cmd lock at rest own of left p = hall_stays hub conn h k lock at (rest p.rest)
+    → Leaves HallPullsUpTo h.pass.1 h.cursor (h.kept.items ++ h.fresh.items) cmd k.pass.1 k.cursor (k.kept.items ++ k.fresh.items)
+    → IsHallPass hub conn h → IsHallPass hub conn k
+hall_read_on hub conn h k cmd lock at rest own of left p = hall_stays hub conn h k lock at (rest p.rest)
     (subst NeverFalls (sym left.says.looks) p.looks) (signs_after hall_signer conn h.pass.1 k.pass.1 cmd of left.says p.signs) (own p.own)
     left.grows left.pulled p
+
+-- after a turn
+pub hall_taken : (hub : Hub) (conn : ℕ) (h k : HallPass) (cmd : Option HallEntry) → k.pass.0 ≡ h.pass.0 → k.at ≡ h.at → (IsAtRestInHall h.pass.1 → IsAtRestInHall k.pass.1)
+    → (OwnSigns hall_signer h.pass.1 h.pass.1.known → OwnSigns hall_signer k.pass.1 k.pass.1.known) → IfSome cmd (IsOf hall_signer conn)
+    → Leaves HallPulls h.pass.1 h.cursor (h.kept.items ++ h.fresh.items) cmd k.pass.1 k.cursor (k.kept.items ++ k.fresh.items)
+    → IsHallPass hub conn h → IsHallPass hub conn k
+hall_taken hub conn h k cmd lock at rest own of left p = hall_read_on hub conn h k cmd lock at rest own of (record {
+  grows = left.grows;
+  pulled = pulls_map HallPulls HallPullsUpTo h.pass.1 h.cursor (h.kept.items ++ h.fresh.items) k.pass.1 k.cursor (k.kept.items ++ k.fresh.items) (λ r es msgs q. hall_pulls_free r es h.cursor k.cursor msgs (hall_unbound hub conn h p) q) left.pulled;
+  says = left.says;
+}) p
 
 -- after a look
 pub hall_looked : (hub : Hub) (conn : ℕ) (h k : HallPass) (n : ℕ) → k ≡ record h { pass = (h.pass.0, after_look h.pass.1 n) } → length h.pass.1.known ≤ n → All (λ (m : ℕ). m ≤ n) h.pass.1.looks → IsHallPass hub conn h → IsHallPass hub conn k
@@ -144,16 +163,17 @@ room_look hub conn h n knows le p = record {
 pub room_looked : (hub : Hub) (conn : ℕ) (h k : RoomPass) (n : ℕ) → k ≡ record h { pass = (h.pass.0, after_look h.pass.1 n) } → length h.pass.1.known ≤ n → All (λ (m : ℕ). m ≤ n) h.pass.1.looks → IsRoomPass hub conn h → IsRoomPass hub conn k
 room_looked hub conn h k n is knows le p = subst (IsRoomPass hub conn) (sym is) (room_look hub conn h n knows le p)
 
-pub room_law : (conn : ℕ) (site : Site) → GoesOn (Shows conn site) (StandsAt conn site) (Pulls site)
-room_law conn site before later x y ms msgs at shows p = pulls_go_on conn site before later x y ms msgs at shows p
+abbrev pub room_count : RoomCursor → ℕ
+room_count x = x.passed
 
-cursor_passed : (conn : ℕ) (told : Option Story) (n : ℕ) → (cursor_of conn told n).passed ≡ n
-cursor_passed conn None n = refl
-cursor_passed conn (Some s) n = refl
+pub room_law : (conn : ℕ) (site : Site) → GoesOn (Shows conn site) (StandsAt conn site) (PullsUpTo site) room_count
+room_law conn site before later x y ms msgs at shows p = let on : Goes conn site before later (ms ++ lines_of msgs) y = pulls_go_on conn site before later x y ms msgs at shows p in (on.on, on.within, on.shows, on.stands)
 
-pub room_passed : (conn : ℕ) (site : Site) (cmds : List RoomCmd) (x : RoomCursor) → StandsAt conn site cmds x → x.passed ≡ length cmds
-room_passed conn site cmds x (inl new) = ap (λ (c : RoomCursor). c.passed) new.1 ∙ sym (ap length new.0)
-room_passed conn site cmds x (inr at) = ap (λ (c : RoomCursor). c.passed) at.2 ∙ cursor_passed conn at.0 (length cmds)
+pub room_unbound : (hub : Hub) (conn : ℕ) (h : RoomPass) → IsRoomPass hub conn h → bounded None h.cursor ≡ h.cursor
+room_unbound hub conn h p = stands_free conn (site_of hub h.number) (take h.cursor.passed (commands h.pass.1.seen)) h.cursor p.told.cursor
+
+pub room_until_none : (hub : Hub) (conn : ℕ) (h : RoomPass) → IsRoomPass hub conn h → h.cursor.until ≡ None
+room_until_none hub conn h p = sym (ap (λ (c : RoomCursor). c.until) (room_unbound hub conn h p))
 
 -- the id of a room stays
 held_further : (site : Site) (cmds later : List RoomCmd) (id : List ℕ) (told : Option Story) → Tells site cmds told → id_told told ≡ Some id → (more : Option Story) × Tells site (cmds ++ later) more × (id_told more ≡ Some id)
@@ -168,7 +188,7 @@ held_on hub (Some id) h k number g held =
     let here : (more : Option Story) × Tells (site_of hub h.number) (commands k.pass.1.seen) more × (id_told more ≡ Some id) = subst (λ (l : List RoomCmd). (more : Option Story) × Tells (site_of hub h.number) l more × (id_told more ≡ Some id)) later.1 further in
     subst (λ (n : ℕ). (more : Option Story) × Tells (site_of hub n) (commands k.pass.1.seen) more × (id_told more ≡ Some id)) (sym number) here
 
-pub room_stays : (hub : Hub) (conn : ℕ) (h k : RoomPass) → k.pass.0 ≡ h.pass.0 → k.at ≡ h.at → k.number ≡ h.number → k.id ≡ h.id → IsAtRestInRoom k.pass.1 → NeverFalls k.pass.1.looks → k.pass.1.said ≡ k.pass.1.mine → SignsAs room_signer conn k.pass.1.said → OwnSigns room_signer k.pass.1 k.pass.1.known → Grows h.pass.1 k.pass.1 → PullsOrNot Pulls h.pass.1 h.cursor (h.kept.items ++ h.fresh.items) k.pass.1 k.cursor (k.kept.items ++ k.fresh.items)
+pub room_stays : (hub : Hub) (conn : ℕ) (h k : RoomPass) → k.pass.0 ≡ h.pass.0 → k.at ≡ h.at → k.number ≡ h.number → k.id ≡ h.id → IsAtRestInRoom k.pass.1 → NeverFalls k.pass.1.looks → k.pass.1.said ≡ k.pass.1.mine → SignsAs room_signer conn k.pass.1.said → OwnSigns room_signer k.pass.1 k.pass.1.known → Grows h.pass.1 k.pass.1 → PullsOrNot PullsUpTo h.pass.1 h.cursor (h.kept.items ++ h.fresh.items) k.pass.1 k.cursor (k.kept.items ++ k.fresh.items)
     → IsRoomPass hub conn h → IsRoomPass hub conn k
 room_stays hub conn h k lock at number id rest looks said signs own g pulls p = record {
   lock = ap (λ (n : ℕ). lock_of hub n) number ∙ p.lock ∙ ap (λ (t : TableId). Some t) (sym lock);
@@ -180,19 +200,29 @@ room_stays hub conn h k lock at number id rest looks said signs own g pulls p = 
   own = own;
   told = subst (λ (n : ℕ). IsTold (Shows conn (site_of hub k.number)) (StandsAt conn (site_of hub k.number)) (commands k.pass.1.seen) k.cursor k.cursor.passed (lines_of (k.kept.items ++ k.fresh.items)) n) (sym at)
       (subst (λ (n : ℕ). IsTold (Shows conn (site_of hub n)) (StandsAt conn (site_of hub n)) (commands k.pass.1.seen) k.cursor k.cursor.passed (lines_of (k.kept.items ++ k.fresh.items)) h.at) (sym number)
-      (told_after Pulls (Shows conn (site_of hub h.number)) (StandsAt conn (site_of hub h.number)) (λ (x : RoomCursor). x.passed) (site_of hub h.number) (room_law conn (site_of hub h.number)) (room_passed conn (site_of hub h.number)) h.pass.1 h.cursor (h.kept.items ++ h.fresh.items) k.pass.1 k.cursor (k.kept.items ++ k.fresh.items) h.at p.origin p.told g pulls));
+      (told_after PullsUpTo (Shows conn (site_of hub h.number)) (StandsAt conn (site_of hub h.number)) room_count (site_of hub h.number) (room_law conn (site_of hub h.number)) h.pass.1 h.cursor (h.kept.items ++ h.fresh.items) k.pass.1 k.cursor (k.kept.items ++ k.fresh.items) h.at p.origin p.told g pulls));
   held = subst (λ (i : Option (List ℕ)). HeldBy i hub k) (sym id) (held_on hub h.id h k number g p.held);
 }
 
--- after a turn
-pub room_taken : (hub : Hub) (conn : ℕ) (h k : RoomPass) (cmd : Option RoomCmd) → k.pass.0 ≡ h.pass.0 → (k.at ≡ h.at) ×
-    (k.number ≡ h.number) × (k.id ≡ h.id) → (IsAtRestInRoom h.pass.1 → IsAtRestInRoom k.pass.1)
+-- after a turn that pulled up to a bound
+pub room_read_on : (hub : Hub) (conn : ℕ) (h k : RoomPass) (cmd : Option RoomCmd) → k.pass.0 ≡ h.pass.0 → (k.at ≡ h.at) × (k.number ≡ h.number) × (k.id ≡ h.id) → (IsAtRestInRoom h.pass.1 → IsAtRestInRoom k.pass.1)
     → (OwnSigns room_signer h.pass.1 h.pass.1.known → OwnSigns room_signer k.pass.1 k.pass.1.known) → IfSome cmd (IsOf room_signer conn)
-    → Leaves Pulls h.pass.1 h.cursor (h.kept.items ++ h.fresh.items) cmd k.pass.1 k.cursor (k.kept.items ++ k.fresh.items) → IsRoomPass hub
-    conn h → IsRoomPass hub conn k
-room_taken hub conn h k cmd lock same rest own of left p = room_stays hub conn h k lock same.0 same.1 same.2 (rest p.rest)
+    → Leaves PullsUpTo h.pass.1 h.cursor (h.kept.items ++ h.fresh.items) cmd k.pass.1 k.cursor (k.kept.items ++ k.fresh.items)
+    → IsRoomPass hub conn h → IsRoomPass hub conn k
+room_read_on hub conn h k cmd lock same rest own of left p = room_stays hub conn h k lock same.0 same.1 same.2 (rest p.rest)
     (subst NeverFalls (sym left.says.looks) p.looks) (said_after h.pass.1 k.pass.1 cmd left.says p.said)
     (signs_after room_signer conn h.pass.1 k.pass.1 cmd of left.says p.signs) (own p.own) left.grows left.pulled p
+
+-- after a turn
+pub room_taken : (hub : Hub) (conn : ℕ) (h k : RoomPass) (cmd : Option RoomCmd) → k.pass.0 ≡ h.pass.0 → (k.at ≡ h.at) × (k.number ≡ h.number) × (k.id ≡ h.id) → (IsAtRestInRoom h.pass.1 → IsAtRestInRoom k.pass.1)
+    → (OwnSigns room_signer h.pass.1 h.pass.1.known → OwnSigns room_signer k.pass.1 k.pass.1.known) → IfSome cmd (IsOf room_signer conn)
+    → Leaves Pulls h.pass.1 h.cursor (h.kept.items ++ h.fresh.items) cmd k.pass.1 k.cursor (k.kept.items ++ k.fresh.items)
+    → IsRoomPass hub conn h → IsRoomPass hub conn k
+room_taken hub conn h k cmd lock same rest own of left p = room_read_on hub conn h k cmd lock same rest own of (record {
+  grows = left.grows;
+  pulled = pulls_map Pulls PullsUpTo h.pass.1 h.cursor (h.kept.items ++ h.fresh.items) k.pass.1 k.cursor (k.kept.items ++ k.fresh.items) (λ site cmds msgs q. pulls_free site cmds h.cursor k.cursor msgs (room_unbound hub conn h p) q) left.pulled;
+  says = left.says;
+}) p
 
 pub room_handed : (hub : Hub) (conn : ℕ) (h k : RoomPass) → k.pass ≡ h.pass → k.cursor ≡ h.cursor → k.number ≡ h.number → k.id ≡ h.id → k.kept.items ++ k.fresh.items ≡ [] → k.at ≡ k.cursor.passed → IsRoomPass hub conn h → IsRoomPass hub conn k
 room_handed hub conn h k pass cursor number id none at p = record {
@@ -266,11 +296,23 @@ known_id conn site cmds x high (inl new) = (None, subst (λ (l : List RoomCmd). 
 known_id conn site cmds x high (inr at) = (at.0, at.1, sym (ap (λ (c : RoomCursor). c.id) at.2 ∙ id_of_cursor conn at.0 (length cmds)))
 
 -- What a turn that was taken tells of the room of a battle's place
-pub room_told : (hub : Hub) (conn : ℕ) (h k : RoomPass) (msgs : List Msg) → 16 ≤ h.number → k.number ≡ h.number → Grows h.pass.1 k.pass.1 → Pulls h.pass.1.origin (commands k.pass.1.seen) h.cursor msgs k.cursor → IsRoomPass hub conn h
+pub room_told : (hub : Hub) (conn : ℕ) (h k : RoomPass) (msgs : List Msg) → 16 ≤ h.number → k.number ≡ h.number → Pulls h.pass.1.origin (commands k.pass.1.seen) h.cursor msgs k.cursor → IsRoomPass hub conn h → IsRoomPass hub conn k
     → (told : Option Story) × Tells (site_of hub k.number) (commands k.pass.1.seen) told × (id_told told ≡ k.cursor.id)
-room_told hub conn h k msgs high number g pulls p =
-    let later = commands_grow h.pass.1 k.pass.1 g in
-    let here : Pulls (site_of hub h.number) (commands h.pass.1.seen ++ later.0) h.cursor msgs k.cursor = subst (λ (l : List RoomCmd). Pulls (site_of hub h.number) l h.cursor msgs k.cursor) (sym later.1) (subst (λ (s : Site). Pulls s (commands k.pass.1.seen) h.cursor msgs k.cursor) p.origin pulls) in
-    let at : StandsAt conn (site_of hub h.number) (commands h.pass.1.seen ++ later.0) k.cursor = pulled_stands (Shows conn (site_of hub h.number)) (StandsAt conn (site_of hub h.number)) (Pulls (site_of hub h.number)) (room_law conn (site_of hub h.number)) (commands h.pass.1.seen) later.0 h.cursor k.cursor h.cursor.passed (lines_of (h.kept.items ++ h.fresh.items)) h.at msgs p.told here in
-    let on : StandsAt conn (site_of hub h.number) (commands k.pass.1.seen) k.cursor = subst (λ (l : List RoomCmd). StandsAt conn (site_of hub h.number) l k.cursor) later.1 at in
-    subst (λ (n : ℕ). (told : Option Story) × Tells (site_of hub n) (commands k.pass.1.seen) told × (id_told told ≡ k.cursor.id)) (sym number) (known_id conn (site_of hub h.number) (commands k.pass.1.seen) k.cursor high on)
+room_told hub conn h k msgs high number pulls p q =
+    let site : site_of hub h.number ≡ site_of hub k.number = ap (λ (n : ℕ). site_of hub n) (sym number) in
+    let here : Pulls (site_of hub k.number) (commands k.pass.1.seen) h.cursor msgs k.cursor = subst (λ (s : Site). Pulls s (commands k.pass.1.seen) h.cursor msgs k.cursor) (p.origin ∙ site) pulls in
+    let above : 16 ≤ k.number = subst (λ (n : ℕ). 16 ≤ n) (sym number) high in
+    id_of_all (site_of hub k.number) (commands k.pass.1.seen) h.cursor k.cursor msgs k.cursor.passed (room_until_none hub conn h p) here
+    (known_id conn (site_of hub k.number) (take k.cursor.passed (commands k.pass.1.seen)) k.cursor above q.told.cursor)
+
+-- ---- up to a bound
+
+pub hall_up_to : {T E : Type 0} (v : View Root HallEntry) (x : HallCursor) (until : Option ℕ) (kept : List Msg) (result : Result T E) (w : View Root HallEntry) (z : HallCursor) (more : List Msg)
+    → x.until ≡ None → ReadsAtLast HallPulls v (hall_bounded until x) kept result w z more → ReadsAtLast HallPullsUpTo v x kept result w (hall_bounded None z) more
+hall_up_to v x until kept (Ok done) w z more free told = (told.0, (told.1.0, (until, z, told.1.1, refl), told.1.2))
+hall_up_to v x until kept (Err e) w z more free told = (told.0, ap (hall_bounded None) told.1 ∙ (λ i. record { hall = x.hall; passed = x.passed; until = sym free i }), told.2)
+
+pub room_up_to : {T E : Type 0} (v : View Site RoomCmd) (x : RoomCursor) (until : Option ℕ) (kept : List Msg) (result : Result T E) (w : View Site RoomCmd) (z : RoomCursor) (more : List Msg)
+    → x.until ≡ None → ReadsAtLast Pulls v (bounded until x) kept result w z more → ReadsAtLast PullsUpTo v x kept result w (bounded None z) more
+room_up_to v x until kept (Ok done) w z more free told = (told.0, (told.1.0, (until, z, told.1.1, refl), told.1.2))
+room_up_to v x until kept (Err e) w z more free told = (told.0, ap (bounded None) told.1 ∙ (λ i. record { room = x.room; id = x.id; passed = x.passed; until = sym free i }), told.2)

@@ -1,8 +1,7 @@
 -- What was handed out and what is kept, when a pass sees more, pulls more and hands out.
 use Rattle.std.proofs.Common.{◌≡◌, ◌≢◌, ◌⊎◌, ℕ, zero, suc, ◌%◌, ◌<◌, ◌≤◌, List, [], ◌∷◌, ◌++◌, length, take, drop, Option, Some, None}
 use Rattle.std.proofs.Common.{Result, Ok, Err, refl, sym, ap, ◌∙◌, subst, inl, inr, ⊎_elim, arith, append_assoc}
-use Rattle.std.proofs.lemmas.List.{take-append-le, take-append-drop, take_all, length-append, length-map, map-append, append-nil}
-use Rattle.std.proofs.Math.Seq.{get_or-append_seam}
+use Rattle.std.proofs.lemmas.List.{take-append-le, take-append-drop, length-append, length-take-le, length-map, map-append, append-nil}
 use Rattle.std.specs.Prelude.{All, IfSome}
 use mathlib.Core.List.{IsPrefix}
 use Rattle.ps_base.specs.declared.msg.Msg.{Msg}
@@ -13,13 +12,13 @@ use Rattle.ps_histlock.specs.Histories.{commands, entry}
 use Rattle.ps_histlock.specs.Views.{after_meeting, after_look, Extends}
 use Rattle.ps_histlock.specs.Turns.{turned, IsBusy}
 use Rattle.ps_histlock.specs.Signs.{SignsAs, IsOf}
-use Rattle.ps_histlock.proofs.Lists.{prefix_self, prefix_more}
+use Rattle.ps_histlock.proofs.Lists.{prefix_self, prefix_more, prefix_trans}
 use Rattle.ps_histlock.proofs.TurnLemmas.{commands-append}
 use Rattle.ps_histlock.proofs.SignLemmas.{signs_more}
 use Rattle.std.proofs.lemmas.List.Elements.{All-append}
 use Rattle.ps_hub.specs.Passes.{lines_of, IsTold, Adds, NeverFalls}
-use Rattle.ps_hub.specs.Calls.{IsFresh, LooksAnd, LooksAtMost, HandsOut}
-use Rattle.ps_hub.specs.Turns.{Turns, TurnsAtLast, Gives, GivesAtLast, Reads, ReadsAtLast, Takes, TakesAtLast}
+use Rattle.ps_hub.specs.Calls.{HandsOut}
+use Rattle.ps_hub.specs.Turns.{Turns, TurnsAtLast, ReadsOn, Rereads, Gives, GivesAtLast, Reads, ReadsAtLast, Takes, TakesAtLast}
 use Rattle.ps_hub.specs.declared.taken.Ended.{Ended}
 use Rattle.ps_hub.specs.declared.taken.Ended.TheVariants as ends
 use Rattle.ps_hub.specs.declared.taken.Read.{Read}
@@ -59,41 +58,39 @@ module _ {C X : Type 0} (shows : List C → List (List (List ℕ)) → Type 0) (
     shown = subst (λ (ms : List (List (List ℕ))). shows (take passed cmds) ms) (sym (append-nil (t.before ++ kept))) t.shown;
   }
 
-  module _ (pulls : List C → X → List Msg → X → Type 0) where
-    -- pulling goes on where it left off
+  module _ (pulls : List C → X → List Msg → X → Type 0) (passed : X → ℕ) where
+    -- pulling goes on where it left off, up to a place further on
     abbrev pub GoesOn : Type 0
     GoesOn = (before later : List C) (x y : X) (ms : List (List (List ℕ))) (msgs : List Msg) → stands_at before x → shows before ms → pulls (before ++ later) x msgs y
-        → shows (before ++ later) (ms ++ lines_of msgs) × stands_at (before ++ later) y
-
-    -- the cursor behind what was pulled
-    pub pulled_stands : GoesOn → (cmds later : List C) (x y : X) (passed : ℕ) (kept : List (List (List ℕ))) (at : ℕ) (msgs : List Msg) → IsTold shows stands_at cmds x passed kept at → pulls (cmds ++ later) x msgs y → stands_at (cmds ++ later) y
-    pulled_stands law cmds later x y passed kept at msgs t p =
-        let parts : take passed cmds ++ (drop passed cmds ++ later) ≡ cmds ++ later = sym (append_assoc (take passed cmds) (drop passed cmds) later) ∙ ap (λ (l : List C). l ++ later) (take-append-drop passed cmds) in
-        let on : shows (take passed cmds ++ (drop passed cmds ++ later)) ((t.before ++ kept) ++ lines_of msgs) × stands_at (take passed cmds ++ (drop passed cmds ++ later)) y =
-        law (take passed cmds) (drop passed cmds ++ later) x y (t.before ++ kept) msgs t.cursor t.shown (subst (λ (l : List C). pulls l x msgs y) (sym parts) p) in
-        subst (λ (l : List C). stands_at l y) parts on.1
+        → (length before ≤ passed y) × (passed y ≤ length (before ++ later)) × shows (take (passed y) (before ++ later)) (ms ++ lines_of msgs) × stands_at (take (passed y) (before ++ later)) y
 
     -- messages were pulled of the history as it went on
-    pub told_pulled : GoesOn → (cmds later : List C) (x y : X) (passed : ℕ) (kept : List (List (List ℕ))) (at : ℕ) (msgs : List Msg) → IsTold shows stands_at cmds x passed kept at → pulls (cmds ++ later) x msgs y
-        → IsTold shows stands_at (cmds ++ later) y (length (cmds ++ later)) (kept ++ lines_of msgs) at
-    told_pulled law cmds later x y passed kept at msgs t p =
-        let within : passed ≤ length cmds = t.within in
-        let handed_out : at ≤ passed = t.handed_out in
-        let parts : take passed cmds ++ (drop passed cmds ++ later) ≡ cmds ++ later = sym (append_assoc (take passed cmds) (drop passed cmds) later) ∙ ap (λ (l : List C). l ++ later) (take-append-drop passed cmds) in
+    pub told_pulled : GoesOn → (cmds later : List C) (x y : X) (n : ℕ) (kept : List (List (List ℕ))) (at : ℕ) (msgs : List Msg) → IsTold shows stands_at cmds x n kept at → pulls (cmds ++ later) x msgs y
+        → IsTold shows stands_at (cmds ++ later) y (passed y) (kept ++ lines_of msgs) at
+    told_pulled law cmds later x y n kept at msgs t p =
+        let within : n ≤ length cmds = t.within in
+        let handed_out : at ≤ n = t.handed_out in
+        let parts : take n cmds ++ (drop n cmds ++ later) ≡ cmds ++ later = sym (append_assoc (take n cmds) (drop n cmds) later) ∙ ap (λ (l : List C). l ++ later) (take-append-drop n cmds) in
         let first : take at (cmds ++ later) ≡ take at cmds = take-append-le at cmds later (omega arith) in
-        let all : take (length (cmds ++ later)) (cmds ++ later) ≡ cmds ++ later = take_all (length (cmds ++ later)) (cmds ++ later) (omega arith) in
-        let on : shows (take passed cmds ++ (drop passed cmds ++ later)) ((t.before ++ kept) ++ lines_of msgs) × stands_at (take passed cmds ++ (drop passed cmds ++ later)) y =
-        law (take passed cmds) (drop passed cmds ++ later) x y (t.before ++ kept) msgs t.cursor t.shown (subst (λ (l : List C). pulls l x msgs y) (sym parts) p) in
+        let size : length (take n cmds) ≡ n = length-take-le n cmds within in
+        let on = law (take n cmds) (drop n cmds ++ later) x y (t.before ++ kept) msgs t.cursor t.shown (subst (λ (l : List C). pulls l x msgs y) (sym parts) p) in
+        let above : length (take n cmds) ≤ passed y = on.0 in
+        let below : passed y ≤ length (cmds ++ later) = subst (λ (l : List C). passed y ≤ length l) parts on.1 in
         record {
-          within = omega arith;
-          handed_out = omega (arith, length-append cmds later);
-          cursor = subst (λ (l : List C). stands_at l y) (parts ∙ sym all) on.1;
+          within = below;
+          handed_out = omega (arith, size);
+          cursor = subst (λ (l : List C). stands_at (take (passed y) l) y) parts on.3;
           before = t.before;
           shown_before = subst (λ (l : List C). shows l t.before) (sym first) t.shown_before;
-          shown = subst (λ (ms : List (List (List ℕ))). shows (take (length (cmds ++ later)) (cmds ++ later)) ms) (append_assoc t.before kept (lines_of msgs)) (subst (λ (l : List C). shows l ((t.before ++ kept) ++ lines_of msgs)) (parts ∙ sym all) on.0);
+          shown = subst (λ (ms : List (List (List ℕ))). shows (take (passed y) (cmds ++ later)) ms) (append_assoc t.before kept (lines_of msgs)) (subst (λ (l : List C). shows (take (passed y) l) ((t.before ++ kept) ++ lines_of msgs)) parts on.2);
         }
 
 -- ---- what a turn leaves of a view
+
+-- what a turn without an entry, after tries in vain, does to a view
+abbrev pub DidRead : {O C T E : Type 0} → View O C → Result T E → View O C → Type 0
+DidRead v (Ok done) w = TurnsAtLast v None w
+DidRead v (Err e) w = (w ≡ v) ⊎ TurnsAtLast v None w
 
 -- the same origin, and it forgets nothing
 pub record Grows {O C : Type 0} (v w : View O C) : Type 0 where
@@ -102,8 +99,22 @@ pub record Grows {O C : Type 0} (v w : View O C) : Type 0 where
   pub adds : Adds v w
 
 module _ {O C : Type 0} where
+  pub adds_on : (v u w : View O C) → Adds v u → Adds u w → Adds v w
+  adds_on v u w a b = (
+    a.0 ++ b.0,
+    b.1 ∙ ap (λ (l : List (Entry C)). l ++ b.0) a.1 ∙ append_assoc v.said a.0 b.0,
+    b.2 ∙ ap (λ (l : List (Entry C)). l ++ b.0) a.2 ∙ append_assoc v.mine a.0 b.0,
+  )
+
   pub grows_self : (v : View O C) → Grows v v
   grows_self v = record { origin = refl; seen = prefix_self v.seen; adds = ([], sym (append-nil v.said), sym (append-nil v.mine)) }
+
+  pub grows_on : (v u w : View O C) → Grows v u → Grows u w → Grows v w
+  grows_on v u w g h = record {
+    origin = h.origin ∙ g.origin;
+    seen = prefix_trans v.seen u.seen w.seen g.seen h.seen;
+    adds = adds_on v u w g.adds h.adds;
+  }
 
   pub grows_looked : (v : View O C) (n : ℕ) → Grows v (after_look v n)
   grows_looked v n = record { origin = refl; seen = prefix_self v.seen; adds = ([], sym (append-nil v.said), sym (append-nil v.mine)) }
@@ -128,6 +139,21 @@ module _ {O C : Type 0} where
   pub turns_grow_at_last : (v : View O C) (cmd : Option C) (w : View O C) → TurnsAtLast v cmd w → Grows v w
   turns_grow_at_last v cmd w t = of_tries v w t.0 (turns_grow (record v { met = v.met ++ t.0 }) cmd w t.1)
 
+  reads_on_grow : (turns : ℕ) (v w : View O C) → ReadsOn turns v w → Grows v w
+  reads_on_grow zero v w same = subst (Grows v) (sym same) (grows_self v)
+  reads_on_grow (suc turns) v w r = grows_on v r.0 w (reads_on_grow turns v r.0 r.1) (turns_grow_at_last r.0 None w r.2)
+
+  pub rereads_grow : (v w : View O C) → Rereads v w → Grows v w
+  rereads_grow v w r = reads_on_grow r.0 v w r.1
+
+  -- one turn more, if there was one
+  pub rereads_more : {T E : Type 0} (v u w : View O C) (result : Result T E) → Rereads v u → DidRead u result w → Rereads v w
+  rereads_more v u w (Ok done) r t = (suc r.0, (u, r.1, t))
+  rereads_more v u w (Err e) r t = ⊎_elim (λ (same : w ≡ u). subst (Rereads v) (sym same) r) (λ (one : TurnsAtLast u None w). (suc r.0, (u, r.1, one))) t
+
+  pub rereads_none : (v : View O C) → Rereads v v
+  rereads_none v = (0, refl)
+
   same_or_grows : (v w : View O C) → (w ≡ v) ⊎ Turns v None w → Grows v w
   same_or_grows v w is = ⊎_elim (λ (e : w ≡ v). subst (Grows v) (sym e) (grows_self v)) (λ (t : Turns v None w). turns_grow v None w t) is
 
@@ -142,42 +168,32 @@ module _ {O C X : Type 0} (pulls : O → List C → X → List Msg → X → Typ
 
   -- what was handed out and what is kept, after a turn
   module _ (shows : List C → List (List (List ℕ)) → Type 0) (stands_at : List C → X → Type 0) (passed : X → ℕ) where
-    pub told_after : (o : O) → GoesOn shows stands_at (pulls o) → ((cmds : List C) (x : X) → stands_at cmds x → passed x ≡ length cmds) → (v : View O C) (x : X) (kept : List Msg) (w : View O C) (y : X) (more : List Msg) (at : ℕ)
+    pub told_after : (o : O) → GoesOn shows stands_at (pulls o) passed → (v : View O C) (x : X) (kept : List Msg) (w : View O C) (y : X) (more : List Msg) (at : ℕ)
         → v.origin ≡ o → IsTold shows stands_at (commands v.seen) x (passed x) (lines_of kept) at → Grows v w → PullsOrNot v x kept w y more
         → IsTold shows stands_at (commands w.seen) y (passed y) (lines_of more) at
-    told_after o law passes v x kept w y more at origin t g (inl p) =
+    told_after o law v x kept w y more at origin t g (inl p) =
         let later = commands_grow v w g in
         let pulled : pulls o (commands v.seen ++ later.0) x p.0 y = subst (λ (l : List C). pulls o l x p.0 y) (sym later.1) (subst (λ (a : O). pulls a (commands w.seen) x p.0 y) origin p.1) in
-        let after : IsTold shows stands_at (commands v.seen ++ later.0) y (length (commands v.seen ++ later.0)) (lines_of kept ++ lines_of p.0) at = told_pulled shows stands_at (pulls o) law (commands v.seen) later.0 x y (passed x) (lines_of kept) at p.0 t pulled in
-        let here : IsTold shows stands_at (commands w.seen) y (length (commands w.seen)) (lines_of kept ++ lines_of p.0) at = subst (λ (l : List C). IsTold shows stands_at l y (length l) (lines_of kept ++ lines_of p.0) at) later.1 after in
-        let all : passed y ≡ length (commands w.seen) = passes (take (length (commands w.seen)) (commands w.seen)) y here.cursor ∙ ap length (take_all (length (commands w.seen)) (commands w.seen) (omega arith)) in
+        let after : IsTold shows stands_at (commands v.seen ++ later.0) y (passed y) (lines_of kept ++ lines_of p.0) at = told_pulled shows stands_at (pulls o) passed law (commands v.seen) later.0 x y (passed x) (lines_of kept) at p.0 t pulled in
+        let here : IsTold shows stands_at (commands w.seen) y (passed y) (lines_of kept ++ lines_of p.0) at = subst (λ (l : List C). IsTold shows stands_at l y (passed y) (lines_of kept ++ lines_of p.0) at) later.1 after in
         let lines : lines_of kept ++ lines_of p.0 ≡ lines_of more = sym (map-append msg_lines kept p.0) ∙ ap (λ (ms : List Msg). lines_of ms) (sym p.2) in
-        subst (λ (n : ℕ). IsTold shows stands_at (commands w.seen) y n (lines_of more) at) (sym all) (subst (λ (ls : List (List (List ℕ))). IsTold shows stands_at (commands w.seen) y (length (commands w.seen)) ls at) lines here)
-    told_after o law passes v x kept w y more at origin t g (inr p) =
+        subst (λ (ls : List (List (List ℕ))). IsTold shows stands_at (commands w.seen) y (passed y) ls at) lines here
+    told_after o law v x kept w y more at origin t g (inr p) =
         let later = commands_grow v w g in
         let after : IsTold shows stands_at (commands v.seen ++ later.0) x (passed x) (lines_of kept) at = told_more shows stands_at (commands v.seen) later.0 x (passed x) (lines_of kept) at t in
         let here : IsTold shows stands_at (commands w.seen) x (passed x) (lines_of kept) at = subst (λ (l : List C). IsTold shows stands_at l x (passed x) (lines_of kept) at) later.1 after in
         subst (λ (z : X). IsTold shows stands_at (commands w.seen) z (passed z) (lines_of more) at) (sym p.0) (subst (λ (ms : List Msg). IsTold shows stands_at (commands w.seen) x (passed x) (lines_of ms) at) (sym p.1) here)
 
--- ---- handing out
+-- what was pulled was pulled in another way, too
+pub pulls_map : {O C X : Type 0} (pulls also : O → List C → X → List Msg → X → Type 0) (v : View O C) (x : X) (kept : List Msg) (w : View O C) (y : X) (more : List Msg)
+    → ((o : O) (cmds : List C) (msgs : List Msg) → pulls o cmds x msgs y → also o cmds x msgs y) → PullsOrNot pulls v x kept w y more → PullsOrNot also v x kept w y more
+pulls_map pulls also v x kept w y more change (inl p) = inl (p.0, change v.origin (commands w.seen) p.0 p.1, p.2)
+pulls_map pulls also v x kept w y more change (inr p) = inr p
 
-all_last : (P : ℕ → Type 0) (xs : List ℕ) (x : ℕ) → All P (xs ++ x ∷ []) → P x
-all_last P xs x all = subst P (get_or-append_seam xs x [] 0) (all (length xs) 0 (omega (arith, length-append xs (x ∷ []))))
+-- ---- handing out
 
 pub length-commands : {C : Type 0} (l : List (Entry C)) → length (commands l) ≡ length l
 length-commands {C} l = length-map l (λ (e : Entry C). e.cmd)
-
-module _ {O C : Type 0} where
-  -- a look that shows more, and a turn after it
-  pub looks_and_turns : (v m w : View O C) (n passed : ℕ) → m ≡ after_look v n → length v.seen ≤ n → IsFresh v n → passed < n → TurnsAtLast m None w → LooksAnd v passed w
-  looks_and_turns v m w n passed is seen fresh more turns =
-      let t : TurnsAtLast (after_look v n) None w = subst (λ (u : View O C). TurnsAtLast u None w) is turns in
-      let shown : n ≤ length t.1.0 = all_last (λ (k : ℕ). k ≤ length t.1.0) v.looks n t.1.1.1 in
-      let long : length w.seen ≡ length t.1.0 = ap (λ (u : View O C). length u.seen) t.1.2 in
-      (n, seen, omega arith, inr (more, t), fresh)
-
-  pub looks_and_less : (v w : View O C) (passed : ℕ) → LooksAnd v passed w → LooksAtMost v w
-  looks_and_less v w passed l = (l.0, l.1, ⊎_elim (λ (a : (l.0 ≤ passed) × (w ≡ after_look v l.0)). inl a.1) (λ (b : (passed < l.0) × TurnsAtLast (after_look v l.0) None w). inr b.1) l.3, l.4)
 
 module _ {O C X : Type 0} (shows : List C → List (List (List ℕ)) → Type 0) (stands_at : List C → X → Type 0) (passed : X → ℕ) where
   pub told_handed : (v w : View O C) (x y : X) (kept more : List Msg) (at now : ℕ) → w ≡ v → y ≡ x → more ≡ [] → now ≡ passed y → IsTold shows stands_at (commands v.seen) x (passed x) (lines_of kept) at
@@ -189,20 +205,20 @@ module _ {O C X : Type 0} (shows : List C → List (List (List ℕ)) → Type 0)
       let empty : IsTold shows stands_at (commands w.seen) y (passed y) (lines_of more) (passed y) = subst (λ (ms : List Msg). IsTold shows stands_at (commands w.seen) y (passed y) (lines_of ms) (passed y)) (sym none) moved in
       subst (λ (n : ℕ). IsTold shows stands_at (commands w.seen) y (passed y) (lines_of more) n) (sym end) empty
 
-  -- what is kept past the place up to which messages were handed out, where all that the pass sees was pulled
+  -- what is kept past the place up to which messages were handed out
   pub hands_out : (v w : View O C) (x y : X) (kept more : List Msg) (at now : ℕ) → IsTold shows stands_at (commands v.seen) x (passed x) (lines_of kept) at → Grows v w → IsTold shows stands_at (commands w.seen) y (passed y) (lines_of more) at
-      → passed y ≡ length (commands w.seen) → now ≡ passed y → HandsOut shows (commands v.seen) at more (commands w.seen) now
-  hands_out v w x y kept more at now t g u all end =
+      → now ≡ passed y → HandsOut shows (commands v.seen) at more (commands w.seen) now
+  hands_out v w x y kept more at now t g u end =
       let later = commands_grow v w g in
       let within : passed x ≤ length (commands v.seen) = t.within in
       let handed_out : at ≤ passed x = t.handed_out in
       let first : take at (commands w.seen) ≡ take at (commands v.seen) = ap (take at) (sym later.1) ∙ take-append-le at (commands v.seen) later.0 (omega arith) in
-      let whole : take (passed y) (commands w.seen) ≡ commands w.seen = take_all (passed y) (commands w.seen) (omega arith) in
       record {
         before = u.before;
         shown_before = subst (λ (l : List C). shows l u.before) first u.shown_before;
-        shown = subst (λ (l : List C). shows l (u.before ++ lines_of more)) whole u.shown;
-        end = end ∙ all;
+        on = subst (λ (n : ℕ). at ≤ n) (sym end) u.handed_out;
+        within = subst (λ (n : ℕ). n ≤ length (commands w.seen)) (sym end) u.within;
+        shown = subst (λ (n : ℕ). shows (take n (commands w.seen)) (u.before ++ lines_of more)) (sym end) u.shown;
       }
 
 -- ---- what a turn lets its pass say

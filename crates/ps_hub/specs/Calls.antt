@@ -51,7 +51,7 @@ use Rattle.ps_hub.specs.declared.passes.Passes.{Passes}
 use Rattle.ps_hub.specs.Hubs.{Hub, root_of, site_of}
 use Rattle.ps_hub.specs.Names.{IsNoChat, IsBattleId, Names}
 use Rattle.ps_hub.specs.Passes.{IsHallPass, IsAsBefore, ButFor, lines_of}
-use Rattle.ps_hub.specs.Turns.{Turns, TurnsAtLast, FallsShort, FallsShortAtLast}
+use Rattle.ps_hub.specs.Turns.{Turns, TurnsAtLast, Rereads, FallsShort, FallsShortAtLast}
 
 -- ---- entries
 
@@ -294,25 +294,38 @@ NeedsBadge (Room id cmd) passes = IsSome passes.badge
 abbrev pub IsFresh : {O C : Type 0} → View O C → ℕ → Type 0
 IsFresh v n = (length v.known ≤ n) × All (λ (m : ℕ). m ≤ n) v.looks
 
--- A look, and a turn without an entry where it showed more than the cursor had passed. Then all of the history that the pass
--- has seen was handed out.
-abbrev pub LooksAnd : {O C : Type 0} → View O C → ℕ → View O C → Type 0
-LooksAnd v passed w = (n : ℕ) × (length v.seen ≤ n) × (n ≤ length w.seen) × (((n ≤ passed) × (w ≡ after_look v n)) ⊎ ((passed < n) × TurnsAtLast (after_look v n) None w)) × IsFresh v n
+-- A look, and then turns without an entry, none if it showed no more than the cursor had passed.
+pub record LooksAnd {O C : Type 0} (v : View O C) (passed : ℕ) (w : View O C) (now : ℕ) : Type 0 where
+  pub shown : ℕ
+  pub seen : length v.seen ≤ shown
+  pub fresh : IsFresh v shown
+  pub read : Rereads (after_look v shown) w
+  pub idle : shown ≤ passed → w ≡ after_look v shown
+  -- all that the look showed is among the first `now` entries
+  pub answered : shown ≤ now
 
--- a look, and at the most a turn without an entry
+-- a look, and then turns without an entry, if any
 abbrev pub LooksAtMost : {O C : Type 0} → View O C → View O C → Type 0
-LooksAtMost v w = (n : ℕ) × (length v.seen ≤ n) × ((w ≡ after_look v n) ⊎ TurnsAtLast (after_look v n) None w) × IsFresh v n
+LooksAtMost v w = (n : ℕ) × (length v.seen ≤ n) × Rereads (after_look v n) w × IsFresh v n
 
--- The messages that are handed out are those past the place up to which they were; and that is now the end of what the pass has seen.
+-- The messages that are handed out are those past the place up to which they were, up to a place further on.
 module _ {C : Type 0} (shows : List C → List (List (List ℕ)) → Type 0) where
   pub record HandsOut (cmds : List C) (at : ℕ) (msgs : List Msg) (more : List C) (now : ℕ) : Type 0 where
     pub before : List (List (List ℕ))
     pub shown_before : shows (take at cmds) before
-    pub shown : shows more (before ++ lines_of msgs)
-    pub end : now ≡ length more
+    pub on : at ≤ now
+    pub within : now ≤ length more
+    pub shown : shows (take now more) (before ++ lines_of msgs)
 
 abbrev pub HallCaught : Hub → ℕ → List Msg → HallPass → HallPass → Type 0
-HallCaught hub conn msgs h k = LooksAnd h.pass.1 h.cursor.passed k.pass.1 × HandsOut (HallShows conn (root_of hub)) (commands h.pass.1.seen) h.at msgs (commands k.pass.1.seen) k.at
+HallCaught hub conn msgs h k =
+    LooksAnd h.pass.1 h.cursor.passed k.pass.1 k.at
+    × HandsOut (HallShows conn (root_of hub)) (commands h.pass.1.seen) h.at msgs (commands k.pass.1.seen) k.at
+
+-- A piece was handed out, for which turns without an entry were taken, if any.
+abbrev pub HallHanded : Hub → ℕ → List Msg → HallPass → HallPass → Type 0
+HallHanded hub conn msgs h k =
+    Rereads h.pass.1 k.pass.1 × HandsOut (HallShows conn (root_of hub)) (commands h.pass.1.seen) h.at msgs (commands k.pass.1.seen) k.at
 
 -- what a call does to the pass of the hall, and to nothing else
 pub record HallOnly (does : HallPass → HallPass → Type 0) (old new : Passes) : Type 0 where
@@ -329,8 +342,20 @@ abbrev pub CatchesUpHall : {E : Type 0} → Hub → Passes → Result (Vec Msg G
 CatchesUpHall hub old (Ok msgs) new = HallOnly (HallCaught hub old.conn msgs.items) old new
 CatchesUpHall hub old (Err e) new = HallOnly (λ h k. LooksAtMost h.pass.1 k.pass.1 × (k.at ≡ h.at)) old new
 
+-- if out of memory, nothing was handed out
+abbrev pub HandsOnHall : {E : Type 0} → Hub → Passes → Result (Vec Msg Global) E → Passes → Type 0
+HandsOnHall hub old (Ok msgs) new = HallOnly (HallHanded hub old.conn msgs.items) old new
+HandsOnHall hub old (Err e) new = HallOnly (λ h k. Rereads h.pass.1 k.pass.1 × (k.at ≡ h.at)) old new
+
 abbrev pub Caught : Hub → ℕ → List Msg → RoomPass → RoomPass → Type 0
-Caught hub conn msgs h k = LooksAnd h.pass.1 h.cursor.passed k.pass.1 × HandsOut (Shows conn (site_of hub h.number)) (commands h.pass.1.seen) h.at msgs (commands k.pass.1.seen) k.at
+Caught hub conn msgs h k =
+    LooksAnd h.pass.1 h.cursor.passed k.pass.1 k.at
+    × HandsOut (Shows conn (site_of hub h.number)) (commands h.pass.1.seen) h.at msgs (commands k.pass.1.seen) k.at
+
+abbrev pub Handed : Hub → ℕ → List Msg → RoomPass → RoomPass → Type 0
+Handed hub conn msgs h k =
+    Rereads h.pass.1 k.pass.1
+    × HandsOut (Shows conn (site_of hub h.number)) (commands h.pass.1.seen) h.at msgs (commands k.pass.1.seen) k.at
 
 -- what a call does to the pass that stands at an index of the list, and to nothing else
 pub record RoomOnly (pass_index : ℕ) (does : RoomPass → RoomPass → Type 0) (old new : Passes) : Type 0 where
@@ -348,6 +373,10 @@ pub record RoomOnly (pass_index : ℕ) (does : RoomPass → RoomPass → Type 0)
 abbrev pub CatchesUp : {E : Type 0} → Hub → ℕ → Passes → Result (Vec Msg Global) E → Passes → Type 0
 CatchesUp hub pass_index old (Ok msgs) new = RoomOnly pass_index (Caught hub old.conn msgs.items) old new
 CatchesUp hub pass_index old (Err e) new = RoomOnly pass_index (λ h k. LooksAtMost h.pass.1 k.pass.1 × (k.at ≡ h.at)) old new
+
+abbrev pub HandsOn : {E : Type 0} → Hub → ℕ → Passes → Result (Vec Msg Global) E → Passes → Type 0
+HandsOn hub pass_index old (Ok msgs) new = RoomOnly pass_index (Handed hub old.conn msgs.items) old new
+HandsOn hub pass_index old (Err e) new = RoomOnly pass_index (λ h k. Rereads h.pass.1 k.pass.1 × (k.at ≡ h.at)) old new
 
 -- the hall, or a room that is held by this id
 abbrev pub IsHeldBy : Option (List ℕ) → Passes → Type 0

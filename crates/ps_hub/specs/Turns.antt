@@ -1,5 +1,5 @@
 -- What a turn leaves of a pass, its cursor and the messages that are kept.
-use Rattle.std.specs.Prelude.{◌≡◌, ◌⊎◌, ℕ, List, ◌++◌, length, Option, Some, None, Result, Ok, Err}
+use Rattle.std.specs.Prelude.{◌≡◌, ◌⊎◌, ℕ, zero, suc, List, ◌++◌, length, Option, Some, None, Result, Ok, Err}
 use Rattle.ps_base.specs.declared.msg.Msg.{Msg}
 use Rattle.ps_histlock.specs.declared.view.Entry.{Entry}
 use Rattle.ps_histlock.specs.declared.view.View.{View}
@@ -11,8 +11,8 @@ use Rattle.ps_hall.specs.declared.entry.HallEntry.{HallEntry}
 use Rattle.ps_hall.specs.declared.outcome.HallOut.{HallOut}
 use Rattle.ps_room.specs.declared.outcome.RoomOut.{RoomOut}
 use Rattle.server_places.specs.declared.command.RoomCmd.{RoomCmd}
-use Rattle.server_places.specs.Halls.{HallAnswers, HallPulls}
-use Rattle.server_places.specs.Rooms.{Answers, Pulls}
+use Rattle.server_places.specs.Halls.{HallAnswers, HallPulls, HallPullsUpTo}
+use Rattle.server_places.specs.Rooms.{Answers, Pulls, PullsUpTo}
 use Rattle.ps_hub.specs.declared.pass.HallPass.{HallPass}
 use Rattle.ps_hub.specs.declared.pass.RoomPass.{RoomPass}
 use Rattle.ps_hub.specs.declared.taken.Ended.{Ended}
@@ -30,6 +30,15 @@ module _ {O C : Type 0} where
   -- the same after tries in vain, which met these words
   abbrev pub TurnsAtLast : View O C → Option C → View O C → Type 0
   TurnsAtLast v cmd w = (words : List ℕ) × Turns (record v { met = v.met ++ words }) cmd w
+
+  -- so many turns without an entry, one behind the other
+  abbrev pub ReadsOn : ℕ → View O C → View O C → Type 0
+  ReadsOn zero v w = w ≡ v
+  ReadsOn (suc turns) v w = (u : View O C) × ReadsOn turns v u × TurnsAtLast u None w
+
+  -- turns without an entry, if any
+  abbrev pub Rereads : View O C → View O C → Type 0
+  Rereads v w = (turns : ℕ) × ReadsOn turns v w
 
 module _ {O C U : Type 0} (answers : List C → C → U → Type 0) where
   -- a turn with an entry, and what the entry gave
@@ -108,9 +117,10 @@ HallTurnAtLast h cmd t k =
     TakesAtLast HallAnswers HallPulls h.pass.1 h.cursor (h.kept.items ++ h.fresh.items) cmd t k.pass.1 k.cursor
     (k.kept.items ++ k.fresh.items)
 
-abbrev pub HallReadAtLast : {T E : Type 0} → HallPass → Result T E → HallPass → Type 0
-HallReadAtLast h result k =
-    ReadsAtLast HallPulls h.pass.1 h.cursor (h.kept.items ++ h.fresh.items) result k.pass.1 k.cursor (k.kept.items ++ k.fresh.items)
+-- up to a bound that is set for this turn
+abbrev pub HallReadUpTo : {T E : Type 0} → HallPass → Result T E → HallPass → Type 0
+HallReadUpTo h result k =
+    ReadsAtLast HallPullsUpTo h.pass.1 h.cursor (h.kept.items ++ h.fresh.items) result k.pass.1 k.cursor (k.kept.items ++ k.fresh.items)
 
 abbrev pub RoomTurn : RoomPass → RoomCmd → Taken RoomCmd (Option RoomOut) → RoomPass → Type 0
 RoomTurn h cmd t k =
@@ -124,6 +134,6 @@ abbrev pub RoomRead : RoomPass → Read → RoomPass → Type 0
 RoomRead h t k =
     Reads Pulls h.pass.1 h.cursor (h.kept.items ++ h.fresh.items) t k.pass.1 k.cursor (k.kept.items ++ k.fresh.items)
 
-abbrev pub RoomReadAtLast : {T E : Type 0} → RoomPass → Result T E → RoomPass → Type 0
-RoomReadAtLast h result k =
-    ReadsAtLast Pulls h.pass.1 h.cursor (h.kept.items ++ h.fresh.items) result k.pass.1 k.cursor (k.kept.items ++ k.fresh.items)
+abbrev pub RoomReadUpTo : {T E : Type 0} → RoomPass → Result T E → RoomPass → Type 0
+RoomReadUpTo h result k =
+    ReadsAtLast PullsUpTo h.pass.1 h.cursor (h.kept.items ++ h.fresh.items) result k.pass.1 k.cursor (k.kept.items ++ k.fresh.items)

@@ -8,7 +8,7 @@ ghost use Rattle.server_places.specs.Halls.{hall_cursor, hall_signer, IsAtRestIn
 ghost use Rattle.server_places.specs.Sites.{room_signer};
 ghost use Rattle.server_places.specs.Rooms.{cursor_of};
 ghost use Rattle.ps_hub.specs.Hubs.{Hub, root_of, lock_of, site_of};
-ghost use Rattle.ps_hub.specs.Turns.{HallTurn, HallTurnAtLast, HallReadAtLast, RoomTurn, RoomTurnAtLast, RoomRead, RoomReadAtLast};
+ghost use Rattle.ps_hub.specs.Turns.{HallTurn, HallTurnAtLast, HallReadUpTo, RoomTurn, RoomTurnAtLast, RoomRead, RoomReadUpTo};
 ghost use Rattle.ps_hub.specs.Turns.{IsLimited, IfKeptOut, IfKeptOutAtLast};
 ghost use Rattle.ps_hub.specs.Passes.{Adds, IsHallPass, IsRoomPass, IsNewPass};
 ghost use Rattle.ps_hub.specs.Calls.{IsFresh};
@@ -186,27 +186,34 @@ impl HallPass {
         )
     }
 
-    /// One turn without a command, whose messages are kept, after waiting for the turn. `AllocError` if out of memory for the messages.
-    pub(crate) fn read<R: Wait>(
+    /// One turn without a command, after waiting for the turn: a piece of what is past the cursor, up to a bound if there is one, is
+    /// kept. `AllocError` if out of memory for the messages.
+    pub(crate) fn read_up_to<R: Wait>(
         &mut self,
         rt: &R,
         lock: &HistLock<HallPlace>,
+        until: Option<u64>,
     ) -> Result<(), AllocError>
-        requires { self.old.pass.0 ≡ lock.now.0 }
+        requires lock { self.old.pass.0 ≡ lock.now.0 }
+        requires free { self.old.cursor.until ≡ None }
         ensures lock { self.new.pass.0 ≡ self.old.pass.0 }
-        ensures does { HallReadAtLast self.old result self.new }
+        ensures does { HallReadUpTo self.old result self.new }
+        ensures free { self.new.cursor.until ≡ None }
         ensures of { (hub : Hub) (conn : ℕ) → IsHallPass hub conn self.old → IsHallPass hub conn self.new }
         ensures adds { Adds self.old.pass.1 self.new.pass.1 }
         ensures at { self.new.at ≡ self.old.at }
     {
-        read(
+        self.cursor.until = until;
+        let done = read(
             rt,
             lock,
             &mut self.pass,
             &mut self.cursor,
             &mut self.kept,
             &mut self.fresh,
-        )
+        );
+        self.cursor.until = None;
+        done
     }
 
     /// How many entries the hall has.
@@ -328,27 +335,34 @@ impl RoomPass {
         )
     }
 
-    /// The same after waiting for the turn. `AllocError` if out of memory for the messages.
-    pub(crate) fn read<R: Wait>(
+    /// One turn without a command, after waiting for the turn: a piece of what is past the cursor, up to a bound if there is one, is
+    /// kept. `AllocError` if out of memory for the messages.
+    pub(crate) fn read_up_to<R: Wait>(
         &mut self,
         rt: &R,
         lock: &HistLock<RoomPlace>,
+        until: Option<u64>,
     ) -> Result<(), AllocError>
-        requires { self.old.pass.0 ≡ lock.now.0 }
+        requires lock { self.old.pass.0 ≡ lock.now.0 }
+        requires free { self.old.cursor.until ≡ None }
         ensures lock { self.new.pass.0 ≡ self.old.pass.0 }
-        ensures does { RoomReadAtLast self.old result self.new }
+        ensures does { RoomReadUpTo self.old result self.new }
+        ensures free { self.new.cursor.until ≡ None }
         ensures of { (hub : Hub) (conn : ℕ) → IsRoomPass hub conn self.old → IsRoomPass hub conn self.new }
         ensures adds { Adds self.old.pass.1 self.new.pass.1 }
         ensures same { (self.new.at ≡ self.old.at) × (self.new.number ≡ self.old.number) × (self.new.id ≡ self.old.id) }
     {
-        read(
+        self.cursor.until = until;
+        let done = read(
             rt,
             lock,
             &mut self.pass,
             &mut self.cursor,
             &mut self.kept,
             &mut self.fresh,
-        )
+        );
+        self.cursor.until = None;
+        done
     }
 
     /// How many commands the place has taken.

@@ -1,5 +1,5 @@
 -- What is known of two sessions that met.
-use Rattle.std.proofs.Common.{◌≡◌, ℕ, ◌∷◌, List, Some, sym, subst, inl, inr, ⊎_elim, ◌⊎◌}
+use Rattle.std.proofs.Common.{◌≡◌, ℕ, List, Some, sym, subst, inl, inr, ⊎_elim, ◌⊎◌}
 use mathlib.Core.List.{IsPrefix}
 use Rattle.ps_hall.specs.declared.entry.HallEntry.{HallEntry}
 use Rattle.ps_histlock.specs.declared.view.Entry.{Entry}

@@ -25,7 +25,7 @@ use Rattle.ps_hub.specs.declared.passes.Passes.{Passes}
 use Rattle.ps_hub.proofs.ShortLemmas.{short_turns_at_last}
 use Rattle.ps_serve.specs.Acts.{Act, heard, in_hall, with_given, room_cmds, hall_entries, since}
 use Rattle.ps_serve.specs.Sendings.{Sending}
-use Rattle.ps_serve.specs.Sittings.{AreApart, IsBegun, Sits, PlaceLeft, IsUpToDate}
+use Rattle.ps_serve.specs.Sittings.{AreApart, IsBegun, Sits, PlaceLeft, IsUpToDate, IsCaughtUp}
 use Rattle.ps_serve.proofs.Prefixes.{prefix_front, prefix_same}
 use Rattle.ps_serve.proofs.PassLists.{IsBeside, beside, new_all, before_is, has_new, new_apart, Grows, grows_self, grows_beside}
 use Rattle.ps_serve.proofs.Actions.{IsQuietAt, cmds_more, quiet_hall, quiet_start, starts_here, room_on}
@@ -181,7 +181,7 @@ module _ (hub : Hub) (conn open_at : ℕ) (acts : List Act) (ss : List Sending) 
         (λ id e. (
         let q = p.holding id (sym same_id ∙ e) in
         let joined : since k.number acts ≢ [] = ⊎_elim
-        (λ (j : (since h.number acts ≢ []) × (IsUpToDate old → h.at ≡ length h.pass.1.seen)). (let w : since k.number acts ≢ [] = (λ bare. j.0 (ap (λ (n : ℕ). since n acts) (sym m.place) ∙ bare)) in w))
+        (λ (j : (since h.number acts ≢ []) × (IsUpToDate old → IsCaughtUp h.pass.1 h.at)). (let w : since k.number acts ≢ [] = (λ bare. j.0 (ap (λ (n : ℕ). since n acts) (sym m.place) ∙ bare)) in w))
         (λ (j : (None ≡ Some id) × (since h.number acts ≡ [])). absurd (none-some id j.0))
         q.1 in
         room_on hub conn acts (heard bytes moment (in_hall cmd badge (Some start))) ss id k joined (sits_moved hub conn ss acts (length acts) id h more k m q.0)

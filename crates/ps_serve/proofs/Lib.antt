@@ -18,6 +18,7 @@ pub mod Names
 pub mod NowhereLemmas
 pub mod Obeyed
 pub mod OrderLemmas
+pub mod PieceLemmas
 pub mod PlaceLemmas
 pub mod Places
 pub mod Prefixes

@@ -1,5 +1,5 @@
 -- What one try of an order tells.
-use Rattle.std.proofs.Common.{◌≡◌, ℕ, suc, Bool, true, false, if◌then◌else◌, List, refl, sym, ap, ◌∙◌, subst, inl, inr, ⊎_elim, Option, Some, None, Result, Ok, Err, is_some, is_ok, true≢false}
+use Rattle.std.proofs.Common.{◌≡◌, ℕ, suc, Bool, true, false, if◌then◌else◌, List, refl, sym, ap, ◌∙◌, subst, inl, inr, ⊎_elim, Option, Some, None, Result, Ok, Err, is_ok, true≢false}
 use Rattle.ps_base.specs.declared.badge.Badge.{Badge}
 use Rattle.ps_lines.specs.Clients.{client}
 use Rattle.ps_lines.specs.Commands.{command}
@@ -11,7 +11,7 @@ use Rattle.ps_lines.specs.declared.command.Parsed.{Parsed}
 use Rattle.ps_lines.specs.declared.command.Parsed.TheVariants as parsed
 use Rattle.ps_session.specs.Routes.{room_named, unless_refused, to_room, by_command, by_client, order_of, place_of, limited, within_limit, taken}
 use Rattle.ps_session.specs.declared.session.TakeFault.{TakeFault}
-use Rattle.std.specs.Prelude.{IsSome, IfSome}
+use Rattle.std.specs.Prelude.{IsSome}
 use Rattle.ps_lines.specs.declared.command.Command.{Command}
 use Rattle.ps_lines.specs.declared.order.Order.{Order}
 use Rattle.ps_lines.specs.declared.order.Order.TheVariants.{Hall, Room}
@@ -22,7 +22,6 @@ use Rattle.ps_hub.specs.declared.out.HubFault.{HubFault}
 use Rattle.ps_hub.specs.declared.out.HubFault.TheVariants as hub_faults
 use Rattle.ps_hub.specs.declared.out.HubOut.{HubOut}
 use Rattle.ps_hub.specs.declared.passes.Passes.{Passes}
-use Rattle.ps_serve.specs.declared.obey.Unmade.TheVariants as unmade
 use Rattle.ps_serve.specs.Obeys.{TriesInVain, OrdersAtLast}
 
 -- the order comes back

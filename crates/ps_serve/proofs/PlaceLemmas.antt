@@ -7,7 +7,8 @@ use Rattle.ps_base.specs.declared.msg.Msg.{Msg}
 use mathlib.Core.List.{IsPrefix}
 use Rattle.ps_hall.specs.declared.entry.HallEntry.{HallEntry}
 use Rattle.ps_histlock.specs.declared.view.Entry.{Entry}
-use Rattle.ps_histlock.specs.Histories.{commands}
+use Rattle.ps_histlock.specs.Histories.{commands, entries_of}
+use Rattle.ps_histlock.specs.Views.{after_look}
 use Rattle.ps_histlock.proofs.Lists.{prefix_self}
 use Rattle.ps_session.specs.Texts.{texts_of}
 use Rattle.server_places.specs.declared.command.RoomCmd.{RoomCmd}
@@ -18,25 +19,26 @@ use Rattle.server_places.specs.Rooms.{Shows}
 use Rattle.server_places.specs.Halls.{HallShows}
 use Rattle.server_places.proofs.TellLemmas.{one_story}
 use Rattle.ps_hub.specs.Hubs.{Hub, root_of, site_of}
-use Rattle.ps_hub.specs.Calls.{HallCaught, Caught}
+use Rattle.ps_hub.specs.Passes.{IsHallPass, IsRoomPass}
+use Rattle.ps_hub.specs.Calls.{LooksHall, HallHanded}
 use Rattle.ps_hub.specs.declared.pass.HallPass.{HallPass}
 use Rattle.ps_hub.specs.declared.pass.RoomPass.{RoomPass}
-use Rattle.ps_hub.proofs.ToldLemmas.{length-commands}
 use Rattle.ps_serve.specs.Acts.{Act, since, hall_of, hall_entries, room_of, room_cmds}
 use Rattle.ps_serve.specs.Sendings.{Sending, texts_from}
-use Rattle.ps_serve.specs.Sittings.{IsSent, IsPartSent, HallSits, RoomWaits, SitsBy, PlaceSits, IsAs, HallLeft, LooksLeft, PlaceLeft}
+use Rattle.ps_serve.specs.Sittings.{IsSent, IsCaughtUp, IsPartSent, HallSits, RoomWaits, SitsBy, PlaceSits, IsAs, HallLeft, LooksLeft, PlaceLeft}
+use Rattle.ps_serve.specs.Tellings.{LooksAndTells, RoomTells}
 use Rattle.ps_serve.proofs.ActLemmas.{acts_length, since_within}
 use Rattle.ps_serve.proofs.Prefixes.{prefix_same, prefix_front, prefix_commands}
-use Rattle.ps_serve.proofs.LookLemmas.{Looked, looked, one_look_more, IsOne, handed, sent_more, part_sent, still_sent, sent_apart, whole_part, looks_stay, looks_more, all_answered, almost_answered}
+use Rattle.ps_serve.proofs.LookLemmas.{Looked, looked, caught_up, one_look_more, IsOne, handed, sent_more, part_sent, sent_apart, whole_part, looks_stay, looks_more, all_answered, almost_answered}
 use Rattle.ps_serve.proofs.Goings.{Goes}
 use Rattle.ps_serve.proofs.Halls.{IsHallKin}
 
 -- ---- one view of a history
 
-hall_one : (conn : ℕ) (r : Root) → IsOne (HallShows conn r)
+pub hall_one : (conn : ℕ) (r : Root) → IsOne (HallShows conn r)
 hall_one conn r cmds one two a b = a ∙ sym b
 
-room_one : (conn : ℕ) (site : Site) → IsOne (Shows conn site)
+pub room_one : (conn : ℕ) (site : Site) → IsOne (Shows conn site)
 room_one conn site cmds one two a b = a.2 ∙ ap (view_told conn) (one_story site cmds a.0 b.0 a.1 b.1) ∙ sym b.2
 
 -- ---- a pass that had a look
@@ -49,16 +51,19 @@ room_goes h k n l place id = record { grew = record { place = place; id = λ x e
 
 -- ---- the hall, all told
 
-pub hall_tells : (hub : Hub) (conn : ℕ) (acts : List Act) (m : ℕ) (ss news : List Sending) (h k : HallPass) (msgs : List Msg) → HallSits hub conn acts m ss h → HallCaught hub conn msgs h k → texts_from None news ≡ texts_of None msgs → All (λ (s : Sending). s.after ≤ m + 1) (ss ++ news)
+-- a look at the hall, and messages that were handed out for it
+abbrev pub HallTells : Hub → ℕ → ℕ → List Msg → HallPass → HallPass → Type 0
+HallTells hub conn shown msgs h k = LooksAndTells (HallShows conn (root_of hub)) shown h.pass.1 h.at msgs k.pass.1 k.at
+
+pub hall_tells : (hub : Hub) (conn : ℕ) (acts : List Act) (m shown : ℕ) (ss news : List Sending) (h k : HallPass) (msgs : List Msg) → HallSits hub conn acts m ss h → HallTells hub conn shown msgs h k → shown ≤ k.at → texts_from None news ≡ texts_of None msgs → All (λ (s : Sending). s.after ≤ m + 1) (ss ++ news)
     → HallSits hub conn acts (m + 1) (ss ++ news) k
-hall_tells hub conn acts m ss news h k msgs sits caught from time =
-    let l : Looked h.pass.1 k.pass.1 caught.0.0 = looked h.pass.1 k.pass.1 h.cursor.passed caught.0 in
-    let now = sent_more (HallShows conn (root_of hub)) (commands h.pass.1.seen) h.at None None ss news msgs (commands k.pass.1.seen) k.at (handed (HallShows conn (root_of hub)) (hall_one conn (root_of hub)) (commands h.pass.1.seen) h.at None None ss msgs (commands k.pass.1.seen) k.at sits.sent caught.1) from in
-    let within : caught.0.0 ≤ length (commands k.pass.1.seen) = omega (arith, caught.0.2, length-commands k.pass.1.seen) in
+hall_tells hub conn acts m shown ss news h k msgs sits told answered from time =
+    let l : Looked h.pass.1 k.pass.1 shown = looked h.pass.1 k.pass.1 shown told.read in
+    let now = sent_more (HallShows conn (root_of hub)) (commands h.pass.1.seen) h.at None None ss news msgs (commands k.pass.1.seen) k.at (handed (HallShows conn (root_of hub)) (hall_one conn (root_of hub)) (commands h.pass.1.seen) h.at None None ss msgs (commands k.pass.1.seen) k.at sits.sent told.out) from in
     record {
       entries = ap (λ (es : List (Entry HallEntry)). commands es) l.mine ∙ sits.entries;
-      count = one_look_more h.pass.1 k.pass.1 caught.0.0 l ∙ ap (λ (n : ℕ). n + 1) sits.count;
-      looks = looks_more (HallShows conn (root_of hub)) (commands h.pass.1.seen) (commands k.pass.1.seen) k.at None None ss news 1 (m + 1) h.pass.1.looks caught.0.0 k.pass.1.looks (prefix_commands h.pass.1.seen k.pass.1.seen l.grows) sits.looks (omega (arith, sits.count)) now caught.1.end within time l.looks;
+      count = one_look_more h.pass.1 k.pass.1 shown l ∙ ap (λ (n : ℕ). n + 1) sits.count;
+      looks = looks_more (HallShows conn (root_of hub)) (commands h.pass.1.seen) (commands k.pass.1.seen) k.at None None ss news 1 (m + 1) h.pass.1.looks shown k.pass.1.looks (prefix_commands h.pass.1.seen k.pass.1.seen l.grows) sits.looks (omega (arith, sits.count)) now told.out.within answered time l.looks;
       sent = now;
     }
 
@@ -71,8 +76,22 @@ hall_sits_on hub conn acts m ss news h sits others = record {
   sent = sent_apart (HallShows conn (root_of hub)) (commands h.pass.1.seen) h.at None None ss news sits.sent others;
 }
 
-pub hall_up : (hub : Hub) (conn : ℕ) (h k : HallPass) (msgs : List Msg) → HallCaught hub conn msgs h k → k.at ≡ length k.pass.1.seen
-hall_up hub conn h k msgs caught = caught.1.end ∙ length-commands k.pass.1.seen
+pub hall_up : (hub : Hub) (conn shown : ℕ) (h k : HallPass) (msgs : List Msg) → HallTells hub conn shown msgs h k → shown ≤ k.at → h.pass.1.mine ≡ entries_of h.pass.1.number h.pass.1.seen → IsHallPass hub conn k → IsCaughtUp k.pass.1 k.at
+hall_up hub conn shown h k msgs told answered own is = caught_up h.pass.1 k.pass.1 shown k.at (looked h.pass.1 k.pass.1 shown told.read) told.fresh told.seen answered own is.rest.2
+
+-- what a pass made stands in what it has seen
+pub hall_own : (hub : Hub) (conn shown : ℕ) (h j : HallPass) → LooksHall shown h j → IsHallPass hub conn j → h.pass.1.mine ≡ entries_of h.pass.1.number h.pass.1.seen
+hall_own hub conn shown h j l is = subst (λ (x : HallPass). x.pass.1.mine ≡ entries_of x.pass.1.number x.pass.1.seen) l.1 is.rest.2
+
+-- a look alone
+pub hall_looks : (h k : HallPass) (shown : ℕ) → LooksHall shown h k → Looked h.pass.1 k.pass.1 shown
+hall_looks h k shown l = looked h.pass.1 k.pass.1 shown (0, ap (λ (x : HallPass). x.pass.1) l.1)
+
+-- what was handed out since that
+pub hall_told : (hub : Hub) (conn shown : ℕ) (h j k : HallPass) (msgs : List Msg) → LooksHall shown h j → HallHanded hub conn msgs j k → HallTells hub conn shown msgs h k
+hall_told hub conn shown h j k msgs l told =
+    let handed : HallHanded hub conn msgs (record h { pass = (h.pass.0, after_look h.pass.1 shown) }) k = subst (λ (x : HallPass). HallHanded hub conn msgs x k) l.1 told in
+    record { seen = l.0; fresh = l.2; read = handed.0; out = handed.1 }
 
 -- ---- a place, all told
 
@@ -84,29 +103,28 @@ pub as_is : (h k : RoomPass) → k.number ≡ h.number → k.id ≡ h.id → as_
 as_is h k number id = λ i. record k { number = sym number i; id = sym id i }
 
 held_tells : (hub : Hub) (conn : ℕ) (acts : List Act) (m : ℕ) (ss news : List Sending) (h k : RoomPass) (n : ℕ) (id : Option (List ℕ)) → IsSome id → SitsBy id hub conn acts m ss h → Looked h.pass.1 k.pass.1 n → IsSent (Shows conn (site_of hub h.number)) (commands k.pass.1.seen) k.at id (Some h.number) (ss ++ news)
-    → k.at ≡ length (commands k.pass.1.seen) → n ≤ length (commands k.pass.1.seen) → All (λ (s : Sending). s.after ≤ m + 1) (ss ++ news) → m + 1 ≡ length acts → SitsBy id hub conn acts (m + 1) (ss ++ news) (as_was h k)
-held_tells hub conn acts m ss news h k n None held sits l now end within time last = absurd (false≢true held)
-held_tells hub conn acts m ss news h k n (Some id) held sits l now end within time last =
+    → k.at ≤ length (commands k.pass.1.seen) → n ≤ k.at → All (λ (s : Sending). s.after ≤ m + 1) (ss ++ news) → m + 1 ≡ length acts → SitsBy id hub conn acts (m + 1) (ss ++ news) (as_was h k)
+held_tells hub conn acts m ss news h k n None held sits l now within answered time last = absurd (false≢true held)
+held_tells hub conn acts m ss news h k n (Some id) held sits l now within answered time last =
     let more = one_look_more h.pass.1 k.pass.1 n l in
     let short = since_within h.number acts in
     let before = sits.count in
     record {
       count = omega arith;
-      looks = looks_more (Shows conn (site_of hub h.number)) (commands h.pass.1.seen) (commands k.pass.1.seen) k.at (Some id) (Some h.number) ss news (length acts - length (since h.number acts) + 1) (m + 1) h.pass.1.looks n k.pass.1.looks (prefix_commands h.pass.1.seen k.pass.1.seen l.grows) sits.looks (omega arith) now end within time l.looks;
+      looks = looks_more (Shows conn (site_of hub h.number)) (commands h.pass.1.seen) (commands k.pass.1.seen) k.at (Some id) (Some h.number) ss news (length acts - length (since h.number acts) + 1) (m + 1) h.pass.1.looks n k.pass.1.looks (prefix_commands h.pass.1.seen k.pass.1.seen l.grows) sits.looks (omega arith) now within answered time l.looks;
       named = sits.named;
     }
 
-pub place_tells : (hub : Hub) (conn : ℕ) (acts : List Act) (m : ℕ) (ss news : List Sending) (h k : RoomPass) (msgs : List Msg) → PlaceSits hub conn acts m ss h → IsSome h.id → Caught hub conn msgs h k → k.number ≡ h.number → k.id ≡ h.id
+pub place_tells : (hub : Hub) (conn : ℕ) (acts : List Act) (m shown : ℕ) (ss news : List Sending) (h k : RoomPass) (msgs : List Msg) → PlaceSits hub conn acts m ss h → IsSome h.id → RoomTells hub conn shown msgs h k → shown ≤ k.at → k.number ≡ h.number → k.id ≡ h.id
     → texts_from (Some h.number) news ≡ texts_of h.id msgs → All (λ (s : Sending). s.after ≤ m + 1) (ss ++ news) → m + 1 ≡ length acts → PlaceSits hub conn acts (m + 1) (ss ++ news) k
-place_tells hub conn acts m ss news h k msgs sits held caught number id from time last =
-    let l : Looked h.pass.1 k.pass.1 caught.0.0 = looked h.pass.1 k.pass.1 h.cursor.passed caught.0 in
-    let now = sent_more (Shows conn (site_of hub h.number)) (commands h.pass.1.seen) h.at h.id (Some h.number) ss news msgs (commands k.pass.1.seen) k.at (handed (Shows conn (site_of hub h.number)) (room_one conn (site_of hub h.number)) (commands h.pass.1.seen) h.at h.id (Some h.number) ss msgs (commands k.pass.1.seen) k.at sits.1 caught.1) from in
-    let within : caught.0.0 ≤ length (commands k.pass.1.seen) = omega (arith, caught.0.2, length-commands k.pass.1.seen) in
+place_tells hub conn acts m shown ss news h k msgs sits held told answered number id from time last =
+    let l : Looked h.pass.1 k.pass.1 shown = looked h.pass.1 k.pass.1 shown told.read in
+    let now = sent_more (Shows conn (site_of hub h.number)) (commands h.pass.1.seen) h.at h.id (Some h.number) ss news msgs (commands k.pass.1.seen) k.at (handed (Shows conn (site_of hub h.number)) (room_one conn (site_of hub h.number)) (commands h.pass.1.seen) h.at h.id (Some h.number) ss msgs (commands k.pass.1.seen) k.at sits.1 told.out) from in
     subst (PlaceSits hub conn acts (m + 1) (ss ++ news)) (as_is h k number id)
-    (ap (λ (es : List (Entry RoomCmd)). commands es) l.mine ∙ sits.0, now, held_tells hub conn acts m ss news h k caught.0.0 h.id held sits.2 l now caught.1.end within time last)
+    (ap (λ (es : List (Entry RoomCmd)). commands es) l.mine ∙ sits.0, now, held_tells hub conn acts m ss news h k shown h.id held sits.2 l now told.out.within answered time last)
 
-pub place_up : (hub : Hub) (conn : ℕ) (h k : RoomPass) (msgs : List Msg) → Caught hub conn msgs h k → k.at ≡ length k.pass.1.seen
-place_up hub conn h k msgs caught = caught.1.end ∙ length-commands k.pass.1.seen
+pub place_up : (hub : Hub) (conn shown : ℕ) (h k : RoomPass) (msgs : List Msg) → RoomTells hub conn shown msgs h k → shown ≤ k.at → IsRoomPass hub conn h → IsRoomPass hub conn k → IsCaughtUp k.pass.1 k.at
+place_up hub conn shown h k msgs told answered was is = caught_up h.pass.1 k.pass.1 shown k.at (looked h.pass.1 k.pass.1 shown told.read) told.fresh told.seen answered was.rest.2 is.rest.2
 
 -- ---- a place from which nothing was sent now
 
@@ -140,17 +158,6 @@ hall_early conn acts a = subst (IsPrefix (hall_entries conn acts)) (sym (flat_ma
 
 room_early : (conn number : ℕ) (acts : List Act) (a : Act) → IsPrefix (room_cmds conn number acts) (room_cmds conn number (acts ++ a ∷ []))
 room_early conn number acts a = subst (IsPrefix (room_cmds conn number acts)) (sym (flat_map-append (room_of conn number) acts (a ∷ []))) (prefix_front (room_cmds conn number acts) (room_cmds conn number (a ∷ [])))
-
--- where all was told so far
-pub hall_left : (whole : Bool) (hub : Hub) (conn : ℕ) (acts : List Act) (a : Act) (ss : List Sending) (h : HallPass) → HallSits hub conn (acts ++ a ∷ []) (length acts + 1) ss h → HallLeft whole hub conn acts (acts ++ a ∷ []) ss h
-hall_left whole hub conn acts a ss h sits =
-    let more = acts_length acts a in
-    let count = sits.count in
-    record {
-      entries = as_all whole (hall_entries conn acts) (commands h.pass.1.mine) (hall_entries conn (acts ++ a ∷ [])) (hall_early conn acts a) sits.entries;
-      looks = all_answered (HallShows conn (root_of hub)) (commands h.pass.1.seen) None None ss 1 (length (acts ++ a ∷ []) - 1) (length (acts ++ a ∷ [])) h.pass.1.looks sits.looks (omega arith) (omega arith);
-      sent = whole_part (HallShows conn (root_of hub)) (commands h.pass.1.seen) h.at None None ss sits.sent;
-    }
 
 -- where the last look wasn't answered
 pub hall_left_late : (whole : Bool) (hub : Hub) (conn : ℕ) (acts : List Act) (a : Act) (ss news : List Sending) (h k : HallPass) (n : ℕ) → HallSits hub conn (acts ++ a ∷ []) (length acts) ss h → Looked h.pass.1 k.pass.1 n → IsPartSent (HallShows conn (root_of hub)) (commands k.pass.1.seen) k.at None None (ss ++ news)
@@ -206,18 +213,14 @@ place_left_late whole hub conn acts a ss news h k n sits held l number id part =
 
 -- ---- what was sent in part
 
-pub hall_part : (hub : Hub) (conn : ℕ) (acts : List Act) (m : ℕ) (ss news : List Sending) (h k : HallPass) (msgs : List Msg) (count : ℕ) → HallSits hub conn acts m ss h → HallCaught hub conn msgs h k → texts_from None news ≡ take count (texts_of None msgs) → IsPartSent (HallShows conn (root_of hub)) (commands k.pass.1.seen) k.at None None (ss ++ news)
-hall_part hub conn acts m ss news h k msgs count sits caught from = part_sent (HallShows conn (root_of hub)) (commands h.pass.1.seen) h.at None None ss news msgs (commands k.pass.1.seen) k.at count (handed (HallShows conn (root_of hub)) (hall_one conn (root_of hub)) (commands h.pass.1.seen) h.at None None ss msgs (commands k.pass.1.seen) k.at sits.sent caught.1) from
+pub hall_part : (hub : Hub) (conn : ℕ) (acts : List Act) (m shown : ℕ) (ss news : List Sending) (h k : HallPass) (msgs : List Msg) (count : ℕ) → HallSits hub conn acts m ss h → HallTells hub conn shown msgs h k → texts_from None news ≡ take count (texts_of None msgs) → IsPartSent (HallShows conn (root_of hub)) (commands k.pass.1.seen) k.at None None (ss ++ news)
+hall_part hub conn acts m shown ss news h k msgs count sits told from = part_sent (HallShows conn (root_of hub)) (commands h.pass.1.seen) h.at None None ss news msgs (commands k.pass.1.seen) k.at count (handed (HallShows conn (root_of hub)) (hall_one conn (root_of hub)) (commands h.pass.1.seen) h.at None None ss msgs (commands k.pass.1.seen) k.at sits.sent told.out) from
 
-pub hall_still : (hub : Hub) (conn : ℕ) (acts : List Act) (m : ℕ) (ss news : List Sending) (h k : HallPass) (n : ℕ) → HallSits hub conn acts m ss h → Looked h.pass.1 k.pass.1 n → k.at ≡ h.at → h.at ≤ length (commands h.pass.1.seen) → texts_from None news ≡ [] → IsPartSent (HallShows conn (root_of hub)) (commands k.pass.1.seen) k.at None None (ss ++ news)
-hall_still hub conn acts m ss news h k n sits l at le from =
-    subst (λ (x : ℕ). IsPartSent (HallShows conn (root_of hub)) (commands k.pass.1.seen) x None None (ss ++ news)) (sym at)
-    (whole_part (HallShows conn (root_of hub)) (commands k.pass.1.seen) h.at None None (ss ++ news) (still_sent (HallShows conn (root_of hub)) (commands h.pass.1.seen) h.at None None ss news (commands k.pass.1.seen) sits.sent le (prefix_commands h.pass.1.seen k.pass.1.seen l.grows) from))
+-- the hall was looked at, and has told nothing yet
+pub hall_waits : (hub : Hub) (conn : ℕ) (acts : List Act) (m shown : ℕ) (ss news : List Sending) (h k : HallPass) → HallSits hub conn acts m ss h → LooksHall shown h k → texts_from None news ≡ [] → IsPartSent (HallShows conn (root_of hub)) (commands k.pass.1.seen) k.at None None (ss ++ news)
+hall_waits hub conn acts m shown ss news h k sits l from =
+    subst (λ (x : HallPass). IsPartSent (HallShows conn (root_of hub)) (commands x.pass.1.seen) x.at None None (ss ++ news)) (sym l.1)
+    (whole_part (HallShows conn (root_of hub)) (commands h.pass.1.seen) h.at None None (ss ++ news) (sent_apart (HallShows conn (root_of hub)) (commands h.pass.1.seen) h.at None None ss news sits.sent from))
 
-pub place_part : (hub : Hub) (conn : ℕ) (acts : List Act) (m : ℕ) (ss news : List Sending) (h k : RoomPass) (msgs : List Msg) (count : ℕ) → PlaceSits hub conn acts m ss h → Caught hub conn msgs h k → texts_from (Some h.number) news ≡ take count (texts_of h.id msgs) → IsPartSent (Shows conn (site_of hub h.number)) (commands k.pass.1.seen) k.at h.id (Some h.number) (ss ++ news)
-place_part hub conn acts m ss news h k msgs count sits caught from = part_sent (Shows conn (site_of hub h.number)) (commands h.pass.1.seen) h.at h.id (Some h.number) ss news msgs (commands k.pass.1.seen) k.at count (handed (Shows conn (site_of hub h.number)) (room_one conn (site_of hub h.number)) (commands h.pass.1.seen) h.at h.id (Some h.number) ss msgs (commands k.pass.1.seen) k.at sits.1 caught.1) from
-
-pub place_still : (hub : Hub) (conn : ℕ) (acts : List Act) (m : ℕ) (ss news : List Sending) (h k : RoomPass) (n : ℕ) → PlaceSits hub conn acts m ss h → Looked h.pass.1 k.pass.1 n → k.at ≡ h.at → h.at ≤ length (commands h.pass.1.seen) → texts_from (Some h.number) news ≡ [] → IsPartSent (Shows conn (site_of hub h.number)) (commands k.pass.1.seen) k.at h.id (Some h.number) (ss ++ news)
-place_still hub conn acts m ss news h k n sits l at le from =
-    subst (λ (x : ℕ). IsPartSent (Shows conn (site_of hub h.number)) (commands k.pass.1.seen) x h.id (Some h.number) (ss ++ news)) (sym at)
-    (whole_part (Shows conn (site_of hub h.number)) (commands k.pass.1.seen) h.at h.id (Some h.number) (ss ++ news) (still_sent (Shows conn (site_of hub h.number)) (commands h.pass.1.seen) h.at h.id (Some h.number) ss news (commands k.pass.1.seen) sits.1 le (prefix_commands h.pass.1.seen k.pass.1.seen l.grows) from))
+pub place_part : (hub : Hub) (conn : ℕ) (acts : List Act) (m shown : ℕ) (ss news : List Sending) (h k : RoomPass) (msgs : List Msg) (count : ℕ) → PlaceSits hub conn acts m ss h → RoomTells hub conn shown msgs h k → texts_from (Some h.number) news ≡ take count (texts_of h.id msgs) → IsPartSent (Shows conn (site_of hub h.number)) (commands k.pass.1.seen) k.at h.id (Some h.number) (ss ++ news)
+place_part hub conn acts m shown ss news h k msgs count sits told from = part_sent (Shows conn (site_of hub h.number)) (commands h.pass.1.seen) h.at h.id (Some h.number) ss news msgs (commands k.pass.1.seen) k.at count (handed (Shows conn (site_of hub h.number)) (room_one conn (site_of hub h.number)) (commands h.pass.1.seen) h.at h.id (Some h.number) ss msgs (commands k.pass.1.seen) k.at sits.1 told.out) from

@@ -6,7 +6,7 @@ use Rattle.std.proofs.lemmas.Option.{same_Some, none-some}
 use Rattle.ps_room.specs.Openings.{first_battle}
 use Rattle.ps_room.specs.Openings.{Opening}
 use Rattle.ps_room.specs.Stories.{story, Story}
-use Rattle.ps_histlock.specs.Histories.{commands}
+use Rattle.ps_histlock.specs.Histories.{commands, entries_of}
 use Rattle.ps_histlock.specs.Seated.{TableId}
 use Rattle.ps_histlock.specs.declared.view.View.{View}
 use Rattle.ps_histlock.proofs.Lists.{prefix_length}
@@ -20,7 +20,7 @@ use Rattle.ps_hub.specs.Passes.{IsNewPass}
 use Rattle.ps_hub.specs.declared.pass.RoomPass.{RoomPass}
 use Rattle.ps_serve.specs.Acts.{Act, room_cmds, since, asked, begins}
 use Rattle.ps_serve.specs.Sendings.{Sending, texts_from, message_texts, AreLooksAnswered}
-use Rattle.ps_serve.specs.Sittings.{IsSent, RoomSits, LastLacks, RoomWaits, SitsBy, PlaceSits, IsUntouched, AreApart}
+use Rattle.ps_serve.specs.Sittings.{IsSent, RoomSits, LastLacks, RoomWaits, SitsBy, PlaceSits, IsUntouched, AreApart, IsCaughtUp}
 use Rattle.ps_serve.proofs.Prefixes.{prefix_commands, sent_grows, looks_grow}
 use Rattle.ps_serve.proofs.PassLists.{Lack, IsBeside, IsKin, new_all, before_is, new_apart, old_lack}
 use Rattle.ps_serve.proofs.Actions.{IsQuietAt, cmds_quiet, asked_quiet, begins_quiet, since_away, untouched_on, room_on, since_still}
@@ -71,6 +71,12 @@ lacks_on hub h k place seen [] l = tt
 lacks_on hub h k place seen (id ∷ []) l = (l.0, subst (λ (n : ℕ). Tells (site_of hub n) (commands k.pass.1.seen) l.0) (sym place) (subst (λ (cmds : List RoomCmd). Tells (site_of hub h.number) cmds l.0) (sym seen) l.1), l.2)
 lacks_on hub h k place seen (id ∷ other ∷ ids) l = lacks_on hub h k place seen (other ∷ ids) l
 
+caught_same : (h k : RoomPass) → k.at ≡ h.at → IsSameView h.pass.1 k.pass.1 → IsCaughtUp h.pass.1 h.at → IsCaughtUp k.pass.1 k.at
+caught_same h k at v c = record {
+  looks = subst (λ (ns : List ℕ). All (λ (n : ℕ). n ≤ k.at) ns) (sym v.looks) (subst (λ (i : ℕ). All (λ (n : ℕ). n ≤ i) h.pass.1.looks) (sym at) c.looks);
+  own = ap (λ (i : ℕ). entries_of k.pass.1.number (take i k.pass.1.seen)) at ∙ ap (λ l. entries_of k.pass.1.number (take h.at l)) v.seen ∙ ap (λ (n : ℕ). entries_of n (take h.at h.pass.1.seen)) v.number ∙ c.own ∙ sym v.mine;
+}
+
 module _ (hub : Hub) (conn : ℕ) (ss : List Sending) where
   abbrev pub IsTold : RoomPass → Type 0
   IsTold k = IsSent (Shows conn (site_of hub k.number)) (commands k.pass.1.seen) k.at k.id (Some k.number) ss
@@ -119,7 +125,7 @@ module _ (hub : Hub) (conn : ℕ) (ss : List Sending) where
 
   -- a room has an entry, and all was handed out if it was before; or it is held for the order that is at work
   abbrev pub IsJoined : List Act → Option (List ℕ) → Type 0 → List ℕ → RoomPass → Type 0
-  IsJoined acts who up id k = ((since k.number acts ≢ []) × (up → k.at ≡ length k.pass.1.seen)) ⊎ ((who ≡ Some id) × (since k.number acts ≡ []))
+  IsJoined acts who up id k = ((since k.number acts ≢ []) × (up → IsCaughtUp k.pass.1 k.at)) ⊎ ((who ≡ Some id) × (since k.number acts ≡ []))
 
   -- A place between two tries of an order to the room `who`.
   pub record IsPlace (acts : List Act) (who : Option (List ℕ)) (up : Type 0) (k : RoomPass) : Type 0 where
@@ -153,7 +159,7 @@ module _ (hub : Hub) (conn : ℕ) (ss : List Sending) where
         holding = λ id e. absurd (none-some id (sym n.id ∙ e));
       }
 
-  pub place_of : (acts : List Act) (who : Option (List ℕ)) (up : Type 0) (k : RoomPass) → PlaceSits hub conn acts (length acts) ss k → k.at ≤ length (commands k.pass.1.seen) → (IsSome k.id → since k.number acts ≢ []) → (up → IsSome k.id → k.at ≡ length k.pass.1.seen) → IsPlace acts who up k × IsBattle k
+  pub place_of : (acts : List Act) (who : Option (List ℕ)) (up : Type 0) (k : RoomPass) → PlaceSits hub conn acts (length acts) ss k → k.at ≤ length (commands k.pass.1.seen) → (IsSome k.id → since k.number acts ≢ []) → (up → IsSome k.id → IsCaughtUp k.pass.1 k.at) → IsPlace acts who up k × IsBattle k
   place_of acts who up k s within joined all =
       let waits : k.id ≡ None → RoomWaits hub acts k = (λ e. subst (λ (o : Option (List ℕ)). SitsBy o hub conn acts (length acts) ss k) e s.2) in (
         record {
@@ -195,7 +201,7 @@ module _ (hub : Hub) (conn : ℕ) (ss : List Sending) where
         let s = p.holding other (sym id ∙ e) in (
           sits_moved acts (length acts) other h [] k m s.0,
           ⊎_elim
-              (λ (j : (since h.number acts ≢ []) × (up → h.at ≡ length h.pass.1.seen)). inl (λ none. j.0 (ap (λ (n : ℕ). since n acts) (sym place) ∙ none), λ u. at ∙ j.1 u ∙ ap length (sym v.seen)))
+              (λ (j : (since h.number acts ≢ []) × (up → IsCaughtUp h.pass.1 h.at)). inl (λ none. j.0 (ap (λ (n : ℕ). since n acts) (sym place) ∙ none), λ u. caught_same h k at v (j.1 u)))
               (λ (j : (who ≡ Some other) × (since h.number acts ≡ [])). inr (j.0, ap (λ (n : ℕ). since n acts) place ∙ j.1))
               s.1,
         )
@@ -256,7 +262,7 @@ module _ (hub : Hub) (conn : ℕ) (ss : List Sending) where
       by_id (Some id) e =
           let s = p.0.holding id e in
           let joined : since k.number acts ≢ [] = ⊎_elim
-          (λ (j : (since k.number acts ≢ []) × (up → k.at ≡ length k.pass.1.seen)). j.0)
+          (λ (j : (since k.number acts ≢ []) × (up → IsCaughtUp k.pass.1 k.at)). j.0)
           (λ (j : (who ≡ Some id) × (since k.number acts ≡ [])). absurd (not id e j.0 s.0.named))
           s.1 in
           (room_on hub conn acts a ss id k joined s.0, λ some. since_still k.number acts a joined)

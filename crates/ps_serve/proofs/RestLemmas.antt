@@ -1,15 +1,14 @@
 -- What a session has at its end, before its Quits.
 use Rattle.std.proofs.Common.{◌≡◌, ◌⊎◌, ℕ, ◌+◌, ◌-◌, ◌<◌, ◌≤◌, Bool, true, false, List, [], ◌∷◌, ◌++◌, length, take, drop, get_or, Option, Some, None, refl, ap, sym, ◌∙◌, subst, inl, inr, ⊎_elim, arith}
 use Rattle.std.specs.Prelude.{All, IsSome, IfSome}
-use Rattle.std.proofs.lemmas.List.{append-nil, length-map, take_all, take-append-drop}
-use Rattle.std.proofs.lemmas.List.Elements.{All-nil, All-cons}
+use Rattle.std.proofs.lemmas.List.{append-nil, take-append-drop}
+use Rattle.std.proofs.lemmas.List.Elements.{All-nil}
 use Rattle.ps_histlock.specs.declared.view.Entry.{Entry}
+use Rattle.ps_histlock.specs.declared.view.View.{View}
 use Rattle.ps_histlock.specs.Histories.{commands, entries_of}
 use Rattle.ps_histlock.proofs.Lists.{none_before}
-use Rattle.ps_hall.specs.declared.entry.HallEntry.{HallEntry}
 use Rattle.ps_session.specs.Sessions.{Record, begun}
 use Rattle.ps_outside.specs.Links.{Talk, LinkCounts}
-use Rattle.server_places.specs.declared.command.RoomCmd.{RoomCmd}
 use Rattle.server_places.specs.Rooms.{Shows}
 use Rattle.server_places.specs.Halls.{HallShows}
 use Rattle.ps_hub.specs.Hubs.{Hub, root_of, site_of}
@@ -23,7 +22,7 @@ use Rattle.ps_serve.specs.declared.closed.End.{End}
 use Rattle.ps_serve.specs.declared.closed.End.TheVariants as ends
 use Rattle.ps_serve.specs.Acts.{Act, after_acts, AreActs, moments_of, hall_entries, room_cmds, since, all_begun}
 use Rattle.ps_serve.specs.Sendings.{Sending, AreLooksAnswered}
-use Rattle.ps_serve.specs.Sittings.{IsSent, HasOpen, HallSits, RoomSits, RoomWaits, SitsBy, PlaceSits, Sits, IsUpToDate, AreGiven, AreApart, IsFrom, IsBegun, LooksLeft, PlaceLeft, Left, HeldFull, SitsFull}
+use Rattle.ps_serve.specs.Sittings.{IsSent, HasOpen, HallSits, RoomSits, RoomWaits, SitsBy, PlaceSits, Sits, IsCaughtUp, IsUpToDate, AreGiven, AreApart, IsFrom, IsBegun, LooksLeft, PlaceLeft, Left, HeldFull, SitsFull}
 use Rattle.ps_serve.specs.Steps.{Hours, Asked}
 use Rattle.ps_serve.specs.Ends.{Account, is_short, is_broken, IsAccount, AllOrPart, HallGiven, RoomGivenBy, AreLooksSo, RoomLooksBy, IsSentSo, AreAnswers, IsAskedBy, IsAsked, AreSure, HasCause}
 use Rattle.ps_serve.specs.Rests.{HallRests, RoomRests, HasExtraAt, Rests}
@@ -37,25 +36,21 @@ module _ {C : Type 0} where
   no_entries [] e = refl
   no_entries (x ∷ xs) e = absurd (let bad : x.cmd ∷ commands xs ≡ [] = e in cc)
 
-  -- all own entries stand in what was handed out, where that is all that was seen, or where there are none
-  pub handed_at : (number at : ℕ) (mine seen : List (Entry C)) (all : List C) → mine ≡ entries_of number seen → commands mine ≡ all → (all ≡ []) ⊎ (at ≡ length seen) → commands (entries_of number (take at seen)) ≡ all
-  handed_at number at mine seen all own e (inr end) = ap (λ (l : List (Entry C)). commands (entries_of number l)) (take_all at seen (omega (arith, end))) ∙ ap (λ (l : List (Entry C)). commands l) (sym own) ∙ e
+  -- all own entries stand in what was handed out, or there are none
+  pub handed_at : (number at : ℕ) (mine seen : List (Entry C)) (all : List C) → mine ≡ entries_of number seen → commands mine ≡ all → (all ≡ []) ⊎ (entries_of number (take at seen) ≡ mine) → commands (entries_of number (take at seen)) ≡ all
+  handed_at number at mine seen all own e (inr there) = ap (λ (l : List (Entry C)). commands l) there ∙ e
   handed_at number at mine seen all own e (inl none) =
       let no : entries_of number seen ≡ [] = sym own ∙ no_entries mine (e ∙ none) in
       ap (λ (l : List (Entry C)). commands l) (none_before number (take at seen) seen (drop at seen, take-append-drop at seen) no) ∙ sym none
 
 module _ {C : Type 0} (shows : List C → List (List (List ℕ)) → Type 0) where
-  looks_within : (cmds : List C) (room : Option (List ℕ)) (place : Option ℕ) (ss : List Sending) (first at : ℕ) (looks : List ℕ) → AreLooksAnswered shows cmds room place ss first looks → length cmds ≡ at → All (λ n. n ≤ at) looks
-  looks_within cmds room place ss first at [] a e = All-nil (λ n. n ≤ at)
-  looks_within cmds room place ss first at (n ∷ looks) a e = All-cons (λ n. n ≤ at) n looks (let w : n ≤ length cmds = a.0.within in omega arith) (looks_within cmds room place ss (first + 1) at looks a.1 e)
-
   none_within : (at : ℕ) (looks : List ℕ) → length looks ≡ 0 → All (λ n. n ≤ at) looks
   none_within at [] e = All-nil (λ n. n ≤ at)
   none_within at (n ∷ looks) e = absurd (let bad : length (n ∷ looks) ≡ 0 = e in omega arith)
 
-  pub looks_whole : (cmds : List C) (at : ℕ) (room : Option (List ℕ)) (place : Option ℕ) (ss : List Sending) (first count : ℕ) (looks : List ℕ) → length looks ≡ count → AreLooksAnswered shows cmds room place ss first looks → (count ≡ 0) ⊎ (length cmds ≡ at) → AreLooksSo shows false cmds at room place ss first count looks
+  pub looks_whole : (cmds : List C) (at : ℕ) (room : Option (List ℕ)) (place : Option ℕ) (ss : List Sending) (first count : ℕ) (looks : List ℕ) → length looks ≡ count → AreLooksAnswered shows cmds room place ss first looks → (count ≡ 0) ⊎ All (λ n. n ≤ at) looks → AreLooksSo shows false cmds at room place ss first count looks
   looks_whole cmds at room place ss first count looks e a (inl none) = (e, a, none_within at looks (e ∙ none))
-  looks_whole cmds at room place ss first count looks e a (inr end) = (e, a, looks_within cmds room place ss first at looks a end)
+  looks_whole cmds at room place ss first count looks e a (inr within) = (e, a, within)
 
   -- whatever holds of a whole session holds of one that broke off
   pub looks_so : (b : Bool) (cmds : List C) (at : ℕ) (room : Option (List ℕ)) (place : Option ℕ) (ss : List Sending) (first count : ℕ) (looks : List ℕ) → AreLooksSo shows false cmds at room place ss first count looks → AreLooksSo shows b cmds at room place ss first count looks
@@ -74,16 +69,16 @@ part_so true made all e = prefix_same made all e
 
 -- ---- the hall
 
--- all was handed out, or nothing was made yet
-abbrev pub IsAtEnd : {C : Type 0} → List Act → ℕ → List (Entry C) → Type 0
-IsAtEnd acts at seen = (acts ≡ []) ⊎ (at ≡ length seen)
+-- all was handed out that the looks showed, or nothing was made yet
+abbrev pub IsAtEnd : {O C : Type 0} → List Act → View O C → ℕ → Type 0
+IsAtEnd acts v at = (acts ≡ []) ⊎ IsCaughtUp v at
 
-pub hall_whole : (hub : Hub) (conn : ℕ) (t : Account) (h : HallPass) → IsHallPass hub conn h → HallSits hub conn t.acts (length t.acts) t.sendings h → IsAtEnd t.acts h.at h.pass.1.seen → HallRests false false hub conn t h
+pub hall_whole : (hub : Hub) (conn : ℕ) (t : Account) (h : HallPass) → IsHallPass hub conn h → HallSits hub conn t.acts (length t.acts) t.sendings h → IsAtEnd t.acts h.pass.1 h.at → HallRests false false hub conn t h
 hall_whole hub conn t h is s end = record {
   entries = s.entries;
-  given = handed_at h.pass.1.number h.at h.pass.1.mine h.pass.1.seen (hall_entries conn t.acts) is.rest.2 s.entries (⊎_elim (λ (e : t.acts ≡ []). inl (ap (hall_entries conn) e)) (λ (e : h.at ≡ length h.pass.1.seen). inr e) end);
+  given = handed_at h.pass.1.number h.at h.pass.1.mine h.pass.1.seen (hall_entries conn t.acts) is.rest.2 s.entries (⊎_elim (λ (e : t.acts ≡ []). inl (ap (hall_entries conn) e)) (λ (u : IsCaughtUp h.pass.1 h.at). inr u.own) end);
   looks = looks_whole (HallShows conn (root_of hub)) (commands h.pass.1.seen) h.at None None t.sendings 1 (length t.acts) h.pass.1.looks s.count s.looks
-      (⊎_elim (λ (e : t.acts ≡ []). inl (ap length e)) (λ (e : h.at ≡ length h.pass.1.seen). inr (length-map h.pass.1.seen (λ (x : Entry HallEntry). x.cmd) ∙ sym e)) end);
+      (⊎_elim (λ (e : t.acts ≡ []). inl (ap length e)) (λ (u : IsCaughtUp h.pass.1 h.at). inr u.looks) end);
   sent = s.sent;
 }
 
@@ -123,18 +118,18 @@ room_so b s hub conn t k r = record {
   named = r.named;
 }
 
-held_looks : (hub : Hub) (conn : ℕ) (t : Account) (id : List ℕ) (k : RoomPass) → RoomSits hub conn t.acts (length t.acts) t.sendings id k → IsAtEnd t.acts k.at k.pass.1.seen → RoomLooksBy (Some id) false hub conn t k
+held_looks : (hub : Hub) (conn : ℕ) (t : Account) (id : List ℕ) (k : RoomPass) → RoomSits hub conn t.acts (length t.acts) t.sendings id k → IsAtEnd t.acts k.pass.1 k.at → RoomLooksBy (Some id) false hub conn t k
 held_looks hub conn t id k s end =
     let counted : length k.pass.1.looks + (length t.acts - length t.acts) ≡ length (since k.number t.acts) = s.count in
     looks_whole (Shows conn (site_of hub k.number)) (commands k.pass.1.seen) k.at (Some id) (Some k.number) t.sendings (length t.acts - length (since k.number t.acts) + 1) (length (since k.number t.acts)) k.pass.1.looks (omega arith) s.looks
-    (⊎_elim (λ (e : t.acts ≡ []). inl (ap (λ (l : List Act). length (since k.number l)) e)) (λ (e : k.at ≡ length k.pass.1.seen). inr (length-map k.pass.1.seen (λ (x : Entry RoomCmd). x.cmd) ∙ sym e)) end)
+    (⊎_elim (λ (e : t.acts ≡ []). inl (ap (λ (l : List Act). length (since k.number l)) e)) (λ (u : IsCaughtUp k.pass.1 k.at). inr u.looks) end)
 
 -- what is known of the looks of a place: those of a room that is held, or that there are none
 abbrev pub HeldOrNone : Option (List ℕ) → Hub → ℕ → Account → RoomPass → Type 0
 HeldOrNone (Some id) hub conn t k = RoomSits hub conn t.acts (length t.acts) t.sendings id k
 HeldOrNone None hub conn t k = k.pass.1.looks ≡ []
 
-by_looks : (id : Option (List ℕ)) (hub : Hub) (conn : ℕ) (t : Account) (k : RoomPass) → HeldOrNone id hub conn t k → (IsSome id → IsAtEnd t.acts k.at k.pass.1.seen) → RoomLooksBy id false hub conn t k
+by_looks : (id : Option (List ℕ)) (hub : Hub) (conn : ℕ) (t : Account) (k : RoomPass) → HeldOrNone id hub conn t k → (IsSome id → IsAtEnd t.acts k.pass.1 k.at) → RoomLooksBy id false hub conn t k
 by_looks None hub conn t k s end = s
 by_looks (Some id) hub conn t k s end = held_looks hub conn t id k s (end refl)
 
@@ -142,10 +137,10 @@ by_name : (id : Option (List ℕ)) (hub : Hub) (conn : ℕ) (t : Account) (k : R
 by_name None hub conn t k s = tt
 by_name (Some id) hub conn t k s = s.named
 
-pub room_whole : (hub : Hub) (conn : ℕ) (t : Account) (k : RoomPass) → IsRoomPass hub conn k → commands k.pass.1.mine ≡ room_cmds conn k.number t.acts → IsSent (Shows conn (site_of hub k.number)) (commands k.pass.1.seen) k.at k.id (Some k.number) t.sendings → HeldOrNone k.id hub conn t k → (IsSome k.id → IsAtEnd t.acts k.at k.pass.1.seen) → RoomRests false false hub conn t k
+pub room_whole : (hub : Hub) (conn : ℕ) (t : Account) (k : RoomPass) → IsRoomPass hub conn k → commands k.pass.1.mine ≡ room_cmds conn k.number t.acts → IsSent (Shows conn (site_of hub k.number)) (commands k.pass.1.seen) k.at k.id (Some k.number) t.sendings → HeldOrNone k.id hub conn t k → (IsSome k.id → IsAtEnd t.acts k.pass.1 k.at) → RoomRests false false hub conn t k
 room_whole hub conn t k is made sent s end = record {
   entries = made;
-  given = room_given k.id false conn t k (λ held. handed_at k.pass.1.number k.at k.pass.1.mine k.pass.1.seen (room_cmds conn k.number t.acts) is.rest.2 made (⊎_elim (λ (e : t.acts ≡ []). inl (ap (room_cmds conn k.number) e)) (λ (e : k.at ≡ length k.pass.1.seen). inr e) (end held)));
+  given = room_given k.id false conn t k (λ held. handed_at k.pass.1.number k.at k.pass.1.mine k.pass.1.seen (room_cmds conn k.number t.acts) is.rest.2 made (⊎_elim (λ (e : t.acts ≡ []). inl (ap (room_cmds conn k.number) e)) (λ (u : IsCaughtUp k.pass.1 k.at). inr u.own) (end held)));
   looks = by_looks k.id hub conn t k s end;
   sent = sent;
   named = by_name k.id hub conn t k s;
@@ -181,11 +176,11 @@ pub record Whole (hub : Hub) (conn : ℕ) (t : Account) (passes : Passes) : Type
 abbrev pub IsUp : List Act → Passes → Type 0
 IsUp acts passes = (acts ≡ []) ⊎ IsUpToDate passes
 
-hall_end : (acts : List Act) (passes : Passes) (h : HallPass) → passes.hall ≡ Some h → IsUp acts passes → IsAtEnd acts h.at h.pass.1.seen
+hall_end : (acts : List Act) (passes : Passes) (h : HallPass) → passes.hall ≡ Some h → IsUp acts passes → IsAtEnd acts h.pass.1 h.at
 hall_end acts passes h is (inl e) = inl e
 hall_end acts passes h is (inr up) = inr (up.hall h is)
 
-room_end : (acts : List Act) (passes : Passes) (i : ℕ) (d : RoomPass) → i < length passes.rooms.items → IsUp acts passes → IsSome (get_or passes.rooms.items i d).id → IsAtEnd acts (get_or passes.rooms.items i d).at (get_or passes.rooms.items i d).pass.1.seen
+room_end : (acts : List Act) (passes : Passes) (i : ℕ) (d : RoomPass) → i < length passes.rooms.items → IsUp acts passes → IsSome (get_or passes.rooms.items i d).id → IsAtEnd acts (get_or passes.rooms.items i d).pass.1 (get_or passes.rooms.items i d).at
 room_end acts passes i d lt (inl e) held = inl e
 room_end acts passes i d lt (inr up) held = inr (up.rooms i d lt held)
 

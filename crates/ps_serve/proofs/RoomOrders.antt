@@ -35,7 +35,7 @@ use Rattle.ps_hub.proofs.ShortLemmas.{short_turns}
 use Rattle.ps_room.specs.Openings.{first_battle}
 use Rattle.ps_serve.specs.Acts.{Act, heard, in_room, nowhere, after_act, IsAct, hall_of, hall_entries, room_of, room_cmds, since, begun_by}
 use Rattle.ps_serve.specs.Sendings.{Sending}
-use Rattle.ps_serve.specs.Sittings.{RoomSits, RoomGave, IsUnfound, IsOthers, Gave, IsBegun, Sits, PlaceLeft, IsUpToDate, AreApart}
+use Rattle.ps_serve.specs.Sittings.{RoomSits, RoomGave, IsUnfound, IsOthers, Gave, IsBegun, Sits, PlaceLeft, IsUpToDate, AreApart, IsCaughtUp}
 use Rattle.ps_serve.proofs.Prefixes.{prefix_front, prefix_same}
 use Rattle.ps_serve.proofs.Names.{one_place}
 use Rattle.ps_serve.proofs.PassLists.{IsBeside, new_all, has_new, new_apart, IsKin, kin_self, Grows, grows_trans, grows_beside}
@@ -226,7 +226,7 @@ module _ (hub : Hub) (conn open_at : ℕ) (acts : List Act) (ss : List Sending) 
       let p = place_was hub conn acts ss (IsUpToDate old) old id mid e.before e.behind new e.but b in
       let not : (x : List ℕ) → e.before.id ≡ Some x → Some id ≡ Some x → Names hub.config x e.before.number → ⊥ = (λ x is who names. differs (same_Some other id (sym held ∙ is ∙ sym who))) in
       let joined : since e.before.number acts ≢ [] = ⊎_elim
-      (λ (j : (since e.before.number acts ≢ []) × (IsUpToDate old → e.before.at ≡ length e.before.pass.1.seen)). j.0)
+      (λ (j : (since e.before.number acts ≢ []) × (IsUpToDate old → IsCaughtUp e.before.pass.1 e.before.at)). j.0)
       (λ (j : (Some id ≡ Some other) × (since e.before.number acts ≡ [])). absurd (differs (same_Some other id (sym j.0))))
       (p.holding other held).1 in
       let others : IsOthers hub acts id e.before = record { named = e.named; battle = e.done.0; joined = at_least_one (since e.before.number acts) joined; other = other; held = held; differs = differs } in

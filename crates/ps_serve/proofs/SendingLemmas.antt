@@ -70,6 +70,10 @@ pub texts_are : (room : Option (List ℕ)) (msgs : List Msg) → texts_of room m
 texts_are room [] = refl
 texts_are room (m ∷ ms) = ap (λ (ts : List (List ℕ)). message_text room m.lines ∷ ts) (texts_are room ms)
 
+pub texts_of-append : (room : Option (List ℕ)) (xs ys : List Msg) → texts_of room (xs ++ ys) ≡ texts_of room xs ++ texts_of room ys
+texts_of-append room [] ys = refl
+texts_of-append room (m ∷ ms) ys = ap (λ (ts : List (List ℕ)). message_text room m.lines ∷ ts) (texts_of-append room ms ys)
+
 pub message_texts-append : (room : Option (List ℕ)) (xs ys : List (List (List ℕ))) → message_texts room (xs ++ ys) ≡ message_texts room xs ++ message_texts room ys
 message_texts-append room xs ys = map-append _ xs ys
 
@@ -105,7 +109,7 @@ texts_after place n texts (Some talk) = some_after place n texts talk
 
 -- ---- one text after the other
 
-after_texts-append : (xs ys : List (List ℕ)) (told : Option Talk) → after_texts (xs ++ ys) told ≡ after_texts ys (after_texts xs told)
+pub after_texts-append : (xs ys : List (List ℕ)) (told : Option Talk) → after_texts (xs ++ ys) told ≡ after_texts ys (after_texts xs told)
 after_texts-append [] ys told = refl
 after_texts-append (x ∷ xs) ys told = after_texts-append xs ys (after_text x told)
 

@@ -19,7 +19,7 @@ use Rattle.ps_hub.specs.Calls.{Lacks, room_entry}
 use Rattle.ps_hub.specs.declared.pass.RoomPass.{RoomPass}
 use Rattle.ps_serve.specs.Acts.{Act, heard, in_hall, in_room, nowhere, is_at, room_of, room_cmds, since, asked, begins, begins_by}
 use Rattle.ps_serve.specs.Sendings.{Sending}
-use Rattle.ps_serve.specs.Sittings.{RoomSits, RoomWaits, SitsBy, LastLacks, LooksLeft, AreAlmostAnswered, PlaceLeft, PlaceFull, HeldFull}
+use Rattle.ps_serve.specs.Sittings.{RoomSits, RoomWaits, SitsBy, LastLacks, LooksLeft, AreAlmostAnswered, PlaceLeft, PlaceFull, HeldFull, IsCaughtUp}
 use Rattle.ps_serve.proofs.Prefixes.{prefix_front, prefix_same}
 use Rattle.ps_serve.proofs.Actions.{cmds_more, asked_more, begins_more, since_away, since_still, since_here, room_on, room_joins, cmds_here, joins_here, starts_here, asks_here}
 use Rattle.ps_serve.proofs.Places.{IsMoved, IsTold, told_moved, sits_moved, IsPlace, HasPlace}
@@ -66,7 +66,7 @@ module _ (hub : Hub) (conn : ℕ) (ss : List Sending) (acts : List Act) where
       by_id (Some other) e =
           let s = p.holding other (sym id ∙ e) in
           let joined : since k.number acts ≢ [] = ⊎_elim
-          (λ (j : (since h.number acts ≢ []) × (up → h.at ≡ length h.pass.1.seen)). (let r : since k.number acts ≢ [] = (λ bare. j.0 (ap (λ (n : ℕ). since n acts) (sym m.place) ∙ bare)) in r))
+          (λ (j : (since h.number acts ≢ []) × (up → IsCaughtUp h.pass.1 h.at)). (let r : since k.number acts ≢ [] = (λ bare. j.0 (ap (λ (n : ℕ). since n acts) (sym m.place) ∙ bare)) in r))
           (λ (j : (None ≡ Some other) × (since h.number acts ≡ [])). absurd (none-some other j.0))
           s.1 in
           (room_on hub conn acts (heard bytes moment (in_hall cmd badge (Some start))) ss other k joined (sits_moved hub conn ss acts (length acts) other h (Begin start ∷ []) k m s.0), λ some. since_still k.number acts (heard bytes moment (in_hall cmd badge (Some start))) joined)
@@ -81,7 +81,7 @@ module _ (hub : Hub) (conn : ℕ) (ss : List Sending) (acts : List Act) where
       let sits : RoomSits hub conn acts (length acts) ss id k = sits_moved hub conn ss acts (length acts) id h more k m s.0 in
       let at_k : is_at k.number a ≡ true = ap (λ (n : ℕ). is_at n a) m.place ∙ here in
       ⊎_elim
-      (λ (j : (since h.number acts ≢ []) × (up → h.at ≡ length h.pass.1.seen)).
+      (λ (j : (since h.number acts ≢ []) × (up → IsCaughtUp h.pass.1 h.at)).
       let joined : since k.number acts ≢ [] = (λ bare. j.0 (ap (λ (n : ℕ). since n acts) (sym m.place) ∙ bare)) in
       let r : RoomSits hub conn (acts ++ a ∷ []) (length acts) ss id k × (since k.number (acts ++ a ∷ []) ≢ []) = (room_on hub conn acts a ss id k joined sits, since_still k.number acts a joined) in
       r)
@@ -141,20 +141,20 @@ module _ (hub : Hub) (conn : ℕ) (ss : List Sending) (acts : List Act) where
   -- ---- a session that ends at a text that the hall takes no more
 
   abbrev pub IsFull : Type 0 → RoomPass → Type 0
-  IsFull up k = PlaceFull hub conn acts ss k × (up → IsSome k.id → k.at ≡ length k.pass.1.seen)
+  IsFull up k = PlaceFull hub conn acts ss k × (up → IsSome k.id → IsCaughtUp k.pass.1 k.at)
 
   pub place_full : (who : Option (List ℕ)) (up : Type 0) (k : RoomPass) → ((id : List ℕ) → k.id ≡ Some id → who ≡ Some id → Names hub.config id k.number → ⊥) → IsPlace hub conn ss acts who up k → IsFull up k
   place_full who up k not p =
       let b = by_id k.id refl in
       ((p.entries, p.told, b.0), b.1)
     where
-      by_id : (o : Option (List ℕ)) → k.id ≡ o → HeldFull o hub conn acts ss k × (up → IsSome o → k.at ≡ length k.pass.1.seen)
+      by_id : (o : Option (List ℕ)) → k.id ≡ o → HeldFull o hub conn acts ss k × (up → IsSome o → IsCaughtUp k.pass.1 k.at)
       by_id None e = ((p.waiting e).looks, λ u none. absurd (true≢false (sym none)))
       by_id (Some id) e =
           let s = p.holding id e in (
             s.0,
             λ u some. ⊎_elim
-                (λ (j : (since k.number acts ≢ []) × (up → k.at ≡ length k.pass.1.seen)). j.1 u)
+                (λ (j : (since k.number acts ≢ []) × (up → IsCaughtUp k.pass.1 k.at)). j.1 u)
                 (λ (j : (who ≡ Some id) × (since k.number acts ≡ [])). absurd (not id e j.0 s.0.named))
                 s.1,
           )

@@ -1,5 +1,5 @@
 -- A session whose number was taken, and whose the number is.
-use Rattle.std.proofs.Common.{◌≡◌, ℕ, ◌∷◌, List, Bool, true, false, Option, Some, None, IsSome, refl, sym, ap, ◌∙◌, subst}
+use Rattle.std.proofs.Common.{◌≡◌, ℕ, List, Bool, true, false, Option, Some, None, IsSome, refl, sym, ap, ◌∙◌, subst}
 use Rattle.std.proofs.lemmas.List.Elements.{All-nil}
 use Rattle.std.specs.Prelude.{All, IfSome}
 use Rattle.ps_hall.specs.declared.entry.HallEntry.{HallEntry}
@@ -10,7 +10,7 @@ use Rattle.server_places.specs.Sites.{room_signer}
 use Rattle.server_places.specs.Halls.{hall_signer}
 use Rattle.ps_outside.specs.Links.{Talk, LinkCounts}
 use Rattle.ps_hub.specs.Hubs.{Hub}
-use Rattle.ps_hub.specs.Passes.{AreOf, IsHallPass, IsRoomPass}
+use Rattle.ps_hub.specs.Passes.{AreOf, IsRoomPass}
 use Rattle.ps_hub.specs.declared.pass.HallPass.{HallPass}
 use Rattle.ps_hub.specs.declared.pass.RoomPass.{RoomPass}
 use Rattle.ps_hub.specs.declared.passes.Passes.{Passes}

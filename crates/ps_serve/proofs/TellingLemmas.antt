@@ -1,37 +1,38 @@
 -- A session that tells what happened, place after place.
-use Rattle.std.proofs.Common.{◌≡◌, ◌≢◌, ℕ, zero, suc, ◌+◌, ◌≤◌, Bool, true, false, List, [], ◌∷◌, ◌++◌, length, take, get_or, Option, Some, None, refl, ap, sym, ◌∙◌, subst, inl, inr, arith}
+use Rattle.std.proofs.Common.{◌≡◌, ◌≢◌, ℕ, zero, suc, ◌+◌, ◌≤◌, Bool, true, false, List, [], ◌∷◌, ◌++◌, length, take, get_or, Option, Some, None, refl, ap, sym, ◌∙◌, subst, inl, arith, append_assoc}
 use Rattle.std.specs.Prelude.{All, IsSome, slice_get}
 use Rattle.std.specs.List.{AllZip}
-use Rattle.std.proofs.lemmas.List.{length-append}
+use Rattle.std.proofs.lemmas.List.{append-nil, length-append, nil_from_length}
 use Rattle.std.proofs.lemmas.List.Elements.{All-nil, All-cons, All-head, All-tail, All-append, All-weaker, All-contains}
 use Rattle.std.proofs.lemmas.Option.{same_Some, none-some}
 use Rattle.std.proofs.lemmas.Grind.{flat_map-append}
 use Rattle.ps_base.specs.declared.badge.Badge.{Badge}
 use Rattle.rules_start.specs.declared.start.Start.{Start}
-use Rattle.ps_histlock.specs.Histories.{commands}
+use Rattle.ps_base.specs.declared.msg.Msg.{Msg}
+use Rattle.ps_histlock.specs.Histories.{entries_of}
 use Rattle.ps_session.specs.Sessions.{Record, begun}
 use Rattle.ps_session.specs.Texts.{texts_of}
 use Rattle.ps_outside.specs.Links.{Talk}
 use Rattle.ps_hub.specs.Hubs.{Hub}
-use Rattle.ps_hub.specs.Passes.{AreOf, IsRoomPass}
-use Rattle.ps_hub.specs.Calls.{HallCaught, LooksAtMost}
+use Rattle.ps_hub.specs.Passes.{AreOf, IsHallPass}
+use Rattle.ps_hub.specs.Calls.{HallOnly, HallHanded, LooksHall}
 use Rattle.ps_hub.specs.declared.pass.HallPass.{HallPass}
 use Rattle.ps_hub.specs.declared.pass.RoomPass.{RoomPass}
 use Rattle.ps_hub.specs.declared.passes.Passes.{Passes}
-use Rattle.ps_hub.proofs.PassListLemmas.{all_left}
+use Rattle.ps_hub.proofs.PassListLemmas.{all_left, hall_of}
 use Rattle.ps_serve.specs.declared.closed.End.{End}
 use Rattle.ps_serve.specs.Acts.{Act, after_acts, AreActs, since, begun_by, all_begun}
 use Rattle.ps_serve.specs.Sendings.{Sending, is_place, texts_from}
-use Rattle.ps_serve.specs.Sittings.{HasOpen, HallSits, PlaceSits, AreGiven, AreGivenSo, IsFromBy, IsFrom, IsBegun, AreApart, IsUntouched, Sits, sure_acts, HallLeft, PlaceLeft, Left}
-use Rattle.ps_serve.specs.Steps.{after_sendings, TellsPart, is_fault}
-use Rattle.ps_serve.specs.Tellings.{TellsHall, TellsHallPart}
+use Rattle.ps_serve.specs.Sittings.{HasOpen, HallSits, IsCaughtUp, PlaceSits, AreGiven, AreGivenSo, IsFromBy, IsFrom, IsBegun, AreApart, IsUntouched, Sits, sure_acts, HallLeft, PlaceLeft, Left}
+use Rattle.ps_serve.specs.Steps.{after_sendings, Tells, TellsPart, is_fault}
+use Rattle.ps_serve.specs.Tellings.{TellsHall, SendsOfHall}
 use Rattle.ps_serve.proofs.PassLists.{begun_grows, from_grows}
 use Rattle.ps_serve.proofs.Actions.{given_parts}
 use Rattle.ps_serve.proofs.Halls.{IsHallKin, open_grows, given_grows}
-use Rattle.ps_serve.proofs.SendingLemmas.{sendings, sending, is_place_other, from_self, from_other, from_still, all_sent_at, no_sendings, texts_after}
-use Rattle.ps_serve.proofs.LookLemmas.{Looked, looked, looked_at_most}
+use Rattle.ps_serve.proofs.SendingLemmas.{sendings, sending, is_place_other, from_self, from_other, from_still, all_sent_at, no_sendings, sendings_more, texts_after}
+use Rattle.ps_serve.proofs.LookLemmas.{reread, looked}
 use Rattle.ps_serve.proofs.Goings.{Goes, all_stay, kept_in, zip_all, all_went, apart_on}
-use Rattle.ps_serve.proofs.PlaceLemmas.{hall_grew, hall_tells, hall_up, place_apart, hall_left_late, place_left, hall_part, hall_still}
+use Rattle.ps_serve.proofs.PlaceLemmas.{HallTells, hall_grew, hall_looks, hall_told, hall_tells, hall_up, hall_own, hall_sits_on, place_apart, hall_left_late, place_left, hall_part}
 
 -- ---- what telling leaves as it is
 
@@ -80,8 +81,8 @@ based_on hub conn open_at acts ss news h k old new badge more pass_list here b =
 
 -- ---- on the way
 
--- The hall and the first rooms of the list have told, and the others haven't.
-pub record Telling (hub : Hub) (conn open_at : ℕ) (acts : List Act) (a : Act) (ss : List Sending) (session : Record) (place : ℕ) (was is : Option Talk) (passes : Passes) : Type 0 where
+-- The hall was looked at, and has told nothing yet. The first rooms of the list have told, and the others haven't.
+pub record Telling (hub : Hub) (conn open_at : ℕ) (acts : List Act) (a : Act) (ss : List Sending) (session : Record) (shown place : ℕ) (was is : Option Talk) (passes : Passes) : Type 0 where
   pub more : List Sending
   pub all : List Sending
   pub all_is : all ≡ ss ++ more
@@ -91,17 +92,18 @@ pub record Telling (hub : Hub) (conn open_at : ℕ) (acts : List Act) (a : Act) 
   pub way : AreActs (begun conn) (acts ++ a ∷ [])
   pub session_is : session ≡ after_acts (begun conn) (acts ++ a ∷ [])
   pub badge_is : passes.badge ≡ session.badge
+  pub hall_before : HallPass
   pub hall_pass : HallPass
+  pub look : LooksHall shown hall_before hall_pass
   pub hall : passes.hall ≡ Some hall_pass
-  pub hall_sits : HallSits hub conn (acts ++ a ∷ []) (length acts + 1) all hall_pass
-  pub hall_told : hall_pass.at ≡ length hall_pass.pass.1.seen
+  pub hall_sits : HallSits hub conn (acts ++ a ∷ []) (length acts) all hall_before
   pub front : List RoomPass
   pub behind : List RoomPass
   pub pass_list : passes.rooms.items ≡ front ++ behind
   pub place_is : length front ≡ place
   pub base : Based hub conn open_at (acts ++ a ∷ []) all hall_pass (front ++ behind) passes.badge
   pub done : All (PlaceSits hub conn (acts ++ a ∷ []) (length acts + 1) all) front
-  pub told : All (λ (k : RoomPass). IsSome k.id → k.at ≡ length k.pass.1.seen) front
+  pub told : All (λ (k : RoomPass). IsSome k.id → IsCaughtUp k.pass.1 k.at) front
   pub waits : All (PlaceSits hub conn (acts ++ a ∷ []) (length acts) all) behind
   pub on_time : All (λ (s : Sending). s.after ≤ length acts + 1) all
 
@@ -160,89 +162,138 @@ left_of whole hub conn open_at acts a ss h rooms passes are conn_is way hall pas
   opened = b.opened;
 }
 
--- what is handed out was seen
-hall_within : (hub : Hub) (passes : Passes) (h : HallPass) → AreOf hub passes → passes.hall ≡ Some h → h.at ≤ length (commands h.pass.1.seen)
-hall_within hub passes h are is =
-    let same : are.hall_pass ≡ h = same_Some are.hall_pass h (sym are.hall ∙ is) in
-    let t = are.hall_is.told in
-    let within : are.hall_pass.at ≤ length (commands are.hall_pass.pass.1.seen) = omega (arith, t.within, t.handed_out) in
-    subst (λ (x : HallPass). x.at ≤ length (commands x.pass.1.seen)) same within
+-- ---- the hall is looked at
 
-pub room_within : (hub : Hub) (conn : ℕ) (k : RoomPass) → IsRoomPass hub conn k → k.at ≤ length (commands k.pass.1.seen)
-room_within hub conn k is = omega (arith, is.told.within, is.told.handed_out)
-
--- ---- the hall
-
-pub hall_step : (hub : Hub) (conn open_at : ℕ) (acts : List Act) (a : Act) (ss : List Sending) (session : Record) (was is : Option Talk) (old new : Passes) → Sits hub conn open_at (acts ++ a ∷ []) (length acts) ss session old → TellsHall hub old new was is
-    → Telling hub conn open_at acts a ss session 0 was is new
-hall_step hub conn open_at acts a ss session was is old new s t =
+pub telling_starts : (hub : Hub) (conn open_at : ℕ) (acts : List Act) (a : Act) (ss : List Sending) (session : Record) (shown : ℕ) (was : Option Talk) (old new : Passes) → Sits hub conn open_at (acts ++ a ∷ []) (length acts) ss session old → HallOnly (LooksHall shown) old new
+    → Telling hub conn open_at acts a ss session shown 0 was was new
+telling_starts hub conn open_at acts a ss session shown was old new s o =
     let m : ℕ = length acts in
-    let texts : List (List ℕ) = texts_of None t.msgs in
-    let news : List Sending = sendings None (m + 1) texts in
-    let same : t.only.before ≡ s.hall_pass = same_Some t.only.before s.hall_pass (sym t.only.was ∙ s.hall) in
-    let caught : HallCaught hub conn t.msgs s.hall_pass t.only.behind = subst (λ (h : HallPass). HallCaught hub conn t.msgs h t.only.behind) same (subst (λ (c : ℕ). HallCaught hub c t.msgs t.only.before t.only.behind) s.conn_is t.only.done) in
-    let l = looked s.hall_pass.pass.1 t.only.behind.pass.1 s.hall_pass.cursor.passed caught.0 in
-    let time = by_now (m + 1) ss news (later m ss s.on_time) (all_sent_at None (m + 1) texts) in
+    let look : LooksHall shown s.hall_pass o.behind = subst (λ (h : HallPass). LooksHall shown h o.behind) (same_Some o.before s.hall_pass (sym o.was ∙ s.hall)) o.done in
     record {
-      more = news;
-      all = ss ++ news;
+      more = [];
+      all = ss ++ [];
       all_is = refl;
-      now = all_sent_at None (m + 1) texts;
-      sent = t.sent ∙ texts_after None (m + 1) texts was;
-      conn_is = t.only.conn ∙ s.conn_is;
+      now = All-nil (λ (x : Sending). x.after ≡ m + 1);
+      sent = no_sendings was;
+      conn_is = o.conn ∙ s.conn_is;
       way = s.way;
       session_is = s.session_is;
-      badge_is = t.only.badge ∙ s.badge_is;
-      hall_pass = t.only.behind;
-      hall = t.only.is;
-      hall_sits = hall_tells hub conn (acts ++ a ∷ []) m ss news s.hall_pass t.only.behind t.msgs s.hall_sits caught (from_self None (m + 1) texts) time;
-      hall_told = hall_up hub conn s.hall_pass t.only.behind t.msgs caught;
+      badge_is = o.badge ∙ s.badge_is;
+      hall_before = s.hall_pass;
+      hall_pass = o.behind;
+      look = look;
+      hall = o.is;
+      hall_sits = hall_sits_on hub conn (acts ++ a ∷ []) m ss [] s.hall_pass s.hall_sits refl;
       front = [];
       behind = old.rooms.items;
-      pass_list = t.only.rooms;
+      pass_list = o.rooms;
       place_is = refl;
-      base = subst (λ (b : Option Badge). Based hub conn open_at (acts ++ a ∷ []) (ss ++ news) t.only.behind old.rooms.items b) (sym t.only.badge)
-          (based_on hub conn open_at (acts ++ a ∷ []) ss news s.hall_pass t.only.behind old.rooms.items old.rooms.items old.badge (hall_grew s.hall_pass t.only.behind caught.0.0 l) (all_stay old.rooms.items) (all_from None (m + 1) texts old.rooms.items tt) (base_of hub conn open_at (acts ++ a ∷ []) m ss session old s));
-      done = All-nil (PlaceSits hub conn (acts ++ a ∷ []) (m + 1) (ss ++ news));
-      told = All-nil (λ (k : RoomPass). IsSome k.id → k.at ≡ length k.pass.1.seen);
-      waits = all_apart hub conn (acts ++ a ∷ []) m ss news old.rooms.items s.rooms (hall_alone (m + 1) texts old.rooms.items);
-      on_time = time;
+      base = subst (λ (b : Option Badge). Based hub conn open_at (acts ++ a ∷ []) (ss ++ []) o.behind old.rooms.items b) (sym o.badge)
+          (based_on hub conn open_at (acts ++ a ∷ []) ss [] s.hall_pass o.behind old.rooms.items old.rooms.items old.badge (hall_grew s.hall_pass o.behind shown (hall_looks s.hall_pass o.behind shown look)) (all_stay old.rooms.items) (All-nil (IsFrom old.rooms.items)) (base_of hub conn open_at (acts ++ a ∷ []) m ss session old s));
+      done = All-nil (PlaceSits hub conn (acts ++ a ∷ []) (m + 1) (ss ++ []));
+      told = All-nil (λ (k : RoomPass). IsSome k.id → IsCaughtUp k.pass.1 k.at);
+      waits = all_apart hub conn (acts ++ a ∷ []) m ss [] old.rooms.items s.rooms (λ i d lt. refl);
+      on_time = by_now (m + 1) ss [] (later m ss s.on_time) (All-nil (λ (x : Sending). x.after ≡ m + 1));
     }
 
--- the hall told in part, or not at all
-hall_breaks_by : (end : End) (hub : Hub) (conn open_at : ℕ) (acts : List Act) (a : Act) (ss : List Sending) (session : Record) (was is : Option Talk) (old new : Passes) (k : HallPass) (n : ℕ) (texts : List (List ℕ)) → (s : Sits hub conn open_at (acts ++ a ∷ []) (length acts) ss session old) → AreOf hub new
-    → Looked s.hall_pass.pass.1 k.pass.1 n → new.hall ≡ Some k → new.rooms.items ≡ old.rooms.items → new.conn ≡ old.conn → new.badge ≡ old.badge → is ≡ after_sendings (sendings None (length acts + 1) texts) was
-    → HallLeft (is_fault end) hub conn acts (acts ++ a ∷ []) (ss ++ sendings None (length acts + 1) texts) k → TellsPart end hub conn open_at acts a ss was is new
-hall_breaks_by end hub conn open_at acts a ss session was is old new k n texts s are l hall rooms conn_is badge sent left =
-    let m : ℕ = length acts in
-    let news : List Sending = sendings None (m + 1) texts in
+-- ---- the hall tells, behind all rooms
+
+-- what it tells, of which these texts were sent
+record Ending (hub : Hub) (conn open_at : ℕ) (acts : List Act) (all : List Sending) (shown : ℕ) (texts : List (List ℕ)) (hall_before : HallPass) (front : List RoomPass) (badge : Option Badge) (msgs : List Msg) (old new : Passes) (k : HallPass) : Type 0 where
+  pub tells : HallTells hub conn shown msgs hall_before k
+  pub pass_list : new.rooms.items ≡ front
+  pub base : Based hub conn open_at acts (all ++ sendings None (length acts) texts) k front badge
+
+ending : (hub : Hub) (conn open_at : ℕ) (acts : List Act) (a : Act) (ss : List Sending) (session : Record) (shown place : ℕ) (was is : Option Talk) (old new : Passes) (texts : List (List ℕ)) (msgs : List Msg) → (t : Telling hub conn open_at acts a ss session shown place was is old) → length old.rooms.items ≤ place → (o : HallOnly (HallHanded hub old.conn msgs) old new)
+    → Ending hub conn open_at (acts ++ a ∷ []) t.all shown texts t.hall_before t.front old.badge msgs old new o.behind
+ending hub conn open_at acts a ss session shown place was is old new texts msgs t past o =
+    let size = ap length t.pass_list ∙ length-append t.front t.behind in
+    let at = t.place_is in
+    let none_left : t.behind ≡ [] = nil_from_length t.behind (omega arith) in
+    let all_front : t.front ++ t.behind ≡ t.front = ap (λ (b : List RoomPass). t.front ++ b) none_left ∙ append-nil t.front in
+    let same : o.before ≡ t.hall_pass = same_Some o.before t.hall_pass (sym o.was ∙ t.hall) in
+    let handed : HallHanded hub conn msgs t.hall_pass o.behind = subst (λ (h : HallPass). HallHanded hub conn msgs h o.behind) same (subst (λ (c : ℕ). HallHanded hub c msgs o.before o.behind) t.conn_is o.done) in
+    let r = reread t.hall_pass.pass.1 o.behind.pass.1 handed.0 in
     record {
-      more = news;
-      now = all_sent_at None (m + 1) texts;
-      sent = sent;
-      left = left_of (is_fault end) hub conn open_at acts a (ss ++ news) k old.rooms.items new are (conn_is ∙ s.conn_is) s.way hall rooms (badge ∙ s.badge_is ∙ ap (λ (x : Record). x.badge) s.session_is) left
-          (places_left (is_fault end) hub conn acts a m (ss ++ news) old.rooms.items (omega arith) (all_apart hub conn (acts ++ a ∷ []) m ss news old.rooms.items s.rooms (hall_alone (m + 1) texts old.rooms.items)))
-          (subst (λ (b : Option Badge). Based hub conn open_at (acts ++ a ∷ []) (ss ++ news) k old.rooms.items b) (sym badge)
-          (based_on hub conn open_at (acts ++ a ∷ []) ss news s.hall_pass k old.rooms.items old.rooms.items old.badge (hall_grew s.hall_pass k n l) (all_stay old.rooms.items) (all_from None (m + 1) texts old.rooms.items tt) (base_of hub conn open_at (acts ++ a ∷ []) m ss session old s)));
+      tells = hall_told hub conn shown t.hall_before t.hall_pass o.behind msgs t.look handed;
+      pass_list = o.rooms ∙ t.pass_list ∙ all_front;
+      base = based_on hub conn open_at (acts ++ a ∷ []) t.all (sendings None (length (acts ++ a ∷ [])) texts) t.hall_pass o.behind t.front t.front old.badge (record { number = r.number; seen = r.grows }) (all_stay t.front) (all_from None (length (acts ++ a ∷ [])) texts t.front tt)
+          (subst (λ (rs : List RoomPass). Based hub conn open_at (acts ++ a ∷ []) t.all t.hall_pass rs old.badge) all_front t.base);
     }
 
-pub hall_breaks : (end : End) (hub : Hub) (conn open_at : ℕ) (acts : List Act) (a : Act) (ss : List Sending) (session : Record) (was is : Option Talk) (old new : Passes) → Sits hub conn open_at (acts ++ a ∷ []) (length acts) ss session old → AreOf hub new → TellsHallPart hub old new was is → TellsPart end hub conn open_at acts a ss was is new
-hall_breaks end hub conn open_at acts a ss session was is old new s are (inl t) =
+pub telling_ends : (hub : Hub) (conn open_at : ℕ) (acts : List Act) (a : Act) (ss : List Sending) (session : Record) (shown place : ℕ) (was mid is : Option Talk) (old new : Passes) → Telling hub conn open_at acts a ss session shown place was mid old → AreOf hub old → AreOf hub new → length old.rooms.items ≤ place → TellsHall hub shown old new mid is
+    → Tells hub conn open_at acts a ss session was is new
+telling_ends hub conn open_at acts a ss session shown place was mid is old new t was_of are past r =
     let m : ℕ = length acts in
-    let texts : List (List ℕ) = take t.count (texts_of None t.msgs) in
+    let all_acts : List Act = acts ++ a ∷ [] in
+    let k : HallPass = r.sends.only.behind in
+    let msgs : List Msg = r.sends.msgs in
+    let texts : List (List ℕ) = texts_of None msgs in
     let news : List Sending = sendings None (m + 1) texts in
-    let same : t.only.before ≡ s.hall_pass = same_Some t.only.before s.hall_pass (sym t.only.was ∙ s.hall) in
-    let caught : HallCaught hub conn t.msgs s.hall_pass t.only.behind = subst (λ (h : HallPass). HallCaught hub conn t.msgs h t.only.behind) same (subst (λ (c : ℕ). HallCaught hub c t.msgs t.only.before t.only.behind) s.conn_is t.only.done) in
-    let l = looked s.hall_pass.pass.1 t.only.behind.pass.1 s.hall_pass.cursor.passed caught.0 in
-    hall_breaks_by end hub conn open_at acts a ss session was is old new t.only.behind caught.0.0 texts s are l t.only.is t.only.rooms t.only.conn t.only.badge (t.sent ∙ texts_after None (m + 1) texts was)
-    (hall_left_late (is_fault end) hub conn acts a ss news s.hall_pass t.only.behind caught.0.0 s.hall_sits l (hall_part hub conn (acts ++ a ∷ []) m ss news s.hall_pass t.only.behind t.msgs t.count s.hall_sits caught (from_self None (m + 1) texts)))
-hall_breaks end hub conn open_at acts a ss session was is old new s are (inr t) =
+    let e = ending hub conn open_at acts a ss session shown place was mid old new texts msgs t past r.sends.only in
+    let now = all_sent_at None (m + 1) texts in
+    let time = by_now (m + 1) t.all news t.on_time now in
+    let own : t.hall_before.pass.1.mine ≡ entries_of t.hall_before.pass.1.number t.hall_before.pass.1.seen = hall_own hub old.conn shown t.hall_before t.hall_pass t.look (hall_of hub old t.hall_pass was_of t.hall) in
+    let conn_is : new.conn ≡ conn = r.sends.only.conn ∙ t.conn_is in
+    let behind : IsHallPass hub conn k = subst (λ (c : ℕ). IsHallPass hub c k) conn_is (hall_of hub new k are r.sends.only.is) in
+    let rooms_told : All (λ (x : RoomPass). IsSome x.id → IsCaughtUp x.pass.1 x.at) new.rooms.items = subst (λ (rs : List RoomPass). All (λ (x : RoomPass). IsSome x.id → IsCaughtUp x.pass.1 x.at) rs) (sym e.pass_list) t.told in
+    let base : Based hub conn open_at all_acts (t.all ++ news) k new.rooms.items new.badge =
+    subst (λ (rs : List RoomPass). Based hub conn open_at all_acts (t.all ++ news) k rs new.badge) (sym e.pass_list)
+    (subst (λ (b : Option Badge). Based hub conn open_at all_acts (t.all ++ news) k t.front b) (sym r.sends.only.badge)
+    (subst (λ (n : ℕ). Based hub conn open_at all_acts (t.all ++ sendings None n texts) k t.front old.badge) (sym (one_more acts a)) e.base)) in
+    let sits : Sits hub conn open_at all_acts (m + 1) (t.all ++ news) session new = record {
+      are = are;
+      conn_is = conn_is;
+      way = t.way;
+      session_is = t.session_is;
+      badge_is = r.sends.only.badge ∙ t.badge_is;
+      hall_pass = k;
+      hall = r.sends.only.is;
+      hall_sits = hall_tells hub conn all_acts m shown t.all news t.hall_before k msgs t.hall_sits e.tells r.answered (from_self None (m + 1) texts) time;
+      rooms = subst (λ (rs : List RoomPass). All (PlaceSits hub conn all_acts (m + 1) (t.all ++ news)) rs) (sym e.pass_list) (all_apart hub conn all_acts (m + 1) t.all news t.front t.done (hall_alone (m + 1) texts t.front));
+      joined = base.joined;
+      others = base.others;
+      apart = base.apart;
+      begun = base.begins_are;
+      named = base.named;
+      gave = base.gave;
+      from = base.from;
+      opened = base.opened;
+      on_time = time;
+    } in
+    record {
+      more = t.more ++ news;
+      now = All-append (λ (s : Sending). s.after ≡ m + 1) t.more news t.now now;
+      sent = r.sends.sent ∙ texts_after None (m + 1) texts mid ∙ ap (after_sendings news) t.sent ∙ sendings_more t.more news was;
+      sits = subst (λ (ys : List Sending). Sits hub conn open_at all_acts (m + 1) ys session new) (ap (λ (ys : List Sending). ys ++ news) t.all_is ∙ append_assoc ss t.more news) sits;
+      up = record {
+        hall = λ h is. subst (λ (x : HallPass). IsCaughtUp x.pass.1 x.at) (same_Some k h (sym r.sends.only.is ∙ is)) (hall_up hub conn shown t.hall_before k msgs e.tells r.answered own behind);
+        rooms = rooms_told;
+      };
+    }
+
+-- the hall told in part
+pub hall_breaks : (end : End) (hub : Hub) (conn open_at : ℕ) (acts : List Act) (a : Act) (ss : List Sending) (session : Record) (shown place : ℕ) (was mid is : Option Talk) (old new : Passes) → Telling hub conn open_at acts a ss session shown place was mid old → AreOf hub new → length old.rooms.items ≤ place → SendsOfHall hub old new mid is
+    → TellsPart end hub conn open_at acts a ss was is new
+hall_breaks end hub conn open_at acts a ss session shown place was mid is old new t are past r =
     let m : ℕ = length acts in
-    let same : t.only.before ≡ s.hall_pass = same_Some t.only.before s.hall_pass (sym t.only.was ∙ s.hall) in
-    let done : LooksAtMost s.hall_pass.pass.1 t.only.behind.pass.1 × (t.only.behind.at ≡ s.hall_pass.at) = subst (λ (h : HallPass). LooksAtMost h.pass.1 t.only.behind.pass.1 × (t.only.behind.at ≡ h.at)) same t.only.done in
-    let l = looked_at_most s.hall_pass.pass.1 t.only.behind.pass.1 done.0 in
-    hall_breaks_by end hub conn open_at acts a ss session was is old new t.only.behind done.0.0 [] s are l t.only.is t.only.rooms t.only.conn t.only.badge (t.silent ∙ no_sendings was)
-    (hall_left_late (is_fault end) hub conn acts a ss [] s.hall_pass t.only.behind done.0.0 s.hall_sits l (hall_still hub conn (acts ++ a ∷ []) m ss [] s.hall_pass t.only.behind done.0.0 s.hall_sits l done.1 (hall_within hub old s.hall_pass s.are s.hall) refl))
+    let k : HallPass = r.only.behind in
+    let texts : List (List ℕ) = take r.count (texts_of None r.msgs) in
+    let news : List Sending = sendings None (m + 1) texts in
+    let e = ending hub conn open_at acts a ss session shown place was mid old new texts r.msgs t past r.only in
+    let base : Based hub conn open_at (acts ++ a ∷ []) (t.all ++ news) k t.front new.badge =
+    subst (λ (b : Option Badge). Based hub conn open_at (acts ++ a ∷ []) (t.all ++ news) k t.front b) (sym r.only.badge)
+    (subst (λ (n : ℕ). Based hub conn open_at (acts ++ a ∷ []) (t.all ++ sendings None n texts) k t.front old.badge) (sym (one_more acts a)) e.base) in
+    record {
+      more = t.more ++ news;
+      now = All-append (λ (s : Sending). s.after ≡ m + 1) t.more news t.now (all_sent_at None (m + 1) texts);
+      sent = r.sent ∙ texts_after None (m + 1) texts mid ∙ ap (after_sendings news) t.sent ∙ sendings_more t.more news was;
+      left = subst (λ (ys : List Sending). Left (is_fault end) hub conn open_at acts (acts ++ a ∷ []) ys new) (ap (λ (ys : List Sending). ys ++ news) t.all_is ∙ append_assoc ss t.more news)
+          (left_of (is_fault end) hub conn open_at acts a (t.all ++ news) k t.front new are (r.only.conn ∙ t.conn_is) t.way r.only.is e.pass_list (r.only.badge ∙ t.badge_is ∙ ap (λ (x : Record). x.badge) t.session_is)
+          (hall_left_late (is_fault end) hub conn acts a t.all news t.hall_before k shown t.hall_sits (looked t.hall_before.pass.1 k.pass.1 shown e.tells.read) (hall_part hub conn (acts ++ a ∷ []) m shown t.all news t.hall_before k r.msgs r.count t.hall_sits e.tells (from_self None (m + 1) texts)))
+          (places_left (is_fault end) hub conn acts a (m + 1) (t.all ++ news) t.front (omega arith) (all_apart hub conn (acts ++ a ∷ []) (m + 1) t.all news t.front t.done (hall_alone (m + 1) texts t.front)))
+          base);
+    }
 
 -- ---- a room
 

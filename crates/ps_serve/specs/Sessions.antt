@@ -1,5 +1,5 @@
 -- What is known of a session that has ended, whatever its link and its clock were; and of two that met.
-use Rattle.std.specs.Prelude.{◌≡◌, ℕ, List, ◌∷◌, Option, Some, slice_get}
+use Rattle.std.specs.Prelude.{◌≡◌, ℕ, ◌∷◌, Option, Some, slice_get}
 use mathlib.Core.List.{IsPrefix}
 use Rattle.ps_lines.specs.declared.command.HallCmd.TheVariants.{Open}
 use Rattle.ps_hall.specs.declared.entry.HallEntry.{HallEntry}

@@ -11,6 +11,7 @@ use Rattle.ps_hall.specs.declared.outcome.HallOut.{HallOut}
 use Rattle.ps_room.specs.declared.outcome.Ending.{Ending}
 use Rattle.ps_room.specs.declared.outcome.RoomOut.{RoomOut}
 use Rattle.ps_histlock.specs.declared.view.Entry.{Entry}
+use Rattle.ps_histlock.specs.declared.view.View.{View}
 use Rattle.ps_histlock.specs.Histories.{commands, entry, entries_of}
 use Rattle.ps_session.specs.Sessions.{Record, begun}
 use Rattle.ps_room.specs.Openings.{first_battle, room_of_battle}
@@ -224,10 +225,15 @@ pub record Sits (hub : Hub) (conn open_at : ℕ) (acts : List Act) (looked : ℕ
   pub opened : HasOpen conn open_at hall_pass
   pub on_time : All (λ (s : Sending). s.after ≤ looked) ss
 
--- all that the passes have seen was handed out
+-- Of what a pass sees all was handed out that its looks showed, and all that it made itself: it stands among the first `at` entries.
+pub record IsCaughtUp {O C : Type 0} (v : View O C) (at : ℕ) : Type 0 where
+  pub looks : All (λ (n : ℕ). n ≤ at) v.looks
+  pub own : entries_of v.number (take at v.seen) ≡ v.mine
+
+-- so it is of the hall and of each room that is held
 pub record IsUpToDate (passes : Passes) : Type 0 where
-  pub hall : (h : HallPass) → passes.hall ≡ Some h → h.at ≡ length h.pass.1.seen
-  pub rooms : All (λ k. IsSome k.id → k.at ≡ length k.pass.1.seen) passes.rooms.items
+  pub hall : (h : HallPass) → passes.hall ≡ Some h → IsCaughtUp h.pass.1 h.at
+  pub rooms : All (λ k. IsSome k.id → IsCaughtUp k.pass.1 k.at) passes.rooms.items
 
 -- ---- a session that broke off
 

@@ -76,7 +76,7 @@ abbrev pub after_sendings : List Sending → Option Talk → Option Talk
 after_sendings ss None = None
 after_sendings ss (Some talk) = Some (with_sendings ss talk)
 
--- all that is held was looked at, and all that wasn't told yet was sent
+-- all that is held was looked at, and all that the looks showed and wasn't told yet was sent
 pub record Tells (hub : Hub) (conn open_at : ℕ) (acts : List Act) (a : Act) (ss : List Sending) (session : Record) (old new : Option Talk) (passes : Passes) : Type 0 where
   pub more : List Sending
   pub now : All (λ (s : Sending). s.after ≡ length acts + 1) more

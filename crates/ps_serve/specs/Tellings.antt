@@ -1,10 +1,15 @@
 -- For the code of telling: what it does at one place.
-use Rattle.std.specs.Prelude.{◌≡◌, ◌⊎◌, ℕ, List, [], ◌∷◌, take, slice_get, IsSome, Option, Some, None}
+use Rattle.std.specs.Prelude.{◌≡◌, ◌⊎◌, ◌≤◌, ℕ, List, [], ◌∷◌, length, take, slice_get, IsSome, Option, Some, None}
 use Rattle.ps_base.specs.declared.msg.Msg.{Msg}
 use Rattle.ps_session.specs.Texts.{texts_of}
 use Rattle.ps_outside.specs.Links.{Talk, after_text}
-use Rattle.ps_hub.specs.Hubs.{Hub}
-use Rattle.ps_hub.specs.Calls.{HallOnly, HallCaught, RoomOnly, Caught, LooksAtMost}
+use Rattle.ps_histlock.specs.declared.view.View.{View}
+use Rattle.ps_histlock.specs.Histories.{commands}
+use Rattle.ps_histlock.specs.Views.{after_look}
+use Rattle.server_places.specs.Rooms.{Shows}
+use Rattle.ps_hub.specs.Hubs.{Hub, site_of}
+use Rattle.ps_hub.specs.Turns.{Rereads}
+use Rattle.ps_hub.specs.Calls.{IsFresh, HandsOut, HallOnly, HallHanded, RoomOnly, Handed}
 use Rattle.ps_hub.specs.declared.pass.RoomPass.{RoomPass}
 use Rattle.ps_hub.specs.declared.passes.Passes.{Passes}
 
@@ -15,28 +20,49 @@ after_texts (text ∷ texts) told = after_texts texts (after_text text told)
 
 -- ---- the hall
 
--- all that the hall told was sent
-pub record TellsHall (hub : Hub) (old new : Passes) (was is : Option Talk) : Type 0 where
+-- messages were handed out, in pieces, and all of them were sent
+pub record SendsHall (hub : Hub) (old new : Passes) (was is : Option Talk) : Type 0 where
   pub msgs : List Msg
-  pub only : HallOnly (HallCaught hub old.conn msgs) old new
+  pub only : HallOnly (HallHanded hub old.conn msgs) old new
   pub sent : is ≡ after_texts (texts_of None msgs) was
 
--- of what the hall told only the first texts were sent
+-- so it is, and all that a look showed was handed out
+pub record TellsHall (hub : Hub) (shown : ℕ) (old new : Passes) (was is : Option Talk) : Type 0 where
+  pub sends : SendsHall hub old new was is
+  pub answered : shown ≤ sends.only.behind.at
+
+-- of what was handed out only the first texts were sent
 pub record SendsOfHall (hub : Hub) (old new : Passes) (was is : Option Talk) : Type 0 where
   pub msgs : List Msg
-  pub only : HallOnly (HallCaught hub old.conn msgs) old new
+  pub only : HallOnly (HallHanded hub old.conn msgs) old new
   pub count : ℕ
   pub sent : is ≡ after_texts (take count (texts_of None msgs)) was
 
--- nothing was handed out
-pub record SkipsHall (old new : Passes) (was is : Option Talk) : Type 0 where
-  pub only : HallOnly (λ h k. LooksAtMost h.pass.1 k.pass.1 × (k.at ≡ h.at)) old new
-  pub silent : is ≡ was
-
-abbrev pub TellsHallPart : Hub → Passes → Passes → Option Talk → Option Talk → Type 0
-TellsHallPart hub old new was is = SendsOfHall hub old new was is ⊎ SkipsHall old new was is
-
 -- ---- a room
+
+-- messages were handed out, in pieces, and all of them were sent
+pub record SendsRoom (hub : Hub) (place : ℕ) (old new : Passes) (was is : Option Talk) : Type 0 where
+  pub msgs : List Msg
+  pub only : RoomOnly place (Handed hub old.conn msgs) old new
+  pub sent : is ≡ after_texts (texts_of only.behind.id msgs) was
+
+-- of what was handed out only the first texts were sent
+pub record SendsOfRoom (hub : Hub) (place : ℕ) (old new : Passes) (was is : Option Talk) : Type 0 where
+  pub msgs : List Msg
+  pub only : RoomOnly place (Handed hub old.conn msgs) old new
+  pub count : ℕ
+  pub sent : is ≡ after_texts (take count (texts_of only.behind.id msgs)) was
+
+-- A look, turns without an entry, if any, and messages that were handed out for them.
+module _ {O C : Type 0} (shows : List C → List (List (List ℕ)) → Type 0) where
+  pub record LooksAndTells (shown : ℕ) (v : View O C) (at : ℕ) (msgs : List Msg) (w : View O C) (now : ℕ) : Type 0 where
+    pub seen : length v.seen ≤ shown
+    pub fresh : IsFresh v shown
+    pub read : Rereads (after_look v shown) w
+    pub out : HandsOut shows (commands v.seen) at msgs (commands w.seen) now
+
+abbrev pub RoomTells : Hub → ℕ → ℕ → List Msg → RoomPass → RoomPass → Type 0
+RoomTells hub conn shown msgs h k = LooksAndTells (Shows conn (site_of hub h.number)) shown h.pass.1 h.at msgs k.pass.1 k.at
 
 -- the place isn't held, and nothing was done
 pub record PassesBy (place : ℕ) (old new : Passes) (was is : Option Talk) : Type 0 where
@@ -46,35 +72,23 @@ pub record PassesBy (place : ℕ) (old new : Passes) (was is : Option Talk) : Ty
   pub same : new ≡ old
   pub silent : is ≡ was
 
--- all that the room told was sent
+-- the place was looked at, and all was sent that the look showed
 pub record TellsHeld (hub : Hub) (place : ℕ) (old new : Passes) (was is : Option Talk) : Type 0 where
-  pub pass : RoomPass
-  pub there : slice_get old.rooms.items place ≡ Some pass
-  pub held : IsSome pass.id
+  pub shown : ℕ
   pub msgs : List Msg
-  pub only : RoomOnly place (Caught hub old.conn msgs) old new
-  pub sent : is ≡ after_texts (texts_of pass.id msgs) was
+  pub only : RoomOnly place (RoomTells hub old.conn shown msgs) old new
+  pub held : IsSome only.before.id
+  pub answered : shown ≤ only.behind.at
+  pub sent : is ≡ after_texts (texts_of only.before.id msgs) was
 
 abbrev pub TellsRoom : Hub → ℕ → Passes → Passes → Option Talk → Option Talk → Type 0
 TellsRoom hub place old new was is = TellsHeld hub place old new was is ⊎ PassesBy place old new was is
 
--- of what the room told only the first texts were sent
-pub record SendsOfRoom (hub : Hub) (place : ℕ) (old new : Passes) (was is : Option Talk) : Type 0 where
-  pub pass : RoomPass
-  pub there : slice_get old.rooms.items place ≡ Some pass
-  pub held : IsSome pass.id
+-- the place was looked at, and of what was handed out only the first texts were sent
+pub record TellsRoomPart (hub : Hub) (place : ℕ) (old new : Passes) (was is : Option Talk) : Type 0 where
+  pub shown : ℕ
   pub msgs : List Msg
-  pub only : RoomOnly place (Caught hub old.conn msgs) old new
+  pub only : RoomOnly place (RoomTells hub old.conn shown msgs) old new
+  pub held : IsSome only.before.id
   pub count : ℕ
-  pub sent : is ≡ after_texts (take count (texts_of pass.id msgs)) was
-
--- nothing was handed out
-pub record SkipsRoom (place : ℕ) (old new : Passes) (was is : Option Talk) : Type 0 where
-  pub pass : RoomPass
-  pub there : slice_get old.rooms.items place ≡ Some pass
-  pub held : IsSome pass.id
-  pub only : RoomOnly place (λ h k. LooksAtMost h.pass.1 k.pass.1 × (k.at ≡ h.at)) old new
-  pub silent : is ≡ was
-
-abbrev pub TellsRoomPart : Hub → ℕ → Passes → Passes → Option Talk → Option Talk → Type 0
-TellsRoomPart hub place old new was is = SendsOfRoom hub place old new was is ⊎ SkipsRoom place old new was is
+  pub sent : is ≡ after_texts (take count (texts_of only.before.id msgs)) was

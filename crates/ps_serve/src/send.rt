@@ -1,20 +1,23 @@
 //! Telling a connection what happened.
 ghost use Rattle.std.specs.Option.{option_copied};
 ghost use Rattle.std.specs.Prelude.{◌≡◌, ℕ, ◌<◌, List, [], ◌∷◌, ◌++◌, length, take, IfNone, IfSome};
+ghost use Rattle.ps_session.specs.Texts.{texts_of};
 ghost use Rattle.ps_hub.specs.Passes.{AreOf};
 ghost use Rattle.ps_serve.specs.Acts.{Act};
 ghost use Rattle.ps_serve.specs.Sendings.{Sending};
 ghost use Rattle.ps_serve.specs.Sittings.{Sits};
 ghost use Rattle.ps_serve.specs.Steps.{Tells, TellsPart, IsBreak};
-ghost use Rattle.ps_serve.specs.Tellings.{after_texts, TellsHall, TellsHallPart, TellsRoom, TellsRoomPart};
+ghost use Rattle.ps_serve.specs.Tellings.{after_texts, SendsHall, TellsHall, SendsOfHall, SendsRoom, SendsOfRoom, TellsRoom, TellsRoomPart};
 
 use crate::closed::End;
 use crate::session::Sitting;
+use ps_base::msg::Msg;
 use ps_base::text::Text;
 use ps_hub::hub::Hub;
 use ps_hub::pass::{HallPass, RoomPass};
 use ps_hub::passes::Passes;
 use ps_outside::link::{Link, SendEnd};
+use ps_session::session::Session;
 use std::alloc::Global;
 use std::sync::Wait;
 
@@ -33,6 +36,35 @@ fn send_all<L: Link>(link: &mut L, texts: &[Text]) -> Option<End>
         }
     }
     None
+}
+
+// Sends messages, which are the hall's (`None`) or those of the room with an id, up to the first that fails.
+fn send_msgs<L: Link>(
+    alloc: Global,
+    link: &mut L,
+    session: &Session,
+    room: Option<&str>,
+    msgs: &[Msg],
+) -> Option<End>
+    ensures counts { IfNone result (L.counts link.new ≡ L.counts link.old) }
+    ensures cause { IfSome result (λ end. IsBreak end (L.counts link.old) (L.counts link.new)) }
+    ensures told { IfNone result (L.talk link.new ≡ after_texts (texts_of (option_copied room.entry) msgs.now) (L.talk link.old)) }
+    ensures broke { IfSome result (λ end. (count : ℕ) × (L.talk link.new ≡ after_texts (take count (texts_of (option_copied room.entry) msgs.now)) (L.talk link.old))) }
+{
+    match session.give(alloc, room, msgs) {
+        Err(_) => Some(End::NoMemory),
+        Ok(texts) => send_all(link, texts.as_slice()),
+    }
+}
+
+// How many entries of the hall were handed out.
+fn handed_out(hall: &Option<HallPass>) -> u64
+    ensures { IfSome hall.now (λ h. result ≡ h.at) }
+{
+    match hall {
+        None => 0,
+        Some(pass) => pass.at,
+    }
 }
 
 // The id by which a place is held.
@@ -109,8 +141,10 @@ impl Sitting {
         self.catch_up(alloc, rt, hub, link)
     }
 
-    /// Looks once at the hall and at each room that is held, by rising numbers, and sends what wasn't sent yet. `None` where the
-    /// session goes on.
+    /// Looks once at the hall, and then, by rising numbers, at each room that is held, and sends what wasn't sent yet: of a room
+    /// what its look showed, at once, and of the hall what its look showed, once all rooms have told. So what a room tells before
+    /// the hall tells of it, as the last turn of a battle, is sent before that. It takes a piece of what is told when that before
+    /// it was sent. `None` where the session goes on.
     pub(crate) fn catch_up<R: Wait, L: Link>(
         &mut self,
         alloc: Global,
@@ -126,26 +160,24 @@ impl Sitting {
         ensures told { IfNone result ((conn open_at : ℕ) (acts : List Act) (a : Act) (ss : List Sending) → Sits hub.now conn open_at (acts ++ a ∷ []) (length acts) ss self.old.session self.old.passes → Tells hub.now conn open_at acts a ss self.old.session (L.talk link.old) (L.talk link.new) self.new.passes) }
         ensures broke { IfSome result (λ end. (conn open_at : ℕ) (acts : List Act) (a : Act) (ss : List Sending) → Sits hub.now conn open_at (acts ++ a ∷ []) (length acts) ss self.old.session self.old.passes → TellsPart end hub.now conn open_at acts a ss (L.talk link.old) (L.talk link.new) self.new.passes) }
     {
-        match self.tell_hall(alloc, rt, hub, link) {
-            Some(end) => return Some(end),
-            None => {}
-        }
+        let shown = hub.look_hall(&mut self.passes);
         for place in 0..self.passes.rooms.len() {
             match self.tell_room(alloc, rt, hub, link, place) {
                 Some(end) => return Some(end),
                 None => {}
             }
         }
-        None
+        self.tell_hall(alloc, rt, hub, link, shown)
     }
 
-    // What the hall tells.
+    // What the hall tells, piece by piece, until all was sent that a look showed.
     fn tell_hall<R: Wait, L: Link>(
         &mut self,
         alloc: Global,
         rt: &R,
         hub: &Hub,
         link: &mut L,
+        shown: u64,
     ) -> Option<End>
         requires { AreOf hub.now self.old.passes }
         ensures of { AreOf hub.now self.new.passes }
@@ -153,19 +185,46 @@ impl Sitting {
         ensures badge { self.new.passes.badge ≡ self.old.passes.badge }
         ensures counts { IfNone result (L.counts link.new ≡ L.counts link.old) }
         ensures cause { IfSome result (λ end. IsBreak end (L.counts link.old) (L.counts link.new)) }
-        ensures told { IfNone result (TellsHall hub.now self.old.passes self.new.passes (L.talk link.old) (L.talk link.new)) }
-        ensures broke { IfSome result (λ end. TellsHallPart hub.now self.old.passes self.new.passes (L.talk link.old) (L.talk link.new)) }
+        ensures told { IfNone result (TellsHall hub.now shown self.old.passes self.new.passes (L.talk link.old) (L.talk link.new)) }
+        ensures broke { IfSome result (λ end. SendsOfHall hub.now self.old.passes self.new.passes (L.talk link.old) (L.talk link.new)) }
     {
-        match hub.catch_up_hall(rt, &mut self.passes) {
+        for _ in rt.forever() {
+            if shown <= handed_out(&self.passes.hall) {
+                return None;
+            }
+            match self.send_hall(alloc, rt, hub, link, shown) {
+                Some(end) => return Some(end),
+                None => {}
+            }
+        }
+        unreachable!()
+    }
+
+    // Takes a piece of what the hall tells, and sends it.
+    fn send_hall<R: Wait, L: Link>(
+        &mut self,
+        alloc: Global,
+        rt: &R,
+        hub: &Hub,
+        link: &mut L,
+        shown: u64,
+    ) -> Option<End>
+        requires { AreOf hub.now self.old.passes }
+        ensures of { AreOf hub.now self.new.passes }
+        ensures session { self.new.session ≡ self.old.session }
+        ensures badge { self.new.passes.badge ≡ self.old.passes.badge }
+        ensures counts { IfNone result (L.counts link.new ≡ L.counts link.old) }
+        ensures cause { IfSome result (λ end. IsBreak end (L.counts link.old) (L.counts link.new)) }
+        ensures told { IfNone result (SendsHall hub.now self.old.passes self.new.passes (L.talk link.old) (L.talk link.new)) }
+        ensures broke { IfSome result (λ end. SendsOfHall hub.now self.old.passes self.new.passes (L.talk link.old) (L.talk link.new)) }
+    {
+        match hub.hand_on_hall(rt, &mut self.passes, shown) {
             Err(_) => Some(End::NoMemory),
-            Ok(msgs) => match self.session.give(alloc, None, msgs.as_slice()) {
-                Err(_) => Some(End::NoMemory),
-                Ok(texts) => send_all(link, texts.as_slice()),
-            },
+            Ok(msgs) => send_msgs(alloc, link, &self.session, None, msgs.as_slice()),
         }
     }
 
-    // What the room at an index of the list tells, if it is held.
+    // What the room at an index of the list tells, if it is held, piece by piece, until all was sent that a look showed.
     fn tell_room<R: Wait, L: Link>(
         &mut self,
         alloc: Global,
@@ -188,14 +247,45 @@ impl Sitting {
         if held_by(&self.passes.rooms[place]).is_none() {
             return None;
         }
-        match hub.catch_up_at(rt, &mut self.passes, place) {
+        let shown = hub.look_at(&mut self.passes, place);
+        for _ in rt.forever() {
+            if shown <= self.passes.rooms[place].at {
+                return None;
+            }
+            match self.send_room(alloc, rt, hub, link, place, shown) {
+                Some(end) => return Some(end),
+                None => {}
+            }
+        }
+        unreachable!()
+    }
+
+    // Takes a piece of what the room at an index of the list tells, and sends it.
+    fn send_room<R: Wait, L: Link>(
+        &mut self,
+        alloc: Global,
+        rt: &R,
+        hub: &Hub,
+        link: &mut L,
+        place: usize,
+        shown: u64,
+    ) -> Option<End>
+        requires of { AreOf hub.now self.old.passes }
+        requires there { place < length self.old.passes.rooms.items }
+        ensures of { AreOf hub.now self.new.passes }
+        ensures session { self.new.session ≡ self.old.session }
+        ensures badge { self.new.passes.badge ≡ self.old.passes.badge }
+        ensures pass_list { length self.new.passes.rooms.items ≡ length self.old.passes.rooms.items }
+        ensures counts { IfNone result (L.counts link.new ≡ L.counts link.old) }
+        ensures cause { IfSome result (λ end. IsBreak end (L.counts link.old) (L.counts link.new)) }
+        ensures told { IfNone result (SendsRoom hub.now place self.old.passes self.new.passes (L.talk link.old) (L.talk link.new)) }
+        ensures broke { IfSome result (λ end. SendsOfRoom hub.now place self.old.passes self.new.passes (L.talk link.old) (L.talk link.new)) }
+    {
+        match hub.hand_on_at(rt, &mut self.passes, place, shown) {
             Err(_) => Some(End::NoMemory),
             Ok(msgs) => {
                 let room = held_by(&self.passes.rooms[place]);
-                match self.session.give(alloc, room, msgs.as_slice()) {
-                    Err(_) => Some(End::NoMemory),
-                    Ok(texts) => send_all(link, texts.as_slice()),
-                }
+                send_msgs(alloc, link, &self.session, room, msgs.as_slice())
             }
         }
     }

@@ -1,6 +1,6 @@
 -- What one more entry makes of the hall, and what is pulled of it.
-use Rattle.std.proofs.Common.{◌≡◌, ℕ, ◌+◌, ◌≤◌, true, false, List, [], ◌∷◌, ◌++◌, map, length, Option, Some, None, IfSome, option_map, refl, sym, ap, ◌∙◌, subst, append_assoc, arith}
-use Rattle.std.proofs.lemmas.List.{length-append}
+use Rattle.std.proofs.Common.{◌≡◌, ℕ, ◌+◌, ◌-◌, ◌≤◌, true, false, List, [], ◌∷◌, ◌++◌, map, length, take, drop, Option, Some, None, IfSome, option_map, refl, sym, ap, ◌∙◌, subst, inl, inr, append_assoc, arith}
+use Rattle.std.proofs.lemmas.List.{append-nil, length-append, length-drop, length-take-le, take_at, take-take, take-append-drop}
 use Rattle.ps_base.specs.Ids.{id_of}
 use Rattle.ps_base.specs.declared.badge.Badge.{Badge}
 use Rattle.ps_base.specs.declared.hall_why.HallWhy.{HallWhy}
@@ -18,11 +18,14 @@ use Rattle.ps_base.specs.Messages.{sent, msg_lines}
 use Rattle.ps_hall.specs.Lookups.{badge_of, game_in}
 use Rattle.ps_hall.specs.Starts.{game_of, with_game, start_of_search, start_of_accept}
 use Rattle.ps_hall.specs.Steps.{forgotten_if, with_search, with_accept, reported, after_named, after_by as applied_by, applied}
-use Rattle.ps_hall.specs.Halls.{Seen, seen_opened, seen_after, run_seen, run_record, after, after_by, verdict, out_of, message, view, pulled_past, cursor_past}
-use Rattle.ps_hall.proofs.PullLemmas.{pulls_view}
+use Rattle.ps_hall.specs.declared.notice.Notice.{Notice}
+use Rattle.ps_hall.specs.Halls.{Seen, seen_opened, seen_after, run_seen, run_record, after, after_by, verdict, out_of, message, view, pulled, pulled_past, before_last, cursor_past}
+use Rattle.ps_base.specs.declared.msg.Msg.{Msg}
+use Rattle.ps_hall.proofs.PullLemmas.{pulls_view, log_before}
 use Rattle.server_places.specs.declared.cursor.HallCursor.{HallCursor}
 use Rattle.server_places.specs.declared.site.Root.{Root}
-use Rattle.server_places.specs.Halls.{hall_opened, hall_after, hall_seen, HallHome, HallStands, HallAnswers, HallPullsGoOn}
+use Rattle.server_places.specs.Halls.{hall_opened, hall_after, hall_seen, HallHome, HallStands, HallAnswers, HallReads, HallPiece, HallPulls, hall_bounded, HallPullsUpTo, ReadsHall}
+use Rattle.server_places.specs.Halls.{HallShows, HallStandsAt, HallGoesOn, HallPullsGoOn}
 use Rattle.server_places.proofs.NumberLemmas.{IsNumber, numbered}
 
 -- ---- histories
@@ -111,11 +114,103 @@ hall_answers es e p out s is fit =
       below = numbers.1;
     }
 
-pub hall_goes_on : HallPullsGoOn
-hall_goes_on conn r before later x y ms msgs at shows p =
+-- who reads all of it
+hall_reads_on : (conn : ℕ) (r : Root) (before later : List HallEntry) (until : Option ℕ) (x y : HallCursor) (ms : List (List (List ℕ))) (msgs : List Msg)
+    → HallStandsAt conn r before x → HallShows conn r before ms → HallReads r (before ++ later) (hall_bounded until x) msgs y
+    → HallShows conn r (before ++ later) (ms ++ map msg_lines msgs) × HallStandsAt conn r (before ++ later) (hall_bounded None y)
+hall_reads_on conn r before later until x y ms msgs at shows p =
     let past = pulls_view conn (hall_opened r) before later in (
       ap (λ (xs : List (List (List ℕ))). xs ++ map msg_lines msgs) shows
           ∙ ap (λ (xs : List (List (List ℕ))). view conn (hall_opened r) before ++ xs) (p.messages ∙ ap (λ (c : HallCursor). pulled_past c.hall (hall_seen r (before ++ later))) at ∙ past.messages)
           ∙ sym (view_more conn (hall_opened r) before later),
-      p.cursor ∙ ap (λ (c : HallCursor). record { hall = cursor_past c.hall (hall_seen r (before ++ later)); passed = length (before ++ later) }) at ∙ ap (λ (c : Cursor). record { hall = c; passed = length (before ++ later) }) past.end,
+      ap (hall_bounded None) p.cursor ∙ ap (λ (c : HallCursor). record { hall = cursor_past c.hall (hall_seen r (before ++ later)); passed = length (before ++ later); until = None }) at ∙ ap (λ (c : Cursor). record { hall = c; passed = length (before ++ later); until = None }) past.end,
     )
+
+-- ---- pieces
+
+-- who stands behind some entries has no bound
+pub hall_free : (conn : ℕ) (r : Root) (es : List HallEntry) (x : HallCursor) → HallStandsAt conn r es x → hall_bounded None x ≡ x
+hall_free conn r es x at = ap (hall_bounded None) at ∙ sym at
+
+-- a pull leaves the bound as it is
+pub hall_until : (r : Root) (es : List HallEntry) (x y : HallCursor) (msgs : List Msg) → HallPulls r es x msgs y → y.until ≡ x.until
+hall_until r es x y msgs (inl stays) = ap (λ (c : HallCursor). c.until) stays.2
+hall_until r es x y msgs (inr p) = ap (λ (c : HallCursor). c.until) p.reads.cursor
+
+-- what is pulled with no bound, where there is none
+pub hall_pulls_free : (r : Root) (es : List HallEntry) (x y : HallCursor) (msgs : List Msg) → hall_bounded None x ≡ x → HallPulls r es x msgs y → HallPullsUpTo r es x msgs y
+hall_pulls_free r es x y msgs free p =
+    let none : y.until ≡ None = hall_until r es x y msgs p ∙ sym (ap (λ (c : HallCursor). c.until) free) in
+    (None, y, subst (λ (c : HallCursor). HallPulls r es c msgs y) (sym free) p, λ i. record { hall = y.hall; passed = y.passed; until = none i })
+
+hall_goes_nowhere : (conn : ℕ) (r : Root) (before later : List HallEntry) (x y : HallCursor) (ms : List (List (List ℕ))) (msgs : List Msg)
+    → HallStandsAt conn r before x → HallShows conn r before ms → msgs ≡ [] → y ≡ x → HallGoesOn conn r before later (ms ++ map msg_lines msgs) y
+hall_goes_nowhere conn r before later x y ms msgs at shows none same =
+    let passed : y.passed ≡ length before = ap (λ (c : HallCursor). c.passed) (same ∙ at) in
+    let here : take y.passed (before ++ later) ≡ before = take_at before later y.passed (sym passed) in
+    let nothing : ms ++ map msg_lines msgs ≡ ms = ap (λ (l : List Msg). ms ++ map msg_lines l) none ∙ append-nil ms in
+    record {
+      on = omega (arith, passed);
+      within = omega (arith, passed, length-append before later);
+      shows = subst (λ (l : List HallEntry). HallShows conn r l (ms ++ map msg_lines msgs)) (sym here) (nothing ∙ shows);
+      stands = subst (λ (l : List HallEntry). HallStandsAt conn r l y) (sym here) (same ∙ at);
+    }
+
+hall_goes_far : (conn : ℕ) (r : Root) (before later : List HallEntry) (until : Option ℕ) (x y z : HallCursor) (ms : List (List (List ℕ))) (msgs : List Msg)
+    → HallStandsAt conn r before x → HallShows conn r before ms → HallPiece r (before ++ later) (hall_bounded until x) msgs z → y ≡ hall_bounded None z → HallGoesOn conn r before later (ms ++ map msg_lines msgs) y
+hall_goes_far conn r before later until x y z ms msgs at shows p is =
+    let all : List HallEntry = before ++ later in
+    let n : ℕ = p.count in
+    let within : n ≤ length all = p.within in
+    let passed : x.passed ≡ length before = ap (λ (c : HallCursor). c.passed) at in
+    let on : length before ≤ n = subst (λ (m : ℕ). m ≤ n) passed (p.on (omega (arith, passed, length-append before later))) in
+    let front : List HallEntry = take n all in
+    let size : length front ≡ n = length-take-le n all within in
+    let begins : take (length before) front ≡ before = take-take (length before) n all on ∙ take_at before later (length before) refl in
+    let parts : before ++ drop (length before) front ≡ front = ap (λ (l : List HallEntry). l ++ drop (length before) front) (sym begins) ∙ take-append-drop (length before) front in
+    let there : HallShows conn r (before ++ drop (length before) front) (ms ++ map msg_lines msgs) × HallStandsAt conn r (before ++ drop (length before) front) (hall_bounded None z) =
+    hall_reads_on conn r before (drop (length before) front) until x z ms msgs at shows (subst (λ (l : List HallEntry). HallReads r l (hall_bounded until x) msgs z) (sym parts) p.reads) in
+    let here : y.passed ≡ n = ap (λ (c : HallCursor). c.passed) is ∙ ap (λ (c : HallCursor). c.passed) p.reads.cursor ∙ size in
+    let same : before ++ drop (length before) front ≡ take y.passed all = parts ∙ ap (λ (m : ℕ). take m all) (sym here) in
+    record {
+      on = omega (arith, here);
+      within = omega (arith, here);
+      shows = subst (λ (l : List HallEntry). HallShows conn r l (ms ++ map msg_lines msgs)) same there.0;
+      stands = subst (λ (l : List HallEntry). HallStandsAt conn r l y) same (subst (λ (c : HallCursor). HallStandsAt conn r (before ++ drop (length before) front) c) (sym is) there.1);
+    }
+
+hall_goes_by : (conn : ℕ) (r : Root) (before later : List HallEntry) (until : Option ℕ) (x y z : HallCursor) (ms : List (List (List ℕ))) (msgs : List Msg)
+    → HallStandsAt conn r before x → HallShows conn r before ms → HallPulls r (before ++ later) (hall_bounded until x) msgs z → y ≡ hall_bounded None z → HallGoesOn conn r before later (ms ++ map msg_lines msgs) y
+hall_goes_by conn r before later until x y z ms msgs at shows (inl stays) is =
+    hall_goes_nowhere conn r before later x y ms msgs at shows stays.1 (is ∙ ap (hall_bounded None) stays.2 ∙ hall_free conn r before x at)
+hall_goes_by conn r before later until x y z ms msgs at shows (inr p) is = hall_goes_far conn r before later until x y z ms msgs at shows p is
+
+pub hall_goes_on : HallPullsGoOn
+hall_goes_on conn r before later x y ms msgs at shows p = hall_goes_by conn r before later p.0 x y p.1 ms msgs at shows p.2 p.3
+
+-- ---- what is pulled
+
+pub hall_pulled : (es : List HallEntry) (p : HallHome) (x y : HallCursor) (msgs : List Msg) → HallStands es p → ReadsHall p.hall p.count x msgs y → HallPulls p.root es x msgs y
+hall_pulled es p x y msgs s reads =
+    let left : ℕ = reads.left in
+    let below : left ≤ p.count = reads.within in
+    let few : left ≤ p.count - x.passed = reads.few in
+    let count : p.count ≡ length es = s.count in
+    let n : ℕ = length es - left in
+    let size : length (take n es) ≡ n = length-take-le n es (omega arith) in
+    let many : length (drop n es) ≡ left = omega (arith, length-drop n es) in
+    let cut : before_last left p.hall ≡ before_last (length (drop n es)) (hall_seen p.root (take n es ++ drop n es)) =
+    ap (before_last left) (s.hall ∙ ap (hall_seen p.root) (sym (take-append-drop n es))) ∙ ap (λ (m : ℕ). before_last m (hall_seen p.root (take n es ++ drop n es))) (sym many) in
+    let same = log_before (hall_opened p.root) (take n es) (drop n es) in
+    inr (record {
+      count = n;
+      within = omega arith;
+      on = λ le. omega arith;
+      reads = record {
+        messages = reads.messages ∙ ap (pulled_past x.hall) cut ∙ ap (λ (l : List (List Notice)). pulled x.hall.conn (drop x.hall.at l)) same;
+        cursor = reads.cursor
+            ∙ ap (λ (h : Seen). record { hall = cursor_past x.hall h; passed = p.count - left; until = x.until }) cut
+            ∙ ap (λ (l : List (List Notice)). record { hall = record { conn = x.hall.conn; at = length l }; passed = p.count - left; until = x.until }) same
+            ∙ ap (λ (m : ℕ). record { hall = cursor_past x.hall (hall_seen p.root (take n es)); passed = m; until = x.until }) (omega (arith, size));
+      };
+    })

@@ -1,5 +1,5 @@
 -- The hall, as it stands behind a lock.
-use Rattle.std.specs.Prelude.{◌≡◌, ◌≤◌, ℕ, List, ◌++◌, map, length, Option, Some, IfSome}
+use Rattle.std.specs.Prelude.{◌≡◌, ◌≤◌, ◌⊎◌, ◌-◌, ℕ, List, [], ◌++◌, map, length, take, Option, Some, None, IfSome}
 use Rattle.std.specs.FinMap.{empty}
 use Rattle.ps_base.specs.declared.msg.Msg.{Msg}
 use Rattle.rules_start.specs.Fits.{IsFit}
@@ -8,12 +8,12 @@ use Rattle.ps_hall.specs.declared.outcome.HallOut.{HallOut}
 use Rattle.ps_hall.specs.Records.{Record, opened}
 use Rattle.ps_base.specs.Limits.{most_battles}
 use Rattle.ps_base.specs.Messages.{msg_lines}
-use Rattle.ps_hall.specs.Halls.{Seen, seen_opened, run_seen, run_record, out_of, view, pulled_past, cursor_past}
+use Rattle.ps_hall.specs.Halls.{Seen, seen_opened, run_seen, run_record, out_of, view, pulled_past, before_last, cursor_past}
 use Rattle.ps_histlock.specs.Views.{IsAtRest}
 use Rattle.ps_histlock.specs.declared.view.View.{View}
 use Rattle.server_places.specs.declared.cursor.HallCursor.{HallCursor}
 use Rattle.server_places.specs.declared.site.Root.{Root}
-use Rattle.server_places.specs.Sites.{no_settings, no_tables}
+use Rattle.server_places.specs.Sites.{no_settings, no_tables, IsAtBound}
 
 -- the hall before the first entry: no rank goes before those of registered names
 abbrev pub hall_opened : Root → Record
@@ -55,14 +55,33 @@ pub record HallAnswers (r : Root) (es : List HallEntry) (e : HallEntry) (out : H
   pub above : IfSome out.start (λ s. 1 ≤ s.number)
   pub below : IfSome out.start (λ s. s.number ≤ most_battles)
 
--- what is pulled past a cursor after these entries, and the cursor after it
-pub record HallPulls (r : Root) (es : List HallEntry) (x : HallCursor) (msgs : List Msg) (y : HallCursor) : Type 0 where
+-- all that is read past a cursor after these entries, and the cursor after it
+pub record HallReads (r : Root) (es : List HallEntry) (x : HallCursor) (msgs : List Msg) (y : HallCursor) : Type 0 where
   pub messages : map msg_lines msgs ≡ pulled_past x.hall (hall_seen r es)
-  pub cursor : y ≡ record { hall = cursor_past x.hall (hall_seen r es); passed = length es }
+  pub cursor : y ≡ record { hall = cursor_past x.hall (hall_seen r es); passed = length es; until = x.until }
+
+-- A piece of that: all that the first so many entries tell past the cursor. What it had passed is among these.
+pub record HallPiece (r : Root) (es : List HallEntry) (x : HallCursor) (msgs : List Msg) (y : HallCursor) : Type 0 where
+  pub count : ℕ
+  pub within : count ≤ length es
+  pub on : x.passed ≤ length es → x.passed ≤ count
+  pub reads : HallReads r (take count es) x msgs y
+
+-- what is pulled past a cursor after these entries, and the cursor after it: a piece, or nothing at its bound
+abbrev pub HallPulls : Root → List HallEntry → HallCursor → List Msg → HallCursor → Type 0
+HallPulls r es x msgs y = (IsAtBound x.until x.passed × (msgs ≡ []) × (y ≡ x)) ⊎ HallPiece r es x msgs y
+
+-- the cursor with a bound, or without
+abbrev pub hall_bounded : Option ℕ → HallCursor → HallCursor
+hall_bounded until x = record x { until = until }
+
+-- what is pulled with a bound that is set for this alone
+abbrev pub HallPullsUpTo : Root → List HallEntry → HallCursor → List Msg → HallCursor → Type 0
+HallPullsUpTo r es x msgs y = (until : Option ℕ) × (z : HallCursor) × HallPulls r es (hall_bounded until x) msgs z × (y ≡ hall_bounded None z)
 
 -- the cursor of a connection behind so many entries
 abbrev pub hall_cursor : ℕ → ℕ → HallCursor
-hall_cursor conn count = record { hall = record { conn = conn; at = count }; passed = count }
+hall_cursor conn count = record { hall = record { conn = conn; at = count }; passed = count; until = None }
 
 -- by whose number an entry is signed: each is one of a connection's own session
 abbrev pub hall_signer : HallEntry → Option ℕ
@@ -78,9 +97,25 @@ HallShows conn r es ms = ms ≡ view conn (hall_opened r) es
 abbrev pub HallStandsAt : ℕ → Root → List HallEntry → HallCursor → Type 0
 HallStandsAt conn r es x = x ≡ hall_cursor conn (length es)
 
--- What who has passed the entries `before` is given, where `later` came since: what it was sent, with that, is all that it is
--- sent over both, and the cursor stands behind both.
+-- Who has passed the entries `before`, where `later` came since, was sent with what is pulled all that it is sent over those that the
+-- cursor has passed then, and the cursor stands behind them.
+pub record HallGoesOn (conn : ℕ) (r : Root) (before later : List HallEntry) (ms : List (List (List ℕ))) (y : HallCursor) : Type 0 where
+  pub on : length before ≤ y.passed
+  pub within : y.passed ≤ length (before ++ later)
+  pub shows : HallShows conn r (take y.passed (before ++ later)) ms
+  pub stands : HallStandsAt conn r (take y.passed (before ++ later)) y
+
 abbrev pub HallPullsGoOn : Type 0
 HallPullsGoOn = (conn : ℕ) (r : Root) (before later : List HallEntry) (x y : HallCursor) (ms : List (List (List ℕ))) (msgs : List Msg)
-    → HallStandsAt conn r before x → HallShows conn r before ms → HallPulls r (before ++ later) x msgs y
-    → HallShows conn r (before ++ later) (ms ++ map msg_lines msgs) × HallStandsAt conn r (before ++ later) y
+    → HallStandsAt conn r before x → HallShows conn r before ms → HallPullsUpTo r (before ++ later) x msgs y
+    → HallGoesOn conn r before later (ms ++ map msg_lines msgs) y
+
+-- ---- for the code
+
+-- a piece of what the hall told past a cursor, and the cursor after it: so many of `count` entries are left
+pub record ReadsHall (h : Seen) (count : ℕ) (x : HallCursor) (msgs : List Msg) (y : HallCursor) : Type 0 where
+  pub left : ℕ
+  pub within : left ≤ count
+  pub few : left ≤ count - x.passed
+  pub messages : map msg_lines msgs ≡ pulled_past x.hall (before_last left h)
+  pub cursor : y ≡ record { hall = cursor_past x.hall (before_last left h); passed = count - left; until = x.until }

@@ -93,3 +93,10 @@ view_told conn (Some s) = view conn (opened s.opening) s.history
 abbrev pub id_told : Option Story → Option (List ℕ)
 id_told None = None
 id_told (Some s) = Some s.opening.id
+
+-- ---- pulling
+
+-- a cursor that is to pull nothing past a bound has passed it
+abbrev pub IsAtBound : Option ℕ → ℕ → Type 0
+IsAtBound None passed = ⊥
+IsAtBound (Some until) passed = until ≤ passed

@@ -1,9 +1,9 @@
 //! The hall behind its lock.
-ghost use Rattle.std.specs.Prelude.{◌≡◌, ◌<◌, ◌^◌, [], IfOk};
+ghost use Rattle.std.specs.Prelude.{◌≡◌, ◌<◌, ◌^◌, [], IfOk, IfSome, OnErr};
 ghost use Rattle.std.specs.Arc.{arc_value};
-ghost use Rattle.server_places.specs.Halls.{HallStands};
+ghost use Rattle.server_places.specs.Halls.{HallStands, ReadsHall};
 
-use crate::cursor::HallCursor;
+use crate::cursor::{HallCursor, is_at_bound, least_left};
 use crate::site::Root;
 use ps_base::id_map::IdMap;
 use ps_base::msg::Msg;
@@ -11,6 +11,7 @@ use ps_dex::dex::Dex;
 use ps_hall::entry::HallEntry;
 use ps_hall::hall::Hall;
 use ps_hall::outcome::HallOut;
+use ps_hall::piece::HallPiece;
 use ps_histlock::Kept;
 use rules_config::config::Config;
 use std::alloc::{AllocError, Global};
@@ -62,6 +63,25 @@ impl HallPlace {
     }
 }
 
+// A piece of what a connection is sent of the hall past its cursor, which has no bound that it has reached.
+fn read_on(
+    alloc: Global,
+    hall: &Hall,
+    count: u64,
+    cursor: &mut HallCursor,
+) -> Result<Vec<Msg>, AllocError>
+    requires { IfSome cursor.old.until (λ bound. cursor.old.passed < bound) }
+    ensures piece { IfOk result (λ v. ReadsHall hall.now count cursor.old v.items cursor.new) }
+    ensures err { OnErr result (cursor.new ≡ cursor.old) }
+{
+    let least = least_left(count, cursor.until, 0);
+    let most = count.saturating_sub(cursor.passed);
+    let piece = hall.pull_piece(alloc, &mut cursor.hall, least as usize, most as usize)?;
+    let HallPiece { messages, left } = piece;
+    cursor.passed = count - left as u64;
+    Ok(messages)
+}
+
 impl Kept for HallPlace {
     ghost use Rattle.server_places.specs.Halls.{root_in, HallStands, HallAnswers, HallPulls, no_root, hall_signer};
 
@@ -101,8 +121,10 @@ impl Kept for HallPlace {
     }
 
     fn pull(&self, cursor: &mut HallCursor) -> Result<Vec<Msg>, AllocError> {
-        let msgs = self.hall.pull(self.alloc, &mut cursor.hall)?;
-        cursor.passed = self.count;
+        if is_at_bound(cursor.until, cursor.passed) {
+            return Ok(Vec::new(self.alloc));
+        }
+        let msgs = read_on(self.alloc, &self.hall, self.count, cursor)?;
         Ok(msgs)
     }
 }

@@ -1,15 +1,13 @@
 //! The place of a room behind its lock.
-ghost use Rattle.std.specs.Prelude.{◌≡◌, ◌↔◌, ◌<◌, ◌≤◌, ◌+◌, ◌^◌, true, [], Some, None, map, IfOk, OnOk, OnErr};
+ghost use Rattle.std.specs.Prelude.{◌≡◌, ◌↔◌, ◌<◌, ◌≤◌, ◌+◌, ◌^◌, true, [], Some, None, IfSome, IfOk, OnOk, OnErr};
 ghost use Rattle.std.specs.Arc.{arc_value};
-ghost use Rattle.ps_splitlog.specs.Reads.{read_past, cursor_past};
-ghost use Rattle.ps_base.specs.Messages.{msg_lines};
 ghost use Rattle.ps_room.specs.Logs.{record_in, seen_opened, seen_after, out_of};
 ghost use Rattle.ps_room.specs.Openings.{chat_opening, first_battle};
 ghost use Rattle.server_places.specs.Sites.{Opens, chat_at, battle_at};
-ghost use Rattle.server_places.specs.Rooms.{Stands, Begins, room_after, room_out};
+ghost use Rattle.server_places.specs.Rooms.{Stands, Begins, room_after, room_out, ReadsRoom};
 
 use crate::command::RoomCmd;
-use crate::cursor::RoomCursor;
+use crate::cursor::{RoomCursor, is_at_bound, least_left};
 use crate::hall_place::MOST_COMMANDS;
 use crate::site::Site;
 use ps_base::limit::MOST_BATTLES;
@@ -21,6 +19,7 @@ use ps_room::entry::Entry;
 use ps_room::opening::{battle_opening, chat_opening, room_of_battle};
 use ps_room::outcome::RoomOut;
 use ps_room::room::Room;
+use ps_splitlog::piece::Piece;
 use rules_config::config::Config;
 use rules_config::settings::ChatRoom;
 use rules_start::fit::is_fit;
@@ -38,6 +37,8 @@ pub struct RoomPlace {
     dex: Arc<Dex>,
     room: Option<Box<Room>>,
     count: u64,
+    // Once there is a room, all commands from so many on are entries of it. So what is left of its log tells how many commands are.
+    plain: u64,
 }
 
 impl Model for RoomPlace {
@@ -51,7 +52,7 @@ impl Model for RoomPlace {
 
     ghost coded = { Prim.hlevel (codes, by_id_code coded_ℕ, by_id_code coded_unit) };
 
-    ghost view = { λ p. record { site = record { number = p.number; config = arc_value p.config; dex = arc_value p.dex }; room = in_box p.room; count = p.count } };
+    ghost view = { λ p. record { site = record { number = p.number; config = arc_value p.config; dex = arc_value p.dex }; room = in_box p.room; count = p.count; plain = p.plain } };
 }
 
 // Applies an entry to a room.
@@ -92,6 +93,7 @@ impl RoomPlace {
             dex,
             room: Some(room),
             count: 0,
+            plain: 0,
         })
     }
 
@@ -108,6 +110,7 @@ impl RoomPlace {
             dex,
             room: None,
             count: 0,
+            plain: 0,
         }
     }
 
@@ -169,22 +172,42 @@ impl RoomPlace {
     }
 }
 
-// What a connection is sent of a room past its cursor, which then stands behind so many commands of the place.
+// Notes a room's id, which isn't copied again where it is noted already.
+fn note_id(alloc: Global, id: &mut Option<Text>, room: &str) -> Result<(), AllocError>
+    ensures ok { OnOk result (id.new ≡ Some room.now) }
+    ensures err { OnErr result (id.new ≡ id.old) }
+{
+    match id {
+        Some(noted) if noted.as_str() == room => return Ok(()),
+        _ => {}
+    }
+    *id = Some(Text::copy_of(alloc, room)?);
+    Ok(())
+}
+
+// A piece of what a connection is sent of a room past its cursor, which has no bound that it has reached.
 fn read_on(
     alloc: Global,
     room: &Room,
     count: u64,
+    plain: u64,
     cursor: &mut RoomCursor,
 ) -> Result<Vec<Msg>, AllocError>
-    ensures messages { IfOk result (λ v. map msg_lines v.items ≡ read_past cursor.old.room room.now.log) }
-    ensures end { OnOk result (cursor.new ≡ record { room = cursor_past cursor.old.room room.now.log; id = Some room.now.id; passed = count }) }
+    requires { IfSome cursor.old.until (λ bound. cursor.old.passed < bound) }
+    ensures piece { IfOk result (λ v. ReadsRoom room.now count plain cursor.old v.items cursor.new) }
     ensures err { OnErr result (cursor.new ≡ cursor.old) }
 {
-    let id = Text::copy_of(alloc, room.id())?;
-    let msgs = room.pull(alloc, &mut cursor.room)?;
-    cursor.id = Some(id);
-    cursor.passed = count;
-    Ok(msgs)
+    let before = cursor.room;
+    let least = least_left(count, cursor.until, plain);
+    let most = count.saturating_sub(cursor.passed.max(plain));
+    let piece = room.pull_piece(alloc, &mut cursor.room, least as usize, most as usize)?;
+    let Piece { messages, left } = piece;
+    if note_id(alloc, &mut cursor.id, room.id()).is_err() {
+        cursor.room = before;
+        return Err(AllocError);
+    }
+    cursor.passed = count - left as u64;
+    Ok(messages)
 }
 
 impl Kept for RoomPlace {
@@ -227,6 +250,7 @@ impl Kept for RoomPlace {
         let out = match cmd {
             RoomCmd::Begin(start) => {
                 self.begin(start)?;
+                self.plain = self.count + 1;
                 None
             }
             RoomCmd::Play(entry) => self.play(entry)?,
@@ -236,13 +260,16 @@ impl Kept for RoomPlace {
     }
 
     fn pull(&self, cursor: &mut RoomCursor) -> Result<Vec<Msg>, AllocError> {
+        if is_at_bound(cursor.until, cursor.passed) {
+            return Ok(Vec::new(self.alloc));
+        }
         match &self.room {
             None => {
                 cursor.passed = self.count;
                 Ok(Vec::new(self.alloc))
             }
             Some(room) => {
-                let msgs = read_on(self.alloc, room, self.count, cursor)?;
+                let msgs = read_on(self.alloc, room, self.count, self.plain, cursor)?;
                 Ok(msgs)
             }
         }

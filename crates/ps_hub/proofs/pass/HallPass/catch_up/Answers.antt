@@ -6,22 +6,34 @@ use Rattle.server_places.specs.declared.site.Root.{Root}
 use Rattle.server_places.specs.declared.cursor.HallCursor.{HallCursor}
 use Rattle.ps_hub.specs.Passes.{Adds}
 use Rattle.ps_hub.specs.Calls.{LooksAtMost}
-use Rattle.ps_hub.proofs.ToldLemmas.{looks_and_less}
-use Rattle.ps_hub.proofs.CatchLemmas.{hall_caught}
+use Rattle.ps_hub.specs.declared.pass.HallPass.{HallPass}
+use Rattle.ps_hub.proofs.ToldLemmas.{adds_on}
+use Rattle.ps_hub.proofs.CatchLemmas.{hall_caught, hall_less}
 use Rattle.ps_hub.proofs.PassListLemmas.{if_ok_both, on_err_then}
 use Rattle.ps_hub.proofs.pass.HallPass.catch_up.Goals as goal
 
+pub pull_up_to-requires-clause-of : goal.pull_up_to-requires-clause-of
+pull_up_to-requires-clause-of g c = (c.requires.of.0, c.requires.of.1, c.look-shown.ensures.of c.requires.of.0 c.requires.of.1 c.requires.of.2)
+
 pub returns-clause-of : goal.returns-clause-of
-returns-clause-of g c = λ hub conn p. c.hand_out.ensures.of hub conn (c.pull.ensures.of hub conn p)
+returns-clause-of g c = λ hub conn p. c.hand_out.ensures.of hub conn (c.pull_up_to.ensures.of hub conn (c.look-shown.ensures.of hub conn p))
 
 pub returns-clause-adds : goal.returns-clause-adds
-returns-clause-adds g c = subst (λ (q : TableId × View Root HallEntry). Adds c.args.self.now.pass.1 q.1) (sym c.hand_out.ensures.same.0) c.pull.ensures.adds
+returns-clause-adds g c = subst (λ (q : TableId × View Root HallEntry). Adds c.args.self.now.pass.1 q.1) (sym c.hand_out.ensures.same.0) (adds_on c.args.self.now.pass.1 c.look-shown.new.self.pass.1 c.pull_up_to.new.self.pass.1 c.look-shown.ensures.adds c.pull_up_to.ensures.adds)
 
 pub returns-clause-ok : goal.returns-clause-ok
 returns-clause-ok g c = if_ok_both _ _ _ c.hand_out.result c.hand_out.ensures.ok c.hand_out.ensures.at (λ msgs given end hub conn p.
-    hall_caught hub conn c.args.self.now c.pull.new.self c.hand_out.new.self msgs.items p (c.pull.ensures.of hub conn p) c.in_ok-pull.ensures.ok.0 c.in_ok-pull.ensures.ok.1 c.in_ok-pull.ensures.same given c.hand_out.ensures.same.0
+    hall_caught hub conn c.args.self.now c.look-shown.new.self c.pull_up_to.new.self c.hand_out.new.self c.look-shown.result msgs.items p
+    (c.pull_up_to.ensures.of hub conn (c.look-shown.ensures.of hub conn p)) c.look-shown.ensures.does c.look-shown.ensures.seen c.look-shown.ensures.fresh
+    c.pull_up_to.ensures.read c.pull_up_to.ensures.idle c.in_ok-pull_up_to.ensures.ok c.in_ok-pull_up_to.ensures.same given c.hand_out.ensures.same.0
     (end ∙ ap (λ (x : HallCursor). x.passed) c.hand_out.ensures.same.1))
 
 pub returns-clause-err : goal.returns-clause-err
-returns-clause-err g c = on_err_then _ _ c.hand_out.result c.hand_out.ensures.err (λ e.
-    (subst (λ (s : TableId × View Root HallEntry). LooksAtMost c.args.self.now.pass.1 s.1) (sym c.hand_out.ensures.same.0) (looks_and_less c.args.self.now.pass.1 c.pull.new.self.pass.1 c.args.self.now.cursor.passed c.in_ok-pull.ensures.ok.0), e.1 ∙ c.in_ok-pull.ensures.same))
+returns-clause-err g c = on_err_then _ _ c.hand_out.result c.hand_out.ensures.err (λ e. (
+  subst (λ (s : TableId × View Root HallEntry). LooksAtMost c.args.self.now.pass.1 s.1) (sym c.hand_out.ensures.same.0)
+      (hall_less c.args.self.now c.look-shown.new.self c.pull_up_to.new.self c.look-shown.result c.look-shown.ensures.does c.look-shown.ensures.seen c.look-shown.ensures.fresh c.pull_up_to.ensures.read),
+  e.1 ∙ c.in_ok-pull_up_to.ensures.same ∙ ap (λ (q : HallPass). q.at) c.look-shown.ensures.does,
+))
+
+pub returns-in_err-pull_up_to-clause-of : goal.returns-in_err-pull_up_to-clause-of
+returns-in_err-pull_up_to-clause-of g c = λ hub conn p. c.pull_up_to.ensures.of hub conn (c.look-shown.ensures.of hub conn p)

@@ -1,6 +1,5 @@
 use Rattle.std.proofs.Common.{◌≡◌, ℕ, List, [], ◌∷◌, ◌++◌, length, Option, IfNone, IfSome, subst}
 use Rattle.ps_outside.specs.Links.{Talk, LinkCounts}
-use Rattle.ps_serve.specs.declared.closed.End.{End}
 use Rattle.ps_serve.specs.Acts.{Act}
 use Rattle.ps_serve.specs.Sendings.{Sending}
 use Rattle.ps_serve.specs.Sittings.{Sits}

@@ -10,4 +10,4 @@ invariant-loop-place g l =
     × (l.self.passes.badge ≡ l.fn.self.passes.badge)
     × (length l.self.passes.rooms.items ≡ length l.initial.self.passes.rooms.items)
     × (g.L.Link.counts l.link ≡ g.L.Link.counts l.fn.link)
-    × HaveTold l.hub l.fn.self.session l.place l.fn.self.passes l.self.passes (g.L.Link.talk l.fn.link) (g.L.Link.talk l.link)
+    × HaveTold l.hub l.fn.self.session l.shown l.place l.fn.self.passes l.self.passes (g.L.Link.talk l.fn.link) (g.L.Link.talk l.link)
