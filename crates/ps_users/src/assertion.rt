@@ -1,5 +1,6 @@
 //! What a log-in signs, and how.
-ghost use Rattle.std.specs.Prelude.{◌≡◌, ◌++◌, ◌∷◌, IfOk};
+ghost use Rattle.std.specs.Prelude.{◌≡◌, ◌↔◌, ◌++◌, ◌∷◌, IfOk, length};
+ghost use Rattle.std.specs.Str.{bytes_eq};
 ghost use Rattle.std.specs.Option.{option_copied};
 ghost use Rattle.sha2.specs.Sha256.{sha256};
 ghost use Rattle.ps_users.specs.Assertions.{challstr_of, signed, assertion_of, wanted_by};
@@ -36,6 +37,26 @@ pub fn assertion_of(alloc: Global, challenge: &str, secret: &str) -> Result<Text
     let digest = digest_of(challenge, secret);
     let text = hex::encode(alloc, digest)?;
     Ok(Text::from_string(text))
+}
+
+// The bits in which two texts of one length differ anywhere.
+fn differing(one: &[u8], other: &[u8]) -> u8
+    requires { length one.now ≡ length other.now }
+    ensures { (result ≡ 0) ↔ (one.now ≡ other.now) }
+{
+    let mut bits = 0;
+    for (a, b) in one.iter().zip(other) {
+        bits |= a ^ b;
+    }
+    bits
+}
+
+/// Whether an assertion is the one that is wanted. All bytes of one of the right length are read, wherever they differ, so
+/// that the time of an answer doesn't tell how far a guess is right.
+pub(crate) fn is_same(assertion: &str, wanted: &str) -> bool
+    ensures { result ≡ bytes_eq assertion.now wanted.now }
+{
+    assertion.len() == wanted.len() && differing(assertion.as_bytes(), wanted.as_bytes()) == 0
 }
 
 /// The assertion that a name takes on a connection: the empty one, where it isn't registered.

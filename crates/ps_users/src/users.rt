@@ -12,7 +12,7 @@ ghost use Rattle.ps_lines.specs.declared.command.HallCmd.TheVariants.{Open, Quit
 ghost use Rattle.ps_users.specs.Steps.{badge_for, with_name, after, granted};
 
 use crate::account::Account;
-use crate::assertion::{challstr_of, wanted_by};
+use crate::assertion::{challstr_of, is_same, wanted_by};
 use crate::rank::{capped, registered_rank};
 use crate::read::read_of;
 use crate::seating::Seating;
@@ -145,7 +145,7 @@ impl Users {
         ensures { IfOk result (λ o. o ≡ refusal_of_id self.now conn id.now assertion.now) }
     {
         let wanted = self.wanted(alloc, conn, id)?;
-        if assertion == wanted.as_str() {
+        if is_same(assertion, wanted.as_str()) {
             if self.is_taken(id) {
                 Ok(Some(HallWhy::NameTaken))
             } else {
