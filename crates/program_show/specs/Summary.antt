@@ -99,4 +99,6 @@ without_secrets s = record {
   nonce = s.nonce;
   seed = s.seed;
   seeds = s.seeds;
+  gives_nonce = s.gives_nonce;
+  gives_seed = s.gives_seed;
 }

@@ -1,5 +1,5 @@
 -- The names and ids that a drill takes from the data files are short and plain.
-use Rattle.std.proofs.Common.{◌≡◌, ℕ, zero, suc, ◌+◌, ◌*◌, ◌≤◌, true, not, ◌&&◌, leb, List, [], ◌∷◌, length, map, Result, Ok, subst, arith, codes, ◌==◌, ◌-◌}
+use Rattle.std.proofs.Common.{◌≡◌, ℕ, zero, suc, ◌+◌, ◌*◌, ◌≤◌, true, not, ◌&&◌, leb, List, [], ◌∷◌, length, map, Result, Ok, inl, inr, subst, arith, codes, ◌==◌, ◌-◌}
 use Rattle.std.specs.Prelude.{All}
 use Rattle.std.specs.List.{list_all}
 use Rattle.std.specs.Str.{chars, chars_after, continuation_len, lead_bits}
@@ -37,6 +37,7 @@ use Rattle.ps_rules.specs.Reading as reading
 use Rattle.rules_config.specs.declared.settings.Settings.{Settings}
 use Rattle.rules_config.specs.Rooms.{rooms_at}
 use Rattle.rules_config.specs.Users.{staff_at, users_in}
+use Rattle.rules_config.specs.Fresh.{IsSaidOrFresh}
 use Rattle.rules_config.specs.Reading.{greatest_seed, nonce_in, seeds_in, default_groups_of, config_in, config_of, HasFile}
 use Rattle.replay_drill.specs.Plain.{IsPlain, HasPlainNames, HasPlainFormats}
 
@@ -221,5 +222,10 @@ file_holds : (dex : Tables) (bytes : List ℕ) → Holds HasPlainFormats (config
 unfolding config_of
 file_holds dex bytes = then HasPlainFormats (json_in bytes) (config_in dex) (config_holds dex)
 
+-- formats are never fresh
+kept_plain : (said config : Settings) → IsSaidOrFresh said config → HasPlainFormats said → HasPlainFormats config
+kept_plain said config (inl same) plain = rw same plain
+kept_plain said config (inr (fresh, is)) plain = rw is plain
+
 pub plain_formats : (config : Settings) → HasFile config → HasPlainFormats config
-plain_formats config file = given HasPlainFormats (config_of file.1 file.0) config file.2 (file_holds file.1 file.0)
+plain_formats config file = kept_plain file.said config file.kept (given HasPlainFormats (config_of file.dex file.bytes) file.said file.says (file_holds file.dex file.bytes))

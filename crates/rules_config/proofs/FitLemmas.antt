@@ -1,5 +1,5 @@
 -- What is in range in each configuration that a file has.
-use Rattle.std.proofs.Common.{◌≡◌, ℕ, ◌+◌, ◌<◌, ◌≤◌, Bool, true, false, cond, ◌&&◌, leb, List, [], ◌∷◌, ◌++◌, length, Option, Some, None, Result, Ok, Err, refl, arith, codes}
+use Rattle.std.proofs.Common.{◌≡◌, ℕ, ◌+◌, ◌<◌, ◌≤◌, Bool, true, false, cond, ◌&&◌, leb, List, [], ◌∷◌, ◌++◌, length, Option, Some, None, Result, Ok, Err, inl, inr, refl, arith, codes}
 use Rattle.std.specs.Prelude.{All, IfSome, nat_eq}
 use Rattle.std.specs.Str.{chars}
 use Rattle.std.proofs.lemmas.Bool.{leb-true}
@@ -27,6 +27,8 @@ use Rattle.rules_config.specs.declared.settings.Settings.{Settings}
 use Rattle.rules_config.specs.Rooms.{lobby, room_in, rooms_at}
 use Rattle.rules_config.specs.Users.{rank_named, named_rank_in, default_staff_in, staff_or, staff_at, user_in, users_in}
 use Rattle.rules_config.specs.Reading.{greatest_seed, nonce_in, seeds_in, default_groups_of, config_in, config_of, HasFile}
+use Rattle.rules_config.specs.Fresh.{with_fresh, IsSaidOrFresh}
+use Rattle.rules_config.specs.declared.fresh.Fresh.{Fresh}
 use Rattle.rules_config.specs.Ranges.{AreFit}
 
 -- ---- lists of a length between two
@@ -124,5 +126,13 @@ let_through : (r : Result Settings Fault) (s : Settings) → r ≡ Ok s → Hold
 let_through (Ok t) s is h = let e : t ≡ s = cc in rw (← e) h
 let_through (Err fault) s is h = absurd cc
 
+-- no range is of the nonce or the seed
+with_fresh_fit : (fresh : Fresh) (said : Settings) → AreFit said → AreFit (with_fresh fresh said)
+with_fresh_fit fresh said fit = record { staff = fit.staff; some_rooms = fit.some_rooms; few_rooms = fit.few_rooms; users = fit.users }
+
+kept_fit : (said s : Settings) → IsSaidOrFresh said s → AreFit said → AreFit s
+kept_fit said s (inl same) fit = rw same fit
+kept_fit said s (inr (fresh, is)) fit = rw is (with_fresh_fit fresh said fit)
+
 pub file_fit : (s : Settings) → HasFile s → AreFit s
-file_fit s file = let_through (config_of file.1 file.0) s file.2 (bytes_fit file.1 file.0)
+file_fit s file = kept_fit file.said s file.kept (let_through (config_of file.dex file.bytes) file.said file.says (bytes_fit file.dex file.bytes))

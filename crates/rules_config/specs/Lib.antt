@@ -1,5 +1,6 @@
 pub mod Rooms
 pub mod Users
+pub mod Fresh
 pub mod Reading
 pub mod Ranges
 pub mod Standard

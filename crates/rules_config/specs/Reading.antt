@@ -1,7 +1,8 @@
 -- What a configuration says.
-use Rattle.std.specs.Prelude.{◌≡◌, ℕ, ◌&&◌, ◌||◌, Bool, List, [], length, codes, Result, Ok, nat_le}
+use Rattle.std.specs.Prelude.{◌≡◌, ℕ, ◌&&◌, ◌||◌, Bool, List, [], length, codes, is_some, Result, Ok, nat_le}
 use Rattle.std.specs.List.{list_all}
 use Rattle.serde_json.specs.Data.{Data}
+use Rattle.serde_json.specs.Find.{get}
 use Rattle.ps_data.specs.declared.fault.DataKind.TheVariants.{Range}
 use Rattle.ps_data.specs.declared.fault.Fault.{Fault}
 use Rattle.ps_data.specs.Reading.{◌>>=◌, ensure, optional}
@@ -18,6 +19,7 @@ use Rattle.ps_rules.specs.Reading.{said_in}
 use Rattle.rules_config.specs.declared.settings.Settings.{Settings}
 use Rattle.rules_config.specs.Rooms.{rooms_at}
 use Rattle.rules_config.specs.Users.{staff_at, users_in}
+use Rattle.rules_config.specs.Fresh.{IsSaidOrFresh}
 
 -- ---- nonce
 
@@ -70,12 +72,27 @@ config_in dex d = do
   nonce ← optional (codes "nonce") (codes "0") nonce_in d
   seed ← optional (codes "seed") 0 (number_in 0 greatest_seed) d
   seeds ← optional (codes "seeds") [] seeds_in d
-  Ok (record { groups = groups; staff = staff; rooms = rooms; users = users; formats = formats; nonce = nonce; seed = seed; seeds = seeds })
+  Ok (record {
+    groups = groups;
+    staff = staff;
+    rooms = rooms;
+    users = users;
+    formats = formats;
+    nonce = nonce;
+    seed = seed;
+    seeds = seeds;
+    gives_nonce = is_some (get (codes "nonce") d);
+    gives_seed = is_some (get (codes "seed") d);
+  })
 
 -- the bytes of a configuration over a dex
 unfoldable pub config_of : Tables → List ℕ → Result Settings Fault
 config_of dex bytes = json_in bytes >>= config_in dex
 
--- some file says this over some dex
-abbrev pub HasFile : Settings → Type 0
-HasFile settings = (bytes : List ℕ) × (dex : Tables) × (config_of dex bytes ≡ Ok settings)
+-- some file says this over some dex, but for a nonce and a seed that are fresh, if it says none
+pub record HasFile (settings : Settings) : Type 0 where
+  pub bytes : List ℕ
+  pub dex : Tables
+  pub said : Settings
+  pub says : config_of dex bytes ≡ Ok said
+  pub kept : IsSaidOrFresh said settings

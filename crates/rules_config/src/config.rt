@@ -3,8 +3,10 @@ ghost use Rattle.std.specs.Prelude.{◌≡◌, ◌<◌, ◌≤◌, All, length, 
 ghost use Rattle.ps_data.specs.FileFaults.{GivesFile};
 ghost use Rattle.rules_config.specs.Reading.{config_of};
 ghost use Rattle.rules_config.specs.Standard.{standard};
+ghost use Rattle.rules_config.specs.Fresh.{with_fresh};
 
 use crate::fault::ConfigFault;
+use crate::fresh::{Fresh, with_fresh};
 use crate::read::read_settings;
 use crate::room::lobby_alone;
 use crate::settings::{ChatRoom, Registered, Settings};
@@ -20,7 +22,8 @@ use std::alloc::{AllocError, Global};
 use std::marker::Model;
 
 /// What a server is set up with: groups, chat rooms, registered names, formats and seeds, as some
-/// configuration file says them over some dex. Contracts see what the file says.
+/// configuration file says them over some dex, but for a nonce and a seed that are fresh (`with_fresh`). Contracts see what the
+/// file says, and whether it says these two.
 #[derive(Debug)]
 pub struct Config {
     settings: Settings,
@@ -56,6 +59,8 @@ fn standard_settings(alloc: Global) -> Result<Settings, AllocError>
         nonce: Text::copy_of(alloc, "0")?,
         seed: 0,
         seeds: List::from_vec(Vec::new(alloc)),
+        gives_nonce: false,
+        gives_seed: false,
     })
 }
 
@@ -81,6 +86,16 @@ impl Config {
         ensures { IfOk result (λ c. c ≡ standard) }
     {
         let settings = standard_settings(alloc)?;
+        Ok(Config { settings })
+    }
+
+    /// The same configuration, with the fresh nonce and seed in the place of those that its file doesn't say: where it has no key
+    /// `nonce`, or no key `seed`, or where no file was named.
+    pub fn with_fresh(self, alloc: Global, fresh: &Fresh) -> Result<Config, AllocError>
+        ensures { IfOk result (λ c. c ≡ with_fresh fresh.now self) }
+    {
+        let Config { settings } = self;
+        let settings = with_fresh(alloc, settings, fresh)?;
         Ok(Config { settings })
     }
 

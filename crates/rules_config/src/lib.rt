@@ -3,6 +3,7 @@
 
 pub mod config;
 pub mod fault;
+pub mod fresh;
 mod read;
 mod room;
 pub mod seed;

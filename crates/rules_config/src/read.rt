@@ -122,6 +122,8 @@ fn settings(alloc: Global, dex: &Dex, value: &Value) -> Result<Settings, Refusal
     let nonce = nonce_at(alloc, value)?;
     let seed = seed_at(alloc, value)?;
     let seeds = seeds_at(alloc, value)?;
+    let gives_nonce = value.get("nonce").is_some();
+    let gives_seed = value.get("seed").is_some();
     Ok(Settings {
         groups,
         staff,
@@ -131,6 +133,8 @@ fn settings(alloc: Global, dex: &Dex, value: &Value) -> Result<Settings, Refusal
         nonce,
         seed,
         seeds,
+        gives_nonce,
+        gives_seed,
     })
 }
 

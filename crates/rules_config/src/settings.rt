@@ -64,4 +64,8 @@ pub struct Settings {
     pub seed: u64,
     /// The seeds of the first battles, in order.
     pub seeds: List<u64>,
+    /// Whether the file has the key `nonce`.
+    pub gives_nonce: bool,
+    /// Whether the file has the key `seed`.
+    pub gives_seed: bool,
 }

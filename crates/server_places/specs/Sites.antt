@@ -1,5 +1,5 @@
 -- The places of a server, and what the commands of a place tell.
-use Rattle.std.specs.Prelude.{◌≡◌, ◌⊎◌, ◌≤◌, ℕ, ◌+◌, List, [], ◌∷◌, ◌++◌, slice_get, nat_lt, Option, Some, None, if◌then◌else◌}
+use Rattle.std.specs.Prelude.{◌≡◌, ◌⊎◌, ◌≤◌, ℕ, ◌+◌, List, [], ◌∷◌, ◌++◌, slice_get, nat_lt, false, Option, Some, None, if◌then◌else◌}
 use Rattle.std.specs.Option.{option_map}
 use Rattle.std.specs.List.{filter_map}
 use Rattle.ps_dex.specs.declared.item.Tables.{Tables}
@@ -40,7 +40,18 @@ room_signer (Play e) = Some e.conn
 
 -- a configuration, a dex and a place without anything
 abbrev pub no_settings : Settings
-no_settings = record { groups = []; staff = 0; rooms = []; users = []; formats = record { version = First; rulesets = []; formats = [] }; nonce = []; seed = 0; seeds = [] }
+no_settings = record {
+  groups = [];
+  staff = 0;
+  rooms = [];
+  users = [];
+  formats = record { version = First; rulesets = []; formats = [] };
+  nonce = [];
+  seed = 0;
+  seeds = [];
+  gives_nonce = false;
+  gives_seed = false;
+}
 
 abbrev pub no_tables : Tables
 no_tables = record { types = []; factors = []; moves = []; species = []; aliases = [] }
