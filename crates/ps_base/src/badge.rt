@@ -5,10 +5,17 @@ use crate::name::Name;
 use std::alloc::{AllocError, Global};
 
 /// Who sends: a name, and its group's index in the list of groups, 0 the highest.
-#[derive(Debug, Drop)]
+#[derive(Debug)]
 pub struct Badge {
     pub name: Name,
     pub rank: u8,
+}
+
+// By hand, so that who drops one has one call to prove.
+impl Drop for Badge {
+    fn drop(self) {
+        let Badge { name: _, rank: _ } = self;
+    }
 }
 
 impl Badge {

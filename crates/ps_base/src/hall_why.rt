@@ -8,7 +8,7 @@ use crate::text::Text;
 use std::alloc::{AllocError, Global};
 
 /// Why the hall refuses an entry. The last six are also why a text is no command of its connection.
-#[derive(Debug, Drop)]
+#[derive(Debug)]
 pub enum HallWhy {
     /// A Name of who has one.
     AlreadyNamed,
@@ -74,6 +74,46 @@ pub enum HallWhy {
     RoomLimit,
     /// A text to a room that isn't there.
     NoSuchRoom,
+}
+
+// By hand, so that who drops one has one call to prove.
+impl Drop for HallWhy {
+    fn drop(self) {
+        match self {
+            HallWhy::AlreadyNamed => {}
+            HallWhy::BadName => {}
+            HallWhy::BadAssertion => {}
+            HallWhy::NameTaken => {}
+            HallWhy::BadPack { at: _, kind: _ } => {}
+            HallWhy::UnknownFormat => {}
+            HallWhy::NotRated => {}
+            HallWhy::NoTeam => {}
+            HallWhy::BadTeam {
+                set: _,
+                rule: _,
+                subject: _,
+            } => {}
+            HallWhy::AlreadySearching => {}
+            HallWhy::BattlesFull => {}
+            HallWhy::NotSearching => {}
+            HallWhy::NoSuchUser => {}
+            HallWhy::SelfTarget => {}
+            HallWhy::Blocked => {}
+            HallWhy::AlreadyChallenged => {}
+            HallWhy::NoChallenge => {}
+            HallWhy::EmptyText => {}
+            HallWhy::TooLong => {}
+            HallWhy::AlreadyBlocked => {}
+            HallWhy::NotBlocked => {}
+            HallWhy::NoBattle => {}
+            HallWhy::NoBar => {}
+            HallWhy::UnknownCommand => {}
+            HallWhy::BadArgs => {}
+            HallWhy::NotNamed => {}
+            HallWhy::RoomLimit => {}
+            HallWhy::NoSuchRoom => {}
+        }
+    }
 }
 
 impl HallWhy {

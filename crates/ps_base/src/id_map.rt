@@ -9,9 +9,15 @@ use std::marker::Model;
 use std::mem;
 
 /// Values by id. Contracts see the finite map from the ids' bytes.
-#[derive(Drop)]
 pub struct IdMap<V> {
     tree: BTreeMap<String, V>,
+}
+
+// By hand, so that who drops one has one call to prove.
+impl<V: Drop> Drop for IdMap<V> {
+    fn drop(self) {
+        let IdMap { tree: _ } = self;
+    }
 }
 
 impl<V> Model for IdMap<V> {

@@ -5,9 +5,16 @@ use std::marker::Model;
 
 /// A list that owns its items. Contracts see it as the plain list, so a definition can compute one,
 /// as it can't a `Vec`.
-#[derive(Debug, Drop)]
+#[derive(Debug)]
 pub struct List<T> {
     inner: Vec<T>,
+}
+
+// By hand, so that who drops one has one call to prove.
+impl<T: Drop> Drop for List<T> {
+    fn drop(self) {
+        let List { inner: _ } = self;
+    }
 }
 
 impl<T> Model for List<T> {

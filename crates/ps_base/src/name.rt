@@ -15,10 +15,17 @@ use std::marker::Model;
 use thiserror::Error;
 
 /// A user's name, with its id kept beside it. Contracts see the bytes of the name.
-#[derive(Debug, Drop)]
+#[derive(Debug)]
 pub struct Name {
     text: Text,
     id: Id,
+}
+
+// By hand, so that who drops one has one call to prove.
+impl Drop for Name {
+    fn drop(self) {
+        let Name { text: _, id: _ } = self;
+    }
 }
 
 impl Model for Name {
@@ -61,7 +68,10 @@ impl Name {
     pub fn copy(&self, alloc: Global) -> Result<Name, AllocError>
         ensures { IfOk result (λ n. n ≡ self.now) }
     {
-        Name::new(alloc, self.text.as_str())
+        Ok(Name {
+            id: self.id.copy(alloc)?,
+            text: self.text.copy(alloc)?,
+        })
     }
 }
 

@@ -6,20 +6,47 @@ use crate::list::List;
 use std::alloc::{AllocError, Global};
 use std::fmt;
 use std::marker::Model;
+use std::sync::ArcStr;
 
-/// A text that owns its bytes, which are UTF-8. Contracts see it as the list of its bytes, so a
+/// A text, whose bytes are UTF-8: its own, or shared with its copies. Contracts see it as the list of its bytes, so a
 /// definition can compute one, as it can't a `String`.
-#[derive(Debug, Drop)]
+#[derive(Debug)]
 pub struct Text {
-    inner: String,
+    inner: Bytes,
+}
+
+// Whose the bytes of a text are.
+#[derive(Debug)]
+enum Bytes {
+    // This text's alone.
+    Own(String),
+    // Those of all copies that were made since they are shared.
+    Shared { text: ArcStr, alloc: Global },
+}
+
+// By hand, so that who drops a text has one call to prove.
+impl Drop for Text {
+    fn drop(self) {
+        let Text { inner: _ } = self;
+    }
+}
+
+impl Drop for Bytes {
+    fn drop(self) {
+        match self {
+            Bytes::Own(_) => {}
+            Bytes::Shared { text: _, alloc: _ } => {}
+        }
+    }
 }
 
 impl Model for Text {
-    ghost use Rattle.std.specs.Prelude.{ℕ, List, string_bytes};
+    ghost use Rattle.std.specs.Prelude.{ℕ, List};
+    ghost use Rattle.ps_base.specs.Texts.{bytes_of};
 
     ghost Value = { List ℕ };
 
-    ghost view = { λ t. string_bytes t.inner };
+    ghost view = { λ t. bytes_of t.inner };
 }
 
 impl Text {
@@ -28,7 +55,7 @@ impl Text {
         ensures { result ≡ [] }
     {
         Text {
-            inner: String::new(alloc),
+            inner: Bytes::Own(String::new(alloc)),
         }
     }
 
@@ -36,7 +63,9 @@ impl Text {
     pub fn from_string(inner: String) -> Text
         ensures { result ≡ string_bytes inner }
     {
-        Text { inner }
+        Text {
+            inner: Bytes::Own(inner),
+        }
     }
 
     /// A text with a copy of these bytes.
@@ -44,7 +73,7 @@ impl Text {
         ensures { IfOk result (λ t. t ≡ text.now) }
     {
         Ok(Text {
-            inner: String::from_str(alloc, text)?,
+            inner: Bytes::Own(String::from_str(alloc, text)?),
         })
     }
 
@@ -53,14 +82,30 @@ impl Text {
         ensures value { result.now ≡ self.now }
         ensures utf8 { IsUtf8 self.now }
     {
-        self.inner.as_str()
+        match &self.inner {
+            Bytes::Own(text) => text.as_str(),
+            Bytes::Shared { text, alloc: _ } => text.as_str(),
+        }
     }
 
     /// The number of bytes.
     pub fn len(&self) -> usize
         ensures { result ≡ length self.now }
     {
-        self.inner.len()
+        self.as_str().len()
+    }
+
+    /// Shares its bytes with the copies that are made from now on, which then take no memory. Where memory fails they stay its own.
+    pub fn share(&mut self, alloc: Global)
+        ensures { self.new ≡ self.old }
+    {
+        match &self.inner {
+            Bytes::Shared { .. } => {}
+            Bytes::Own(text) => match ArcStr::from_str(alloc, text.as_str()) {
+                Ok(text) => self.inner = Bytes::Shared { text, alloc },
+                Err(_) => {}
+            },
+        }
     }
 
     /// Puts a text behind this one. Where memory fails nothing changes.
@@ -68,14 +113,33 @@ impl Text {
         ensures ok { OnOk result (self.new ≡ self.old ++ text.now) }
         ensures err { OnErr result (self.new ≡ self.old) }
     {
-        self.inner.push_str(text)
+        match &mut self.inner {
+            Bytes::Own(own) => own.push_str(text),
+            Bytes::Shared {
+                text: shared,
+                alloc,
+            } => {
+                let mut own = String::from_str(*alloc, shared.as_str())?;
+                own.push_str(text)?;
+                self.inner = Bytes::Own(own);
+                Ok(())
+            }
+        }
     }
 
-    /// A text with the same bytes.
+    /// A text with the same bytes. Takes no memory where they are shared.
     pub fn copy(&self, alloc: Global) -> Result<Text, AllocError>
         ensures { IfOk result (λ t. t ≡ self.now) }
     {
-        Text::copy_of(alloc, self.as_str())
+        match &self.inner {
+            Bytes::Own(text) => Text::copy_of(alloc, text.as_str()),
+            Bytes::Shared { text, alloc } => Ok(Text {
+                inner: Bytes::Shared {
+                    text: text.clone()?,
+                    alloc: *alloc,
+                },
+            }),
+        }
     }
 }
 
