@@ -2,6 +2,7 @@
 #![tactic(auto)]
 
 mod door;
+mod random;
 mod server;
 
 use crate::server::{always_status, serve_status};
@@ -32,7 +33,8 @@ Usage:
       not said, at most 16384; further ones wait. A client that was silent for S
       seconds, 30 if not said, is pinged, and parted from after twice that. Of each
       client N messages a second are read, 5 if not said, after four times as many
-      at once; 0 is no bound. With --stop-at-end the end of standard input ends it
+      at once; 0 is no bound. With --stop-at-end the end of standard input ends it.
+      A nonce or a seed that the configuration doesn't say is drawn at each start
   psd replay [--dex NAME] [--config NAME]
       reads a recorded script of connections from standard input, and writes what
       each connection is sent to standard output

@@ -1,12 +1,14 @@
 //! Servers over the sockets of the host.
 
 use crate::door::PrintingDoor;
+use crate::random::fresh;
 use program_commands::status::Status;
 use ps_outside::host_clock::HostClock;
 use ps_outside::host_files::HostFiles;
 use ps_outside::spawner::{ThreadSpawner, start};
 use ps_ws::door::Stopper;
 use ps_ws::settings::Settings;
+use rules_config::fresh::Fresh;
 use server_accept::always::serve_always;
 use server_accept::always_words::read_always_words;
 use server_accept::serve::serve;
@@ -72,7 +74,13 @@ where
 }
 
 // Serves as the words say.
-fn always_through<R>(host: R, alloc: Global, words: &[String], door: &mut PrintingDoor<R>) -> Status
+fn always_through<R>(
+    host: R,
+    alloc: Global,
+    words: &[String],
+    fresh: &Fresh,
+    door: &mut PrintingDoor<R>,
+) -> Status
 where
     R: Threads + Wait + rt::Files + rt::Clock + Eprint + Copy + Send + Drop + 'static,
     R: Net<Listener = TcpListener, Stream = TcpStream>,
@@ -84,6 +92,7 @@ where
         host,
         alloc,
         words,
+        fresh,
         &mut files,
         door,
         &mut clock,
@@ -91,7 +100,8 @@ where
     )
 }
 
-/// Serves for as long as its door lets it, and, where the words want that, until the input is at its end.
+/// Serves for as long as its door lets it, and, where the words want that, until the input is at its end. A nonce and a seed that the
+/// configuration doesn't say are drawn from the host's source first, which is asked in any case: without it nothing is served.
 pub(crate) fn always_status<R, I>(host: R, alloc: Global, words: &[String], input: I) -> Status
 where
     R: Threads + Wait + rt::Files + rt::Clock + Eprint + Copy + Send + Drop + 'static,
@@ -101,6 +111,10 @@ where
     let asked = match read_always_words(words) {
         Err(word) => return Status::Usage { word },
         Ok(asked) => asked,
+    };
+    let fresh = match fresh(&host, alloc) {
+        Err(status) => return status,
+        Ok(fresh) => fresh,
     };
     let settings = Settings {
         ping: Some(asked.ping),
@@ -112,5 +126,5 @@ where
     if asked.stops_at_end && !watch(host, input, &door) {
         return Status::NoMemory;
     }
-    always_through(host, alloc, words, &mut door)
+    always_through(host, alloc, words, &fresh, &mut door)
 }

@@ -6,6 +6,9 @@ use Rattle.ps_outside.specs.Files.{FileCounts}
 use Rattle.program_commands.specs.declared.status.Status.{Status}
 use Rattle.program_commands.specs.declared.status.Status.TheVariants.{Done, Usage, FileMissing, FileFault, FileLong, BadDex, BadConfig, BadScript, ScriptLong, ReadFault, WriteFault, BadTeam, NoMemory, DoorFault, UnknownFormat, BadPack, NoTour, KeepFault, KeepFull, BadExport, NoExport}
 use Rattle.program_commands.specs.Words.{Options, Serves}
+use Rattle.rules_config.specs.declared.fresh.Fresh.{Fresh}
+use Rattle.rules_config.specs.Fresh.{with_fresh}
+use Rattle.ps_hub.specs.Hubs.{Hub}
 use Rattle.program_commands.specs.Setups.{HasSetup, IsGood, Stops, IsOption, AreGood, IsSettled}
 
 -- what holds where the words ask for a server
@@ -57,6 +60,41 @@ KeepsDoor faults later given now other = Unit {0}
 -- good files, with no fault of the files or the door, settle a server
 abbrev pub SettlesServe : Option (List ℕ → Option (List ℕ)) → Options → Type 0 → Type 0 → Status → Type 0
 SettlesServe contents o file_fault door_fault status = AreGood contents o → (file_fault → ⊥) → (door_fault → ⊥) → IsSettled status
+
+-- ---- a server that stays up
+
+-- The hub of a server that stays up: of the configuration and the dex that the words and the files give, with a fresh nonce and seed
+-- where the configuration's file says none.
+abbrev pub IsFreshHub : Option (List ℕ → Option (List ℕ)) → Options → Fresh → Hub → Type 0
+IsFreshHub contents o fresh hub = HasSetup contents o (λ config dex. (hub.config ≡ with_fresh fresh config) × (hub.dex ≡ dex))
+
+-- a status that the files have shown, or want of memory
+abbrev pub IsOfFiles : Status → Type 0
+IsOfFiles (FileMissing name) = Unit {0}
+IsOfFiles (FileFault name) = Unit {0}
+IsOfFiles (FileLong name) = Unit {0}
+IsOfFiles (BadDex path kind) = Unit {0}
+IsOfFiles (BadConfig path kind) = Unit {0}
+IsOfFiles NoMemory = Unit {0}
+IsOfFiles Done = ⊥
+IsOfFiles (Usage word) = ⊥
+IsOfFiles DoorFault = ⊥
+IsOfFiles (BadScript line kind) = ⊥
+IsOfFiles (ScriptLong count) = ⊥
+IsOfFiles ReadFault = ⊥
+IsOfFiles WriteFault = ⊥
+IsOfFiles (BadTeam set rule subject) = ⊥
+IsOfFiles (UnknownFormat id) = ⊥
+IsOfFiles (BadPack at kind) = ⊥
+IsOfFiles NoTour = ⊥
+IsOfFiles KeepFault = ⊥
+IsOfFiles (KeepFull count) = ⊥
+IsOfFiles (BadExport line) = ⊥
+IsOfFiles (NoExport set) = ⊥
+
+-- where good files, with no fault of the files, end so, memory was refused
+abbrev pub SettlesFiles : Option (List ℕ → Option (List ℕ)) → Options → Type 0 → Status → Type 0
+SettlesFiles contents o file_fault status = AreGood contents o → (file_fault → ⊥) → IsSettled status
 
 -- ---- for the code alone
 

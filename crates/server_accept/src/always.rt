@@ -1,13 +1,14 @@
 //! A server that stays up: it lets in connections as others end.
-ghost use Rattle.std.specs.Prelude.{◌≡◌, ◌+◌, ◌<◌, ◌^◌, true, None, IfOk, IfSome, IsNone, OnErr, map, string_bytes};
+ghost use Rattle.std.specs.Prelude.{◌≡◌, ◌+◌, ◌<◌, ◌^◌, true, None, IfOk, IfErr, IfSome, IsNone, OnErr, map, string_bytes};
 ghost use Rattle.ps_outside.specs.Causes.{Rose};
 ghost use Rattle.ps_outside.specs.Counts.{one_more};
 ghost use Rattle.ps_outside.specs.Doors.{HasAcceptCause};
 ghost use Rattle.program_commands.specs.Words.{options_of};
 ghost use Rattle.program_commands.specs.Steps.{dex_in};
 ghost use Rattle.program_commands.specs.Setups.{usage_in, usage_reported, Stands};
+ghost use Rattle.rules_config.specs.Fresh.{with_fresh};
 ghost use Rattle.server_accept.specs.AlwaysWords.{stay_words_in, IfStays};
-ghost use Rattle.server_accept.specs.Servers.{ServeCause, KeepsDoor, SettlesServe, IsOfDoor};
+ghost use Rattle.server_accept.specs.Servers.{ServeCause, KeepsDoor, SettlesServe, IsOfDoor, IsOfFiles, SettlesFiles, IsFreshHub};
 
 use crate::always_words::{AlwaysWords, read_always_words};
 use crate::journal::{Journal, Serving};
@@ -15,6 +16,7 @@ use crate::serve::{Begun, Shared, make_hub, make_shared, run};
 use program_commands::config::config_or_standard;
 use program_commands::dex::dex_or_none;
 use program_commands::status::Status;
+use program_commands::words::OptionWords;
 use ps_base::number::ConnNo;
 use ps_dex::dex::Dex;
 use ps_hub::hub::Hub;
@@ -23,6 +25,8 @@ use ps_outside::door::{Door, DoorEnd};
 use ps_outside::files::Files;
 use ps_outside::link::Link;
 use ps_outside::spawner::{Spawner, start};
+use rules_config::config::Config;
+use rules_config::fresh::Fresh;
 use std::alloc::{AllocError, Global};
 use std::marker::Brand;
 use std::sync::{Arc, Wait};
@@ -253,39 +257,59 @@ where
     serve_links(rt, alloc, &shared, words.at_once, door, clock, spawner)
 }
 
-// Reads the configuration, and serves under it.
-fn always_config<R, F, D, C, P>(
-    rt: R,
+// A hub in which nobody is connected, under this configuration with a fresh nonce or seed where its file says none.
+fn make_fresh_hub(alloc: Global, config: Config, dex: Dex, fresh: &Fresh) -> Result<Hub, AllocError>
+    ensures { IfOk result (λ h. (h.config ≡ with_fresh fresh.now config) × (h.dex ≡ dex)) }
+{
+    let config = config.with_fresh(alloc, fresh)?;
+    make_hub(alloc, config, dex)
+}
+
+// Reads the configuration over this dex.
+fn hub_over<F: Files>(
     alloc: Global,
     dex: Dex,
-    words: AlwaysWords<'_>,
+    options: OptionWords<'_>,
+    fresh: &Fresh,
     files: &mut F,
-    door: &mut D,
-    clock: &C,
-    spawner: &mut P,
-) -> Status
-where
-    R: Threads + Wait + rt::Clock + Copy + Send + Drop + 'static,
-    F: Files,
-    D: AlwaysDoor,
-    D::Link: Send + Drop + 'static,
-    C: Clock + Send + Drop + 'static,
-    P: Spawner,
-    requires { Stands (F.contents files.old) (options_of words.options).dex (λ lookup. dex_in lookup (options_of words.options).dex) dex }
-    ensures usage { usage_reported result ≡ None }
-    ensures cause { ServeCause (F.contents files.old) (options_of words.entry.options) (F.counts files.old) (F.counts files.new) result }
-    ensures door_fault { result ≡ Status.DoorFault → Rose (D.faults door.old) (D.faults door.new) }
-    ensures shut { result ≡ Status.Done → D.is_shut door.new ≡ true }
-    ensures untouched { KeepsDoor (D.faults door.old) (D.faults door.new) (D.given door.old) (D.given door.new) result }
-    ensures complete { SettlesServe (F.contents files.old) (options_of words.entry.options) (Rose (F.counts files.old).faults (F.counts files.new).faults) (Rose (D.faults door.old) (D.faults door.new)) result }
+) -> Result<Hub, Status>
+    requires { Stands (F.contents files.old) (options_of options).dex (λ lookup. dex_in lookup (options_of options).dex) dex }
+    ensures hub { IfOk result (IsFreshHub (F.contents files.old) (options_of options.entry) fresh.now) }
+    ensures of { IfErr result IsOfFiles }
+    ensures cause { IfErr result (ServeCause (F.contents files.old) (options_of options.entry) (F.counts files.old) (F.counts files.new)) }
+    ensures complete { IfErr result (SettlesFiles (F.contents files.old) (options_of options.entry) (Rose (F.counts files.old).faults (F.counts files.new).faults)) }
 {
-    let config = match config_or_standard(alloc, files, &dex, words.options.config) {
-        Err(status) => return status,
+    let config = match config_or_standard(alloc, files, &dex, options.config) {
+        Err(status) => return Err(status),
         Ok(config) => config,
     };
-    match make_hub(alloc, config, dex) {
-        Err(_) => Status::NoMemory,
-        Ok(hub) => always_door::<Brand, R, D, C, P>(rt, alloc, hub, words, door, clock, spawner),
+    match make_fresh_hub(alloc, config, dex, fresh) {
+        Err(_) => Err(Status::NoMemory),
+        Ok(hub) => Ok(hub),
+    }
+}
+
+/// The hub of a server that stays up, in which nobody is connected: over the dex and the configuration that the options name, with
+/// the fresh nonce in the place of `nonce`, and the fresh seed in the place of `seed`, where the configuration has no such key. The
+/// statuses of files, of a dex and of a configuration are those of `serve`.
+pub fn always_hub<F: Files>(
+    alloc: Global,
+    options: OptionWords<'_>,
+    fresh: &Fresh,
+    files: &mut F,
+) -> Result<Hub, Status>
+    ensures hub { IfOk result (IsFreshHub (F.contents files.old) (options_of options.entry) fresh.now) }
+
+    // Or it ends with a status of the files, or for want of memory, which has its cause.
+    ensures of { IfErr result IsOfFiles }
+    ensures cause { IfErr result (ServeCause (F.contents files.old) (options_of options.entry) (F.counts files.old) (F.counts files.new)) }
+
+    // Good files, known and without faults of the outside, are refused for want of memory alone.
+    ensures complete { IfErr result (SettlesFiles (F.contents files.old) (options_of options.entry) (Rose (F.counts files.old).faults (F.counts files.new).faults)) }
+{
+    match dex_or_none(alloc, files, options.dex) {
+        Err(status) => Err(status),
+        Ok(dex) => hub_over(alloc, dex, options, fresh, files),
     }
 }
 
@@ -294,6 +318,7 @@ fn always_files<R, F, D, C, P>(
     rt: R,
     alloc: Global,
     words: AlwaysWords<'_>,
+    fresh: &Fresh,
     files: &mut F,
     door: &mut D,
     clock: &C,
@@ -313,14 +338,14 @@ where
     ensures untouched { KeepsDoor (D.faults door.old) (D.faults door.new) (D.given door.old) (D.given door.new) result }
     ensures complete { SettlesServe (F.contents files.old) (options_of words.entry.options) (Rose (F.counts files.old).faults (F.counts files.new).faults) (Rose (D.faults door.old) (D.faults door.new)) result }
 {
-    match dex_or_none(alloc, files, words.options.dex) {
+    match always_hub(alloc, words.options, fresh, files) {
         Err(status) => status,
-        Ok(dex) => always_config(rt, alloc, dex, words, files, door, clock, spawner),
+        Ok(hub) => always_door::<Brand, R, D, C, P>(rt, alloc, hub, words, door, clock, spawner),
     }
 }
 
-/// Serves connections for as long as its door lets it: reads the dex file and the configuration, if the words name them, lets the door
-/// listen at the address of the words, and gives each link that it hands out a session of its own (`serve_session`) over one hub, in
+/// Serves connections for as long as its door lets it: reads the dex file and the configuration, if the words name them, makes the hub
+/// of them and of the fresh nonce and seed (`always_hub`), lets the door listen at the address of the words, and gives each link that it hands out a session of its own (`serve_session`) over one hub, in
 /// a thread where the spawner gives leave. So many run at once as the words say; a further link is asked for when one of them has
 /// ended. Where the host gives no thread, it tries again every 100 milliseconds; if no session runs, this one runs here. Where memory is
 /// refused for a session, its client is cut off, and its number isn't had again.
@@ -336,6 +361,7 @@ pub fn serve_always<R, F, D, C, P>(
     rt: R,
     alloc: Global,
     words: &[String],
+    fresh: &Fresh,
     files: &mut F,
     door: &mut D,
     clock: &mut C,
@@ -363,6 +389,6 @@ where
 {
     match read_always_words(words) {
         Err(word) => Status::Usage { word },
-        Ok(asked) => always_files(rt, alloc, asked, files, door, clock, spawner),
+        Ok(asked) => always_files(rt, alloc, asked, fresh, files, door, clock, spawner),
     }
 }

@@ -11,6 +11,7 @@ use ps_outside::clock::MemClock;
 use ps_outside::door::{Door, DoorEnd, SureDoor};
 use ps_outside::files::MemFiles;
 use ps_outside::spawner::SureSpawner;
+use rules_config::fresh::Fresh;
 use server_accept::always::{AlwaysDoor, serve_always};
 use server_accept::always_words::read_always_words;
 use std::alloc::Global;
@@ -125,6 +126,11 @@ fn a_server_of_a_count_has_none_of_them(rt: HostRuntime) -> Result<(), Fail> {
     Ok(())
 }
 
+const FRESH: Fresh = Fresh {
+    nonce: [7; 16],
+    seed: 7,
+};
+
 /// A door in memory that is stopped behind so many links.
 #[derive(Drop)]
 struct StoppedDoor {
@@ -197,6 +203,7 @@ fn each_link_is_served_before_it_ends(rt: HostRuntime) -> Result<(), Fail> {
         rt,
         alloc,
         words.as_slice(),
+        &FRESH,
         &mut files,
         &mut door,
         &mut clock,

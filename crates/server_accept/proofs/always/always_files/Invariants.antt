@@ -1,4 +1,4 @@
-use Rattle.server_accept.proofs.always.always_config.Given as goal
+use Rattle.server_accept.proofs.always.always_files.Given as goal
 
 -- the sessions are of the hub that is made here
 abbrev pub ghosts-always_door : goal.ghosts-always_door
