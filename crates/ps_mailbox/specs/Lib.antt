@@ -1,0 +1,4 @@
+pub mod Deliveries
+pub mod Posts
+pub mod Tickets
+pub mod Views
