@@ -1,5 +1,5 @@
 //! Reads packed teams.
-ghost use Rattle.std.specs.Prelude.{◌≡◌, ◌==◌, ◌<◌, ◌≤◌, length, map, filter, IfOk, IfErr, true, List, ℕ};
+ghost use Rattle.std.specs.Prelude.{◌≡◌, ◌==◌, ◌<◌, ◌≤◌, ◌++◌, ◌∷◌, [], length, map, filter, IfOk, IfErr, OnOk, true, List, ℕ};
 ghost use Rattle.std.specs.List.{slice_split, AllByRecursion};
 ghost use Rattle.std.specs.Str.{chars, encode_utf8_all};
 ghost use Rattle.ps_base.specs.Ids.{id_of};
@@ -199,13 +199,22 @@ fn one_set(alloc: Global, field_texts: &[char]) -> Result<Set, AllocError>
     set_from(alloc, &fields)
 }
 
+fn push_set(alloc: Global, sets: &mut Vec<Set>, field_texts: &[char]) -> Result<(), AllocError>
+    requires { AreFieldTexts (slice_split (λ c. c == 124) field_texts.now) }
+    ensures { OnOk result (sets.new.items ≡ sets.old.items ++ set_of (slice_split (λ c. c == 124) field_texts.now) ∷ []) }
+{
+    let set = one_set(alloc, field_texts)?;
+    sets.push(set)?;
+    Ok(())
+}
+
 fn sets(alloc: Global, team_texts: &[&[char]]) -> Result<Vec<Set>, AllocError>
     requires { AllByRecursion AreFieldTexts (map (slice_split (λ c. c == 124)) (map (λ x. x.now) team_texts.now)) }
     ensures { IfOk result (λ v. v.items ≡ map set_of (map (slice_split (λ c. c == 124)) (map (λ x. x.now) team_texts.now))) }
 {
     let mut sets = Vec::new(alloc);
     for field_texts in team_texts {
-        sets.push(one_set(alloc, field_texts)?)?;
+        push_set(alloc, &mut sets, field_texts)?;
     }
     Ok(sets)
 }
