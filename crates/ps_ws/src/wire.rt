@@ -112,6 +112,8 @@ pub(crate) struct Wire<R: rt::Clock + Wait + Copy> {
     bucket: Bucket,
     // Whether nothing was read at the last look, since its client says too much.
     is_held: bool,
+    // Whether the socket may have something to read: it told of something since it last had nothing.
+    is_ready: bool,
     bells: Arc<Bells>,
     bell: Arc<Bell>,
     // Its number among the bells, while it is one of them.
@@ -227,6 +229,7 @@ impl<R: rt::Clock + Wait + Copy> Wire<R> {
             pinged: None,
             bucket: Bucket::new(settings.rate),
             is_held: false,
+            is_ready: true,
             bells,
             bell,
             number: None,
@@ -719,12 +722,16 @@ impl<R: rt::Clock + Wait + Copy> Wire<R> {
         let Stage::Open(socket) = &mut self.stage else {
             return Some(Next::Failed);
         };
+        if !self.is_ready {
+            return None;
+        }
         match read_message(socket) {
             Ok(message) => Some(self.answer(message)),
             Err(Error::ConnectionClosed) => Some(Next::End),
             Err(Error::OutOfMemory) => Some(Next::NoMemory),
             Err(error) => {
                 if would_block(&error) {
+                    self.is_ready = false;
                     return None;
                 }
                 if let Some((code, reason)) = breach(&error) {
@@ -751,9 +758,16 @@ impl<R: rt::Clock + Wait + Copy> Wire<R> {
         }
     }
 
-    // Waits until the socket may be ready, for so long at most.
+    // Waits until the socket may be ready, or the bell rings, for so long at most. The socket tells only once of what came, so that is
+    // noted until nothing was found.
     fn wait(&mut self, most: Duration) -> io::Result<()> {
-        self.poll.poll(&mut self.events, Some(most))
+        self.poll.poll(&mut self.events, Some(most))?;
+        for event in self.events.iter() {
+            if event.token() == Token(0) {
+                self.is_ready = true;
+            }
+        }
+        Ok(())
     }
 
     // How much of so many milliseconds is left since this moment, or TimedOut where nothing is.
