@@ -54,6 +54,27 @@ impl Model for Hall {
     ghost view = { λ h. record { state = h.state; log = h.log.items } };
 }
 
+// How many connections end behind an entry at the most: as many as a server has at once.
+const MOST_ENDS: usize = 16_384;
+
+// How many entries more the log takes if it can't double.
+const CHUNK: usize = 1024;
+
+// Makes room in the log for the ends of all connections, so that who comes to an end isn't in want of what others took. The end itself
+// takes of what was kept for it.
+fn keep_room(log: &mut Vec<List<Notice>>, cmd: &HallCmd) -> Result<(), AllocError>
+    ensures { log.new.items ≡ log.old.items }
+{
+    let count = match cmd {
+        HallCmd::Quit => 1,
+        _ => MOST_ENDS + 1,
+    };
+    if log.reserve(count).is_ok() || log.reserve_exact(count + CHUNK).is_ok() {
+        return Ok(());
+    }
+    log.reserve_exact(count)
+}
+
 // Applies an entry, or refuses it by name, and keeps what it told.
 fn apply(
     alloc: Global,
@@ -68,6 +89,7 @@ fn apply(
     ensures same_log { OnErr result (log.new.items ≡ log.old.items) }
     ensures fit { IfOk result (λ out. IfSome out.start (λ s. IsFit s state.old.config state.old.dex)) }
 {
+    keep_room(log, &entry.cmd)?;
     log.reserve(1)?;
     let Told { out, notices } = state.apply(alloc, entry)?;
     log.push(notices).unwrap();

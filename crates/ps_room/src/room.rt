@@ -60,6 +60,21 @@ fn log_of(alloc: Global, first: Option<LogEntry>) -> Result<SplitLog, AllocError
     }
 }
 
+// Makes room in the log for an entry, and for the end of each member behind it: so that who comes to an end isn't in want of what
+// others took. The end of a member takes of what was kept for it.
+fn keep_room(state: &RoomState, log: &mut SplitLog, entry: &Entry) -> Result<(), AllocError>
+    ensures { log.new ≡ log.old }
+{
+    match &entry.cmd {
+        Command::Quit => match state.role(entry.conn) {
+            Role::Outside => {}
+            _ => return Ok(()),
+        },
+        _ => {}
+    }
+    log.reserve(state.members().len() + 2)
+}
+
 impl Room {
     ghost use Rattle.ps_room.specs.Openings.{IsFitOpening};
     ghost use Rattle.ps_room.specs.Rooms.{verdict, role};
@@ -142,9 +157,11 @@ impl Room {
     {
         let Prepared {
             out,
-            log_entry,
+            mut log_entry,
             bout,
         } = prepared;
+        log_entry.lines.share(alloc);
+        keep_room(&self.state, &mut self.log, entry)?;
         self.log.push(log_entry)?;
         match self.state.keep(alloc, entry, out, bout) {
             Ok(roles) => {

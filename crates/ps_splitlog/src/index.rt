@@ -69,6 +69,30 @@ pub(crate) fn none(alloc: Global) -> Index
     }
 }
 
+// How many items more a list takes that can't double.
+const CHUNK: usize = 1024;
+
+/// Makes room for so many items more: for as many as a list takes at once when it grows, or, if there is no memory for that, for a few
+/// more than these, or for these alone.
+pub(crate) fn reserve_more<T>(list: &mut Vec<T>, count: usize) -> Result<(), AllocError>
+    ensures { list.new.items ≡ list.old.items }
+{
+    if list.reserve(count).is_ok() || list.reserve_exact(count.saturating_add(CHUNK)).is_ok() {
+        return Ok(());
+    }
+    list.reserve_exact(count)
+}
+
+/// Makes room for so many entries more, of one logged line each.
+pub(crate) fn reserve(index: &mut Index, count: usize) -> Result<(), AllocError>
+    ensures starts { index.new.starts.items ≡ index.old.starts.items }
+    ensures line_indices { index.new.line_indices.items ≡ index.old.line_indices.items }
+{
+    reserve_more(&mut index.starts, count)?;
+    reserve_more(&mut index.line_indices, count)?;
+    Ok(())
+}
+
 /// Notes a further entry. Where memory fails nothing changes.
 pub(crate) fn note(index: &mut Index, entry: usize, lines: &[Stored]) -> Result<(), AllocError>
     ensures starts { OnOk result (index.new.starts.items ≡ index.old.starts.items ++ length index.old.line_indices.items ∷ []) }

@@ -10,7 +10,7 @@ ghost use Rattle.ps_base.specs.Messages.{msg_lines};
 use crate::cursor::Cursor;
 use crate::entry::{Entry, LogEntry, log_entry_of};
 use crate::firsts::{begin, note_last, start_of};
-use crate::index::{Index, forget, none, note};
+use crate::index::{Index, forget, none, note, reserve, reserve_more};
 use crate::piece::{Piece, walk};
 use crate::read::{message_next, push_messages};
 use ps_base::list::List;
@@ -80,6 +80,16 @@ impl SplitLog {
             index: none(alloc),
             firsts: BTreeMap::new(alloc),
         }
+    }
+
+    /// Makes room for so many entries more, of one logged line each, so that it isn't wanting later. Where memory fails nothing
+    /// changes.
+    pub fn reserve(&mut self, count: usize) -> Result<(), AllocError>
+        ensures { self.new ≡ self.old }
+    {
+        reserve_more(&mut self.entries, count)?;
+        reserve(&mut self.index, count)?;
+        Ok(())
     }
 
     /// Puts at the end what is logged of an entry and is made already: for who shows it to others first. Where memory fails

@@ -57,6 +57,19 @@ impl Model for Lines {
     ghost view = { λ l. l.inner.items };
 }
 
+// Shares the text of a line, if several may be shown it: not one that is for a connection alone, and not what one side alone reads.
+fn share_line(alloc: Global, line: &mut Stored)
+    ensures { line.new ≡ line.old }
+{
+    match line {
+        Stored::Same { audience, text, .. } => match *audience {
+            Audience::One(_) | Audience::Side(_) => {}
+            _ => text.share(alloc),
+        },
+        Stored::Split { public, .. } => public.share(alloc),
+    }
+}
+
 impl Lines {
     /// The same lines. Takes no memory.
     pub fn from_vec(inner: Vec<Stored>) -> Lines
@@ -70,6 +83,15 @@ impl Lines {
         ensures { result.now ≡ self.now }
     {
         self.inner.as_slice()
+    }
+
+    /// Lets each text that several may be shown share its bytes with the copies that they are sent. Contracts see no difference.
+    pub fn share(&mut self, alloc: Global)
+        ensures { self.new ≡ self.old }
+    {
+        for i in 0..self.inner.len() {
+            share_line(alloc, &mut self.inner[i]);
+        }
     }
 
     /// The lines themselves.
