@@ -489,7 +489,7 @@ class Server:
                         socket.create_connection(("127.0.0.1", self.port), timeout=1).close()
                     except OSError:
                         pass
-            out, line = server.communicate(timeout=20)
+            out, line = server.communicate(timeout=40)
         except subprocess.TimeoutExpired:
             server.kill()
             out, line = server.communicate()

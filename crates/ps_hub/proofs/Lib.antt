@@ -10,5 +10,4 @@ pub mod OfLemmas
 pub mod OrderLemmas
 pub mod QuitLemmas
 pub mod CallLemmas
-pub mod ShortLemmas
 pub mod AdmitLemmas

@@ -15,7 +15,6 @@ use Rattle.server_places.specs.Halls.{HallAnswers}
 use Rattle.ps_hub.specs.Hubs.{Hub, site_of}
 use Rattle.ps_hub.specs.Names.{Names}
 use Rattle.ps_hub.specs.Passes.{Adds, IsHallPass, IsRoomPass, numbers, IsRising, AreOf}
-use Rattle.ps_hub.specs.Turns.{FallsShort}
 use Rattle.ps_hub.specs.Calls.{hall_entry, room_entry, badge_after, Held, EntersAt, EnterFails, not_entered, HallGoes, HallOrdered}
 use Rattle.ps_hub.specs.Calls.{HallFails, HallTakes, RoomGoes, RoomTakes, Orders}
 use Rattle.ps_hub.specs.declared.out.EnterFault.{EnterFault}
@@ -66,7 +65,7 @@ hall_failed hub cmd moment old new h k Taken p was is at pass_lists conn badge t
 hall_failed hub cmd moment old new h k NoSuchRoom p was is at pass_lists conn badge t = absurd t
 hall_failed hub cmd moment old new h k (Busy word order) p was is at pass_lists conn badge t = (t.0, badge, hall_goes _ old new h k was is at pass_lists conn (t.1, t.2))
 hall_failed hub cmd moment old new h k NoMemory p was is at pass_lists conn badge t =
-    (badge, hall_goes _ old new h k was is at pass_lists conn (subst (λ (r : Root). FallsShort (HallAnswers r) h.pass.1 h.cursor (hall_entry old.conn moment cmd) k.pass.1 k.cursor) p.origin t))
+    (badge, hall_goes _ old new h k was is at pass_lists conn t)
 
 -- out of memory before the turn
 pub hall_untried : (hub : Hub) (cmd : HallCmd) (moment : ℕ) (old : Passes) → AreOf hub old → HallFails hub cmd moment old NoMemory old

@@ -22,9 +22,9 @@ use Rattle.server_places.specs.declared.cursor.RoomCursor.{RoomCursor}
 use Rattle.server_places.specs.declared.site.Root.{Root}
 use Rattle.server_places.specs.declared.site.Site.{Site}
 use Rattle.server_places.specs.Sites.{room_signer, chat_at, plays, TellsBy, Tells, view_told, id_told}
-use Rattle.server_places.specs.Rooms.{cursor_of, Pulls, bounded, PullsUpTo, Shows, Stands, StandsAt, site_in, IsAtRestInRoom}
+use Rattle.server_places.specs.Rooms.{Answers, cursor_of, Pulls, bounded, PullsUpTo, Shows, Stands, StandsAt, site_in, IsAtRestInRoom}
 use Rattle.server_places.specs.Rooms.{GoesOn as Goes}
-use Rattle.server_places.specs.Halls.{hall_cursor, hall_signer, HallPulls, hall_bounded, HallPullsUpTo, HallGoesOn, HallShows, HallStands, HallStandsAt, root_in, IsAtRestInHall}
+use Rattle.server_places.specs.Halls.{HallAnswers, hall_cursor, hall_signer, HallPulls, hall_bounded, HallPullsUpTo, HallGoesOn, HallShows, HallStands, HallStandsAt, root_in, IsAtRestInHall}
 use Rattle.server_places.proofs.GoOnLemmas.{pulls_go_on, pulls_free, stands_free, id_of_all}
 use Rattle.server_places.proofs.HallLemmas.{hall_goes_on, hall_free, hall_pulls_free}
 use Rattle.server_places.proofs.StandLemmas.{no_chat}
@@ -32,11 +32,12 @@ use Rattle.server_places.proofs.TellLemmas.{tells_more, going_on}
 use Rattle.ps_hub.specs.Hubs.{Hub, root_of, site_of, lock_of}
 use Rattle.ps_hub.specs.Names.{IsChatId, Names}
 use Rattle.ps_hub.specs.Passes.{lines_of, IsTold, NeverFalls, IsHallPass, HeldBy, IsRoomPass, IsNewPass}
-use Rattle.ps_hub.specs.Turns.{ReadsAtLast}
+use Rattle.ps_hub.specs.Turns.{ReadsAtLast, TakesAtLast}
+use Rattle.ps_hub.specs.declared.taken.Ended.{Ended}
 use Rattle.ps_hub.specs.declared.pass.HallPass.{HallPass}
 use Rattle.ps_hub.specs.declared.pass.RoomPass.{RoomPass}
 use Rattle.ps_hub.proofs.ToldLemmas.{GoesOn, told_new, told_after, told_handed, Grows, grows_self, commands_grow}
-use Rattle.ps_hub.proofs.ToldLemmas.{PullsOrNot, pulls_map, Leaves, signs_after, said_after, never_falls}
+use Rattle.ps_hub.proofs.ToldLemmas.{takes_map, PullsOrNot, pulls_map, Leaves, signs_after, said_after, never_falls}
 
 -- ---- the hall
 
@@ -316,3 +317,17 @@ pub room_up_to : {T E : Type 0} (v : View Site RoomCmd) (x : RoomCursor) (until 
     → x.until ≡ None → ReadsAtLast Pulls v (bounded until x) kept result w z more → ReadsAtLast PullsUpTo v x kept result w (bounded None z) more
 room_up_to v x until kept (Ok done) w z more free told = (told.0, (told.1.0, (until, z, told.1.1, refl), told.1.2))
 room_up_to v x until kept (Err e) w z more free told = (told.0, ap (bounded None) told.1 ∙ (λ i. record { room = x.room; id = x.id; passed = x.passed; until = sym free i }), told.2)
+
+pub hall_turn_up_to : (v : View Root HallEntry) (x : HallCursor) (until : Option ℕ) (kept : List Msg) (c : HallEntry) (t : Ended) (w : View Root HallEntry) (z : HallCursor) (more : List Msg)
+    → x.until ≡ None → TakesAtLast HallAnswers HallPulls v (hall_bounded until x) kept c t w z more → TakesAtLast HallAnswers HallPullsUpTo v x kept c t w (hall_bounded None z) more
+hall_turn_up_to v x until kept c t w z more free told = takes_map HallAnswers HallPulls HallPullsUpTo v x (hall_bounded until x) kept c t w z (hall_bounded None z) more
+    (λ r es msgs pulled. (until, z, pulled, refl))
+    (λ same. ap (hall_bounded None) same ∙ (λ i. record { hall = x.hall; passed = x.passed; until = sym free i }))
+    told
+
+pub room_turn_up_to : (v : View Site RoomCmd) (x : RoomCursor) (until : Option ℕ) (kept : List Msg) (c : RoomCmd) (t : Ended) (w : View Site RoomCmd) (z : RoomCursor) (more : List Msg)
+    → x.until ≡ None → TakesAtLast Answers Pulls v (bounded until x) kept c t w z more → TakesAtLast Answers PullsUpTo v x kept c t w (bounded None z) more
+room_turn_up_to v x until kept c t w z more free told = takes_map Answers Pulls PullsUpTo v x (bounded until x) kept c t w z (bounded None z) more
+    (λ site cmds msgs pulled. (until, z, pulled, refl))
+    (λ same. ap (bounded None) same ∙ (λ i. record { room = x.room; id = x.id; passed = x.passed; until = sym free i }))
+    told

@@ -18,14 +18,13 @@ use Rattle.ps_histlock.proofs.SignLemmas.{signs_more}
 use Rattle.std.proofs.lemmas.List.Elements.{All-append}
 use Rattle.ps_hub.specs.Passes.{lines_of, IsTold, Adds, NeverFalls}
 use Rattle.ps_hub.specs.Calls.{HandsOut}
-use Rattle.ps_hub.specs.Turns.{Turns, TurnsAtLast, ReadsOn, Rereads, Gives, GivesAtLast, Reads, ReadsAtLast, Takes, TakesAtLast}
+use Rattle.ps_hub.specs.Turns.{Turns, TurnsAtLast, ReadsOn, Rereads, PullsMore, Reads, ReadsAtLast, Takes, TakesAtLast}
 use Rattle.ps_hub.specs.declared.taken.Ended.{Ended}
 use Rattle.ps_hub.specs.declared.taken.Ended.TheVariants as ends
 use Rattle.ps_hub.specs.declared.taken.Read.{Read}
 use Rattle.ps_hub.specs.declared.taken.Read.TheVariants as reads
 use Rattle.ps_hub.specs.declared.taken.Taken.{Taken}
 use Rattle.ps_hub.specs.declared.taken.Taken.TheVariants.{Done, Busy, OwnLimit, NameTaken, NoMemory}
-use Rattle.ps_hub.proofs.ShortLemmas.{gives_turn, gives_turn_at_last}
 
 module _ {C X : Type 0} (shows : List C → List (List (List ℕ)) → Type 0) (stands_at : List C → X → Type 0) where
   pub told_new : (x : X) → stands_at [] x → shows [] [] → IsTold shows stands_at [] x 0 [] 0
@@ -153,6 +152,10 @@ module _ {O C : Type 0} where
 
   pub rereads_none : (v : View O C) → Rereads v v
   rereads_none v = (0, refl)
+
+  -- one more try in vain
+  pub rereads_tried : (v u w : View O C) → Rereads v u → (w ≡ u) ⊎ TurnsAtLast u None w → Rereads v w
+  rereads_tried v u w r t = rereads_more {T = Unit {0}} {E = Unit {0}} v u w (Err tt) r t
 
   same_or_grows : (v w : View O C) → (w ≡ v) ⊎ Turns v None w → Grows v w
   same_or_grows v w is = ⊎_elim (λ (e : w ≡ v). subst (Grows v) (sym e) (grows_self v)) (λ (t : Turns v None w). turns_grow v None w t) is
@@ -320,35 +323,39 @@ module _ {O C X : Type 0} (pulls : O → List C → X → List Msg → X → Typ
 module _ {O C U X : Type 0} (answers : O → List C → C → U → Type 0) (pulls : O → List C → X → List Msg → X → Type 0) where
   pub takes_leave : (v : View O C) (x : X) (kept : List Msg) (c : C) (t : Taken C U) (w : View O C) (y : X) (more : List Msg)
       → Takes answers pulls v x kept c t w y more → Leaves pulls v x kept (Some c) w y more
-  takes_leave v x kept c (Done out) w y more told = turn_leaves pulls v x kept (Some c) w y more (told.0, told.1, told.2) (inl told.4)
+  takes_leave v x kept c (Done out) w y more told = turn_leaves pulls v x kept (Some c) w y more (told.0, told.1, told.2) told.4
   takes_leave v x kept c (Busy word back) w y more told = busy_leaves pulls v x kept (Some c) word w y more told.0 (inr (told.2, told.3))
   takes_leave v x kept c OwnLimit w y more told = same_leaves pulls v x kept (Some c) w y more told.1 (inr (told.2, told.3))
   takes_leave v x kept c NameTaken w y more told = silent_leaves pulls v x kept (Some c) w y more told.0 (inr (told.1, told.2))
-  takes_leave v x kept c NoMemory w y more told =
-      let none : PullsOrNot pulls v x kept w y more = inr (told.0.0, told.1) in
-      ⊎_elim
-      (λ (e : w ≡ v). same_leaves pulls v x kept (Some c) w y more e none)
-      (λ (rest : Turns v None w ⊎ Gives (answers v.origin) v c w). ⊎_elim
-      (λ (t : Turns v None w). silent_leaves pulls v x kept (Some c) w y more t none)
-      (λ (g : Gives (answers v.origin) v c w). turn_leaves pulls v x kept (Some c) w y more (gives_turn (answers v.origin) v c w g) none)
-      rest)
+  takes_leave v x kept c NoMemory w y more told = ⊎_elim
+      (λ (e : w ≡ v). same_leaves pulls v x kept (Some c) w y more e (inr (told.0.0, told.1)))
+      (λ (t : Turns v None w). silent_leaves pulls v x kept (Some c) w y more t (inr (told.0.0, told.1)))
       told.0.1
 
   pub takes_leave_at_last : (v : View O C) (x : X) (kept : List Msg) (c : C) (t : Ended) (w : View O C) (y : X) (more : List Msg)
       → TakesAtLast answers pulls v x kept c t w y more → Leaves pulls v x kept (Some c) w y more
-  takes_leave_at_last v x kept c ends.Done w y more told = turn_leaves_at_last pulls v x kept (Some c) w y more told.0 (inl told.1)
+  takes_leave_at_last v x kept c ends.Done w y more told = turn_leaves_at_last pulls v x kept (Some c) w y more told.0 told.1
   takes_leave_at_last v x kept c ends.NameTaken w y more told =
       silent_leaves_at_last pulls v x kept (Some c) w y more told.0 (inr (told.1, told.2))
-  takes_leave_at_last v x kept c ends.NoMemory w y more told =
-      let none : PullsOrNot pulls v x kept w y more = inr (told.0.0, told.1) in
-      ⊎_elim
-      (λ (e : w ≡ v). same_leaves pulls v x kept (Some c) w y more e none)
-      (λ (rest : TurnsAtLast v None w ⊎ GivesAtLast (answers v.origin) v c w). ⊎_elim
-      (λ (t : TurnsAtLast v None w). silent_leaves_at_last pulls v x kept (Some c) w y more t none)
-      (λ (g : GivesAtLast (answers v.origin) v c w).
-      turn_leaves_at_last pulls v x kept (Some c) w y more (gives_turn_at_last (answers v.origin) v c w g) none)
-      rest)
+  takes_leave_at_last v x kept c ends.NoMemory w y more told = ⊎_elim
+      (λ (e : w ≡ v). same_leaves pulls v x kept (Some c) w y more e (inr (told.0.0, told.1)))
+      (λ (t : TurnsAtLast v None w). silent_leaves_at_last pulls v x kept (Some c) w y more t (inr (told.0.0, told.1)))
       told.0.1
+
+  -- a turn with a command, and with a bound that is set for it alone
+  pub takes_map : (more_pulls : O → List C → X → List Msg → X → Type 0) (v : View O C) (x z : X) (kept : List Msg) (c : C) (t : Ended)
+      (w : View O C) (y u : X) (more : List Msg)
+      → ((o : O) (cmds : List C) (msgs : List Msg) → pulls o cmds z msgs y → more_pulls o cmds x msgs u) → (y ≡ z → u ≡ x)
+      → TakesAtLast answers pulls v z kept c t w y more → TakesAtLast answers more_pulls v x kept c t w u more
+  takes_map more_pulls v x z kept c ends.Done w y u more pulled still told = (
+    told.0,
+    ⊎_elim
+        (λ (m : PullsMore pulls v.origin (commands w.seen) z kept y more). inl (m.0, pulled v.origin (commands w.seen) m.0 m.1, m.2))
+        (λ (none : (y ≡ z) × (more ≡ kept)). inr (still none.0, none.1))
+        told.1,
+  )
+  takes_map more_pulls v x z kept c ends.NameTaken w y u more pulled still told = (told.0, still told.1, told.2)
+  takes_map more_pulls v x z kept c ends.NoMemory w y u more pulled still told = ((still told.0.0, told.0.1), told.1)
 
 module _ {O C : Type 0} where
   -- all that it has said is signed as before

@@ -51,7 +51,7 @@ use Rattle.ps_hub.specs.declared.passes.Passes.{Passes}
 use Rattle.ps_hub.specs.Hubs.{Hub, root_of, site_of}
 use Rattle.ps_hub.specs.Names.{IsNoChat, IsBattleId, Names}
 use Rattle.ps_hub.specs.Passes.{IsHallPass, IsAsBefore, ButFor, lines_of}
-use Rattle.ps_hub.specs.Turns.{Turns, TurnsAtLast, Rereads, FallsShort, FallsShortAtLast}
+use Rattle.ps_hub.specs.Turns.{Turns, TurnsAtLast, Rereads, TurnsInTheEnd, FallsShort, FallsShortAtLast}
 
 -- ---- entries
 
@@ -149,7 +149,7 @@ HallFails hub cmd moment old (hub_faults.OwnLimit room) new = (room ≡ None) ×
 HallFails hub cmd moment old hub_faults.Taken new = ⊥
 HallFails hub cmd moment old hub_faults.NoSuchRoom new = ⊥
 HallFails hub cmd moment old (hub_faults.Busy word order) new = (order ≡ Hall cmd) × (new.badge ≡ old.badge) × HallGoes (λ h k. IsBusy h.pass.1 word k.pass.1 × (length h.pass.1.mine ≢ OWN_LIMIT)) old new
-HallFails hub cmd moment old hub_faults.NoMemory new = (new.badge ≡ old.badge) × HallGoes (λ h k. FallsShort (HallAnswers (root_of hub)) h.pass.1 h.cursor (hall_entry old.conn moment cmd) k.pass.1 k.cursor) old new
+HallFails hub cmd moment old hub_faults.NoMemory new = (new.badge ≡ old.badge) × HallGoes (λ h k. FallsShort h.pass.1 h.cursor k.pass.1 k.cursor) old new
 
 -- what a turn with this entry does to the pass of the hall
 abbrev pub HallTakes : HallEntry → HallPass → Result HallOut HubFault → HallPass → Type 0
@@ -158,7 +158,7 @@ HallTakes e h (Err (hub_faults.OwnLimit room)) k = (room ≡ None) × (length h.
 HallTakes e h (Err hub_faults.Taken) k = ⊥
 HallTakes e h (Err hub_faults.NoSuchRoom) k = ⊥
 HallTakes e h (Err (hub_faults.Busy word order)) k = (order ≡ Hall e.cmd) × IsBusy h.pass.1 word k.pass.1 × (length h.pass.1.mine ≢ OWN_LIMIT)
-HallTakes e h (Err hub_faults.NoMemory) k = FallsShort (HallAnswers h.pass.1.origin) h.pass.1 h.cursor e k.pass.1 k.cursor
+HallTakes e h (Err hub_faults.NoMemory) k = FallsShort h.pass.1 h.cursor k.pass.1 k.cursor
 
 -- the name that a command asks for, if it asks for one
 abbrev pub name_asked : HallCmd → Option (List ℕ)
@@ -203,7 +203,7 @@ RoomTakes site id e h (Err (hub_faults.OwnLimit room)) k = (room ≡ Some id) ×
 RoomTakes site id e h (Err hub_faults.Taken) k = IsKeptOut (Play e) h k
 RoomTakes site id e h (Err hub_faults.NoSuchRoom) k = ⊥
 RoomTakes site id e h (Err (hub_faults.Busy word order)) k = (order ≡ Room id e.cmd) × IsBusy h.pass.1 word k.pass.1 × (length h.pass.1.mine ≢ OWN_LIMIT)
-RoomTakes site id e h (Err hub_faults.NoMemory) k = FallsShort (Answers site) h.pass.1 h.cursor (Play e) k.pass.1 k.cursor
+RoomTakes site id e h (Err hub_faults.NoMemory) k = FallsShort h.pass.1 h.cursor k.pass.1 k.cursor
 
 -- after the place is held
 abbrev pub RoomFails : Hub → List ℕ → Command → ℕ → Passes → HubFault → Passes → Type 0
@@ -213,7 +213,7 @@ RoomFails hub id cmd moment old hub_faults.Taken new =
 RoomFails hub id cmd moment old hub_faults.NoSuchRoom new = ⊥
 RoomFails hub id cmd moment old (hub_faults.Busy word order) new = (order ≡ Room id cmd) × RoomGoes hub id (λ h k. IsBusy h.pass.1 word k.pass.1 × (length h.pass.1.mine ≢ OWN_LIMIT)) old new
 RoomFails hub id cmd moment old hub_faults.NoMemory new =
-    (badge : Badge) × (old.badge ≡ Some badge) × RoomGoes hub id (λ h k. FallsShort (Answers (site_of hub h.number)) h.pass.1 h.cursor (Play (room_entry old.conn badge moment cmd)) k.pass.1 k.cursor) old new
+    (badge : Badge) × (old.badge ≡ Some badge) × RoomGoes hub id (λ h k. FallsShort h.pass.1 h.cursor k.pass.1 k.cursor) old new
 
 -- while the place isn't held
 abbrev pub EntryFails : Hub → List ℕ → Command → Passes → HubFault → Passes → Type 0
@@ -248,13 +248,13 @@ pub record BeginsAt (hub : Hub) (start : Start) (does : RoomPass → RoomPass �
   pub but : ButFor hub old before behind new
   pub done : does before behind
 
--- if out of memory, or the pass had made as many entries as it may
-abbrev pub BeginsAtMost : Hub → Start → RoomPass → RoomPass → Type 0
-BeginsAtMost hub start h k = FallsShortAtLast (Answers (site_of hub h.number)) h.pass.1 h.cursor (Begin start) k.pass.1 k.cursor
+-- no Begin, if out of memory, or the pass had made as many entries as it may
+abbrev pub BeginsNothing : RoomPass → RoomPass → Type 0
+BeginsNothing h k = FallsShortAtLast h.pass.1 h.cursor k.pass.1 k.cursor
 
 abbrev pub Starts : {T E : Type 0} → Hub → Start → Passes → Result T E → Passes → Type 0
 Starts hub start old (Ok done) new = BeginsAt hub start (λ h k. TurnsAtLast h.pass.1 (Some (Begin start)) k.pass.1) old new
-Starts hub start old (Err fault) new = IsAsBefore old new ⊎ BeginsAt hub start (BeginsAtMost hub start) old new
+Starts hub start old (Err fault) new = IsAsBefore old new ⊎ BeginsAt hub start BeginsNothing old new
 
 -- ---- the begin of a connection
 
@@ -415,11 +415,6 @@ abbrev pub IsShutOut : ℕ → RoomPass → QuitFault → Type 0
 IsShutOut conn k quit_faults.Taken = (signed room_signer conn (commands k.pass.1.said) ≡ []) × Speaks room_signer conn k.pass.1.seen
 IsShutOut conn k quit_faults.NoMemory = Unit {0}
 
--- it isn't that
-abbrev pub IsNotShutOut : QuitFault → Type 0
-IsNotShutOut quit_faults.Taken = ⊥
-IsNotShutOut quit_faults.NoMemory = Unit {0}
-
 -- so it is in one of the rooms
 abbrev pub IsShutOutAmong : ℕ → List RoomPass → QuitFault → Type 0
 IsShutOutAmong conn rooms quit_faults.Taken = (i : ℕ) × (k : RoomPass) × (slice_get rooms i ≡ Some k) × IsShutOut conn k quit_faults.Taken
@@ -427,36 +422,33 @@ IsShutOutAmong conn rooms quit_faults.NoMemory = Unit {0}
 
 -- the Quit in the hall
 abbrev pub QuitsHall : ℕ → ℕ → HallPass → HallPass → Type 0
-QuitsHall conn moment h k = TurnsAtLast h.pass.1 (Some (hall_entry conn moment hall_commands.Quit)) k.pass.1 × (k.at ≡ h.at)
+QuitsHall conn moment h k = TurnsInTheEnd h.pass.1 (hall_entry conn moment hall_commands.Quit) k.pass.1 × (k.at ≡ h.at)
 
 -- the Quit in a room, where it is held
 abbrev pub QuitsBy : Option (List ℕ) → Option Badge → ℕ → ℕ → RoomPass → RoomPass → Type 0
 QuitsBy None badge conn moment h k = k ≡ h
-QuitsBy (Some id) badge conn moment h k = (b : Badge) × (badge ≡ Some b) × TurnsAtLast h.pass.1 (Some (Play (room_entry conn b moment room_commands.Quit))) k.pass.1 × (k.at ≡ h.at) × (k.number ≡ h.number) × (k.id ≡ h.id)
+QuitsBy (Some id) badge conn moment h k =
+    (b : Badge) × (badge ≡ Some b) × TurnsInTheEnd h.pass.1 (Play (room_entry conn b moment room_commands.Quit)) k.pass.1
+    × (k.at ≡ h.at) × (k.number ≡ h.number) × (k.id ≡ h.id)
 
 abbrev pub QuitsRoom : Option Badge → ℕ → ℕ → RoomPass → RoomPass → Type 0
 QuitsRoom badge conn moment h k = QuitsBy h.id badge conn moment h k
 
--- the Quit in a room that is held, if out of memory, or the pass had made as many entries as it may
-abbrev pub QuitsRoomAtMost : Hub → Option Badge → ℕ → ℕ → RoomPass → RoomPass → Type 0
-QuitsRoomAtMost hub badge conn moment h k =
-    IsSome h.id × (b : Badge) × (badge ≡ Some b) × FallsShortAtLast (Answers (site_of hub h.number)) h.pass.1 h.cursor (Play (room_entry conn b moment room_commands.Quit)) k.pass.1 k.cursor × (k.at ≡ h.at) × (k.number ≡ h.number) × (k.id ≡ h.id)
+-- No Quit in a room that is held, if out of memory, or the pass had made as many entries as it may: turns without an entry, if any, which
+-- pulled nothing.
+abbrev pub StaysInRoom : RoomPass → RoomPass → Type 0
+StaysInRoom h k = IsSome h.id × (k.number ≡ h.number) × (k.id ≡ h.id) × (k.at ≡ h.at) × (k.cursor ≡ h.cursor) × Rereads h.pass.1 k.pass.1
 
 -- the same in the hall
-abbrev pub QuitsHallAtMost : Hub → ℕ → ℕ → HallPass → HallPass → Type 0
-QuitsHallAtMost hub conn moment h k = FallsShortAtLast (HallAnswers (root_of hub)) h.pass.1 h.cursor (hall_entry conn moment hall_commands.Quit) k.pass.1 k.cursor × (k.at ≡ h.at)
+abbrev pub StaysInHall : HallPass → HallPass → Type 0
+StaysInHall h k = (k.at ≡ h.at) × (k.cursor ≡ h.cursor) × Rereads h.pass.1 k.pass.1
 
--- The Quits in the rooms of a list, up to one that fell short: before it each was made, and behind it nothing changed.
-pub record QuitsUpTo (hub : Hub) (badge : Option Badge) (conn moment : ℕ) (old new : List RoomPass) : Type 0 where
-  pub front : List RoomPass
-  pub quitted : List RoomPass
-  pub before : RoomPass
-  pub behind : RoomPass
-  pub back : List RoomPass
-  pub was : old ≡ front ++ before ∷ back
-  pub is : new ≡ quitted ++ behind ∷ back
-  pub done : AllZip (QuitsRoom badge conn moment) front quitted
-  pub short : QuitsRoomAtMost hub badge conn moment before behind
+-- the Quit, or none
+abbrev pub QuitsRoomAtMost : Option Badge → ℕ → ℕ → RoomPass → RoomPass → Type 0
+QuitsRoomAtMost badge conn moment h k = QuitsRoom badge conn moment h k ⊎ StaysInRoom h k
+
+abbrev pub QuitsHallAtMost : ℕ → ℕ → HallPass → HallPass → Type 0
+QuitsHallAtMost conn moment h k = QuitsHall conn moment h k ⊎ StaysInHall h k
 
 pub record QuitsWith (room : RoomPass → RoomPass → Type 0) (hall : HallPass → HallPass → Type 0) (old new : Passes) : Type 0 where
   pub rooms : AllZip room old.rooms.items new.rooms.items
@@ -468,7 +460,6 @@ pub record QuitsWith (room : RoomPass → RoomPass → Type 0) (hall : HallPass 
   pub conn : new.conn ≡ old.conn
   pub badge : new.badge ≡ old.badge
 
-abbrev pub Quits : {T E : Type 0} → Hub → ℕ → Passes → Result T E → Passes → Type 0
-Quits hub moment old (Ok done) new = QuitsWith (QuitsRoom old.badge old.conn moment) (QuitsHall old.conn moment) old new
-Quits hub moment old (Err e) new =
-    ((new ≡ record old { rooms = new.rooms }) × QuitsUpTo hub old.badge old.conn moment old.rooms.items new.rooms.items) ⊎ QuitsWith (QuitsRoom old.badge old.conn moment) (QuitsHallAtMost hub old.conn moment) old new
+abbrev pub Quits : {T E : Type 0} → ℕ → Passes → Result T E → Passes → Type 0
+Quits moment old (Ok done) new = QuitsWith (QuitsRoom old.badge old.conn moment) (QuitsHall old.conn moment) old new
+Quits moment old (Err e) new = QuitsWith (QuitsRoomAtMost old.badge old.conn moment) (QuitsHallAtMost old.conn moment) old new

@@ -40,28 +40,27 @@ module _ {O C : Type 0} where
   abbrev pub Rereads : View O C → View O C → Type 0
   Rereads v w = (turns : ℕ) × ReadsOn turns v w
 
-module _ {O C U : Type 0} (answers : List C → C → U → Type 0) where
-  -- a turn with an entry, and what the entry gave
-  abbrev pub Gives : View O C → C → View O C → Type 0
-  Gives v c w = (log : List (Entry C)) × (gave : U) × Extends v log × (w ≡ turned v log (Some c)) × answers (commands log) c gave
+  -- a turn with an entry, behind turns without one, if any: tries for which memory was wanting
+  abbrev pub TurnsInTheEnd : View O C → C → View O C → Type 0
+  TurnsInTheEnd v cmd w = (u : View O C) × Rereads v u × TurnsAtLast u (Some cmd) w
 
-  -- the same after tries in vain, which met these words
-  abbrev pub GivesAtLast : View O C → C → View O C → Type 0
-  GivesAtLast v c w = (words : List ℕ) × Gives (record v { met = v.met ++ words }) c w
-
-  -- Of the view, the cursor and the entry before, the view and the cursor after, if out of memory: there was no turn, or
-  -- one without the entry; or the entry stands, what it gave is told, and its messages are still to come. So in each case the
+module _ {O C X : Type 0} where
+  -- Of the view and the cursor before, the two after, if out of memory for an entry: there was no turn, or one without it. The
   -- cursor stands where it stood.
-  abbrev pub FallsShort : {X : Type 0} → View O C → X → C → View O C → X → Type 0
-  FallsShort v x c w y = (y ≡ x) × ((w ≡ v) ⊎ Turns v None w ⊎ Gives v c w)
+  abbrev pub FallsShort : View O C → X → View O C → X → Type 0
+  FallsShort v x w y = (y ≡ x) × ((w ≡ v) ⊎ Turns v None w)
 
-  abbrev pub FallsShortAtLast : {X : Type 0} → View O C → X → C → View O C → X → Type 0
-  FallsShortAtLast v x c w y = (y ≡ x) × ((w ≡ v) ⊎ TurnsAtLast v None w ⊎ GivesAtLast v c w)
+  abbrev pub FallsShortAtLast : View O C → X → View O C → X → Type 0
+  FallsShortAtLast v x w y = (y ≡ x) × ((w ≡ v) ⊎ TurnsAtLast v None w)
 
 module _ {O C X : Type 0} (pulls : O → List C → X → List Msg → X → Type 0) where
   -- of the commands of a history, and the cursor and the messages kept before, the two after: what was pulled stands behind
   abbrev pub PullsMore : O → List C → X → List Msg → X → List Msg → Type 0
   PullsMore o cmds x kept y more = (msgs : List Msg) × pulls o cmds x msgs y × (more ≡ kept ++ msgs)
+
+  -- the same; or nothing was pulled, if memory ran out for the messages, which are still to come
+  abbrev pub PullsIfCan : O → List C → X → List Msg → X → List Msg → Type 0
+  PullsIfCan o cmds x kept y more = PullsMore o cmds x kept y more ⊎ ((y ≡ x) × (more ≡ kept))
 
   -- Of the view, the cursor and the messages kept before, how a turn without a command ended, and the three after
   abbrev pub Reads : View O C → X → List Msg → Read → View O C → X → List Msg → Type 0
@@ -79,17 +78,17 @@ module _ {O C U X : Type 0} (answers : O → List C → C → U → Type 0) (pul
   abbrev pub Takes : View O C → X → List Msg → C → Taken C U → View O C → X → List Msg → Type 0
   Takes v x kept c (Done out) w y more =
       (log : List (Entry C)) × Extends v log × (w ≡ turned v log (Some c)) × answers v.origin (commands log) c out
-      × PullsMore pulls v.origin (commands w.seen) x kept y more
+      × PullsIfCan pulls v.origin (commands w.seen) x kept y more
   Takes v x kept c (Busy word back) w y more = IsBusy v word w × (back ≡ c) × (y ≡ x) × (more ≡ kept)
   Takes v x kept c OwnLimit w y more = (length v.mine ≡ OWN_LIMIT) × (w ≡ v) × (y ≡ x) × (more ≡ kept)
   Takes v x kept c NameTaken w y more = Turns v None w × (y ≡ x) × (more ≡ kept)
-  Takes v x kept c NoMemory w y more = FallsShort (answers v.origin) v x c w y × (more ≡ kept)
+  Takes v x kept c NoMemory w y more = FallsShort v x w y × (more ≡ kept)
 
   -- The same after tries in vain. It isn't busy then; at its limit, or without memory at once, it tries nothing
   abbrev pub TakesAtLast : View O C → X → List Msg → C → Ended → View O C → X → List Msg → Type 0
-  TakesAtLast v x kept c ends.Done w y more = TurnsAtLast v (Some c) w × PullsMore pulls v.origin (commands w.seen) x kept y more
+  TakesAtLast v x kept c ends.Done w y more = TurnsAtLast v (Some c) w × PullsIfCan pulls v.origin (commands w.seen) x kept y more
   TakesAtLast v x kept c ends.NameTaken w y more = TurnsAtLast v None w × (y ≡ x) × (more ≡ kept)
-  TakesAtLast v x kept c ends.NoMemory w y more = FallsShortAtLast (answers v.origin) v x c w y × (more ≡ kept)
+  TakesAtLast v x kept c ends.NoMemory w y more = FallsShortAtLast v x w y × (more ≡ kept)
 
 -- this holds where there is no entry, since one stands that is signed as the command is
 abbrev pub IfKeptOut : {C U : Type 0} → Taken C U → Type 0 → Type 0
@@ -117,6 +116,12 @@ HallTurnAtLast h cmd t k =
     TakesAtLast HallAnswers HallPulls h.pass.1 h.cursor (h.kept.items ++ h.fresh.items) cmd t k.pass.1 k.cursor
     (k.kept.items ++ k.fresh.items)
 
+-- with a bound that is set for this turn
+abbrev pub HallTurnUpTo : HallPass → HallEntry → Ended → HallPass → Type 0
+HallTurnUpTo h cmd t k =
+    TakesAtLast HallAnswers HallPullsUpTo h.pass.1 h.cursor (h.kept.items ++ h.fresh.items) cmd t k.pass.1 k.cursor
+    (k.kept.items ++ k.fresh.items)
+
 -- up to a bound that is set for this turn
 abbrev pub HallReadUpTo : {T E : Type 0} → HallPass → Result T E → HallPass → Type 0
 HallReadUpTo h result k =
@@ -129,6 +134,11 @@ RoomTurn h cmd t k =
 abbrev pub RoomTurnAtLast : RoomPass → RoomCmd → Ended → RoomPass → Type 0
 RoomTurnAtLast h cmd t k =
     TakesAtLast Answers Pulls h.pass.1 h.cursor (h.kept.items ++ h.fresh.items) cmd t k.pass.1 k.cursor (k.kept.items ++ k.fresh.items)
+
+abbrev pub RoomTurnUpTo : RoomPass → RoomCmd → Ended → RoomPass → Type 0
+RoomTurnUpTo h cmd t k =
+    TakesAtLast Answers PullsUpTo h.pass.1 h.cursor (h.kept.items ++ h.fresh.items) cmd t k.pass.1 k.cursor
+    (k.kept.items ++ k.fresh.items)
 
 abbrev pub RoomRead : RoomPass → Read → RoomPass → Type 0
 RoomRead h t k =

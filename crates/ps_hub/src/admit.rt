@@ -15,8 +15,8 @@ use std::sync::Wait;
 
 impl Hub {
     /// Opens a connection: makes its Open in the hall by a new pass, which makes nothing else, and whose heir the connection's
-    /// pass is. What the Open tells stays in the passes until `catch_up` hands it out. `NoMemory` if out of memory; the Open
-    /// may stand then. `Taken` only where an entry stands under that number: then there is no Open.
+    /// pass is. What the Open tells stays in the passes until `catch_up` hands it out. `NoMemory` if out of memory. `Taken` only
+    /// where an entry stands under that number: then there is no Open.
     pub fn admit<R: Wait>(&self, rt: &R, conn: ConnNo, moment: Moment) -> Result<Passes, AdmitFault>
         ensures of { IfOk result (λ p. AreOf self.now p) }
         ensures taken { IfErr result (IsRefused self.now conn) }

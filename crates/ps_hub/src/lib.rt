@@ -14,6 +14,7 @@ mod order;
 pub mod out;
 pub mod pass;
 pub mod passes;
+mod pauses;
 mod quit;
 mod start;
 mod taken;

@@ -137,7 +137,7 @@ impl Hub {
     /// `NoSuchRoom` and `Busy` come as of `enter`, and then there is no entry. `Busy` also comes where the turn of the entry
     /// met an odd word, or two words that differ; the order comes back. `OwnLimit` comes exactly where the connection's pass
     /// has made `OWN_LIMIT` entries at the place. `Taken` comes only where an entry stands in the room under the number of the
-    /// connection, which its pass hasn't made, and then there is no entry. After `NoMemory` the entry stands only if memory ran out for its messages.
+    /// connection, which its pass hasn't made, and then there is no entry. After `NoMemory` there is no entry; where memory ran out only for what an entry tells, that is still to come.
     /// It waits for nobody.
     pub fn order(
         &self,

@@ -8,13 +8,14 @@ ghost use Rattle.server_places.specs.Halls.{hall_cursor, hall_signer, IsAtRestIn
 ghost use Rattle.server_places.specs.Sites.{room_signer};
 ghost use Rattle.server_places.specs.Rooms.{cursor_of};
 ghost use Rattle.ps_hub.specs.Hubs.{Hub, root_of, lock_of, site_of};
-ghost use Rattle.ps_hub.specs.Turns.{HallTurn, HallTurnAtLast, HallReadUpTo, RoomTurn, RoomTurnAtLast, RoomRead, RoomReadUpTo};
+ghost use Rattle.ps_hub.specs.Turns.{HallTurn, HallTurnAtLast, HallTurnUpTo, HallReadUpTo, RoomTurn, RoomTurnAtLast, RoomTurnUpTo};
+ghost use Rattle.ps_hub.specs.Turns.{RoomRead, RoomReadUpTo};
 ghost use Rattle.ps_hub.specs.Turns.{IsLimited, IfKeptOut, IfKeptOutAtLast};
 ghost use Rattle.ps_hub.specs.Passes.{Adds, IsHallPass, IsRoomPass, IsNewPass};
 ghost use Rattle.ps_hub.specs.Calls.{IsFresh};
 
 use crate::taken::{Ended, Read, Taken};
-use crate::turn::{read, take, try_read, try_take};
+use crate::turn::{join, read, take, try_read, try_take};
 use ps_base::msg::Msg;
 use ps_base::number::ConnNo;
 use ps_base::text::Text;
@@ -85,7 +86,7 @@ fn hand_out(
     ensures ok { IfOk result (λ v. (v.items ≡ kept.old.items ++ fresh.old.items) × (kept.new.items ≡ []) × (fresh.new.items ≡ [])) }
     ensures err { OnErr result ((kept.new.items ≡ kept.old.items) × (fresh.new.items ≡ fresh.old.items)) }
 {
-    kept.append(fresh)?;
+    join(kept, fresh)?;
     Ok(mem::replace(kept, Vec::new(alloc)))
 }
 
@@ -184,6 +185,39 @@ impl HallPass {
             &mut self.fresh,
             cmd,
         )
+    }
+
+    /// The same, and the cursor is at a bound meanwhile, so that none of what is told is pulled: who makes its last entry has no use for it,
+    /// and it would take memory.
+    pub(crate) fn turn_unread<R: Wait>(
+        &mut self,
+        rt: &R,
+        lock: &HistLock<HallPlace>,
+        cmd: HallEntry,
+    ) -> Ended
+        requires lock { self.old.pass.0 ≡ lock.now.0 }
+        requires sign { SignsOn hall_signer self.old.pass.1.said cmd }
+        requires free { self.old.cursor.until ≡ None }
+        ensures lock { self.new.pass.0 ≡ self.old.pass.0 }
+        ensures does { HallTurnUpTo self.old cmd result self.new }
+        ensures taken { IfKeptOutAtLast result (IsNameTaken hall_signer self.old.pass.1.said self.new.pass.1.seen cmd) }
+        ensures free { self.new.cursor.until ≡ None }
+        ensures of { (hub : Hub) (conn : ℕ) → IsOf hall_signer conn cmd → IsHallPass hub conn self.old → IsHallPass hub conn self.new }
+        ensures adds { Adds self.old.pass.1 self.new.pass.1 }
+        ensures at { self.new.at ≡ self.old.at }
+    {
+        self.cursor.until = Some(self.cursor.passed);
+        let ended = take(
+            rt,
+            lock,
+            &mut self.pass,
+            &mut self.cursor,
+            &mut self.kept,
+            &mut self.fresh,
+            cmd,
+        );
+        self.cursor.until = None;
+        ended
     }
 
     /// One turn without a command, after waiting for the turn: a piece of what is past the cursor, up to a bound if there is one, is
@@ -315,6 +349,39 @@ impl RoomPass {
             &mut self.fresh,
             cmd,
         )
+    }
+
+    /// The same, and the cursor is at a bound meanwhile, so that none of what is told is pulled: who makes its last entry has no use for it,
+    /// and it would take memory.
+    pub(crate) fn turn_unread<R: Wait>(
+        &mut self,
+        rt: &R,
+        lock: &HistLock<RoomPlace>,
+        cmd: RoomCmd,
+    ) -> Ended
+        requires lock { self.old.pass.0 ≡ lock.now.0 }
+        requires sign { SignsOn room_signer self.old.pass.1.said cmd }
+        requires free { self.old.cursor.until ≡ None }
+        ensures lock { self.new.pass.0 ≡ self.old.pass.0 }
+        ensures does { RoomTurnUpTo self.old cmd result self.new }
+        ensures taken { IfKeptOutAtLast result (IsNameTaken room_signer self.old.pass.1.said self.new.pass.1.seen cmd) }
+        ensures free { self.new.cursor.until ≡ None }
+        ensures of { (hub : Hub) (conn : ℕ) → IsOf room_signer conn cmd → IsRoomPass hub conn self.old → IsRoomPass hub conn self.new }
+        ensures adds { Adds self.old.pass.1 self.new.pass.1 }
+        ensures same { (self.new.at ≡ self.old.at) × (self.new.number ≡ self.old.number) × (self.new.id ≡ self.old.id) }
+    {
+        self.cursor.until = Some(self.cursor.passed);
+        let ended = take(
+            rt,
+            lock,
+            &mut self.pass,
+            &mut self.cursor,
+            &mut self.kept,
+            &mut self.fresh,
+            cmd,
+        );
+        self.cursor.until = None;
+        ended
     }
 
     /// One turn without a command, whose messages are kept. Waits for nobody.

@@ -1,27 +1,143 @@
 //! The end of a connection.
-ghost use Rattle.std.specs.Prelude.{◌≡◌, ℕ, All, IsSome, IfErr, OnOk, OnErr};
+ghost use Rattle.std.specs.Prelude.{◌≡◌, ℕ, All, None, IsSome, IfErr, OnOk, OnErr};
 ghost use Rattle.std.specs.List.{AllZip};
-ghost use Rattle.ps_hub.specs.Passes.{AreOf, IsRoomPass};
-ghost use Rattle.ps_hub.specs.Calls.{Quits, MayQuit, QuitsRoom, QuitsRoomAtMost, QuitsUpTo, QuitsHall, QuitsHallAtMost, HallOnly, IsShutOut, IsShutOutAmong, IsNotShutOut};
+ghost use Rattle.ps_hub.specs.Hubs.{Hub};
+ghost use Rattle.ps_hub.specs.Passes.{Adds, AreOf, IsHallPass, IsRoomPass};
+ghost use Rattle.ps_lines.specs.declared.command.Command.TheVariants.{Quit};
+ghost use Rattle.server_places.specs.declared.command.RoomCmd.TheVariants.{Play};
+ghost use Rattle.server_places.specs.Sites.{room_signer};
+ghost use Rattle.ps_histlock.specs.Locks.{IsNameTaken};
+ghost use Rattle.ps_hub.specs.Turns.{IfKeptOutAtLast};
+ghost use Rattle.ps_hub.specs.Turns.{Rereads, TurnsInTheEnd, RoomTurnUpTo};
+ghost use Rattle.ps_hub.specs.Calls.{room_entry, Quits, MayQuit, QuitsRoom, StaysInRoom, QuitsRoomAtMost};
+ghost use Rattle.ps_hub.specs.Calls.{QuitsHall, StaysInHall, QuitsHallAtMost, HallOnly, IsShutOut, IsShutOutAmong};
 
 use crate::hub::Hub;
 use crate::out::QuitFault;
-use crate::pass::RoomPass;
+use crate::pass::{HallPass, RoomPass};
 use crate::passes::Passes;
+use crate::pauses::Pauses;
 use crate::taken::Ended;
 use ps_base::badge::Badge;
 use ps_base::number::{ConnNo, Moment};
 use ps_hall::entry::HallEntry;
+use ps_histlock::HistLock;
 use ps_lines::command::{Command, HallCmd};
 use ps_room::entry::Entry;
 use server_places::command::RoomCmd;
+use server_places::hall_place::HallPlace;
+use server_places::room_place::RoomPlace;
+use std::alloc::{AllocError, Global};
 use std::sync::Wait;
+
+impl HallPass {
+    // The Quit, which is tried again after a pause while there is none, for want of memory or since the pass is full, and a pause is left.
+    fn quit<R: Wait>(
+        &mut self,
+        rt: &R,
+        lock: &HistLock<HallPlace>,
+        conn: ConnNo,
+        moment: Moment,
+        pauses: &mut Pauses,
+    ) -> Result<(), AllocError>
+        requires lock { self.old.pass.0 ≡ lock.now.0 }
+        requires of { (hub : Hub) × IsHallPass hub conn self.old }
+        ensures of { (hub : Hub) → IsHallPass hub conn self.old → IsHallPass hub conn self.new }
+        ensures adds { Adds self.old.pass.1 self.new.pass.1 }
+        ensures ok { OnOk result (QuitsHall conn moment self.old self.new) }
+        ensures err { OnErr result (StaysInHall self.old self.new) }
+    {
+        for _ in rt.forever() {
+            let entry = HallEntry {
+                conn,
+                moment,
+                cmd: HallCmd::Quit,
+            };
+            match self.turn_unread(rt, lock, entry) {
+                Ended::Done => return Ok(()),
+                // Not met: the connection's own Open is signed by its number, so nobody else's entry can be.
+                Ended::NameTaken => return Err(AllocError),
+                Ended::NoMemory => {}
+            }
+            if !pauses.take(rt) {
+                return Err(AllocError);
+            }
+        }
+        unreachable!()
+    }
+}
+
+impl RoomPass {
+    // One try of the Quit.
+    fn try_quit<R: Wait>(
+        &mut self,
+        rt: &R,
+        alloc: Global,
+        lock: &HistLock<RoomPlace>,
+        conn: ConnNo,
+        badge: &Badge,
+        moment: Moment,
+    ) -> Ended
+        requires lock { self.old.pass.0 ≡ lock.now.0 }
+        requires of { (hub : Hub) × IsRoomPass hub conn self.old }
+        ensures lock { self.new.pass.0 ≡ self.old.pass.0 }
+        ensures of { (hub : Hub) → IsRoomPass hub conn self.old → IsRoomPass hub conn self.new }
+        ensures same { (self.new.at ≡ self.old.at) × (self.new.number ≡ self.old.number) × (self.new.id ≡ self.old.id) }
+        ensures does { RoomTurnUpTo self.old (Play (room_entry conn badge.now moment Quit)) result self.new }
+        ensures taken { IfKeptOutAtLast result (IsNameTaken room_signer self.old.pass.1.said self.new.pass.1.seen (Play (room_entry conn badge.now moment Quit))) }
+    {
+        let badge = match badge.copy(alloc) {
+            Ok(badge) => badge,
+            Err(_) => return Ended::NoMemory,
+        };
+        let entry = Entry {
+            conn,
+            badge,
+            moment,
+            cmd: Command::Quit,
+        };
+        self.turn_unread(rt, lock, RoomCmd::Play(entry))
+    }
+
+    // The Quit, which is tried again after a pause while there is none, for want of memory or since the pass is full, and a pause is left.
+    fn quit<R: Wait>(
+        &mut self,
+        rt: &R,
+        alloc: Global,
+        lock: &HistLock<RoomPlace>,
+        conn: ConnNo,
+        badge: &Badge,
+        moment: Moment,
+        pauses: &mut Pauses,
+    ) -> Result<(), QuitFault>
+        requires lock { self.old.pass.0 ≡ lock.now.0 }
+        requires of { (hub : Hub) × IsRoomPass hub conn self.old }
+        ensures of { (hub : Hub) → IsRoomPass hub conn self.old → IsRoomPass hub conn self.new }
+        ensures same { (self.new.at ≡ self.old.at) × (self.new.number ≡ self.old.number) × (self.new.id ≡ self.old.id) }
+        ensures taken { IfErr result (IsShutOut conn self.new) }
+        ensures ok { OnOk result (TurnsInTheEnd self.old.pass.1 (Play (room_entry conn badge.now moment Quit)) self.new.pass.1) }
+        ensures err { OnErr result ((self.new.cursor ≡ self.old.cursor) × Rereads self.old.pass.1 self.new.pass.1) }
+    {
+        for _ in rt.forever() {
+            match self.try_quit(rt, alloc, lock, conn, badge, moment) {
+                Ended::Done => return Ok(()),
+                Ended::NameTaken => return Err(QuitFault::Taken),
+                Ended::NoMemory => {}
+            }
+            if !pauses.take(rt) {
+                return Err(QuitFault::NoMemory);
+            }
+        }
+        unreachable!()
+    }
+}
 
 impl Hub {
     /// Makes the entries of the end of a connection: a Quit in each room that it holds, by rising numbers, and then one in the
-    /// hall. `NoMemory` if out of memory, or a pass has made as many entries as it may; `Taken` where an entry stands in a room
-    /// under the number of the connection that its pass there hasn't made. Then the Quits before that one stand, and there is
-    /// none behind it. That one stands only if memory ran out for its messages.
+    /// hall. A Quit that fails for want of memory, or since its pass has made as many entries as it may, is tried again after a pause,
+    /// for ten seconds in all; then each that is left is tried once. Where some were not made the answer tells of the first: `Taken`
+    /// where an entry stands in that room under the number of the connection that its pass there hasn't made, `NoMemory` otherwise.
+    /// Then each place that is held has its Quit, or no entry more.
     pub fn quit<R: Wait>(
         &self,
         rt: &R,
@@ -32,16 +148,29 @@ impl Hub {
         requires may { MayQuit passes.old }
         ensures of { AreOf self.now passes.new }
         ensures taken { IfErr result (IsShutOutAmong passes.old.conn passes.new.rooms.items) }
-        ensures does { Quits self.now moment passes.old result passes.new }
+        ensures does { Quits moment passes.old result passes.new }
     {
+        let mut pauses = Pauses::new();
         let conn = passes.conn;
-        match self.quit_rooms(rt, &mut passes.rooms, conn, &passes.badge, moment) {
-            Ok(()) => self.quit_hall(rt, passes, moment),
+        let rooms = self.quit_rooms(
+            rt,
+            &mut passes.rooms,
+            conn,
+            &passes.badge,
+            moment,
+            &mut pauses,
+        );
+        let hall = self.quit_hall(rt, passes, moment, &mut pauses);
+        match rooms {
             Err(fault) => Err(fault),
+            Ok(()) => match hall {
+                Ok(()) => Ok(()),
+                Err(_) => Err(QuitFault::NoMemory),
+            },
         }
     }
 
-    // The Quits in the rooms that are held.
+    // The Quits in the rooms that are held. What one fails for is told, if no earlier one has failed.
     fn quit_rooms<R: Wait>(
         &self,
         rt: &R,
@@ -49,21 +178,21 @@ impl Hub {
         conn: ConnNo,
         badge: &Option<Badge>,
         moment: Moment,
+        pauses: &mut Pauses,
     ) -> Result<(), QuitFault>
         requires of { All (IsRoomPass self.now conn) rooms.old }
         requires may { All (λ k. IsSome k.id → IsSome badge.now) rooms.old }
         ensures of { All (IsRoomPass self.now conn) rooms.new }
         ensures taken { IfErr result (IsShutOutAmong conn rooms.new) }
         ensures ok { OnOk result (AllZip (QuitsRoom badge.now conn moment) rooms.old rooms.new) }
-        ensures err { OnErr result (QuitsUpTo self.now badge.now conn moment rooms.old rooms.new) }
+        ensures most { AllZip (QuitsRoomAtMost badge.now conn moment) rooms.old rooms.new }
     {
+        let mut done = Ok(());
         for pass_index in 0..rooms.len() {
-            match self.quit_room(rt, &mut rooms[pass_index], conn, badge, moment) {
-                Ok(()) => {}
-                Err(fault) => return Err(fault),
-            }
+            let made = self.quit_room(rt, &mut rooms[pass_index], conn, badge, moment, pauses);
+            done = done.and(made);
         }
-        Ok(())
+        done
     }
 
     // The Quit in the room of this pass, if it is held.
@@ -74,37 +203,22 @@ impl Hub {
         conn: ConnNo,
         badge: &Option<Badge>,
         moment: Moment,
+        pauses: &mut Pauses,
     ) -> Result<(), QuitFault>
         requires of { IsRoomPass self.now conn pass.old }
         requires may { IsSome pass.old.id → IsSome badge.now }
         ensures of { IsRoomPass self.now conn pass.new }
         ensures taken { IfErr result (IsShutOut conn pass.new) }
         ensures ok { OnOk result (QuitsRoom badge.now conn moment pass.old pass.new) }
-        ensures err { OnErr result (QuitsRoomAtMost self.now badge.now conn moment pass.old pass.new) }
+        ensures err { OnErr result (StaysInRoom pass.old pass.new) }
     {
         match &pass.id {
             None => return Ok(()),
             Some(_) => {}
         }
-        let badge = match badge {
-            None => unreachable!(),
-            Some(badge) => match badge.copy(self.alloc) {
-                Ok(badge) => badge,
-                Err(_) => return Err(QuitFault::NoMemory),
-            },
-        };
-        let entry = Entry {
-            conn,
-            badge,
-            moment,
-            cmd: Command::Quit,
-        };
+        let Some(badge) = badge else { unreachable!() };
         let lock = self.lock(pass.number);
-        match pass.turn(rt, lock, RoomCmd::Play(entry)) {
-            Ended::Done => Ok(()),
-            Ended::NameTaken => Err(QuitFault::Taken),
-            Ended::NoMemory => Err(QuitFault::NoMemory),
-        }
+        pass.quit(rt, self.alloc, lock, conn, badge, moment, pauses)
     }
 
     // The Quit in the hall.
@@ -113,26 +227,17 @@ impl Hub {
         rt: &R,
         passes: &mut Passes,
         moment: Moment,
-    ) -> Result<(), QuitFault>
+        pauses: &mut Pauses,
+    ) -> Result<(), AllocError>
         requires { AreOf self.now passes.old }
         ensures of { AreOf self.now passes.new }
-        ensures taken { IfErr result IsNotShutOut }
         ensures ok { OnOk result (HallOnly (QuitsHall passes.old.conn moment) passes.old passes.new) }
-        ensures err { OnErr result (HallOnly (QuitsHallAtMost self.now passes.old.conn moment) passes.old passes.new) }
+        ensures most { HallOnly (QuitsHallAtMost passes.old.conn moment) passes.old passes.new }
     {
-        let entry = HallEntry {
-            conn: passes.conn,
-            moment,
-            cmd: HallCmd::Quit,
+        let conn = passes.conn;
+        let Some(hall) = &mut passes.hall else {
+            unreachable!()
         };
-        let hall = match &mut passes.hall {
-            None => unreachable!(),
-            Some(hall) => hall,
-        };
-        match hall.turn(rt, self.hall_lock(), entry) {
-            Ended::Done => Ok(()),
-            Ended::NameTaken => unreachable!(),
-            Ended::NoMemory => Err(QuitFault::NoMemory),
-        }
+        hall.quit(rt, self.hall_lock(), conn, moment, pauses)
     }
 }

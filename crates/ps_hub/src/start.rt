@@ -5,7 +5,7 @@ ghost use Rattle.ps_base.specs.Limits.{most_battles};
 ghost use Rattle.server_places.specs.declared.command.RoomCmd.TheVariants.{Begin};
 ghost use Rattle.ps_hub.specs.Turns.{TurnsAtLast};
 ghost use Rattle.ps_hub.specs.Passes.{AreOf, IsRoomPass};
-ghost use Rattle.ps_hub.specs.Calls.{Starts, BeginsAtMost};
+ghost use Rattle.ps_hub.specs.Calls.{Starts, BeginsNothing};
 
 use crate::hub::Hub;
 use crate::pass::RoomPass;
@@ -18,8 +18,7 @@ use std::sync::Wait;
 
 impl Hub {
     /// Begins a battle at the place of its number, by the connection's pass of it, which is kept or made. `AllocError` if
-    /// out of memory; the Begin then stands only if memory ran out for the messages. The same is answered where the pass
-    /// has made as many entries as it may, and then there is no Begin.
+    /// out of memory, or the pass has made as many entries as it may; then there is no Begin.
     pub fn start<R: Wait>(
         &self,
         rt: &R,
@@ -46,7 +45,7 @@ impl Hub {
         requires { (conn : ℕ) × IsRoomPass self.now conn pass.old }
         ensures of { (conn : ℕ) → IsRoomPass self.now conn pass.old → IsRoomPass self.now conn pass.new }
         ensures ok { OnOk result (TurnsAtLast pass.old.pass.1 (Some (Begin start)) pass.new.pass.1) }
-        ensures err { OnErr result (BeginsAtMost self.now start pass.old pass.new) }
+        ensures err { OnErr result (BeginsNothing pass.old pass.new) }
         ensures same { (pass.new.at ≡ pass.old.at) × (pass.new.number ≡ pass.old.number) × (pass.new.id ≡ pass.old.id) }
     {
         let lock = self.lock(pass.number);

@@ -3,7 +3,7 @@
 /// What a turn with a command gave.
 #[derive(Drop)]
 pub(crate) enum Taken<C, U> {
-    /// The turn was taken, and the entry gave this.
+    /// The turn was taken: the entry stands, and gave this. If memory ran out for its messages, they are still to come.
     Done { out: U },
     /// Somebody else has the turn. The command comes back.
     Busy { word: u64, cmd: C },
@@ -11,18 +11,18 @@ pub(crate) enum Taken<C, U> {
     OwnLimit,
     /// An entry of somebody else is signed as the command is.
     NameTaken,
-    /// Out of memory. The entry stands only if memory ran out for its messages.
+    /// Out of memory. There is no entry.
     NoMemory,
 }
 
 /// How a turn with a command ended that was waited for. Nothing comes back, so who asks has nothing to let go.
 #[derive(Clone, Copy)]
 pub(crate) enum Ended {
-    /// The turn was taken.
+    /// The turn was taken: the entry stands. If memory ran out for its messages, they are still to come.
     Done,
     /// An entry of somebody else is signed as the command is.
     NameTaken,
-    /// Out of memory, or the pass has made as many entries as it may. The entry stands only if memory ran out for its messages.
+    /// Out of memory, or the pass has made as many entries as it may. There is no entry.
     NoMemory,
 }
 

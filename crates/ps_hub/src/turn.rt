@@ -1,7 +1,7 @@
 //! The turns of a pass at a lock, whatever stands behind it: a connection has the same of the hall and of a room.
 //!
 //! A turn's messages stand in `fresh` then, behind those that are kept, for which `kept` makes room before.
-ghost use Rattle.std.specs.Prelude.{◌≡◌, ◌++◌, length};
+ghost use Rattle.std.specs.Prelude.{◌≡◌, ◌++◌, [], length, OnOk, OnErr};
 ghost use Rattle.ps_histlock.specs.Locks.{SignsOn, IsNameTaken, OwnSigns};
 ghost use Rattle.ps_histlock.specs.Views.{IsAtRest};
 ghost use Rattle.ps_histlock.specs.declared.lock.TheConstants.{OWN_LIMIT};
@@ -11,7 +11,20 @@ use crate::taken::{Ended, Read, Taken};
 use ps_base::msg::Msg;
 use ps_histlock::{HistLock, Kept, Pass, TurnOf};
 use std::alloc::AllocError;
+use std::mem;
 use std::sync::Wait;
+
+/// Puts the messages of the last turn behind those that are kept. Takes no memory if none are.
+pub(crate) fn join(kept: &mut Vec<Msg>, fresh: &mut Vec<Msg>) -> Result<(), AllocError>
+    ensures ok { OnOk result ((kept.new.items ≡ kept.old.items ++ fresh.old.items) × (fresh.new.items ≡ [])) }
+    ensures err { OnErr result ((kept.new.items ≡ kept.old.items) × (fresh.new.items ≡ fresh.old.items)) }
+{
+    if kept.is_empty() {
+        mem::swap(kept, fresh);
+        return Ok(());
+    }
+    kept.append(fresh)
+}
 
 /// One turn with a command. Waits for nobody.
 pub(crate) fn try_take<U: Drop, K: Kept<Msg = Msg, Out = U>>(
@@ -32,7 +45,7 @@ pub(crate) fn try_take<U: Drop, K: Kept<Msg = Msg, Out = U>>(
     ensures rest { IsAtRest K.origin K.stands pass.old.1 → IsAtRest K.origin K.stands pass.new.1 }
     ensures own { OwnSigns K.signer pass.old.1 pass.old.1.known → OwnSigns K.signer pass.new.1 pass.new.1.known }
 {
-    if kept.append(fresh).is_err() {
+    if join(kept, fresh).is_err() {
         return Taken::NoMemory;
     }
     match lock.try_turn(pass, cursor, Some(cmd)) {
@@ -43,7 +56,10 @@ pub(crate) fn try_take<U: Drop, K: Kept<Msg = Msg, Out = U>>(
                 Taken::Done { out }
             }
         },
-        TurnOf::Late { out: _ } => Taken::NoMemory,
+        TurnOf::Late { out } => match out {
+            None => unreachable!(),
+            Some(out) => Taken::Done { out },
+        },
         TurnOf::Busy { word, cmd } => match cmd {
             None => unreachable!(),
             Some(cmd) => Taken::Busy { word, cmd },
@@ -73,7 +89,7 @@ pub(crate) fn take<R: Wait, U: Drop, K: Kept<Msg = Msg, Out = U>>(
     ensures rest { IsAtRest K.origin K.stands pass.old.1 → IsAtRest K.origin K.stands pass.new.1 }
     ensures own { OwnSigns K.signer pass.old.1 pass.old.1.known → OwnSigns K.signer pass.new.1 pass.new.1.known }
 {
-    if kept.append(fresh).is_err() {
+    if join(kept, fresh).is_err() {
         return Ended::NoMemory;
     }
     match lock.turn(rt, pass, cursor, Some(cmd)) {
@@ -81,7 +97,7 @@ pub(crate) fn take<R: Wait, U: Drop, K: Kept<Msg = Msg, Out = U>>(
             *fresh = msgs;
             Ended::Done
         }
-        TurnOf::Late { out: _ } => Ended::NoMemory,
+        TurnOf::Late { out: _ } => Ended::Done,
         TurnOf::Busy { word: _, cmd: _ } => unreachable!(),
         TurnOf::OwnLimit { cmd: _ } => Ended::NoMemory,
         TurnOf::Taken { cmd: _ } => Ended::NameTaken,
@@ -104,7 +120,7 @@ pub(crate) fn try_read<U: Drop, K: Kept<Msg = Msg, Out = U>>(
     ensures rest { IsAtRest K.origin K.stands pass.old.1 → IsAtRest K.origin K.stands pass.new.1 }
     ensures own { OwnSigns K.signer pass.old.1 pass.old.1.known → OwnSigns K.signer pass.new.1 pass.new.1.known }
 {
-    if kept.append(fresh).is_err() {
+    if join(kept, fresh).is_err() {
         return Read::NoMemory;
     }
     match lock.try_turn(pass, cursor, None) {
@@ -136,7 +152,7 @@ pub(crate) fn read<R: Wait, U: Drop, K: Kept<Msg = Msg, Out = U>>(
     ensures rest { IsAtRest K.origin K.stands pass.old.1 → IsAtRest K.origin K.stands pass.new.1 }
     ensures own { OwnSigns K.signer pass.old.1 pass.old.1.known → OwnSigns K.signer pass.new.1 pass.new.1.known }
 {
-    kept.append(fresh)?;
+    join(kept, fresh)?;
     match lock.turn(rt, pass, cursor, None) {
         TurnOf::Done { out: _, msgs } => {
             *fresh = msgs;

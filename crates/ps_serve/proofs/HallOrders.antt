@@ -19,10 +19,9 @@ use Rattle.ps_session.specs.Routes.{taken}
 use Rattle.ps_hub.specs.Hubs.{Hub, site_of}
 use Rattle.ps_hub.specs.Passes.{AreOf, IsAsBefore}
 use Rattle.ps_hub.specs.Turns.{TurnsAtLast}
-use Rattle.ps_hub.specs.Calls.{hall_entry, badge_after, BeginsAt, BeginsAtMost}
+use Rattle.ps_hub.specs.Calls.{hall_entry, badge_after, BeginsAt, BeginsNothing}
 use Rattle.ps_hub.specs.declared.pass.RoomPass.{RoomPass}
 use Rattle.ps_hub.specs.declared.passes.Passes.{Passes}
-use Rattle.ps_hub.proofs.ShortLemmas.{short_turns_at_last}
 use Rattle.ps_serve.specs.Acts.{Act, heard, in_hall, with_given, room_cmds, hall_entries, since}
 use Rattle.ps_serve.specs.Sendings.{Sending}
 use Rattle.ps_serve.specs.Sittings.{AreApart, IsBegun, Sits, PlaceLeft, IsUpToDate, IsCaughtUp}
@@ -221,14 +220,11 @@ module _ (hub : Hub) (conn open_at : ℕ) (acts : List Act) (ss : List Sending) 
       gave = (inl d.gave, refl);
     }
 
-    pub begins_break : BeginsAt hub start (BeginsAtMost hub start) mid new → Breaks hub conn open_at acts ss r old s (acts ++ heard bytes moment (in_hall cmd badge (Some start)) ∷ []) new
+    pub begins_break : BeginsAt hub start BeginsNothing mid new → Breaks hub conn open_at acts ss r old s (acts ++ heard bytes moment (in_hall cmd badge (Some start)) ∷ []) new
     begins_break b = ⊎_elim
         (λ (e : b.behind.pass.1 ≡ b.before.pass.1). begun_breaks b [] (inl refl) record { place = b.but.same_place; at = b.at; moves = stays b.before.pass.1 b.behind.pass.1 e })
-        (λ (rest : TurnsAtLast b.before.pass.1 None b.behind.pass.1 ⊎ TurnsAtLast b.before.pass.1 (Some (Begin start)) b.behind.pass.1). ⊎_elim
         (λ (t : TurnsAtLast b.before.pass.1 None b.behind.pass.1). begun_breaks b [] (inl refl) record { place = b.but.same_place; at = b.at; moves = last_turns_move b.before.pass.1 b.behind.pass.1 t })
-        (λ (t : TurnsAtLast b.before.pass.1 (Some (Begin start)) b.behind.pass.1). begun_breaks b (Begin start ∷ []) (inr refl) record { place = b.but.same_place; at = b.at; moves = last_enters_move b.before.pass.1 (Begin start) b.behind.pass.1 t })
-        rest)
-        (short_turns_at_last (Answers (site_of hub b.before.number)) b.before.pass.1 b.before.cursor (Begin start) b.behind.pass.1 b.behind.cursor b.done)
+        b.done.1
 
     -- there was none at all
     pub begins_none : IsAsBefore mid new → Breaks hub conn open_at acts ss r old s (acts ++ heard bytes moment (in_hall cmd badge (Some start)) ∷ []) new

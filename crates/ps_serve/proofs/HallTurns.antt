@@ -25,7 +25,6 @@ use Rattle.ps_hub.specs.declared.out.HubFault.TheVariants as hub_faults
 use Rattle.ps_hub.specs.declared.out.HubOut.{HubOut}
 use Rattle.ps_hub.specs.declared.pass.HallPass.{HallPass}
 use Rattle.ps_hub.specs.declared.passes.Passes.{Passes}
-use Rattle.ps_hub.proofs.ShortLemmas.{short_turns}
 use Rattle.ps_serve.specs.declared.obey.Unmade.{Unmade}
 use Rattle.ps_serve.specs.declared.obey.Unmade.TheVariants as unmade
 use Rattle.ps_serve.specs.Acts.{Act, hall_of, hall_entries}
@@ -107,15 +106,11 @@ module _ (hub : Hub) (conn open_at : ℕ) (acts : List Act) (ss : List Sending) 
         is = g.2;
       }
 
-  no_memory : (cmd : HallCmd) (moment : ℕ) (mid new : Passes) → new.badge ≡ mid.badge → HallGoes (λ (h k : HallPass). FallsShort (HallAnswers (root_of hub)) h.pass.1 h.cursor (hall_entry mid.conn moment cmd) k.pass.1 k.cursor) mid new → IsInHall mid → HallBroken cmd moment new
+  no_memory : (cmd : HallCmd) (moment : ℕ) (mid new : Passes) → new.badge ≡ mid.badge → HallGoes (λ (h k : HallPass). FallsShort h.pass.1 h.cursor k.pass.1 k.cursor) mid new → IsInHall mid → HallBroken cmd moment new
   no_memory cmd moment mid new badge goes b = ⊎_elim
       (λ (e : goes.behind.pass.1 ≡ goes.before.pass.1). broken_by cmd moment mid new [] (inl refl) goes badge (stays goes.before.pass.1 goes.behind.pass.1 e) b)
-      (λ (rest : Turns goes.before.pass.1 None goes.behind.pass.1 ⊎ Turns goes.before.pass.1 (Some (hall_entry mid.conn moment cmd)) goes.behind.pass.1). ⊎_elim
       (λ (t : Turns goes.before.pass.1 None goes.behind.pass.1). broken_by cmd moment mid new [] (inl refl) goes badge (turns_move goes.before.pass.1 goes.behind.pass.1 t) b)
-      (λ (t : Turns goes.before.pass.1 (Some (hall_entry mid.conn moment cmd)) goes.behind.pass.1). broken_by cmd moment mid new (hall_entry conn moment cmd ∷ []) (inr refl) goes badge
-      (enters_move goes.before.pass.1 (hall_entry conn moment cmd) goes.behind.pass.1 (subst (λ (c : ℕ). Turns goes.before.pass.1 (Some (hall_entry c moment cmd)) goes.behind.pass.1) b.conn_is t)) b)
-      rest)
-      (short_turns (HallAnswers (root_of hub)) goes.before.pass.1 goes.before.cursor (hall_entry mid.conn moment cmd) goes.behind.pass.1 goes.behind.cursor goes.done)
+      goes.done.1
 
   own_limit : (cmd : HallCmd) (moment : ℕ) (mid new : Passes) → new.badge ≡ mid.badge → HallGoes (λ (h k : HallPass). (length h.pass.1.mine ≡ OWN_LIMIT) × (k.pass ≡ h.pass)) mid new → IsInHall mid → HallBroken cmd moment new
   own_limit cmd moment mid new badge goes b = broken_by cmd moment mid new [] (inl refl) goes badge (stays goes.before.pass.1 goes.behind.pass.1 (ap (λ (p : _ × _). p.1) goes.done.1)) b

@@ -1,14 +1,14 @@
 -- What a turn leaves of a pass, for a session.
-use Rattle.std.proofs.Common.{◌≡◌, ◌≢◌, ℕ, ◌+◌, ◌%◌, List, [], ◌∷◌, ◌++◌, refl, sym, ap, ◌∙◌, subst, ⊎_elim, append-nil, Some, None}
+use Rattle.std.proofs.Common.{◌≡◌, ◌≢◌, ℕ, zero, suc, ◌+◌, ◌%◌, List, [], ◌∷◌, ◌++◌, refl, sym, ap, ◌∙◌, subst, ⊎_elim, append-nil, Some, None}
 use mathlib.Core.List.{IsPrefix}
 use Rattle.ps_histlock.specs.declared.view.Entry.{Entry}
 use Rattle.ps_histlock.specs.declared.view.View.{View}
 use Rattle.ps_histlock.specs.Histories.{commands, entry}
 use Rattle.ps_histlock.specs.Views.{after_meeting, Extends}
 use Rattle.ps_histlock.specs.Turns.{turned, IsBusy}
-use Rattle.ps_histlock.proofs.Lists.{prefix_self, prefix_more}
+use Rattle.ps_histlock.proofs.Lists.{prefix_self, prefix_more, prefix_trans}
 use Rattle.ps_histlock.proofs.TurnLemmas.{commands_more}
-use Rattle.ps_hub.specs.Turns.{Turns, TurnsAtLast}
+use Rattle.ps_hub.specs.Turns.{Turns, TurnsAtLast, ReadsOn, Rereads, TurnsInTheEnd}
 
 module _ {O C : Type 0} where
   -- It forgets nothing, and these commands more are its own.
@@ -59,6 +59,26 @@ module _ {O C : Type 0} where
 
   pub last_enters_move : (v : View O C) (c : C) (w : View O C) → TurnsAtLast v (Some c) w → Moves v (c ∷ []) w
   last_enters_move v c w t = met_moves v t.0 (c ∷ []) w (enters_move (record v { met = v.met ++ t.0 }) c w t.1)
+
+  -- ---- turns one behind the other
+
+  pub moves_then : (v u : View O C) (more : List C) (w : View O C) → Moves v [] u → Moves u more w → Moves v more w
+  moves_then v u more w a b = record {
+    number = b.number ∙ a.number;
+    looks = b.looks ∙ a.looks;
+    seen = prefix_trans v.seen u.seen w.seen a.seen b.seen;
+    mine = b.mine ∙ ap (λ (l : List C). l ++ more) (a.mine ∙ append-nil (commands v.mine));
+  }
+
+  reads_on_move : (turns : ℕ) (v w : View O C) → ReadsOn turns v w → Moves v [] w
+  reads_on_move zero v w same = stays v w same
+  reads_on_move (suc turns) v w r = moves_then v r.0 [] w (reads_on_move turns v r.0 r.1) (last_turns_move r.0 w r.2)
+
+  pub rereads_move : (v w : View O C) → Rereads v w → Moves v [] w
+  rereads_move v w r = reads_on_move r.0 v w r.1
+
+  pub in_the_end_moves : (v : View O C) (c : C) (w : View O C) → TurnsInTheEnd v c w → Moves v (c ∷ []) w
+  in_the_end_moves v c w t = moves_then v t.0 (c ∷ []) w (rereads_move v t.0 t.1) (last_enters_move t.0 c w t.2)
 
   -- ---- the count of turns
 

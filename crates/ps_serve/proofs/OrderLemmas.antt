@@ -119,7 +119,7 @@ taken_short hub (Room id cmd) moment old new (inr t) =
           held_on = goes.held_on;
           at = goes.at;
           but = goes.but;
-          done = (goes.done.1, inr (inl goes.done.0));
+          done = (goes.done.1, inr goes.done.0);
         },
       ),
     )

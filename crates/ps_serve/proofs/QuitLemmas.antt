@@ -20,10 +20,10 @@ use Rattle.server_places.specs.Halls.{HallShows}
 use Rattle.ps_hub.specs.Hubs.{Hub, root_of, site_of}
 use Rattle.ps_hub.specs.Names.{Names}
 use Rattle.ps_hub.specs.Passes.{IsHallPass, IsRoomPass}
-use Rattle.ps_hub.specs.Calls.{hall_entry, room_entry, QuitsHall, QuitsBy, QuitsRoom}
+use Rattle.ps_hub.specs.Calls.{hall_entry, room_entry, QuitsHall, QuitsHallAtMost, QuitsBy, QuitsRoom, QuitsRoomAtMost}
 use Rattle.ps_hub.specs.declared.pass.HallPass.{HallPass}
 use Rattle.ps_hub.specs.declared.pass.RoomPass.{RoomPass}
-use Rattle.ps_hub.proofs.CallLemmas.{some_value, RoomEndsAtMost, HallEndsAtMost}
+use Rattle.ps_hub.proofs.CallLemmas.{some_value}
 use Rattle.ps_serve.specs.declared.closed.End.{End}
 use Rattle.ps_serve.specs.Acts.{hall_entries, room_cmds, since}
 use Rattle.ps_serve.specs.Sendings.{Sending}
@@ -32,7 +32,7 @@ use Rattle.ps_serve.specs.Rests.{HallRests, RoomRests}
 use Rattle.ps_serve.proofs.Prefixes.{prefix_commands, take_prefix, looks_grow, sent_grows}
 use Rattle.ps_serve.proofs.Halls.{IsHallKin}
 use Rattle.ps_serve.proofs.Goings.{Goes, stays as is_still}
-use Rattle.ps_serve.proofs.Moves.{Moves, stays, last_turns_move, last_enters_move}
+use Rattle.ps_serve.proofs.Moves.{Moves, rereads_move, in_the_end_moves}
 use Rattle.ps_serve.proofs.RestLemmas.{asked_so}
 
 -- ---- what was sent and looked at stays
@@ -66,16 +66,15 @@ pub record HallWent (h k : HallPass) (more : List HallEntry) : Type 0 where
   pub at : k.at ≡ h.at
 
 pub quits_hall : (conn moment : ℕ) (h k : HallPass) → QuitsHall conn moment h k → HallWent h k (hall_quit conn moment)
-quits_hall conn moment h k q = record { went = last_enters_move h.pass.1 (hall_entry conn moment hall_commands.Quit) k.pass.1 q.0; at = q.1 }
+quits_hall conn moment h k q = record { went = in_the_end_moves h.pass.1 (hall_entry conn moment hall_commands.Quit) k.pass.1 q.0; at = q.1 }
 
 -- with the Quit, or without
 abbrev pub HallWentAtMost : ℕ → ℕ → HallPass → HallPass → Type 0
 HallWentAtMost conn moment h k = HallWent h k [] ⊎ HallWent h k (hall_quit conn moment)
 
-pub quits_hall_at_most : (conn moment : ℕ) (h k : HallPass) → HallEndsAtMost conn moment h k → HallWentAtMost conn moment h k
+pub quits_hall_at_most : (conn moment : ℕ) (h k : HallPass) → QuitsHallAtMost conn moment h k → HallWentAtMost conn moment h k
 quits_hall_at_most conn moment h k (inl q) = inr (quits_hall conn moment h k q)
-quits_hall_at_most conn moment h k (inr (at, inl is)) = inl (record { went = stays h.pass.1 k.pass.1 is; at = at })
-quits_hall_at_most conn moment h k (inr (at, inr t)) = inl (record { went = last_turns_move h.pass.1 k.pass.1 t; at = at })
+quits_hall_at_most conn moment h k (inr (at, cursor, read)) = inl (record { went = rereads_move h.pass.1 k.pass.1 read; at = at })
 
 pub hall_grew : (h k : HallPass) (more : List HallEntry) → HallWent h k more → IsHallKin h k
 hall_grew h k more w = record { number = w.went.number; seen = w.went.seen }
@@ -220,7 +219,7 @@ quit_went b s hub conn badge kept id t h k held is w le r =
 by_quit : (id : Option (List ℕ)) (b s : Bool) (hub : Hub) (conn : ℕ) (badge : Option Badge) (t : Account) (h k : RoomPass) → h.id ≡ id → QuitsBy id badge conn t.left h k → h.at ≤ length h.pass.1.seen → RoomRests b s hub conn t h → RoomQuit b s hub conn badge t h k
 by_quit None b s hub conn badge t h k free q le r = subst (λ (x : RoomPass). RoomQuit b s hub conn badge t h x) (sym q) (quit_nothing b s hub conn badge t h free r)
 by_quit (Some id) b s hub conn badge t h k held q le r =
-    quit_went b s hub conn badge q.0 id t h k held q.1 (record { went = last_enters_move h.pass.1 (Play (room_entry conn q.0 t.left room_commands.Quit)) k.pass.1 q.2; at = q.3; place = q.4; id = q.5 }) le r
+    quit_went b s hub conn badge q.0 id t h k held q.1 (record { went = in_the_end_moves h.pass.1 (Play (room_entry conn q.0 t.left room_commands.Quit)) k.pass.1 q.2; at = q.3; place = q.4; id = q.5 }) le r
 
 pub quits_room : (b s : Bool) (hub : Hub) (conn : ℕ) (badge : Option Badge) (t : Account) (h k : RoomPass) → QuitsRoom badge conn t.left h k → h.at ≤ length h.pass.1.seen → RoomRests b s hub conn t h → RoomQuit b s hub conn badge t h k
 quits_room b s hub conn badge t h k q le r = by_quit h.id b s hub conn badge t h k refl q le r
@@ -241,10 +240,9 @@ quit_missing b hub conn badge t h k w le named r =
       more = subst (λ (l : List RoomCmd). IsPrefix (commands h.pass.1.mine) l) (sym now) (prefix_self (commands h.pass.1.mine));
     }
 
-pub quits_room_at_most : (b : Bool) (hub : Hub) (conn : ℕ) (badge : Option Badge) (t : Account) (h k : RoomPass) → RoomEndsAtMost badge conn t.left h k → h.at ≤ length h.pass.1.seen → (IsSome h.id → IsSome badge) → RoomRests b true hub conn t h → RoomQuit b true hub conn badge t h k
+pub quits_room_at_most : (b : Bool) (hub : Hub) (conn : ℕ) (badge : Option Badge) (t : Account) (h k : RoomPass) → QuitsRoomAtMost badge conn t.left h k → h.at ≤ length h.pass.1.seen → (IsSome h.id → IsSome badge) → RoomRests b true hub conn t h → RoomQuit b true hub conn badge t h k
 quits_room_at_most b hub conn badge t h k (inl q) le named r = quits_room b true hub conn badge t h k q le r
-quits_room_at_most b hub conn badge t h k (inr (place, id, at, inl is)) le named r = quit_missing b hub conn badge t h k (record { went = stays h.pass.1 k.pass.1 is; at = at; place = place; id = id }) le named r
-quits_room_at_most b hub conn badge t h k (inr (place, id, at, inr read)) le named r = quit_missing b hub conn badge t h k (record { went = last_turns_move h.pass.1 k.pass.1 read; at = at; place = place; id = id }) le named r
+quits_room_at_most b hub conn badge t h k (inr (is, place, id, at, cursor, read)) le named r = quit_missing b hub conn badge t h k (record { went = rereads_move h.pass.1 k.pass.1 read; at = at; place = place; id = id }) le named r
 
 -- ---- rows
 

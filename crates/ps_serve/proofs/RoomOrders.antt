@@ -31,7 +31,6 @@ use Rattle.ps_hub.specs.declared.pass.HallPass.{HallPass}
 use Rattle.ps_hub.specs.declared.pass.RoomPass.{RoomPass}
 use Rattle.ps_hub.specs.declared.passes.Passes.{Passes}
 use Rattle.ps_hub.proofs.NameLemmas.{names_none as no_name}
-use Rattle.ps_hub.proofs.ShortLemmas.{short_turns}
 use Rattle.ps_room.specs.Openings.{first_battle}
 use Rattle.ps_serve.specs.Acts.{Act, heard, in_room, nowhere, after_act, IsAct, hall_of, hall_entries, room_of, room_cmds, since, begun_by}
 use Rattle.ps_serve.specs.Sendings.{Sending}
@@ -409,14 +408,8 @@ module _ (hub : Hub) (conn open_at : ℕ) (acts : List Act) (ss : List Sending) 
   pub no_memory_breaks : (bytes : List ℕ) (moment : ℕ) (id : List ℕ) (cmd : Command) (badge : Badge) (here new : Passes) → old.badge ≡ Some badge → AreOf hub new → AtRoom id here → RoomFails hub id cmd moment here hub_faults.NoMemory new → RoomBreaks bytes moment id cmd badge new
   no_memory_breaks bytes moment id cmd badge here new has are b (other, kept, g) = ⊎_elim
       (λ (e : g.behind.pass.1 ≡ g.before.pass.1). at [] (inl refl) (stays g.before.pass.1 g.behind.pass.1 e))
-      (λ (rest : Turns g.before.pass.1 None g.behind.pass.1 ⊎ Turns g.before.pass.1 (Some (Play (room_entry here.conn other moment cmd))) g.behind.pass.1). ⊎_elim
       (λ (t : Turns g.before.pass.1 None g.behind.pass.1). at [] (inl refl) (turns_move g.before.pass.1 g.behind.pass.1 t))
-      (λ (t : Turns g.before.pass.1 (Some (Play (room_entry here.conn other moment cmd))) g.behind.pass.1).
-      let same : other ≡ badge = one_badge other badge (sym kept ∙ b.badge ∙ has) in
-      let is : Play (room_entry here.conn other moment cmd) ≡ Play (room_entry conn badge moment cmd) = ap (λ (c : ℕ). Play (room_entry c other moment cmd)) b.conn_is ∙ ap (λ (x : Badge). Play (room_entry conn x moment cmd)) same in
-      at (Play (room_entry conn badge moment cmd) ∷ []) (inr refl) (enters_move g.before.pass.1 (Play (room_entry conn badge moment cmd)) g.behind.pass.1 (subst (λ (c : RoomCmd). Turns g.before.pass.1 (Some c) g.behind.pass.1) is t)))
-      rest)
-      (short_turns (Answers (site_of hub g.before.number)) g.before.pass.1 g.before.cursor (Play (room_entry here.conn other moment cmd)) g.behind.pass.1 g.behind.cursor g.done)
+      g.done.1
     where
       at : (more : List RoomCmd) → (more ≡ []) ⊎ (more ≡ Play (room_entry conn badge moment cmd) ∷ []) → Moves g.before.pass.1 more g.behind.pass.1 → RoomBreaks bytes moment id cmd badge new
       at more part mv = record { number = g.before.number; breaks = goes_breaks bytes moment id cmd badge here new (subst IsSome (sym has) refl) are b g more part mv }

@@ -17,11 +17,10 @@ use Rattle.server_places.specs.Rooms.{Shows}
 use Rattle.server_places.specs.Halls.{HallShows}
 use Rattle.ps_hub.specs.Names.{Names}
 use Rattle.ps_hub.specs.Passes.{AreOf, IsRoomPass}
-use Rattle.ps_hub.specs.Calls.{QuitsHall, QuitsRoom, QuitsWith, Quits}
+use Rattle.ps_hub.specs.Calls.{QuitsHall, QuitsRoom, QuitsRoomAtMost, QuitsHallAtMost, QuitsWith}
 use Rattle.ps_hub.specs.declared.pass.HallPass.{HallPass}
 use Rattle.ps_hub.specs.declared.pass.RoomPass.{RoomPass}
 use Rattle.ps_hub.specs.declared.passes.Passes.{Passes}
-use Rattle.ps_hub.proofs.CallLemmas.{RoomEndsAtMost, HallEndsAtMost, quits_each}
 use Rattle.ps_hub.proofs.PassListLemmas.{hall_of}
 use Rattle.ps_serve.specs.Names.{LooksFreshly}
 use Rattle.ps_serve.specs.declared.closed.End.{End}
@@ -380,11 +379,11 @@ quitted_ok end hub conn t old new talk0 talk counts0 counts hours0 hours1 r are 
     }
 
 pub quitted_short : (hub : Hub) (conn : ℕ) (t : Account) (old new : Passes) (talk0 talk : Option Talk) (counts0 counts : LinkCounts) (hours0 hours1 : Hours) → (r : Rests ends.NoMemory hub conn t old talk0 talk counts0 counts hours0 hours1) → AreOf hub new
-    → QuitsWith (RoomEndsAtMost old.badge conn t.left) (HallEndsAtMost conn t.left) old new → Quitted true true hub conn t old new r.hall_pass
+    → QuitsWith (QuitsRoomAtMost old.badge conn t.left) (QuitsHallAtMost conn t.left) old new → Quitted true true hub conn t old new r.hall_pass
 quitted_short hub conn t old new talk0 talk counts0 counts hours0 hours1 r are q =
     let h = r.hall_pass in
     let same : q.before ≡ h = same_hall old q.before h q.was r.hall in
-    let went = quits_hall_at_most conn t.left h q.behind (subst (λ (x : HallPass). HallEndsAtMost conn t.left x q.behind) same q.done) in
+    let went = quits_hall_at_most conn t.left h q.behind (subst (λ (x : HallPass). QuitsHallAtMost conn t.left x q.behind) same q.done) in
     let within = hall_within hub old.conn h (hall_of hub old h r.are r.hall) in
     let quit = hall_quit conn t.left in
     record {
@@ -396,7 +395,7 @@ quitted_short hub conn t old new talk0 talk counts0 counts hours0 hours1 r are q
       keeps = ⊎_elim (λ (w : HallWent h q.behind []). hall_keeps true true hub conn t h q.behind [] w within r.hall_rests) (λ (w : HallWent h q.behind quit). hall_keeps true true hub conn t h q.behind quit w within r.hall_rests) went;
       made = hall_made_at_most conn t h q.behind went r.hall_rests.entries;
       rooms = subst (λ (b : Option Badge). AllZip (RoomQuit true true hub conn b t) old.rooms.items new.rooms.items) (sym q.badge)
-          (zip_more (RoomEndsAtMost old.badge conn t.left) (RoomQuit true true hub conn old.badge t) (Before true true hub conn t old.badge)
+          (zip_more (QuitsRoomAtMost old.badge conn t.left) (RoomQuit true true hub conn old.badge t) (Before true true hub conn t old.badge)
           (λ x k p d. quits_room_at_most true hub conn old.badge t x k d p.1 p.2 p.0) old.rooms.items new.rooms.items (before_all ends.NoMemory hub conn t old talk0 talk counts0 counts hours0 hours1 r) q.rooms);
       badge = q.badge;
     }
@@ -415,10 +414,10 @@ serves_ok end hub conn open_at left old new talk0 talk counts0 counts start hour
     )
 
 pub serves_short : (end : End) (hub : Hub) (conn open_at left : ℕ) (old new : Passes) (talk0 talk : Option Talk) (counts0 counts : LinkCounts) (start hours0 hours1 hours2 : Hours) → ComesToRest end hub conn open_at left old talk0 talk counts0 counts hours0 hours1 → AreOf hub new
-    → Quits {T = Unit {0}} {E = Unit {0}} hub left old (Err tt) new → IsNow start open_at → hours0 ≡ after_now start → IsNow hours1 left → hours2 ≡ after_now hours1 → (t : Account) × Served ends.NoMemory hub conn t new talk0 talk counts0 counts start hours2
+    → QuitsWith (QuitsRoomAtMost old.badge old.conn left) (QuitsHallAtMost old.conn left) old new → IsNow start open_at → hours0 ≡ after_now start → IsNow hours1 left → hours2 ≡ after_now hours1 → (t : Account) × Served ends.NoMemory hub conn t new talk0 talk counts0 counts start hours2
 serves_short end hub conn open_at left old new talk0 talk counts0 counts start hours0 hours1 hours2 (t, o, l, r) are q first begun_at last ended =
-    let own = subst (λ (n : ℕ). QuitsWith (RoomEndsAtMost old.badge n left) (HallEndsAtMost n left) old new) r.conn_is (quits_each {T = Unit {0}} {E = Unit {0}} hub left old new (Err tt) r.are refl q) in
-    let quits = subst (λ (m : ℕ). QuitsWith (RoomEndsAtMost old.badge conn m) (HallEndsAtMost conn m) old new) (sym l) own in
+    let own = subst (λ (n : ℕ). QuitsWith (QuitsRoomAtMost old.badge n left) (QuitsHallAtMost n left) old new) r.conn_is q in
+    let quits = subst (λ (m : ℕ). QuitsWith (QuitsRoomAtMost old.badge conn m) (QuitsHallAtMost conn m) old new) (sym l) own in
     let weak = rests_weak end hub conn t old talk0 talk counts0 counts hours0 hours1 r in (
       t,
       served ends.NoMemory hub conn t old new talk0 talk counts0 counts start hours0 hours1 hours2 weak (quitted_short hub conn t old new talk0 talk counts0 counts hours0 hours1 weak are quits)

@@ -17,7 +17,7 @@ use Rattle.ps_session.specs.Sessions.{Record, is_full, counted}
 use Rattle.ps_session.specs.Routes.{taken, place_of, after_no_room}
 use Rattle.ps_hub.specs.Hubs.{Hub}
 use Rattle.ps_hub.specs.Passes.{AreOf, IsAsBefore}
-use Rattle.ps_hub.specs.Calls.{NeedsBadge, Held, EntersAt, EnterFails, RoomFails, EntryFails, BeginsAt, BeginsAtMost}
+use Rattle.ps_hub.specs.Calls.{NeedsBadge, Held, EntersAt, EnterFails, RoomFails, EntryFails, BeginsAt, BeginsNothing}
 use Rattle.ps_hub.specs.declared.out.EnterFault.TheVariants as enter_faults
 use Rattle.ps_hub.specs.declared.out.HubFault.TheVariants as hub_faults
 use Rattle.ps_hub.specs.declared.out.HubOut.{HubOut}
@@ -122,7 +122,7 @@ module _ (hub : Hub) (conn open_at : ℕ) (acts : List Act) (ss : List Sending) 
         let d = hall_made hub conn open_at acts ss s.hall_pass old cmd moment old mid out (Some start) e1 (in_hall_start hub conn open_at acts ss r old s) t in
         short_is stop f.0 (⊎_elim
         (λ (same : IsAsBefore mid new). short_in (in_hall cmd out.badge (Some start)) (take, tt) (begins_none hub conn open_at acts ss r old s bytes moment cmd out.badge start mid new take are d same))
-        (λ (b : BeginsAt hub start (BeginsAtMost hub start) mid new). short_in (in_hall cmd out.badge (Some start)) (take, tt) (begins_break hub conn open_at acts ss r old s bytes moment cmd out.badge start mid new take are d b))
+        (λ (b : BeginsAt hub start BeginsNothing mid new). short_in (in_hall cmd out.badge (Some start)) (take, tt) (begins_break hub conn open_at acts ss r old s bytes moment cmd out.badge start mid new take are d b))
         f.1)
     hall_stops stop cmd out mid take t None (Some ending) e1 e2 f = absurd (none-some ending (sym t.3.ended ∙ e2))
     hall_stops stop cmd out mid take t None None e1 e2 f = never_none stop f.0

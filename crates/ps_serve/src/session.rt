@@ -92,6 +92,17 @@ impl Sitting {
     }
 }
 
+// How many bytes a session holds for its own end.
+const END_BYTES: usize = 8192;
+
+// Memory for the end of a session, if there is some: it is let go right before the Quits, which then find it, as a rule.
+fn for_the_end(alloc: Global) -> Option<Vec<u8>> {
+    match Vec::with_capacity(alloc, END_BYTES) {
+        Ok(bytes) => Some(bytes),
+        Err(_) => None,
+    }
+}
+
 // The whole session: its Open, the answers of the link, and its Quits.
 fn serve<R: Wait, L: Link, C: Clock>(
     alloc: Global,
@@ -104,6 +115,7 @@ fn serve<R: Wait, L: Link, C: Clock>(
     ensures served { (t : Account) × Served result.end hub.now conn t result.passes (L.talk link.old) (L.talk link.new) (L.counts link.old) (L.counts link.new) (C.hours clock.old) (C.hours clock.new) }
     ensures taken { IfTaken result.end (IsTaken hub.now conn result.passes result.refused) }
 {
+    let held = for_the_end(alloc);
     let passes = match hub.admit(rt, conn, clock.now()) {
         Ok(passes) => passes,
         Err(AdmitFault::Taken { opener }) => {
@@ -130,6 +142,7 @@ fn serve<R: Wait, L: Link, C: Clock>(
         session: _,
         mut passes,
     } = sitting;
+    drop(held);
     match hub.quit(rt, &mut passes, clock.now()) {
         Ok(()) => Closed {
             end,

@@ -1,10 +1,6 @@
-use Rattle.std.proofs.Common.{subst}
 use Rattle.server_places.specs.declared.command.RoomCmd.TheVariants.{Begin}
 use Rattle.ps_histlock.proofs.SignLemmas.{signs_on}
 use Rattle.server_places.specs.Sites.{room_signer}
-use Rattle.server_places.specs.Rooms.{Answers}
-use Rattle.server_places.specs.declared.site.Site.{Site}
-use Rattle.ps_hub.specs.Turns.{FallsShortAtLast}
 use Rattle.ps_hub.proofs.OfLemmas.{of_begin}
 use Rattle.ps_hub.proofs.hub.Hub.begin.Goals as goal
 
@@ -21,6 +17,4 @@ pub returns-in-NoMemory-clause-of : goal.returns-in-NoMemory-clause-of
 returns-in-NoMemory-clause-of g c = λ conn p. c.turn.ensures.of c.args.self.now conn (of_begin conn c.args.start) p
 
 pub returns-in-NoMemory-clause-err : goal.returns-in-NoMemory-clause-err
-returns-in-NoMemory-clause-err g c =
-    subst (λ (site : Site). FallsShortAtLast (Answers site) c.args.pass.now.pass.1 c.args.pass.now.cursor (Begin c.args.start)
-    c.turn.new.self.pass.1 c.turn.new.self.cursor) c.requires.1.origin c.in-NoMemory.ensures.does.0
+returns-in-NoMemory-clause-err g c = c.in-NoMemory.ensures.does.0
