@@ -131,6 +131,12 @@ const FRESH: Fresh = Fresh {
     seed: 7,
 };
 
+/// The begin of what each link is sent first with that nonce.
+const FRESH_CHALLENGES: &[&str] = &[
+    "|challstr|07070707070707070707070707070707-1",
+    "|challstr|07070707070707070707070707070707-2",
+];
+
 /// A door in memory that is stopped behind so many links.
 #[derive(Drop)]
 struct StoppedDoor {
@@ -180,7 +186,8 @@ fn quiet_door(rt: &impl Abort, alloc: Global, flags: &Arc<Flags>) -> StoppedDoor
     let mut links = Vec::new(alloc);
     for index in 0..2 {
         let flags = flags.clone().expect(rt, "memory");
-        let link = GateLink::new(alloc, flags, index, &[], Wait::Once);
+        let mut link = GateLink::new(alloc, flags, index, &[], Wait::Once);
+        link.challenges = FRESH_CHALLENGES;
         links.push(link).expect(rt, "memory");
     }
     StoppedDoor {

@@ -10,8 +10,8 @@ use std::thread;
 /// How often a link is quiet before it gives up.
 const MOST_QUIETS: u64 = 1_000_000;
 
-/// The begin of what each link is sent first, by its index.
-const CHALLENGES: [&str; 8] = [
+/// The begin of what each link is sent first with the nonce that is the default, by its index.
+const CHALLENGES: &[&str] = &[
     "|challstr|0-1",
     "|challstr|0-2",
     "|challstr|0-3",
@@ -44,6 +44,8 @@ pub(crate) struct GateLink {
     wait: Wait,
     quiets: u64,
     ends: u64,
+    /// The begin of what each link is sent first, by its index.
+    pub(crate) challenges: &'static [&'static str],
 }
 
 impl GateLink {
@@ -63,6 +65,7 @@ impl GateLink {
             wait,
             quiets: 0,
             ends: 0,
+            challenges: CHALLENGES,
         }
     }
 
@@ -78,7 +81,7 @@ impl GateLink {
 
     // Takes note of a text that was sent.
     fn hear(&self, text: &str) {
-        if is_challenge(self.index, text) {
+        if is_challenge(self.challenges, self.index, text) {
             self.flags.greet(self.index);
         }
         if self.index == 0 && text.starts_with(">lobby\n") && text.contains("| Bob|hi") {
@@ -98,8 +101,8 @@ impl GateLink {
     }
 }
 
-fn is_challenge(index: usize, text: &str) -> bool {
-    match CHALLENGES.get(index) {
+fn is_challenge(challenges: &[&str], index: usize, text: &str) -> bool {
+    match challenges.get(index) {
         None => false,
         Some(begin) => text.starts_with(begin),
     }
