@@ -37,9 +37,15 @@ pub(crate) fn set_waiting(bout: &mut Bout, side: u8, choice: Option<Choice>)
 }
 
 /// A battle in its rounds that is handed on by a pointer, since it is large. Contracts see the battle.
-#[derive(Drop)]
 pub struct BoutBox {
     bout: Box<Bout>,
+}
+
+// By hand, so that who drops one has one call to prove.
+impl Drop for BoutBox {
+    fn drop(self) {
+        let BoutBox { bout: _ } = self;
+    }
 }
 
 impl Model for BoutBox {

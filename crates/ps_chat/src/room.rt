@@ -6,7 +6,6 @@ use ps_base::text::Text;
 use ps_group::groups::Groups;
 
 /// What a room was opened with, and its record.
-#[derive(Drop)]
 pub struct Room {
     pub(crate) title: Text,
     pub(crate) battle: bool,
@@ -21,4 +20,21 @@ pub struct Room {
     pub(crate) bans: IdMap<()>,
     /// The lowest rank that may talk, if one is set.
     pub(crate) modchat: Option<u8>,
+}
+
+// By hand, so that who drops one has one call to prove.
+impl Drop for Room {
+    fn drop(self) {
+        let Room {
+            title: _,
+            battle: _,
+            groups: _,
+            staff: _,
+            members: _,
+            ranks: _,
+            mutes: _,
+            bans: _,
+            modchat: _,
+        } = self;
+    }
 }

@@ -67,7 +67,7 @@ pub struct AliasItem {
 }
 
 /// What a dex file says, in its order.
-#[derive(Debug, Drop)]
+#[derive(Debug)]
 pub struct Tables {
     /// At most 32.
     pub types: Table<TypeItem>,
@@ -79,6 +79,19 @@ pub struct Tables {
     pub species: Table<SpeciesItem>,
     /// In byte order of their keys.
     pub aliases: Table<AliasItem>,
+}
+
+// By hand, so that who drops one has one call to prove.
+impl Drop for Tables {
+    fn drop(self) {
+        let Tables {
+            types: _,
+            factors: _,
+            moves: _,
+            species: _,
+            aliases: _,
+        } = self;
+    }
 }
 
 impl HasId for TypeItem {

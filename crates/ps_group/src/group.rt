@@ -49,7 +49,7 @@ pub struct Permissions {
 }
 
 /// A group.
-#[derive(Debug, Drop)]
+#[derive(Debug)]
 pub struct Group {
     /// What stands before the names of its users.
     pub symbol: char,
@@ -61,6 +61,19 @@ pub struct Group {
     pub inherit: Option<char>,
     /// The permissions of its own.
     pub permissions: Permissions,
+}
+
+// By hand, so that who drops one has one call to prove.
+impl Drop for Group {
+    fn drop(self) {
+        let Group {
+            symbol: _,
+            id: _,
+            name: _,
+            inherit: _,
+            permissions: _,
+        } = self;
+    }
 }
 
 impl Group {

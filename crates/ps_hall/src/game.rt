@@ -10,7 +10,7 @@ use rules_start::start::battle_title;
 use std::alloc::{AllocError, Global};
 
 /// A battle that has started and wasn't reported yet.
-#[derive(Debug, Drop)]
+#[derive(Debug)]
 pub struct Game {
     /// The number of the battle, from 1.
     pub number: u32,
@@ -20,6 +20,18 @@ pub struct Game {
     pub players: [Name; 2],
     /// Whether it counts for ratings.
     pub rated: bool,
+}
+
+// By hand, so that who drops one has one call to prove.
+impl Drop for Game {
+    fn drop(self) {
+        let Game {
+            number: _,
+            format: _,
+            players: _,
+            rated: _,
+        } = self;
+    }
 }
 
 impl Game {

@@ -11,7 +11,7 @@ use ps_valid::legal::Legal;
 use std::alloc::{AllocError, Global};
 
 /// A team as it was when its user challenged somebody or began to search.
-#[derive(Debug, Drop)]
+#[derive(Debug)]
 pub struct KeptTeam {
     /// The user's name.
     pub name: Name,
@@ -19,6 +19,17 @@ pub struct KeptTeam {
     pub with_id: Id,
     /// The team.
     pub team: Legal,
+}
+
+// By hand, so that who drops one has one call to prove.
+impl Drop for KeptTeam {
+    fn drop(self) {
+        let KeptTeam {
+            name: _,
+            with_id: _,
+            team: _,
+        } = self;
+    }
 }
 
 /// The same team.

@@ -57,9 +57,15 @@ impl From<AllocError> for AddFault {
 
 /// The searches, in order of search, found by user and by format: a call costs what the searches of one user or of one format
 /// do, and the logarithm of how many there are. Contracts see the list.
-#[derive(Drop)]
 pub struct Searches {
     table: Table,
+}
+
+// By hand, so that who drops one has one call to prove.
+impl Drop for Searches {
+    fn drop(self) {
+        let Searches { table: _ } = self;
+    }
 }
 
 impl Model for Searches {

@@ -4,7 +4,7 @@ use ps_base::list::List;
 use ps_base::text::Text;
 
 /// One Pokemon of a team, as TEAMS.md of the simulator lists its parts.
-#[derive(Debug, Drop)]
+#[derive(Debug)]
 pub struct Set {
     /// The nickname; the species where the text names none. Up to 32 characters, 18 where it differs
     /// from the species.
@@ -31,4 +31,24 @@ pub struct Set {
     pub level: u8,
     /// The happiness and what follows it: up to 64 characters, without effect.
     pub misc: Text,
+}
+
+// By hand, so that who drops one has one call to prove.
+impl Drop for Set {
+    fn drop(self) {
+        let Set {
+            nick: _,
+            species: _,
+            item: _,
+            ability: _,
+            moves: _,
+            nature: _,
+            evs: _,
+            gender: _,
+            ivs: _,
+            shiny: _,
+            level: _,
+            misc: _,
+        } = self;
+    }
 }

@@ -7,11 +7,22 @@ use ps_base::id::Id;
 use std::alloc::{AllocError, Global};
 
 /// An open challenge: who made it, who got it, and the id of the format.
-#[derive(Debug, Drop)]
+#[derive(Debug)]
 pub struct Asked {
     pub by: Id,
     pub to: Id,
     pub format: Id,
+}
+
+// By hand, so that who drops one has one call to prove.
+impl Drop for Asked {
+    fn drop(self) {
+        let Asked {
+            by: _,
+            to: _,
+            format: _,
+        } = self;
+    }
 }
 
 impl Asked {

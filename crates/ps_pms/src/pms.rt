@@ -18,10 +18,19 @@ use std::alloc::{AllocError, Global};
 use std::marker::Model;
 
 /// Who blocks whom, and the open challenges. Contracts see the record.
-#[derive(Drop)]
 pub struct Pms {
     blocks: Blocks,
     asked: Vec<Asked>,
+}
+
+// By hand, so that who drops one has one call to prove.
+impl Drop for Pms {
+    fn drop(self) {
+        let Pms {
+            blocks: _,
+            asked: _,
+        } = self;
+    }
 }
 
 impl Model for Pms {

@@ -9,7 +9,7 @@ use ps_data::ids::HasId;
 use ps_data::table::Table;
 
 /// A rule text, as `!sleepclausemod`.
-#[derive(Debug, Drop)]
+#[derive(Debug)]
 pub struct Rule {
     /// The id of the text.
     pub id: Id,
@@ -17,13 +17,27 @@ pub struct Rule {
     pub repeals: bool,
 }
 
+// By hand, so that who drops one has one call to prove.
+impl Drop for Rule {
+    fn drop(self) {
+        let Rule { id: _, repeals: _ } = self;
+    }
+}
+
 /// A rule list with an id, by which other lists name it.
-#[derive(Debug, Drop)]
+#[derive(Debug)]
 pub struct Ruleset {
     /// The id.
     pub id: Id,
     /// Its rule texts, in order.
     pub rules: List<Rule>,
+}
+
+// By hand, so that who drops one has one call to prove.
+impl Drop for Ruleset {
+    fn drop(self) {
+        let Ruleset { id: _, rules: _ } = self;
+    }
 }
 
 impl HasId for Ruleset {
@@ -35,7 +49,7 @@ impl HasId for Ruleset {
 }
 
 /// What is played under a format.
-#[derive(Debug, Drop)]
+#[derive(Debug)]
 pub struct RuleTable {
     /// The clauses that are on, each by its bit (`Clause::bit`).
     pub clauses: u8,
@@ -51,8 +65,22 @@ pub struct RuleTable {
     pub rated: bool,
 }
 
+// By hand, so that who drops one has one call to prove.
+impl Drop for RuleTable {
+    fn drop(self) {
+        let RuleTable {
+            clauses: _,
+            bans: _,
+            min: _,
+            max: _,
+            levels: _,
+            rated: _,
+        } = self;
+    }
+}
+
 /// A format.
-#[derive(Debug, Drop)]
+#[derive(Debug)]
 pub struct Format {
     /// The name for people: 1 to 32 characters without `|` and control characters.
     pub name: Text,
@@ -60,6 +88,17 @@ pub struct Format {
     pub id: Id,
     /// What is played under it.
     pub table: RuleTable,
+}
+
+// By hand, so that who drops one has one call to prove.
+impl Drop for Format {
+    fn drop(self) {
+        let Format {
+            name: _,
+            id: _,
+            table: _,
+        } = self;
+    }
 }
 
 impl HasId for Format {

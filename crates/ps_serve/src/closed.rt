@@ -22,7 +22,6 @@ pub enum End {
 }
 
 /// The end of a session.
-#[derive(Drop)]
 pub struct Closed {
     /// Why it ended.
     pub end: End,
@@ -30,4 +29,15 @@ pub struct Closed {
     pub passes: Passes,
     /// The pass that was to make its Open, where an entry stood under its number already.
     pub refused: Option<HallPass>,
+}
+
+// By hand, so that who drops one has one call to prove.
+impl Drop for Closed {
+    fn drop(self) {
+        let Closed {
+            end: _,
+            passes: _,
+            refused: _,
+        } = self;
+    }
 }

@@ -27,13 +27,25 @@ use std::alloc::{AllocError, Global};
 use std::marker::Model;
 
 /// The users of a hall: the registered names, the ranks, and who is connected under which name.
-#[derive(Drop)]
 pub struct Users {
     nonce: Text,
     accounts: IdMap<Account>,
     ranks: IdMap<u8>,
     lowest: u8,
     seating: Seating,
+}
+
+// By hand, so that who drops one has one call to prove.
+impl Drop for Users {
+    fn drop(self) {
+        let Users {
+            nonce: _,
+            accounts: _,
+            ranks: _,
+            lowest: _,
+            seating: _,
+        } = self;
+    }
 }
 
 impl Model for Users {

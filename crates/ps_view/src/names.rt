@@ -9,7 +9,7 @@ use ps_event::event::Who;
 use ps_event::side::Side;
 
 /// What the lines of a battle name: its players, its members and its format; and how they show health.
-#[derive(Debug, Drop)]
+#[derive(Debug)]
 pub struct Names {
     /// The players, that of the first side first.
     pub players: [Name; 2],
@@ -19,6 +19,18 @@ pub struct Names {
     pub format: Text,
     /// Whether others see health in hundredths, as under HP Percentage Mod, and not in 48ths.
     pub percent: bool,
+}
+
+// By hand, so that who drops one has one call to prove.
+impl Drop for Names {
+    fn drop(self) {
+        let Names {
+            players: _,
+            nicks: _,
+            format: _,
+            percent: _,
+        } = self;
+    }
 }
 
 impl Names {

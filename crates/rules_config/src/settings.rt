@@ -10,12 +10,19 @@ use ps_group::groups::Groups;
 use ps_rules::formats::Formats;
 
 /// A chat room that is open from the start.
-#[derive(Debug, Drop)]
+#[derive(Debug)]
 pub struct ChatRoom {
     /// The id, which no other room has and which isn't empty.
     pub id: Id,
     /// The title for people, without control characters. It may be empty.
     pub title: Text,
+}
+
+// By hand, so that who drops one has one call to prove.
+impl Drop for ChatRoom {
+    fn drop(self) {
+        let ChatRoom { id: _, title: _ } = self;
+    }
 }
 
 impl HasId for ChatRoom {
@@ -27,7 +34,7 @@ impl HasId for ChatRoom {
 }
 
 /// A registered name.
-#[derive(Debug, Drop)]
+#[derive(Debug)]
 pub struct Registered {
     /// The id of the name, which no other one has and which isn't empty.
     pub id: Id,
@@ -35,6 +42,17 @@ pub struct Registered {
     pub secret: Text,
     /// The index of its group in the list of groups.
     pub rank: u8,
+}
+
+// By hand, so that who drops one has one call to prove.
+impl Drop for Registered {
+    fn drop(self) {
+        let Registered {
+            id: _,
+            secret: _,
+            rank: _,
+        } = self;
+    }
 }
 
 impl HasId for Registered {

@@ -29,7 +29,6 @@ use std::marker::Model;
 use std::sync::Arc;
 
 /// The place of a chat room or of a battle. A battle's has no room until a Begin opens it.
-#[derive(Drop)]
 pub struct RoomPlace {
     alloc: Global,
     number: u32,
@@ -39,6 +38,21 @@ pub struct RoomPlace {
     count: u64,
     // Once there is a room, all commands from so many on are entries of it. So what is left of its log tells how many commands are.
     plain: u64,
+}
+
+// By hand, so that who drops one has one call to prove.
+impl Drop for RoomPlace {
+    fn drop(self) {
+        let RoomPlace {
+            alloc: _,
+            number: _,
+            config: _,
+            dex: _,
+            room: _,
+            count: _,
+            plain: _,
+        } = self;
+    }
 }
 
 impl Model for RoomPlace {

@@ -80,22 +80,6 @@ pub(crate) fn closed_of<R: Wait, L: Link>(
     session(rt, alloc, hub, conn, link, &mut clock)
 }
 
-/// Why a session ended.
-pub(crate) fn cause_of(closed: Closed) -> End {
-    closed.end
-}
-
-/// How the session of a connection ended.
-pub(crate) fn end_of<R: Wait, L: Link>(
-    rt: &R,
-    alloc: Global,
-    hub: &Hub,
-    conn: u32,
-    link: &mut L,
-) -> End {
-    cause_of(closed_of(rt, alloc, hub, conn, link))
-}
-
 fn word_of(end: &End) -> &'static str {
     match end {
         End::Closed => "Closed",
@@ -108,8 +92,8 @@ fn word_of(end: &End) -> &'static str {
 }
 
 /// Asserts how a session ended.
-pub(crate) fn assert_ended(rt: &impl Abort, end: End, wanted: &str) {
-    assert_eq!(rt; word_of(&end), wanted);
+pub(crate) fn assert_ended(rt: &impl Abort, closed: Closed, wanted: &str) {
+    assert_eq!(rt; word_of(&closed.end), wanted);
 }
 
 // ---- texts

@@ -2,9 +2,7 @@
 ghost use Rattle.std.specs.Prelude.{◌≡◌};
 ghost use Rattle.ps_serve.specs.Ends.{ComeFrom};
 
-use crate::files::{
-    ANN, BOB, assert_ended, cause_of, close, closed_of, inbox_of, make_hub, was_sent,
-};
+use crate::files::{ANN, BOB, assert_ended, close, closed_of, inbox_of, make_hub, was_sent};
 use crate::watching::count_at;
 use ps_hub::hub::Hub;
 use ps_outside::link::{Link, MemLink, SentText};
@@ -86,14 +84,14 @@ fn were_sent(rt: &impl Abort, sent: &[SentText], begins: &[&str]) {
 /// What Ann was sent.
 fn ann_holds(rt: &impl Abort, ended: (Closed, MemLink)) {
     let (closed, link) = ended;
-    assert_ended(rt, cause_of(closed), "Closed");
+    assert_ended(rt, closed, "Closed");
     were_sent(rt, link.sent(), TO_ANN);
 }
 
 /// What Bob was sent, and that he wasn't sent the note.
 fn bob_holds(rt: &impl Abort, ended: (Closed, MemLink)) {
     let (closed, link) = ended;
-    assert_ended(rt, cause_of(closed), "Closed");
+    assert_ended(rt, closed, "Closed");
     were_sent(rt, link.sent(), TO_BOB);
     assert!(rt; !was_sent(link.sent(), ">lobby\nModnote by"));
 }

@@ -12,8 +12,3 @@ pub invariant_of-self-then-place-len-2 : goal.invariant_of-self-then-place-len-2
 invariant_of-self-then-place-len-2 g c =
     let same : c.args.conn ≡ c.in-Some.place + 1 = search (rules, arith) in
     one_put g.S.Serving.hub c.self.inside.ends.items c.in-Some.place c.args.closed (subst (λ (n : ℕ). IsSession g.S.Serving.hub n c.args.closed) same c.requires) c.self.invariant
-
-pub invariant_of-self-then-place-len-3 : goal.invariant_of-self-then-place-len-3
-invariant_of-self-then-place-len-3 g c =
-    let same : c.args.conn ≡ c.in-Some.place + 1 = search (rules, arith) in
-    one_put g.S.Serving.hub c.self.inside.ends.items c.in-Some.place c.args.closed (subst (λ (n : ℕ). IsSession g.S.Serving.hub n c.args.closed) same c.requires) c.self.invariant
