@@ -1,6 +1,7 @@
 //! A text that contracts see as the list of its bytes.
 ghost use Rattle.std.specs.Prelude.{◌≡◌, ◌++◌, ◌∷◌, [], length, Some, IfOk, OnOk, OnErr, string_bytes};
 ghost use Rattle.std.specs.Str.{IsUtf8};
+ghost use Rattle.ps_base.specs.Texts.{bytes_of};
 
 use crate::list::List;
 use std::alloc::{AllocError, Global};
@@ -40,6 +41,18 @@ impl Drop for Bytes {
     }
 }
 
+impl Bytes {
+    // The same bytes. Takes no memory where they are this text's alone.
+    fn into_string(self) -> Result<String, AllocError>
+        ensures { IfOk result (λ s. string_bytes s ≡ bytes_of self) }
+    {
+        match self {
+            Bytes::Own(text) => Ok(text),
+            Bytes::Shared { text, alloc } => String::from_str(alloc, text.as_str()),
+        }
+    }
+}
+
 impl Model for Text {
     ghost use Rattle.std.specs.Prelude.{ℕ, List};
     ghost use Rattle.ps_base.specs.Texts.{bytes_of};
@@ -57,6 +70,15 @@ impl Text {
         Text {
             inner: Bytes::Own(String::new(alloc)),
         }
+    }
+
+    /// The empty text, with room for so many bytes.
+    pub fn with_capacity(alloc: Global, capacity: usize) -> Result<Text, AllocError>
+        ensures { IfOk result (λ t. t ≡ []) }
+    {
+        Ok(Text {
+            inner: Bytes::Own(String::with_capacity(alloc, capacity)?),
+        })
     }
 
     /// The same bytes. Takes no memory.
@@ -86,6 +108,14 @@ impl Text {
             Bytes::Own(text) => text.as_str(),
             Bytes::Shared { text, alloc: _ } => text.as_str(),
         }
+    }
+
+    /// The same bytes. Takes no memory where they are its own.
+    pub fn into_string(self) -> Result<String, AllocError>
+        ensures { IfOk result (λ s. string_bytes s ≡ self) }
+    {
+        let Text { inner } = self;
+        inner.into_string()
     }
 
     /// The number of bytes.

@@ -46,7 +46,7 @@ hall_goes : (does : HallPass → HallPass → Type 0) (old new : Passes) (h k : 
 hall_goes does old new h k was is at pass_lists conn done = record { before = h; behind = k; was = was; is = is; at = at; done = done; rooms = pass_lists; conn = conn }
 
 pub hall_ordered : (hub : Hub) (cmd : HallCmd) (moment : ℕ) (old new : Passes) (h k : HallPass) (gave : HallOut) (out : HubOut) → IsHallPass hub old.conn h → old.hall ≡ Some h → new.hall ≡ Some k → k.at ≡ h.at → new.rooms.items ≡ old.rooms.items → new.conn ≡ old.conn
-    → new.badge ≡ badge_after old.badge gave.badge → out ≡ record { badge = gave.badge; start = gave.start; ended = None } → HallTakes (hall_entry old.conn moment cmd) h (Ok gave) k → HallOrdered hub cmd moment old out new
+    → new.badge ≡ badge_after old.badge gave.badge → out ≡ record { badge = gave.badge; start = gave.start; ended = None; verdict = None } → HallTakes (hall_entry old.conn moment cmd) h (Ok gave) k → HallOrdered hub cmd moment old out new
 hall_ordered hub cmd moment old new h k gave out p was is at pass_lists conn badge made t = record {
   log = t.0;
   gave = gave;
@@ -55,6 +55,7 @@ hall_ordered hub cmd moment old new h k gave out p was is at pass_lists conn bad
   badge_out = ap (λ (o : HubOut). o.badge) made;
   start = ap (λ (o : HubOut). o.start) made;
   ended = ap (λ (o : HubOut). o.ended) made;
+  verdict = ap (λ (o : HubOut). o.verdict) made;
   badge = badge;
 }
 
@@ -102,6 +103,7 @@ room_orders hub id cmd moment start mid pass_index h k new badge (Ok out) entere
     no_badge = ap (λ (o : HubOut). o.badge) t.5;
     start = ap (λ (o : HubOut). o.start) t.5;
     ended = ap (λ (o : HubOut). o.ended) t.5;
+    verdict = ap (λ (o : HubOut). o.verdict) t.5;
   },
 )
 room_orders hub id cmd moment start mid pass_index h k new badge (Err (OwnLimit room)) entered there named held rest pass_list same is t =

@@ -16,6 +16,7 @@ use Rattle.ps_hall.specs.declared.entry.HallEntry.{HallEntry}
 use Rattle.ps_hall.specs.declared.outcome.HallOut.{HallOut}
 use Rattle.ps_room.specs.declared.entry.Entry.{Entry}
 use Rattle.ps_room.specs.declared.outcome.RoomOut.{RoomOut}
+use Rattle.ps_room.specs.declared.outcome.Verdict.{Verdict}
 pub use Rattle.ps_room.specs.Logs.{entry_of as room_entry}
 use Rattle.ps_room.specs.Openings.{first_battle, room_of_battle}
 use Rattle.ps_room.specs.Stories.{Story}
@@ -141,6 +142,7 @@ pub record HallOrdered (hub : Hub) (cmd : HallCmd) (moment : ℕ) (old : Passes)
   pub badge_out : out.badge ≡ gave.badge
   pub start : out.start ≡ gave.start
   pub ended : out.ended ≡ None
+  pub verdict : out.verdict ≡ None
   pub badge : new.badge ≡ badge_after old.badge gave.badge
 
 -- the badge is as before
@@ -167,6 +169,15 @@ name_asked other = None
 
 -- ---- orders to a room
 
+-- what came of an entry, if the place has a room
+abbrev pub verdict_in : Option RoomOut → Option Verdict
+verdict_in None = None
+verdict_in (Some out) = Some out.verdict
+
+-- what an entry of a room gave
+abbrev pub room_gave : Option RoomOut → HubOut
+room_gave gave = record { badge = None; start = None; ended = ended_in gave; verdict = verdict_in gave }
+
 -- what a call does to the pass of a place that is held by an id
 pub record RoomGoes (hub : Hub) (id : List ℕ) (does : RoomPass → RoomPass → Type 0) (old new : Passes) : Type 0 where
   pub before : RoomPass
@@ -190,6 +201,7 @@ pub record RoomOrdered (hub : Hub) (id : List ℕ) (cmd : Command) (moment : ℕ
   pub no_badge : out.badge ≡ None
   pub start : out.start ≡ None
   pub ended : out.ended ≡ ended_in gave
+  pub verdict : out.verdict ≡ verdict_in gave
 
 -- a turn that made no entry, since one stands that is signed as the command is, and the pass has signed none so
 abbrev pub IsKeptOut : RoomCmd → RoomPass → RoomPass → Type 0
@@ -198,7 +210,7 @@ IsKeptOut cmd h k = Turns h.pass.1 None k.pass.1 × (k.cursor ≡ h.cursor) × I
 -- what a turn with this entry does to the pass of a place that is held by this id
 abbrev pub RoomTakes : Site → List ℕ → Entry → RoomPass → Result HubOut HubFault → RoomPass → Type 0
 RoomTakes site id e h (Ok out) k =
-    (log : List (Made RoomCmd)) × (gave : Option RoomOut) × Extends h.pass.1 log × (k.pass.1 ≡ turned h.pass.1 log (Some (Play e))) × Answers site (commands log) (Play e) gave × (out ≡ record { badge = None; start = None; ended = ended_in gave }) × (length h.pass.1.mine ≢ OWN_LIMIT)
+    (log : List (Made RoomCmd)) × (gave : Option RoomOut) × Extends h.pass.1 log × (k.pass.1 ≡ turned h.pass.1 log (Some (Play e))) × Answers site (commands log) (Play e) gave × (out ≡ room_gave gave) × (length h.pass.1.mine ≢ OWN_LIMIT)
 RoomTakes site id e h (Err (hub_faults.OwnLimit room)) k = (room ≡ Some id) × (length h.pass.1.mine ≡ OWN_LIMIT) × (k.pass ≡ h.pass)
 RoomTakes site id e h (Err hub_faults.Taken) k = IsKeptOut (Play e) h k
 RoomTakes site id e h (Err hub_faults.NoSuchRoom) k = ⊥

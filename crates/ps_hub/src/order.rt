@@ -6,10 +6,9 @@ ghost use Rattle.ps_histlock.specs.Signs.{SignsAs, Speaks};
 ghost use Rattle.server_places.specs.Halls.{hall_signer};
 ghost use Rattle.ps_hub.specs.Hubs.{Hub, site_of};
 ghost use Rattle.ps_hub.specs.Passes.{Adds, AreOf, IsHallPass, IsRoomPass};
-ghost use Rattle.ps_hub.specs.Calls.{Orders, HallTakes, RoomTakes, NeedsBadge, name_asked, badge_after, not_entered};
+ghost use Rattle.ps_hub.specs.Calls.{Orders, HallTakes, RoomTakes, NeedsBadge, name_asked, badge_after, not_entered, room_gave};
 ghost use Rattle.ps_room.specs.declared.entry.Entry.{Entry};
 ghost use Rattle.server_places.specs.declared.command.RoomCmd.TheVariants.{Play};
-ghost use Rattle.ps_room.specs.Logs.{ended_in};
 
 use crate::hub::Hub;
 use crate::out::{EnterFault, HubFault, HubOut};
@@ -26,7 +25,7 @@ use ps_histlock::HistLock;
 use ps_lines::command::{Command, HallCmd};
 use ps_lines::order::Order;
 use ps_room::entry::Entry;
-use ps_room::outcome::{Ending, RoomOut};
+use ps_room::outcome::RoomOut;
 use ps_users::read::read_of;
 use server_places::command::RoomCmd;
 use server_places::hall_place::HallPlace;
@@ -94,13 +93,23 @@ fn order_again(id: Text, cmd: RoomCmd) -> Order
     }
 }
 
-// The end of a battle that an entry of a room gave.
-fn ended_in(gave: Option<RoomOut>) -> Option<Ending>
-    ensures { result ≡ ended_in gave }
+// What an entry of a room gave.
+fn room_gave(gave: Option<RoomOut>) -> HubOut
+    ensures { result ≡ room_gave gave }
 {
     match gave {
-        None => None,
-        Some(out) => out.ended,
+        None => HubOut {
+            badge: None,
+            start: None,
+            ended: None,
+            verdict: None,
+        },
+        Some(out) => HubOut {
+            badge: None,
+            start: None,
+            ended: out.ended,
+            verdict: Some(out.verdict),
+        },
     }
 }
 
@@ -188,6 +197,7 @@ impl Hub {
             badge: gave.badge,
             start: gave.start,
             ended: None,
+            verdict: None,
         })
     }
 
@@ -240,11 +250,7 @@ impl Hub {
     {
         let lock = self.lock(pass.number);
         match pass.try_turn(lock, RoomCmd::Play(entry)) {
-            Taken::Done { out } => Ok(HubOut {
-                badge: None,
-                start: None,
-                ended: ended_in(out),
-            }),
+            Taken::Done { out } => Ok(room_gave(out)),
             Taken::Busy { word, cmd } => Err(HubFault::Busy {
                 word,
                 order: order_again(id, cmd),

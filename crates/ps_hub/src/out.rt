@@ -3,7 +3,7 @@ use crate::pass::HallPass;
 use ps_base::badge::Badge;
 use ps_base::text::Text;
 use ps_lines::order::Order;
-use ps_room::outcome::Ending;
+use ps_room::outcome::{Ending, Verdict};
 use rules_start::start::Start;
 
 /// What an entry gave.
@@ -15,6 +15,8 @@ pub struct HubOut {
     pub start: Option<Start>,
     /// The end of a battle, where an entry of its room ended it.
     pub ended: Option<Ending>,
+    /// What came of an entry of a room, where its place has one.
+    pub verdict: Option<Verdict>,
 }
 
 /// Why a room isn't held.

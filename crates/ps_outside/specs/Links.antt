@@ -106,6 +106,10 @@ pub record SureTalk : Type 0 where
   pub quiets : ℕ
   pub ends : ℕ
 
+-- it has no faults
+abbrev pub sure_counts : SureTalk → LinkCounts
+sure_counts l = record { faults = 0; quiets = l.quiets; ends = l.ends }
+
 -- what a link in memory holds, how often each call was made, and the calls that fail
 pub record MemTalk : Type 0 where
   pub talk : Talk

@@ -1,10 +1,13 @@
 //! Connections: what comes from a client, and the texts that are sent to it.
 ghost use Rattle.std.specs.Prelude.{◌≡◌, ℕ, List, Option, Some};
+ghost use Rattle.std.specs.Option.{option_copied};
+ghost use Rattle.ps_base.specs.Messages.{text_of};
 ghost use Rattle.ps_outside.specs.Counts.{is_listed, one_more};
-ghost use Rattle.ps_outside.specs.Links.{Talk, LinkCounts, IsNext, after_next, after_send, HasNextCause, HasSendCause, has_failed, has_send_failed, new_talk, no_link_counts};
+ghost use Rattle.ps_outside.specs.Links.{Talk, LinkCounts, IsNext, after_next, after_send, HasNextCause, HasSendCause, has_failed, has_send_failed, new_talk, no_link_counts, sure_counts};
 ghost use Rattle.ps_outside.specs.Inboxes.{IsTaken};
 
 use ps_base::list::List;
+use ps_base::msg::Msg;
 use ps_base::text::Text;
 use std::alloc::Global;
 use std::collections::VecDeque;
@@ -63,10 +66,35 @@ pub struct SentText {
     pub after: u64,
 }
 
+/// What an operator may want to know of a connection, beside that it began and ended. It has nothing that isn't everybody's to know.
+#[derive(Clone, Copy, Debug)]
+pub enum News<'a> {
+    /// It has this name now.
+    Named {
+        name: &'a str,
+    },
+    /// What it said began the battle with this number, from 1.
+    Began {
+        number: u32,
+    },
+    /// What it said ended the battle with this number, which the player 0 or 1 won, or nobody.
+    Ended {
+        number: u32,
+        winner: Option<u8>,
+    },
+    /// It did this in a room, as staff, to this user, if to one: `act` is the word of the command.
+    Moderated {
+        room: &'a str,
+        act: &'static str,
+        user: Option<&'a str>,
+    },
+}
+
 /// One connection.
 ///
-/// `attend` and `ring` are hints among the links of one door: who attends a place is told soon that something happened there. Nothing
-/// is promised of them, and a link may leave them be. A place is a room by its number, or the hall, which is `None`.
+/// `attend`, `ring` and `report` are hints. Nothing is promised of them, and a link may leave them be. The first two are for the links
+/// of one door: who attends a place is told soon that something happened there. A place is a room by its number, or the hall, which
+/// is `None`. The third is for the operator of the server.
 pub trait Link {
     /// The inbox that is left, how many Texts and Quiets were answered, and the texts that were
     /// sent, each with that number before it, where the link makes them known.
@@ -90,14 +118,25 @@ pub trait Link {
         ensures known { talk self.new ≡ after_send result text.now (talk self.old) }
         ensures cause { HasSendCause (counts self.old) (counts self.new) result };
 
+    /// Sends a message of a room, or of the hall, as its text ([`Msg::text`]): as `send` does, but a link that sends it piece by piece
+    /// needs no memory for the whole.
+    fn send_message(&mut self, room: Option<&str>, msg: &Msg) -> Result<(), SendEnd>
+        ensures known { talk self.new ≡ after_send result (text_of (option_copied room.entry) msg.now) (talk self.old) }
+        ensures cause { HasSendCause (counts self.old) (counts self.new) result };
+
     /// Says whether the connection attends a room from now on. All connections attend the hall.
     fn attend(&mut self, room: u32, attends: bool)
         ensures known { talk self.new ≡ talk self.old }
         ensures counts { counts self.new ≡ counts self.old };
 
-    /// Says that something happened in a place. As this link is next asked for what comes, the links that attend the place answer
+    /// Says that something happened in a place. Before this link waits for its client, or soon, the links that attend the place answer
     /// Quiet, if they were waiting.
     fn ring(&mut self, place: Option<u32>)
+        ensures known { talk self.new ≡ talk self.old }
+        ensures counts { counts self.new ≡ counts self.old };
+
+    /// Tells the operator what came of what the client said.
+    fn report(&mut self, news: News<'_>)
         ensures known { talk self.new ≡ talk self.old }
         ensures counts { counts self.new ≡ counts self.old };
 
@@ -170,12 +209,24 @@ impl SureLink {
     {
         self.sent.as_slice()
     }
+
+    // Puts a text behind those that were sent.
+    fn put(&mut self, text: Text) -> Result<(), SendEnd>
+        ensures known { Some self.new.talk ≡ after_send result text (Some self.old.talk) }
+        ensures cause { HasSendCause (sure_counts self.old) (sure_counts self.new) result }
+    {
+        let after = self.answers;
+        match self.sent.push(SentText { text, after }) {
+            Ok(()) => Ok(()),
+            Err(_) => Err(SendEnd::NoMemory),
+        }
+    }
 }
 
 impl Link for SureLink {
     ghost talk = { λ l. Some l.talk };
 
-    ghost counts = { λ l. record { faults = 0; quiets = l.quiets; ends = l.ends } };
+    ghost counts = { sure_counts };
 
     fn next(&mut self) -> Next {
         match take_first(self.alloc, &mut self.inbox) {
@@ -198,12 +249,15 @@ impl Link for SureLink {
     }
 
     fn send(&mut self, text: &str) -> Result<(), SendEnd> {
-        let Ok(text) = Text::copy_of(self.alloc, text) else {
-            return Err(SendEnd::NoMemory);
-        };
-        let after = self.answers;
-        match self.sent.push(SentText { text, after }) {
-            Ok(()) => Ok(()),
+        match Text::copy_of(self.alloc, text) {
+            Ok(text) => self.put(text),
+            Err(_) => Err(SendEnd::NoMemory),
+        }
+    }
+
+    fn send_message(&mut self, room: Option<&str>, msg: &Msg) -> Result<(), SendEnd> {
+        match msg.text(self.alloc, room) {
+            Ok(text) => self.put(text),
             Err(_) => Err(SendEnd::NoMemory),
         }
     }
@@ -211,6 +265,8 @@ impl Link for SureLink {
     fn attend(&mut self, _room: u32, _attends: bool) {}
 
     fn ring(&mut self, _place: Option<u32>) {}
+
+    fn report(&mut self, _news: News<'_>) {}
 
     fn close(&mut self, _cause: Option<CloseCause>) {}
 }
@@ -309,9 +365,30 @@ impl Link for MemLink {
         }
     }
 
+    /// Is counted with the calls of `send`, and fails exactly at those that are listed.
+    fn send_message(&mut self, room: Option<&str>, msg: &Msg) -> Result<(), SendEnd>
+        ensures known { Some self.new.talk ≡ after_send result (text_of (option_copied room.entry) msg.now) (Some self.old.talk) }
+        ensures cause { HasSendCause self.old.counts self.new.counts result }
+        ensures listed { has_send_failed result ≡ is_listed self.old.send_calls self.old.failing_send }
+        ensures calls { self.new.send_calls ≡ one_more self.old.send_calls }
+    {
+        self.send_calls = self.send_calls.saturating_add(1);
+        if self.failing_send.contains(&self.send_calls) {
+            self.faults = self.faults.saturating_add(1);
+            return Err(SendEnd::Failed);
+        }
+        match self.inner.send_message(room, msg) {
+            Ok(()) => Ok(()),
+            Err(SendEnd::Failed) => unreachable!(),
+            Err(SendEnd::NoMemory) => Err(SendEnd::NoMemory),
+        }
+    }
+
     fn attend(&mut self, _room: u32, _attends: bool) {}
 
     fn ring(&mut self, _place: Option<u32>) {}
+
+    fn report(&mut self, _news: News<'_>) {}
 
     fn close(&mut self, _cause: Option<CloseCause>) {}
 }

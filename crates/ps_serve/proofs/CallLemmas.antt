@@ -2,22 +2,30 @@
 use Rattle.std.proofs.Common.{◌≡◌, ℕ, ◌+◌, ◌<◌, true, false, List, length, take, get_or, Option, Some, None, IfNone, Bor, refl, ap, sym, ◌∙◌, subst, inr}
 use Rattle.std.specs.Prelude.{IsSome, is_some, slice_get}
 use Rattle.std.specs.Option.{option_copied}
+use Rattle.std.proofs.lemmas.List.{take-map}
 use Rattle.std.proofs.lemmas.Option.{slice_get_read}
+use Rattle.ps_base.specs.declared.msg.Msg.{Msg}
+use Rattle.ps_base.specs.Messages.{text_of, texts_of}
 use Rattle.ps_outside.specs.Links.{Talk, after_text}
 use Rattle.ps_hub.specs.Hubs.{Hub}
 use Rattle.ps_hub.specs.declared.pass.RoomPass.{RoomPass}
 use Rattle.ps_hub.specs.declared.passes.Passes.{Passes}
 use Rattle.ps_serve.specs.Tellings.{after_texts, TellsRoom}
-use Rattle.ps_serve.proofs.SendingLemmas.{one_text_more}
+use Rattle.ps_serve.proofs.SendingLemmas.{one_message_more}
 
--- ---- sending texts
+-- ---- sending messages
 
-pub sent_one : (texts : List (List ℕ)) (i : ℕ) (item text : List ℕ) (was so_far is : Option Talk) → i < length texts → item ≡ get_or texts i item → text ≡ item → so_far ≡ after_texts (take i texts) was → is ≡ after_text text so_far → is ≡ after_texts (take (i + 1) texts) was
-sent_one texts i item text was so_far is lt at same before now =
+sent_more : (room : Option (List ℕ)) (msgs : List Msg) (i : ℕ) (item : Msg) (was so_far is : Option Talk) → i < length msgs → item ≡ get_or msgs i item → so_far ≡ after_texts (take i (texts_of room msgs)) was → is ≡ after_text (text_of room item) so_far → is ≡ after_texts (take (i + 1) (texts_of room msgs)) was
+sent_more room msgs i item was so_far is lt at before now =
     now
-    ∙ ap (λ (t : Option Talk). after_text text t) before
-    ∙ ap (λ (x : List ℕ). after_text x (after_texts (take i texts) was)) (same ∙ at)
-    ∙ sym (one_text_more texts i item was lt)
+    ∙ ap (λ (t : Option Talk). after_text (text_of room item) t) before
+    ∙ ap (λ (m : Msg). after_text (text_of room m) (after_texts (take i (texts_of room msgs)) was)) at
+    ∙ sym (one_message_more room msgs i item was lt)
+
+pub sent_one : (room : Option (List ℕ)) (msgs : List Msg) (i : ℕ) (item : Msg) (was so_far is : Option Talk) → i < length msgs → item ≡ get_or msgs i item → so_far ≡ after_texts (take i (texts_of room msgs)) was → is ≡ after_text (text_of room item) so_far → (is ≡ after_texts (take (i + 1) (texts_of room msgs)) was) × (is ≡ after_texts (texts_of room (take (i + 1) msgs)) was)
+sent_one room msgs i item was so_far is lt at before now =
+    let more : is ≡ after_texts (take (i + 1) (texts_of room msgs)) was = sent_more room msgs i item was so_far is lt at before now in
+    (more, more ∙ ap (λ (texts : List (List ℕ)). after_texts texts was) (take-map (text_of room) (i + 1) msgs))
 
 pub if_none : {T : Type 0} (r : Option T) (P Q : Type 0) → IfNone r P → (P → Q) → IfNone r Q
 if_none None P Q p f = f p

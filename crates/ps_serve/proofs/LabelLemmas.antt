@@ -5,7 +5,7 @@ use Rattle.std.specs.List.{cons_option}
 use Rattle.std.proofs.lemmas.List.Elements.{All-contains, Contains-get_or, Contains-append_left, Contains-append_right}
 use mathlib.Core.List.{IsPrefix}
 use Rattle.ps_histlock.specs.Histories.{commands}
-use Rattle.ps_session.specs.Texts.{behind}
+use Rattle.ps_base.specs.Messages.{behind}
 use Rattle.server_places.specs.Rooms.{Shows}
 use Rattle.server_places.specs.Halls.{HallShows, hall_opened}
 use Rattle.ps_hub.specs.Hubs.{Hub, root_of, site_of}

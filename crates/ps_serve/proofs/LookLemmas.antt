@@ -9,8 +9,7 @@ use Rattle.ps_histlock.specs.Histories.{entries_of}
 use Rattle.ps_histlock.proofs.Lists.{prefix_self, prefix_length, own_between}
 use mathlib.Core.List.{IsPrefix}
 use Rattle.ps_base.specs.declared.msg.Msg.{Msg}
-use Rattle.ps_base.specs.Messages.{msg_lines}
-use Rattle.ps_session.specs.Texts.{texts_of}
+use Rattle.ps_base.specs.Messages.{msg_lines, texts_of}
 use Rattle.ps_hub.specs.Passes.{lines_of}
 use Rattle.ps_hub.specs.Turns.{TurnsAtLast, ReadsOn, Rereads}
 use Rattle.ps_hub.specs.Calls.{IsFresh, HandsOut}

@@ -7,7 +7,7 @@ use Rattle.std.proofs.lemmas.Option.{same_Some, none-some, get_or_from_slice_get
 use Rattle.ps_base.specs.declared.msg.Msg.{Msg}
 use Rattle.ps_histlock.specs.Histories.{commands}
 use Rattle.ps_histlock.specs.Views.{after_look}
-use Rattle.ps_session.specs.Texts.{texts_of}
+use Rattle.ps_base.specs.Messages.{texts_of}
 use Rattle.ps_outside.specs.Links.{Talk}
 use Rattle.server_places.specs.Halls.{HallShows}
 use Rattle.server_places.specs.Rooms.{Shows}

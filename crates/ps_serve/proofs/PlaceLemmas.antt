@@ -10,7 +10,7 @@ use Rattle.ps_histlock.specs.declared.view.Entry.{Entry}
 use Rattle.ps_histlock.specs.Histories.{commands, entries_of}
 use Rattle.ps_histlock.specs.Views.{after_look}
 use Rattle.ps_histlock.proofs.Lists.{prefix_self}
-use Rattle.ps_session.specs.Texts.{texts_of}
+use Rattle.ps_base.specs.Messages.{texts_of}
 use Rattle.server_places.specs.declared.command.RoomCmd.{RoomCmd}
 use Rattle.server_places.specs.declared.site.Root.{Root}
 use Rattle.server_places.specs.declared.site.Site.{Site}

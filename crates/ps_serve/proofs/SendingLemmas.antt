@@ -2,13 +2,13 @@
 use Rattle.std.proofs.Common.{◌≡◌, ℕ, ◌+◌, ◌<◌, ◌≤◌, true, false, eq-eqb, ne_eqb, ◌≢◌, List, [], ◌∷◌, ◌++◌, map, length, take, get_or, Option, Some, None, refl, ap, sym, ◌∙◌, arith, append_assoc}
 use Rattle.std.specs.Prelude.{All, nat_le}
 use Rattle.std.proofs.lemmas.Bool.Decides.{nat_tests}
-use Rattle.std.proofs.lemmas.List.{append-nil, map-append, take_more}
+use Rattle.std.proofs.lemmas.List.{append-nil, get_or-map, length-map, map-append, take_more}
 use Rattle.std.proofs.lemmas.List.Elements.{All-head, All-tail, All-nil, All-cons, filter_map-append}
 use mathlib.Core.List.{IsPrefix}
 use Rattle.ps_base.specs.declared.msg.Msg.{Msg}
 use Rattle.ps_outside.specs.Links.{Talk, with_text, after_text}
 use Rattle.ps_outside.specs.declared.link.SentText.{SentText}
-use Rattle.ps_session.specs.Texts.{texts_of}
+use Rattle.ps_base.specs.Messages.{text_of, texts_of}
 use Rattle.ps_hub.specs.Passes.{lines_of}
 use Rattle.ps_serve.specs.Sendings.{Sending, is_place, text_from, texts_from, text_before, texts_before, message_text, message_texts}
 use Rattle.ps_serve.specs.Steps.{after_sendings}
@@ -115,3 +115,8 @@ after_texts-append (x ∷ xs) ys told = after_texts-append xs ys (after_text x t
 
 pub one_text_more : (texts : List (List ℕ)) (i : ℕ) (d : List ℕ) (told : Option Talk) → i < length texts → after_texts (take (i + 1) texts) told ≡ after_text (get_or texts i d) (after_texts (take i texts) told)
 one_text_more texts i d told lt = ap (λ (ts : List (List ℕ)). after_texts ts told) (take_more texts i d lt) ∙ after_texts-append (take i texts) (get_or texts i d ∷ []) told
+
+pub one_message_more : (room : Option (List ℕ)) (msgs : List Msg) (i : ℕ) (d : Msg) (told : Option Talk) → i < length msgs → after_texts (take (i + 1) (texts_of room msgs)) told ≡ after_text (text_of room (get_or msgs i d)) (after_texts (take i (texts_of room msgs)) told)
+one_message_more room msgs i d told lt =
+    one_text_more (texts_of room msgs) i (text_of room d) told (omega (arith, length-map msgs (text_of room), lt))
+    ∙ ap (λ (text : List ℕ). after_text text (after_texts (take i (texts_of room msgs)) told)) (get_or-map (text_of room) msgs i d (text_of room d) lt)

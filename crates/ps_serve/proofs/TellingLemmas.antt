@@ -11,7 +11,7 @@ use Rattle.rules_start.specs.declared.start.Start.{Start}
 use Rattle.ps_base.specs.declared.msg.Msg.{Msg}
 use Rattle.ps_histlock.specs.Histories.{entries_of}
 use Rattle.ps_session.specs.Sessions.{Record, begun}
-use Rattle.ps_session.specs.Texts.{texts_of}
+use Rattle.ps_base.specs.Messages.{texts_of}
 use Rattle.ps_outside.specs.Links.{Talk}
 use Rattle.ps_hub.specs.Hubs.{Hub}
 use Rattle.ps_hub.specs.Passes.{AreOf, IsHallPass}

@@ -6,7 +6,7 @@ use Rattle.std.proofs.lemmas.List.Elements.{All-cons, All-head, All-tail, All-ap
 use Rattle.std.proofs.lemmas.Option.{get_or_from_slice_get, slice_get_within}
 use Rattle.ps_base.specs.declared.badge.Badge.{Badge}
 use Rattle.ps_session.specs.Sessions.{Record}
-use Rattle.ps_session.specs.Texts.{texts_of}
+use Rattle.ps_base.specs.Messages.{texts_of}
 use Rattle.ps_outside.specs.Links.{Talk}
 use Rattle.ps_hub.specs.Hubs.{Hub}
 use Rattle.ps_hub.specs.Passes.{AreOf, IsRoomPass}

@@ -18,7 +18,7 @@ use Rattle.ps_histlock.specs.declared.view.View.{View}
 use Rattle.ps_session.specs.declared.session.TheConstants.{MOST_TEXTS}
 use Rattle.ps_session.specs.Sessions.{begun, is_full, counted}
 use Rattle.ps_session.specs.Routes.{taken}
-use Rattle.ps_session.specs.Texts.{behind}
+use Rattle.ps_base.specs.Messages.{behind}
 use Rattle.ps_session.specs.declared.session.TakeFault.TheVariants as take_faults
 use Rattle.ps_outside.specs.Causes.{Rose}
 use Rattle.ps_outside.specs.Links.{Talk, LinkCounts}

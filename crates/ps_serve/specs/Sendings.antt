@@ -2,7 +2,7 @@
 use Rattle.std.specs.Prelude.{ℕ, ◌+◌, ◌≤◌, ◌==◌, Bool, true, false, List, [], ◌∷◌, length, take, map, nat_le, Option, Some, None, if◌then◌else◌}
 use Rattle.std.specs.List.{filter_map}
 use mathlib.Core.List.{IsPrefix}
-use Rattle.ps_session.specs.Texts.{joined, headed}
+use Rattle.ps_base.specs.Messages.{joined, headed}
 use Rattle.ps_outside.specs.declared.link.SentText.{SentText}
 
 -- A text that was sent: from the hall (None) or the place of a room, and how many answers of the link stood before it, counted

@@ -1,7 +1,7 @@
 -- For the code of telling: what it does at one place.
 use Rattle.std.specs.Prelude.{◌≡◌, ◌⊎◌, ◌≤◌, ℕ, List, [], ◌∷◌, length, take, slice_get, IsSome, Option, Some, None}
 use Rattle.ps_base.specs.declared.msg.Msg.{Msg}
-use Rattle.ps_session.specs.Texts.{texts_of}
+use Rattle.ps_base.specs.Messages.{texts_of}
 use Rattle.ps_outside.specs.Links.{Talk, after_text}
 use Rattle.ps_histlock.specs.declared.view.View.{View}
 use Rattle.ps_histlock.specs.Histories.{commands}

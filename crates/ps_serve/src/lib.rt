@@ -2,6 +2,7 @@
 #![tactic(auto)]
 
 pub mod closed;
+mod heard;
 mod meet;
 mod obey;
 mod send;

@@ -10,6 +10,7 @@ ghost use Rattle.ps_serve.specs.Sittings.{Sits};
 ghost use Rattle.ps_serve.specs.Steps.{Hears, Stops};
 ghost use Rattle.ps_serve.specs.Obeys.{Makes, MakesOnly, MayStart, Begins, report, Follows, TellsNowhere, Obeys, IsLast};
 
+use crate::heard::Heard;
 use crate::session::Sitting;
 use ps_base::badge::Badge;
 use ps_base::number::Moment;
@@ -67,6 +68,7 @@ impl Sitting {
             Err(TakeFault::Limit { room }) => Some(Stop::OwnLimit { room }),
             Err(TakeFault::NoMemory) => Some(Stop::NoMemory),
             Ok(order) => {
+                self.heard = Heard::asked(alloc, &order);
                 let moment = clock.now();
                 self.obey(rt, hub, order, moment)
             }
@@ -130,10 +132,12 @@ impl Sitting {
         ensures session { self.new.session ≡ with_given out.badge self.old.session }
         ensures follows { Follows hub.now moment out.start out.ended self.old.passes result self.new.passes }
     {
+        self.heard.note(&out);
         let HubOut {
             badge,
             start,
             ended,
+            verdict: _,
         } = out;
         self.keep_badge(badge);
         match start {

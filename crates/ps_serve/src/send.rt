@@ -1,7 +1,7 @@
 //! Telling a connection what happened.
 ghost use Rattle.std.specs.Option.{option_copied};
 ghost use Rattle.std.specs.Prelude.{◌≡◌, ℕ, ◌<◌, List, [], ◌∷◌, ◌++◌, length, take, IfNone, IfSome};
-ghost use Rattle.ps_session.specs.Texts.{texts_of};
+ghost use Rattle.ps_base.specs.Messages.{texts_of};
 ghost use Rattle.ps_hub.specs.Passes.{AreOf};
 ghost use Rattle.ps_serve.specs.Acts.{Act};
 ghost use Rattle.ps_serve.specs.Sendings.{Sending};
@@ -12,49 +12,27 @@ ghost use Rattle.ps_serve.specs.Tellings.{after_texts, SendsHall, TellsHall, Sen
 use crate::closed::End;
 use crate::session::Sitting;
 use ps_base::msg::Msg;
-use ps_base::text::Text;
 use ps_hub::hub::Hub;
 use ps_hub::pass::{HallPass, RoomPass};
 use ps_hub::passes::Passes;
 use ps_outside::link::{Link, SendEnd};
-use ps_session::session::Session;
-use std::alloc::Global;
 use std::sync::Wait;
 
-// Sends texts in order, up to the first that fails.
-fn send_all<L: Link>(link: &mut L, texts: &[Text]) -> Option<End>
+// Sends messages in order, which are the hall's (`None`) or those of the room with an id, up to the first that fails.
+fn send_msgs<L: Link>(link: &mut L, room: Option<&str>, msgs: &[Msg]) -> Option<End>
     ensures counts { IfNone result (L.counts link.new ≡ L.counts link.old) }
     ensures cause { IfSome result (λ end. IsBreak end (L.counts link.old) (L.counts link.new)) }
-    ensures told { IfNone result (L.talk link.new ≡ after_texts texts.now (L.talk link.old)) }
-    ensures broke { IfSome result (λ end. (count : ℕ) × (L.talk link.new ≡ after_texts (take count texts.now) (L.talk link.old))) }
+    ensures told { IfNone result (L.talk link.new ≡ after_texts (texts_of (option_copied room.entry) msgs.now) (L.talk link.old)) }
+    ensures broke { IfSome result (λ end. (count : ℕ) × (L.talk link.new ≡ after_texts (take count (texts_of (option_copied room.entry) msgs.now)) (L.talk link.old))) }
 {
-    for text in texts {
-        match link.send(text.as_str()) {
+    for msg in msgs {
+        match link.send_message(room, msg) {
             Ok(()) => {}
             Err(SendEnd::Failed) => return Some(End::LinkFault),
             Err(SendEnd::NoMemory) => return Some(End::NoMemory),
         }
     }
     None
-}
-
-// Sends messages, which are the hall's (`None`) or those of the room with an id, up to the first that fails.
-fn send_msgs<L: Link>(
-    alloc: Global,
-    link: &mut L,
-    session: &Session,
-    room: Option<&str>,
-    msgs: &[Msg],
-) -> Option<End>
-    ensures counts { IfNone result (L.counts link.new ≡ L.counts link.old) }
-    ensures cause { IfSome result (λ end. IsBreak end (L.counts link.old) (L.counts link.new)) }
-    ensures told { IfNone result (L.talk link.new ≡ after_texts (texts_of (option_copied room.entry) msgs.now) (L.talk link.old)) }
-    ensures broke { IfSome result (λ end. (count : ℕ) × (L.talk link.new ≡ after_texts (take count (texts_of (option_copied room.entry) msgs.now)) (L.talk link.old))) }
-{
-    match session.give(alloc, room, msgs) {
-        Err(_) => Some(End::NoMemory),
-        Ok(texts) => send_all(link, texts.as_slice()),
-    }
 }
 
 // How many entries of the hall were handed out.
@@ -120,11 +98,19 @@ fn ring_places<L: Link>(passes: &Passes, link: &mut L)
 }
 
 impl Sitting {
-    /// Catches up after a text was obeyed, and lets the link ring where that made entries. The link rings as it is next asked for what
-    /// comes, so that who sent the text is answered first.
+    // Tells the operator what came of a text, and rings for those who attend where it made entries.
+    fn notify<L: Link>(&self, link: &mut L)
+        ensures talk { L.talk link.new ≡ L.talk link.old }
+        ensures counts { L.counts link.new ≡ L.counts link.old }
+    {
+        self.heard.report(self.session.badge(), link);
+        ring_places(&self.passes, link);
+    }
+
+    /// Catches up after a text was obeyed, and lets the link tell the operator what came of that, and ring where it made entries. The link
+    /// rings when what it sends has left, so that who sent the text is answered first.
     pub(crate) fn answer<R: Wait, L: Link>(
         &mut self,
-        alloc: Global,
         rt: &R,
         hub: &Hub,
         link: &mut L,
@@ -137,8 +123,8 @@ impl Sitting {
         ensures told { IfNone result ((conn open_at : ℕ) (acts : List Act) (a : Act) (ss : List Sending) → Sits hub.now conn open_at (acts ++ a ∷ []) (length acts) ss self.old.session self.old.passes → Tells hub.now conn open_at acts a ss self.old.session (L.talk link.old) (L.talk link.new) self.new.passes) }
         ensures broke { IfSome result (λ end. (conn open_at : ℕ) (acts : List Act) (a : Act) (ss : List Sending) → Sits hub.now conn open_at (acts ++ a ∷ []) (length acts) ss self.old.session self.old.passes → TellsPart end hub.now conn open_at acts a ss (L.talk link.old) (L.talk link.new) self.new.passes) }
     {
-        ring_places(&self.passes, link);
-        self.catch_up(alloc, rt, hub, link)
+        self.notify(link);
+        self.catch_up(rt, hub, link)
     }
 
     /// Looks once at the hall, and then, by rising numbers, at each room that is held, and sends what wasn't sent yet: of a room
@@ -147,7 +133,6 @@ impl Sitting {
     /// it was sent. `None` where the session goes on.
     pub(crate) fn catch_up<R: Wait, L: Link>(
         &mut self,
-        alloc: Global,
         rt: &R,
         hub: &Hub,
         link: &mut L,
@@ -162,18 +147,17 @@ impl Sitting {
     {
         let shown = hub.look_hall(&mut self.passes);
         for place in 0..self.passes.rooms.len() {
-            match self.tell_room(alloc, rt, hub, link, place) {
+            match self.tell_room(rt, hub, link, place) {
                 Some(end) => return Some(end),
                 None => {}
             }
         }
-        self.tell_hall(alloc, rt, hub, link, shown)
+        self.tell_hall(rt, hub, link, shown)
     }
 
     // What the hall tells, piece by piece, until all was sent that a look showed.
     fn tell_hall<R: Wait, L: Link>(
         &mut self,
-        alloc: Global,
         rt: &R,
         hub: &Hub,
         link: &mut L,
@@ -192,7 +176,7 @@ impl Sitting {
             if shown <= handed_out(&self.passes.hall) {
                 return None;
             }
-            match self.send_hall(alloc, rt, hub, link, shown) {
+            match self.send_hall(rt, hub, link, shown) {
                 Some(end) => return Some(end),
                 None => {}
             }
@@ -203,7 +187,6 @@ impl Sitting {
     // Takes a piece of what the hall tells, and sends it.
     fn send_hall<R: Wait, L: Link>(
         &mut self,
-        alloc: Global,
         rt: &R,
         hub: &Hub,
         link: &mut L,
@@ -220,14 +203,13 @@ impl Sitting {
     {
         match hub.hand_on_hall(rt, &mut self.passes, shown) {
             Err(_) => Some(End::NoMemory),
-            Ok(msgs) => send_msgs(alloc, link, &self.session, None, msgs.as_slice()),
+            Ok(msgs) => send_msgs(link, None, msgs.as_slice()),
         }
     }
 
     // What the room at an index of the list tells, if it is held, piece by piece, until all was sent that a look showed.
     fn tell_room<R: Wait, L: Link>(
         &mut self,
-        alloc: Global,
         rt: &R,
         hub: &Hub,
         link: &mut L,
@@ -252,7 +234,7 @@ impl Sitting {
             if shown <= self.passes.rooms[place].at {
                 return None;
             }
-            match self.send_room(alloc, rt, hub, link, place, shown) {
+            match self.send_room(rt, hub, link, place, shown) {
                 Some(end) => return Some(end),
                 None => {}
             }
@@ -263,7 +245,6 @@ impl Sitting {
     // Takes a piece of what the room at an index of the list tells, and sends it.
     fn send_room<R: Wait, L: Link>(
         &mut self,
-        alloc: Global,
         rt: &R,
         hub: &Hub,
         link: &mut L,
@@ -285,7 +266,7 @@ impl Sitting {
             Err(_) => Some(End::NoMemory),
             Ok(msgs) => {
                 let room = held_by(&self.passes.rooms[place]);
-                send_msgs(alloc, link, &self.session, room, msgs.as_slice())
+                send_msgs(link, room, msgs.as_slice())
             }
         }
     }

@@ -13,6 +13,7 @@ ghost use Rattle.ps_serve.specs.Sessions.{IsSession};
 ghost use Rattle.ps_serve.specs.Rests.{end_after, IsSitting, GoesOn, ComesToRest};
 
 use crate::closed::{Closed, End};
+use crate::heard::Heard;
 use crate::obey::Stop;
 use ps_base::number::ConnNo;
 use ps_hub::hub::Hub;
@@ -29,6 +30,8 @@ use std::sync::Wait;
 pub(crate) struct Sitting {
     pub(crate) session: Session,
     pub(crate) passes: Passes,
+    // What came of its last text, for the operator.
+    pub(crate) heard: Heard,
 }
 
 // The end of a session that these bytes stopped.
@@ -60,10 +63,10 @@ impl Sitting {
     {
         match link.next() {
             Next::Text(bytes) => match self.hear(alloc, rt, hub, bytes.as_slice(), clock) {
-                None => self.answer(alloc, rt, hub, link),
+                None => self.answer(rt, hub, link),
                 Some(stop) => Some(end_by(stop, bytes)),
             },
-            Next::Quiet => self.catch_up(alloc, rt, hub, link),
+            Next::Quiet => self.catch_up(rt, hub, link),
             Next::End => Some(End::Closed),
             Next::Failed => Some(End::LinkFault),
             Next::NoMemory => Some(End::NoMemory),
@@ -136,11 +139,13 @@ fn serve<R: Wait, L: Link, C: Clock>(
     let mut sitting = Sitting {
         session: Session::new(alloc, conn),
         passes,
+        heard: Heard::nothing(),
     };
     let end = sitting.sit(alloc, rt, hub, link, clock);
     let Sitting {
         session: _,
         mut passes,
+        heard: _,
     } = sitting;
     drop(held);
     match hub.quit(rt, &mut passes, clock.now()) {

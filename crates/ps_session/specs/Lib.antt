@@ -2,4 +2,3 @@ pub mod Counts
 pub mod Kept
 pub mod Routes
 pub mod Sessions
-pub mod Texts

@@ -6,7 +6,7 @@ ghost use Rattle.ps_lines.specs.Commands.{has_control, command};
 ghost use Rattle.ps_lines.specs.Faults.{IsFault};
 ghost use Rattle.ps_session.specs.Sessions.{begun, is_full, is_past_rooms, counted, with_badge, without_badge};
 ghost use Rattle.ps_session.specs.Routes.{bad_order, room_named, room_refusal, to_room, by_command, by_client, parts_of, place_of, within_limit, taken, IsTakeFault, no_room, after_no_room, Fits, HasCleanText};
-ghost use Rattle.ps_session.specs.Texts.{texts_of};
+ghost use Rattle.ps_base.specs.Messages.{texts_of};
 ghost use Rattle.ps_session.specs.declared.session.TakeFault.TheVariants.{Limit, NoMemory};
 
 use crate::room_counts::RoomCounts;
@@ -52,12 +52,23 @@ impl From<AllocError> for TakeFault {
 }
 
 /// One connection, seen as its record: its badge, and how many texts it gave to each place.
-#[derive(Drop)]
 pub struct Session {
     conn: ConnNo,
     badge: Option<Badge>,
     hall: u32,
     rooms: RoomCounts,
+}
+
+// By hand, so that who drops one has one call to prove.
+impl Drop for Session {
+    fn drop(self) {
+        let Session {
+            conn: _,
+            badge: _,
+            hall: _,
+            rooms: _,
+        } = self;
+    }
 }
 
 impl Model for Session {

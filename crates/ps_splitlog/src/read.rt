@@ -141,7 +141,7 @@ pub(crate) fn shown_of(
 ) -> Result<List<Text>, AllocError>
     ensures { IfOk result (λ v. v ≡ shown_lines conn role lines.now) }
 {
-    let mut texts = Vec::new(alloc);
+    let mut texts = Vec::with_capacity(alloc, lines.len())?;
     push_shown_lines(alloc, &mut texts, conn, role, lines)?;
     Ok(List::from_vec(texts))
 }

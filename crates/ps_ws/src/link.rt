@@ -1,9 +1,12 @@
 //! A connection over WebSocket.
 ghost use Rattle.std.specs.Prelude.{◌≡◌, Option, Some, None};
+ghost use Rattle.std.specs.Option.{option_copied};
+ghost use Rattle.ps_base.specs.Messages.{text_of};
 ghost use Rattle.ps_outside.specs.Links.{IsNext, after_next, after_send, HasNextCause, HasSendCause};
 
 use crate::wire::Wire;
-use ps_outside::link::{CloseCause, Link, Next, SendEnd};
+use ps_base::msg::Msg;
+use ps_outside::link::{CloseCause, Link, News, Next, SendEnd};
 use std::marker::Model;
 use std::rt;
 use std::sync::Wait;
@@ -41,8 +44,9 @@ pub enum Ending {
 ///   and after twice that silence the link has failed. Anything whole that comes ends a silence. Of a client that says more than it
 ///   may no more is read until it may again: what it said stays in the socket.
 /// - Who was told why the connection ends has a second to end it, too, and then it is let go.
-/// - A text leaves as the link is next asked for what comes, or as 16,384 bytes wait to be sent, within 10 seconds, or that call is
-///   Failed.
+/// - A text leaves before the link waits for its client, after 16 messages of its client, or as 16,384 bytes wait to be sent, within 10
+///   seconds, or that call is Failed. So does a ring. A message's text is never made: its lines are copied to what waits to be sent, and
+///   of a message with over 16,384 bytes that leaves in between.
 /// - A close for a cause is a Close frame: 1009 and 1007 for a text that is too long or isn't UTF-8, 1008 at a limit, and 1011 if out
 ///   of memory.
 pub struct WsLink<R: rt::Clock + Wait + Copy> {
@@ -75,7 +79,7 @@ impl<R: rt::Clock + Wait + Copy> Model for WsLink<R> {
 }
 
 impl<R: rt::Clock + Wait + Copy> WsLink<R> {
-    ghost use Rattle.ps_ws.specs.Sockets.{new_socket, first_ending};
+    ghost use Rattle.ps_ws.specs.Sockets.{new_socket, first_ending, ended_after_send};
 
     // A link over a wire.
     pub(crate) fn over(wire: Wire<R>) -> WsLink<R>
@@ -87,6 +91,23 @@ impl<R: rt::Clock + Wait + Copy> WsLink<R> {
             faults: 0,
             quiets: 0,
             ends: 0,
+        }
+    }
+
+    // What came of a send: where it failed the link has ended, and that is counted.
+    fn count(&mut self, sent: Result<(), SendEnd>) -> Result<(), SendEnd>
+        ensures same { result ≡ sent }
+        ensures cause { HasSendCause self.old.counts self.new.counts result }
+        ensures ended { self.new.ended ≡ ended_after_send result self.old.ended }
+    {
+        match sent {
+            Ok(()) => Ok(()),
+            Err(SendEnd::NoMemory) => Err(SendEnd::NoMemory),
+            Err(SendEnd::Failed) => {
+                self.end(Ending::Broken);
+                self.faults = self.faults.saturating_add(1);
+                Err(SendEnd::Failed)
+            }
         }
     }
 
@@ -152,15 +173,20 @@ impl<R: rt::Clock + Wait + Copy> Link for WsLink<R> {
             None => self.wire.send(text),
             Some(_) => Err(SendEnd::Failed),
         };
-        match sent {
-            Ok(()) => Ok(()),
-            Err(SendEnd::NoMemory) => Err(SendEnd::NoMemory),
-            Err(SendEnd::Failed) => {
-                self.end(Ending::Broken);
-                self.faults = self.faults.saturating_add(1);
-                Err(SendEnd::Failed)
-            }
-        }
+        self.count(sent)
+    }
+
+    fn send_message(&mut self, room: Option<&str>, msg: &Msg) -> Result<(), SendEnd>
+        ensures known { None ≡ after_send result (text_of (option_copied room.entry) msg.now) None }
+        ensures cause { HasSendCause self.old.counts self.new.counts result }
+        ensures ended { self.new.ended ≡ ended_after_send result self.old.ended }
+        ensures still { SendsNothing self.old.ended result }
+    {
+        let sent = match self.ended {
+            None => self.wire.send_message(room, msg),
+            Some(_) => Err(SendEnd::Failed),
+        };
+        self.count(sent)
     }
 
     fn attend(&mut self, room: u32, attends: bool)
@@ -174,6 +200,11 @@ impl<R: rt::Clock + Wait + Copy> Link for WsLink<R> {
     {
         self.wire.ring(place);
     }
+
+    /// It leaves this be: a link that stands around it may tell of it.
+    fn report(&mut self, _news: News<'_>)
+        ensures same { self.new ≡ self.old }
+    {}
 
     /// What has ended sends no Close frame.
     fn close(&mut self, cause: Option<CloseCause>)

@@ -7,6 +7,7 @@ use crate::link::MESSAGE_LIMIT;
 use crate::settings::Settings;
 use bytes::Bytes;
 use mio::{Events, Interest, Poll, Token, Waker};
+use ps_base::msg::Msg;
 use ps_outside::link::{CloseCause, Next, SendEnd};
 use std::alloc::{AllocError, Global};
 use std::io::{ErrorKind, Read, Write};
@@ -20,6 +21,8 @@ use tungstenite::{
 use websocket::error::ProtocolError;
 use websocket::handshake::HandshakeError;
 use websocket::handshake::server::write_response;
+use websocket::protocol::frame::FrameHeader;
+use websocket::protocol::frame::coding::{Data, OpCode};
 
 // How long a handshake, and the sending of a text or of a Close frame, may take in all, in milliseconds.
 const PATIENCE: u64 = 10_000;
@@ -35,6 +38,9 @@ const IDLE: u64 = 5_000;
 
 // From how many bytes on what is to be sent leaves before the link is asked for what comes next.
 const WRITE_SIZE: usize = 16_384;
+
+// How many messages of a client are taken, at most, before what is to be sent leaves.
+const READ_AHEAD: u32 = 16;
 
 // How many bytes one read of the socket asks for. A link keeps two buffers of this size.
 const READ_SIZE: usize = 8192;
@@ -120,6 +126,10 @@ pub(crate) struct Wire<R: rt::Clock + Wait + Copy> {
     number: Option<u64>,
     // The rooms that its connection attends.
     rooms: Vec<u32>,
+    // What is to be sent: whole frames.
+    out: Vec<u8>,
+    // How many messages were taken since all that was to be sent had left.
+    read_ahead: u32,
     // Where it is to ring.
     rings: Vec<Option<u32>>,
     // Whether its bell is missing somewhere, since memory was refused: it then looks as often as one that has none.
@@ -183,16 +193,20 @@ fn told(cause: CloseCause) -> (CloseCode, &'static str) {
     }
 }
 
-// The next message. First the reply to the last one leaves, so that a client that asks for replies
-// and doesn't read them can't fill the memory. A close is answered and completed at once, if the
-// socket has room.
-fn read_message(socket: &mut Socket) -> Result<Message, Error> {
-    socket.flush()?;
-    let message = socket.read()?;
-    if message.is_close() {
-        return socket.read();
+// Whether the protocol itself answers a message.
+fn has_reply(message: &Result<Message, Error>) -> bool {
+    match message {
+        Ok(Message::Ping(_)) | Ok(Message::Close(_)) => true,
+        Ok(Message::Text(_)) | Ok(Message::Binary(_)) | Ok(Message::Pong(_)) | Err(_) => false,
     }
-    Ok(message)
+}
+
+// Whether a message says that the client closes.
+fn is_close(message: &Result<Message, Error>) -> bool {
+    match message {
+        Ok(message) => message.is_close(),
+        Err(_) => false,
+    }
 }
 
 impl<R: rt::Clock + Wait + Copy> Wire<R> {
@@ -234,6 +248,8 @@ impl<R: rt::Clock + Wait + Copy> Wire<R> {
             bell,
             number: None,
             rooms: Vec::new(alloc),
+            out: Vec::new(alloc),
+            read_ahead: 0,
             rings: Vec::new(alloc),
             is_deaf: false,
         })
@@ -243,6 +259,7 @@ impl<R: rt::Clock + Wait + Copy> Wire<R> {
     pub(crate) fn shut(&mut self) {
         self.stage = Stage::Over;
         self.kept = None;
+        self.out = Vec::new(self.alloc);
         self.part_from_bells();
     }
 
@@ -271,10 +288,10 @@ impl<R: rt::Clock + Wait + Copy> Wire<R> {
             Err(SendEnd::Failed) => return Next::Failed,
             Err(SendEnd::NoMemory) => return Next::NoMemory,
         }
-        if self.send_all().is_err() {
-            return Next::Failed;
-        }
         if self.bells.are_over() {
+            if self.send_all().is_err() {
+                return Next::Failed;
+            }
             self.close(CloseCode::Away, "the server goes down");
             return Next::End;
         }
@@ -284,8 +301,18 @@ impl<R: rt::Clock + Wait + Copy> Wire<R> {
         }
     }
 
-    // What the client says, after one wait where there is nothing.
+    // What the client says, after one wait where there is nothing. What is to be sent leaves before the wait, or when some messages were
+    // taken since it last did: so texts that came together are answered together.
     fn next_of_client(&mut self) -> io::Result<Next> {
+        if self.read_ahead < READ_AHEAD {
+            if let Some(next) = self.read_in_turn()? {
+                self.read_ahead = self.read_ahead.saturating_add(1);
+                return Ok(next);
+            }
+        }
+        if self.send_all().is_err() {
+            return Ok(Next::Failed);
+        }
         if let Some(next) = self.read_in_turn()? {
             return Ok(next);
         }
@@ -381,14 +408,16 @@ impl<R: rt::Clock + Wait + Copy> Wire<R> {
         }
     }
 
-    // Writes all that waits to be sent, and rings in between: a client that doesn't read holds up nobody else.
+    // Writes all that is to be sent, and rings.
     fn send_all(&mut self) -> Result<(), SendEnd> {
+        self.read_ahead = 0;
+        let written = self.write_out(None);
+        self.ring_bells();
+        written?;
         let Stage::Open(socket) = &mut self.stage else {
             return Err(SendEnd::Failed);
         };
-        let sent = socket.flush();
-        self.ring_bells();
-        match sent {
+        match socket.flush() {
             Ok(()) => Ok(()),
             Err(error) => {
                 if would_block(&error) {
@@ -455,6 +484,9 @@ impl<R: rt::Clock + Wait + Copy> Wire<R> {
 
     /// Rings at a place, as what is to be sent is sent.
     pub(crate) fn ring(&mut self, place: Option<u32>) {
+        if self.rings.as_slice().contains(&place) {
+            return;
+        }
         if self.rings.push(place).is_err() {
             self.ring_at(place);
         }
@@ -473,17 +505,135 @@ impl<R: rt::Clock + Wait + Copy> Wire<R> {
         self.rings.clear();
     }
 
-    /// Sends a text: it leaves as the link is next asked for what comes, or when there is enough to send. Where the socket has no
-    /// room it waits for some.
+    /// Sends a text: it leaves as the link waits for its client, or when there is enough to send. Where the socket has no room it waits
+    /// for some.
     pub(crate) fn send(&mut self, text: &str) -> Result<(), SendEnd> {
         self.shake_hands()?;
-        match Message::text(self.alloc, text) {
-            Ok(message) => self.put(message),
+        self.begin_frame(text.len())?;
+        let begun = self.begin_of(text.len())?;
+        self.put_part(text, begun)
+    }
+
+    /// Sends a message of a room, or of the hall, as `send` sends its text, which is never made: its lines are put to what is to be
+    /// sent, and of a long one what is to be sent leaves in between.
+    pub(crate) fn send_message(&mut self, room: Option<&str>, msg: &Msg) -> Result<(), SendEnd> {
+        self.shake_hands()?;
+        let bytes = msg.text_bytes(room);
+        self.begin_frame(bytes)?;
+        let begun = self.begin_of(bytes)?;
+        let mut is_first = true;
+        if let Some(id) = room {
+            self.put_part(">", begun)?;
+            self.put_part(id, begun)?;
+            is_first = false;
+        }
+        for line in msg.lines.as_slice() {
+            if !is_first {
+                self.put_part("\n", begun)?;
+            }
+            self.put_part(line.as_str(), begun)?;
+            is_first = false;
+        }
+        Ok(())
+    }
+
+    // When the sending of so many bytes begins, of which some leave before the last is put: so long a frame has its time from then on.
+    fn begin_of(&self, bytes: usize) -> Result<Option<Instant>, SendEnd> {
+        if bytes <= WRITE_SIZE {
+            return Ok(None);
+        }
+        match Instant::now(&self.host) {
+            Ok(begun) => Ok(Some(begun)),
+            Err(_) => Err(SendEnd::Failed),
+        }
+    }
+
+    // Puts the header of a frame with a text of so many bytes to what is to be sent, which leaves before where the frame has no room
+    // behind it. Then there is memory for the frame, or for its pieces: one that was begun has to be ended.
+    fn begin_frame(&mut self, bytes: usize) -> Result<(), SendEnd> {
+        let header = FrameHeader::new(OpCode::Data(Data::Text), None);
+        let room = header.len(bytes as u64).saturating_add(bytes);
+        if self.out.len().saturating_add(room) > WRITE_SIZE {
+            self.write_out(None)?;
+        }
+        if self.out.reserve(room.min(WRITE_SIZE)).is_err() {
+            return Err(SendEnd::NoMemory);
+        }
+        match header.format(bytes as u64, &mut self.out) {
+            Ok(()) => Ok(()),
             Err(_) => Err(SendEnd::NoMemory),
         }
     }
 
-    // Puts a message to what is to be sent.
+    // Puts a part of a frame to what is to be sent, which leaves before where the part has no room behind it. A part that is longer than
+    // that may be leaves as it is.
+    fn put_part(&mut self, part: &str, begun: Option<Instant>) -> Result<(), SendEnd> {
+        if self.out.len().saturating_add(part.len()) > WRITE_SIZE {
+            self.write_out(begun)?;
+        }
+        if part.len() > WRITE_SIZE {
+            return self.write_bytes(part.as_bytes(), begun);
+        }
+        match self.out.extend_from_slice(part.as_bytes()) {
+            Ok(()) => Ok(()),
+            Err(_) => Err(SendEnd::Failed),
+        }
+    }
+
+    // Writes all that is to be sent, within its time: from this moment, where there is none.
+    fn write_out(&mut self, begun: Option<Instant>) -> Result<(), SendEnd> {
+        if self.out.is_empty() {
+            return Ok(());
+        }
+        let mut out = mem::replace(&mut self.out, Vec::new(self.alloc));
+        let written = self.write_bytes(out.as_slice(), begun);
+        out.clear();
+        self.out = out;
+        written
+    }
+
+    // Writes all of these bytes, within their time. Before it waits it rings: a client that doesn't read holds up nobody else.
+    fn write_bytes(&mut self, bytes: &[u8], begun: Option<Instant>) -> Result<(), SendEnd> {
+        let mut rest = bytes;
+        let mut begun = begun;
+        for _ in 0..u64::MAX {
+            if rest.is_empty() {
+                return Ok(());
+            }
+            let Stage::Open(socket) = &mut self.stage else {
+                return Err(SendEnd::Failed);
+            };
+            match socket.get_mut().write(rest) {
+                Ok(0) => return Err(SendEnd::Failed),
+                Ok(count) => rest = &rest[count..],
+                Err(error) => {
+                    if error.kind() != ErrorKind::WouldBlock {
+                        return Err(SendEnd::Failed);
+                    }
+                    self.ring_bells();
+                    begun = Some(self.wait_to_write(begun)?);
+                }
+            }
+        }
+        Err(SendEnd::Failed)
+    }
+
+    // Waits for room in the socket, for what began at this moment, or begins now; and says when that is.
+    fn wait_to_write(&mut self, begun: Option<Instant>) -> Result<Instant, SendEnd> {
+        let begun = match begun {
+            Some(begun) => begun,
+            None => match Instant::now(&self.host) {
+                Ok(begun) => begun,
+                Err(_) => return Err(SendEnd::Failed),
+            },
+        };
+        match self.wait_since(begun, self.patience()) {
+            Ok(()) => Ok(begun),
+            Err(_) => Err(SendEnd::Failed),
+        }
+    }
+
+    // Puts a message of the protocol itself to what the socket sends.
     fn put(&mut self, message: Message) -> Result<(), SendEnd> {
         let Stage::Open(socket) = &mut self.stage else {
             return Err(SendEnd::Failed);
@@ -503,6 +653,10 @@ impl<R: rt::Clock + Wait + Copy> Wire<R> {
 
     // Ends the handshake, where it isn't done, and tells whether it did.
     fn shake_hands(&mut self) -> Result<bool, SendEnd> {
+        // A socket is too large to be moved for each message.
+        if let Stage::Open(_) = &self.stage {
+            return Ok(false);
+        }
         match mem::replace(&mut self.stage, Stage::Over) {
             Stage::Handshaking(stream) => {
                 self.stage = Stage::Open(self.finish_handshake(stream)?);
@@ -664,6 +818,9 @@ impl<R: rt::Clock + Wait + Copy> Wire<R> {
 
     // Tells a client that broke the protocol why its connection ends, in a Close frame, and ends it.
     fn close(&mut self, code: CloseCode, reason: &'static str) {
+        if self.write_out(None).is_err() {
+            return;
+        }
         let Stage::Open(socket) = &mut self.stage else {
             return;
         };
@@ -684,19 +841,22 @@ impl<R: rt::Clock + Wait + Copy> Wire<R> {
         }
     }
 
+    // How long what is sent may take in all, in milliseconds. One that holds up the end of a server has less time.
+    fn patience(&self) -> u64 {
+        if self.bells.are_over() {
+            PARTING
+        } else {
+            PATIENCE
+        }
+    }
+
     // Writes what waits to be sent, within its time. A part of it may have left.
     fn flush(&mut self) -> Result<(), SendEnd> {
         let Ok(begun) = Instant::now(&self.host) else {
             return Err(SendEnd::Failed);
         };
         for _ in 0..u64::MAX {
-            // One that holds up the end of a server has less time.
-            let patience = if self.bells.are_over() {
-                PARTING
-            } else {
-                PATIENCE
-            };
-            if self.wait_since(begun, patience).is_err() {
+            if self.wait_since(begun, self.patience()).is_err() {
                 return Err(SendEnd::Failed);
             }
             let Stage::Open(socket) = &mut self.stage else {
@@ -719,13 +879,19 @@ impl<R: rt::Clock + Wait + Copy> Wire<R> {
         if let Some(message) = self.kept.take() {
             return Some(self.answer(message));
         }
-        let Stage::Open(socket) = &mut self.stage else {
-            return Some(Next::Failed);
-        };
         if !self.is_ready {
             return None;
         }
-        match read_message(socket) {
+        let mut message = self.read_message();
+        // The reply leaves behind all that is to be sent.
+        if has_reply(&message) && self.write_out(None).is_err() {
+            return Some(Next::Failed);
+        }
+        // A close is answered and completed at once, if the socket has room.
+        if is_close(&message) {
+            message = self.read_message();
+        }
+        match message {
             Ok(message) => Some(self.answer(message)),
             Err(Error::ConnectionClosed) => Some(Next::End),
             Err(Error::OutOfMemory) => Some(Next::NoMemory),
@@ -740,6 +906,16 @@ impl<R: rt::Clock + Wait + Copy> Wire<R> {
                 Some(Next::Failed)
             }
         }
+    }
+
+    // The next message. First the reply to the last one leaves, so that a client that asks for replies and doesn't read them can't fill
+    // the memory.
+    fn read_message(&mut self) -> Result<Message, Error> {
+        let Stage::Open(socket) = &mut self.stage else {
+            return Err(Error::AlreadyClosed);
+        };
+        socket.flush()?;
+        socket.read()
     }
 
     // A message as an answer. Where memory is refused for its bytes it is kept.

@@ -3,7 +3,7 @@ use Rattle.std.specs.Prelude.{ℕ, zero, suc, Bool, true, false, ◌&&◌, List,
 use Rattle.std.specs.List.{flat_map, filter_map}
 use Rattle.std.specs.Fmt.{decimal}
 use Rattle.replay_script.specs.declared.item.Item.{Item}
-use Rattle.ps_session.specs.Texts.{headed}
+use Rattle.ps_base.specs.Messages.{headed}
 use Rattle.replay_state.specs.declared.place.Placed.{Placed}
 use Rattle.replay_state.specs.declared.place.Happening.{Happening}
 use Rattle.replay_state.specs.declared.place.Happening.TheVariants.{Entry, Ended}

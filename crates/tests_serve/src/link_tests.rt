@@ -1,11 +1,15 @@
 //! What no clause says: sessions over one link.
-use crate::files::{ANN, BOB, assert_ended, close, end_of, inbox_of, make_hub, push, push_text};
+use crate::files::{ANN, BOB, assert_ended, close, closed_of, inbox_of, make_hub, push, push_text};
 use crate::watching::{count_at, count_in_hall};
+use ps_base::list::List;
+use ps_base::msg::{Msg, push_message};
+use ps_base::number::ConnNo;
+use ps_base::text::Text;
 use ps_histlock::OWN_LIMIT;
 use ps_hub::hub::Hub;
 use ps_outside::link::{Arrival, MemLink, SentText, SureLink};
-use ps_serve::closed::End;
-use ps_session::session::MOST_TEXTS;
+use ps_serve::closed::{Closed, End};
+use ps_session::session::{MOST_TEXTS, Session};
 use std::alloc::Global;
 use std::process::Abort;
 use std::sync::Wait;
@@ -49,16 +53,16 @@ fn was_opened_alone(rt: &impl Abort, sent: &[SentText]) {
 /// At the first Quiet the Open's message is sent, and nothing at the second.
 fn is_quiet_twice<R: Abort + Wait>(rt: &R, alloc: Global, hub: &Hub) {
     let mut link = two_quiets(rt, alloc);
-    let end = end_of(rt, alloc, hub, 1, &mut link);
-    assert_ended(rt, end, "Closed");
+    let closed = closed_of(rt, alloc, hub, 1, &mut link);
+    assert_ended(rt, closed, "Closed");
     was_opened_alone(rt, link.sent());
     hang_up(link);
 }
 
 fn is_refused<R: Abort + Wait>(rt: &R, alloc: Global, hub: &Hub) {
     let mut link = two_quiets(rt, alloc);
-    let end = end_of(rt, alloc, hub, 1, &mut link);
-    assert_ended(rt, end, "Taken");
+    let closed = closed_of(rt, alloc, hub, 1, &mut link);
+    assert_ended(rt, closed, "Taken");
     assert_eq!(rt; link.sent().len(), 0);
     hang_up(link);
 }
@@ -126,8 +130,8 @@ fn fails_once<R: Abort + Wait>(
 ) {
     let (next, send, end, count) = fault;
     let mut link = failing(rt, alloc, next, send);
-    let ended = end_of(rt, alloc, hub, conn, &mut link);
-    assert_ended(rt, ended, end);
+    let closed = closed_of(rt, alloc, hub, conn, &mut link);
+    assert_ended(rt, closed, end);
     were_first(rt, link.sent(), count);
 }
 
@@ -165,14 +169,14 @@ fn limit_of(end: &End) -> &str {
     }
 }
 
-fn assert_limit(rt: &impl Abort, end: End, wanted: &str) {
-    assert_eq!(rt; limit_of(&end), wanted);
+fn assert_limit(rt: &impl Abort, closed: Closed, wanted: &str) {
+    assert_eq!(rt; limit_of(&closed.end), wanted);
 }
 
 fn talks_too_often<R: Abort + Wait>(rt: &R, alloc: Global, hub: &Hub) {
     let mut link = talkative(rt, alloc, MOST_TEXTS as usize);
-    let end = end_of(rt, alloc, hub, 1, &mut link);
-    assert_limit(rt, end, "lobby");
+    let closed = closed_of(rt, alloc, hub, 1, &mut link);
+    assert_limit(rt, closed, "lobby");
     hang_up(link);
 }
 
@@ -186,4 +190,34 @@ fn a_text_too_many(rt: HostRuntime) {
     talks_too_often(&rt, rt.alloc(), &hub);
     assert_eq!(rt; count_at(&rt, &hub, "lobby"), u64::from(MOST_TEXTS) + 1);
     close(hub);
+}
+
+fn msgs_of(rt: &impl Abort, alloc: Global, lines: &[&str]) -> Vec<Msg> {
+    let mut texts = Vec::new(alloc);
+    for line in lines {
+        let text = Text::copy_of(alloc, line).expect(rt, "memory");
+        texts.push(text).expect(rt, "memory");
+    }
+    let mut msgs = Vec::new(alloc);
+    push_message(&mut msgs, List::from_vec(texts)).expect(rt, "memory");
+    msgs
+}
+
+fn is_text(rt: &impl Abort, alloc: Global, room: Option<&str>, wanted: &str) {
+    let msgs = msgs_of(rt, alloc, &["one", "two"]);
+    let session = Session::new(alloc, ConnNo(1));
+    let texts = session
+        .give(alloc, room, msgs.as_slice())
+        .expect(rt, "memory");
+    assert_eq!(rt; texts.len(), 1);
+    for text in texts.as_slice() {
+        assert_eq!(rt; text.as_str(), wanted);
+    }
+}
+
+/// A session gives the texts of messages, as links in memory keep them.
+#[test]
+fn the_text_of_a_message(rt: HostRuntime) {
+    is_text(&rt, rt.alloc(), None, "one\ntwo");
+    is_text(&rt, rt.alloc(), Some("lobby"), ">lobby\none\ntwo");
 }

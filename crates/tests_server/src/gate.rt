@@ -2,7 +2,8 @@
 ghost use Rattle.std.specs.Prelude.{◌≡◌, None};
 
 use crate::flags::Flags;
-use ps_outside::link::{CloseCause, Link, Next, SendEnd};
+use ps_base::msg::Msg;
+use ps_outside::link::{CloseCause, Link, News, Next, SendEnd};
 use std::alloc::Global;
 use std::sync::Arc;
 use std::thread;
@@ -136,9 +137,18 @@ impl Link for GateLink {
         Ok(())
     }
 
+    fn send_message(&mut self, room: Option<&str>, msg: &Msg) -> Result<(), SendEnd> {
+        match msg.text(self.alloc, room) {
+            Ok(text) => self.send(text.as_str()),
+            Err(_) => Err(SendEnd::NoMemory),
+        }
+    }
+
     fn attend(&mut self, _room: u32, _attends: bool) {}
 
     fn ring(&mut self, _place: Option<u32>) {}
+
+    fn report(&mut self, _news: News<'_>) {}
 
     fn close(&mut self, _cause: Option<CloseCause>) {}
 }

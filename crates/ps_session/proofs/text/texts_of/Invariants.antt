@@ -1,6 +1,6 @@
 use Rattle.std.proofs.Common.{◌≡◌, map, take}
 use Rattle.std.specs.Option.{option_copied}
-use Rattle.ps_session.specs.Texts.{text_of}
+use Rattle.ps_base.specs.Messages.{text_of}
 use Rattle.ps_session.proofs.text.texts_of.Given as goal
 
 abbrev pub invariant-loop-msg : goal.invariant-loop-msg
