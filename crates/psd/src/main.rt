@@ -2,6 +2,7 @@
 #![tactic(auto)]
 
 mod door;
+mod link;
 mod random;
 mod server;
 
@@ -28,13 +29,15 @@ Usage:
       Once it listens it prints `listening on ADDRESS:PORT` on standard error;
       the port 0 lets the host choose one
   psd serve ADDRESS always [--at-once N] [--ping S] [--rate N] [--stop-at-end]
-      [--dex NAME] [--config NAME]
+      [--log] [--dex NAME] [--config NAME]
       the same, but lets in connections as others end, N of them at once, 1024 if
       not said, at most 16384; further ones wait. A client that was silent for S
       seconds, 30 if not said, is pinged, and parted from after twice that. Of each
       client N messages a second are read, 5 if not said, after four times as many
       at once; 0 is no bound. With --stop-at-end the end of standard input ends it.
-      A nonce or a seed that the configuration doesn't say is drawn at each start
+      With --log it prints a line on standard error when a connection opens or ends,
+      takes a name or moderates a room, and when a battle begins or ends. A nonce or
+      a seed that the configuration doesn't say is drawn at each start
   psd replay [--dex NAME] [--config NAME]
       reads a recorded script of connections from standard input, and writes what
       each connection is sent to standard output

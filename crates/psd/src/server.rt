@@ -120,7 +120,7 @@ where
         ping: Some(asked.ping),
         rate: asked.rate,
     };
-    let Ok(mut door) = PrintingDoor::with_settings(host, alloc, settings) else {
+    let Ok(mut door) = PrintingDoor::with_settings(host, alloc, settings, asked.logs) else {
         return Status::NoMemory;
     };
     if asked.stops_at_end && !watch(host, input, &door) {

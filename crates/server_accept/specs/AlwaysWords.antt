@@ -11,13 +11,14 @@ use Rattle.server_accept.specs.declared.always_words.Wants.{Wants}
 use Rattle.server_accept.specs.declared.always_words.Wants.TheVariants.{AnOption, AtOnce, Ping, Rate, DexName, ConfigName}
 
 -- what it is asked for: at an address, so many connections at once, pings after so many seconds of silence, so many messages of a
--- client a second, whether it ends with standard input, and these files
+-- client a second, whether it ends with standard input, whether it tells its operator what happens, and these files
 pub record Stays : Type 0 where
   pub address : List ℕ
   pub at_once : ℕ
   pub ping : ℕ
   pub rate : ℕ
   pub stops_at_end : Bool
+  pub logs : Bool
   pub options : Options
 
 -- what its further words have said so far
@@ -26,6 +27,7 @@ pub record Further : Type 0 where
   pub ping : Option ℕ
   pub rate : Option ℕ
   pub stops_at_end : Bool
+  pub logs : Bool
   pub dex : Option (List ℕ)
   pub config : Option (List ℕ)
 
@@ -35,7 +37,7 @@ pub record Reading : Type 0 where
   pub wants : Wants
 
 abbrev pub nothing_said : Reading
-nothing_said = record { further = record { at_once = None; ping = None; rate = None; stops_at_end = false; dex = None; config = None }; wants = AnOption }
+nothing_said = record { further = record { at_once = None; ping = None; rate = None; stops_at_end = false; logs = false; dex = None; config = None }; wants = AnOption }
 
 -- ---- values
 
@@ -68,9 +70,10 @@ option_in further word =
     else (if bytes_eq word (codes "--ping") then asks (is_some further.ping) further Ping
     else (if bytes_eq word (codes "--rate") then asks (is_some further.rate) further Rate
     else (if bytes_eq word (codes "--stop-at-end") then asks further.stops_at_end (record further { stops_at_end = true }) AnOption
+    else (if bytes_eq word (codes "--log") then asks further.logs (record further { logs = true }) AnOption
     else (if bytes_eq word (codes "--dex") then asks (is_some further.dex) further DexName
     else (if bytes_eq word (codes "--config") then asks (is_some further.config) further ConfigName
-    else None)))))
+    else None))))))
 
 abbrev pub with_at_once : Further → Option ℕ → Option Reading
 with_at_once further None = None
@@ -124,13 +127,13 @@ abbrev pub further_in : ℕ → ℕ → Reading → List (List ℕ) → Result F
 further_in most at reading [] = end_of at reading.wants reading.further
 further_in most at reading (word ∷ words) = if most == 0 then Err at else go_on at (word_in reading.wants reading.further word) (λ next. further_in (most - 1) (at + 1) next words)
 
--- five options with a value and one without, each once
+-- five options with a value and two without, each once
 abbrev pub most_further : ℕ
-most_further = 11
+most_further = 12
 
 abbrev pub stays_with : List ℕ → Result Further ℕ → Result Stays ℕ
 stays_with address (Err at) = Err at
-stays_with address (Ok said) = Ok (record { address = address; at_once = unwrap_or said.at_once 1024; ping = unwrap_or said.ping 30; rate = unwrap_or said.rate 5; stops_at_end = said.stops_at_end; options = record { dex = said.dex; config = said.config } })
+stays_with address (Ok said) = Ok (record { address = address; at_once = unwrap_or said.at_once 1024; ping = unwrap_or said.ping 30; rate = unwrap_or said.rate 5; stops_at_end = said.stops_at_end; logs = said.logs; options = record { dex = said.dex; config = said.config } })
 
 -- behind the address
 abbrev pub always_in : List ℕ → List (List ℕ) → Result Stays ℕ
@@ -155,13 +158,13 @@ IfStays (Err at) holds = Unit {0}
 -- ---- for the code: what was read, as contracts see it
 
 abbrev pub further_of : FurtherWords → Further
-further_of f = record { at_once = f.at_once; ping = f.ping; rate = f.rate; stops_at_end = f.stops_at_end; dex = option_copied f.dex; config = option_copied f.config }
+further_of f = record { at_once = f.at_once; ping = f.ping; rate = f.rate; stops_at_end = f.stops_at_end; logs = f.logs; dex = option_copied f.dex; config = option_copied f.config }
 
 abbrev pub reading_of : WordReading → Reading
 reading_of r = record { further = further_of r.further; wants = r.wants }
 
 abbrev pub stays_of : AlwaysWords → Stays
-stays_of w = record { address = w.address.now; at_once = w.at_once; ping = w.ping; rate = w.rate; stops_at_end = w.stops_at_end; options = options_of w.options }
+stays_of w = record { address = w.address.now; at_once = w.at_once; ping = w.ping; rate = w.rate; stops_at_end = w.stops_at_end; logs = w.logs; options = options_of w.options }
 
 abbrev pub option_reading : Option WordReading → Option Reading
 option_reading None = None

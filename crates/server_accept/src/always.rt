@@ -353,7 +353,8 @@ where
 /// own, made by `another` of this one. Nothing is kept of a session that has ended.
 ///
 /// `Done` comes where the door was stopped. `Usage` tells the first word that can't stand in `serve ADDRESS always [--at-once N]
-/// [--ping S] [--rate N] [--stop-at-end] [--dex NAME] [--config NAME]`, of which the third to the fifth are for who makes the door.
+/// [--ping S] [--rate N] [--stop-at-end] [--log] [--dex NAME] [--config NAME]`, of which the third to the sixth are for who makes the
+/// door.
 /// The statuses of files, of a dex and of a configuration are those of `serve`, and come before the door is asked. `DoorFault` comes
 /// only where the door's count of faults rose: it couldn't listen, or hand out a link. `NoMemory` likewise. However it ends, it tells
 /// all links to end, and answers after their sessions have. How a session ends is no status.

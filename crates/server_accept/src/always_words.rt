@@ -24,8 +24,8 @@ const RATE: u32 = 5;
 /// The most messages that a bound can be.
 const MOST_RATE: u32 = 10_000;
 
-// The most further words: five options with a value and one without, each once.
-const MOST_FURTHER: u32 = 11;
+// The most further words: five options with a value and two without, each once.
+const MOST_FURTHER: u32 = 12;
 
 /// What `serve ADDRESS always` is asked for.
 #[derive(Clone, Copy)]
@@ -40,6 +40,8 @@ pub struct AlwaysWords<'a> {
     pub rate: u32,
     /// Whether the end of standard input ends it.
     pub stops_at_end: bool,
+    /// Whether it tells its operator what happens.
+    pub logs: bool,
     /// The files that options name.
     pub options: OptionWords<'a>,
 }
@@ -51,6 +53,7 @@ pub(crate) struct FurtherWords<'a> {
     ping: Option<u32>,
     rate: Option<u32>,
     stops_at_end: bool,
+    logs: bool,
     dex: Option<&'a str>,
     config: Option<&'a str>,
 }
@@ -117,6 +120,13 @@ fn option_in<'a>(further: FurtherWords<'a>, word: &str) -> Option<WordReading<'a
             ..further
         };
         return asks(further.stops_at_end, stops, Wants::AnOption);
+    }
+    if word == "--log" {
+        let logs = FurtherWords {
+            logs: true,
+            ..further
+        };
+        return asks(further.logs, logs, Wants::AnOption);
     }
     if word == "--dex" {
         return asks(further.dex.is_some(), further, Wants::DexName);
@@ -264,6 +274,7 @@ fn always_in<'a>(address: &'a str, words: &'a [String]) -> Result<AlwaysWords<'a
                     ping: said.ping.unwrap_or(PING),
                     rate: said.rate.unwrap_or(RATE),
                     stops_at_end: said.stops_at_end,
+                    logs: said.logs,
                     options: OptionWords {
                         dex: said.dex,
                         config: said.config,
@@ -284,6 +295,7 @@ fn nothing_said<'a>() -> WordReading<'a>
             ping: None,
             rate: None,
             stops_at_end: false,
+            logs: false,
             dex: None,
             config: None,
         },
@@ -307,7 +319,7 @@ fn stay_in(words: &[String]) -> Result<AlwaysWords<'_>, u32>
 }
 
 /// Reads the words of a server that stays up: `serve ADDRESS always`, and then, each at most once and in any order, `--at-once N`,
-/// `--ping S`, `--rate N`, `--stop-at-end`, `--dex NAME` and `--config NAME`. The numbers are 1 to 16,384, 1 to 3,600 and 0 to
+/// `--ping S`, `--rate N`, `--stop-at-end`, `--log`, `--dex NAME` and `--config NAME`. The numbers are 1 to 16,384, 1 to 3,600 and 0 to
 /// 10,000, without a sign or leading zeros, and 1,024, 30 and 5 if they aren't said; a name or an address is a word that isn't empty
 /// and doesn't begin with `-`. The error is the index of the first word that can't stand, counted from 0, or how many there are
 /// where one is missing.
