@@ -7,10 +7,19 @@ use std::sync::atomic::{AtomicBool, Ordering};
 use std::sync::{Arc, Mutex, Wait};
 
 /// What ends the wait of one link: its waker, and whether it has rung since the link last answered.
-#[derive(Drop)]
 pub(crate) struct Bell {
     waker: Waker,
     has_rung: AtomicBool,
+}
+
+// By hand, as the others here, so that whoever drops one has one step of its proof for that.
+impl Drop for Bell {
+    fn drop(self) {
+        let Bell {
+            waker: _,
+            has_rung: _,
+        } = self;
+    }
 }
 
 impl Bell {
@@ -44,7 +53,6 @@ impl Bell {
 // The bells of a place, by the numbers of their links.
 type Attending = BTreeMap<u64, Arc<Bell>>;
 
-#[derive(Drop)]
 struct Places {
     // The number that the next link gets.
     next: u64,
@@ -52,6 +60,17 @@ struct Places {
     rooms: BTreeMap<u32, Attending>,
     // That of the door, if somebody may stop it.
     door: Option<Arc<Bell>>,
+}
+
+impl Drop for Places {
+    fn drop(self) {
+        let Places {
+            next: _,
+            hall: _,
+            rooms: _,
+            door: _,
+        } = self;
+    }
 }
 
 impl Places {
@@ -88,12 +107,21 @@ fn ring_all(attending: &Attending, but: u64) {
 }
 
 /// The bells of the links of a door, by the places that their connections attend. All attend the hall.
-#[derive(Drop)]
 pub(crate) struct Bells {
     alloc: Global,
     // Whether the door and all its links are to end.
     are_over: AtomicBool,
     places: Mutex<Places>,
+}
+
+impl Drop for Bells {
+    fn drop(self) {
+        let Bells {
+            alloc: _,
+            are_over: _,
+            places: _,
+        } = self;
+    }
 }
 
 impl Bells {

@@ -77,12 +77,18 @@ fn is_lack(error: &io::Error) -> bool {
 }
 
 // What a door waits by that may be stopped.
-#[derive(Drop)]
 struct Watch {
     own: Seat,
     // What the next link is to wait by: it is made before the host is asked for a connection, so that none is let in for which there
     // are no descriptors.
     next: Option<Seat>,
+}
+
+// By hand, so that whoever drops one has one step of its proof for that.
+impl Drop for Watch {
+    fn drop(self) {
+        let Watch { own: _, next: _ } = self;
+    }
 }
 
 impl Watch {
@@ -144,7 +150,7 @@ pub struct Stopper<R: Wait + Copy> {
     bells: Arc<Bells>,
 }
 
-// By hand, so that whoever drops one has one step of its proof for that.
+// By hand, as that of a `Watch`.
 impl<R: Wait + Copy> Drop for Stopper<R> {
     fn drop(self) {
         let Stopper { host: _, bells: _ } = self;

@@ -8,5 +8,7 @@ mod bucket;
 pub mod door;
 mod handshake;
 pub mod link;
+mod opening;
+mod sending;
 pub mod settings;
 mod wire;

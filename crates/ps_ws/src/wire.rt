@@ -1,34 +1,30 @@
 //! A socket that speaks WebSocket, without any count.
+ghost use Rattle.std.specs.Prelude.{◌≤◌, length, IfOk, IfSome};
 
 use crate::bells::{Bell, Bells};
 use crate::bucket::Bucket;
-use crate::handshake::{Refusal, Request, judge};
 use crate::link::MESSAGE_LIMIT;
+use crate::sending::{WRITE_SIZE, has_left};
 use crate::settings::Settings;
-use bytes::Bytes;
 use mio::{Events, Interest, Poll, Token, Waker};
-use ps_base::msg::Msg;
+use ps_outside::Failed;
 use ps_outside::link::{CloseCause, Next, SendEnd};
 use std::alloc::{AllocError, Global};
-use std::io::{ErrorKind, Read, Write};
+use std::io::{ErrorKind, Read};
 use std::net::{Net, Shutdown, TcpStream};
 use std::sync::{Arc, Wait};
 use std::time::{Duration, Instant};
 use std::{io, mem, rt};
 use tungstenite::{
-    CloseCode, CloseFrame, Error, Message, NoMask, Role, Utf8Bytes, WebSocket, WebSocketConfig,
+    CloseCode, CloseFrame, Error, Message, NoMask, Utf8Bytes, WebSocket, WebSocketConfig,
 };
 use websocket::error::ProtocolError;
-use websocket::handshake::HandshakeError;
-use websocket::handshake::server::write_response;
-use websocket::protocol::frame::FrameHeader;
-use websocket::protocol::frame::coding::{Data, OpCode};
 
-// How long a handshake, and the sending of a text or of a Close frame, may take in all, in milliseconds.
-const PATIENCE: u64 = 10_000;
+/// How long a handshake, and the sending of a text or of a Close frame, may take in all, in milliseconds.
+pub(crate) const PATIENCE: u64 = 10_000;
 
-// How long the end of a client is waited for that was told why its connection ends, in milliseconds.
-const PARTING: u64 = 1_000;
+/// How long the end of a client is waited for that was told why its connection ends, in milliseconds.
+pub(crate) const PARTING: u64 = 1_000;
 
 // How long one wait for the socket takes at most where something is under way, or no bell rings, in milliseconds.
 const POLL: u64 = 50;
@@ -36,39 +32,65 @@ const POLL: u64 = 50;
 // How long a link waits for its client, or its bell, at most, in milliseconds.
 const IDLE: u64 = 5_000;
 
-// From how many bytes on what is to be sent leaves before the link is asked for what comes next.
-const WRITE_SIZE: usize = 16_384;
-
 // How many messages of a client are taken, at most, before what is to be sent leaves.
 const READ_AHEAD: u32 = 16;
 
-// How many bytes one read of the socket asks for. A link keeps two buffers of this size.
-const READ_SIZE: usize = 8192;
+/// How many bytes one read of the socket asks for. A link keeps two buffers of this size.
+pub(crate) const READ_SIZE: usize = 8192;
 
-// In how many reads the head of a handshake has to come. Each looks at the whole head, so without a bound one that comes byte by byte
-// would cost more than a client should.
-const HEAD_READS: u64 = 1024;
+/// The stream below a socket.
+pub(crate) type Stream = mio::net::TcpStream;
 
-type Stream = mio::net::TcpStream;
+/// A socket of a server, which masks nothing.
+pub(crate) type Socket = WebSocket<Stream, NoMask>;
 
-type Socket = WebSocket<Stream, NoMask>;
-
-#[derive(Drop)]
-enum Stage {
-    // The handshake isn't done.
+/// How far a wire is.
+pub(crate) enum Stage {
+    /// The handshake isn't done.
     Handshaking(Stream),
-    // Messages go to and fro.
+    /// Messages go to and fro.
     Open(Socket),
-    // The socket was let go.
+    /// The socket was let go.
     Over,
 }
 
+// By hand, as all here, so that whoever drops one has one step of its proof for that.
+impl Drop for Stage {
+    fn drop(self) {
+        match self {
+            Stage::Handshaking(_) => {}
+            Stage::Open(_) => {}
+            Stage::Over => {}
+        }
+    }
+}
+
+impl Stage {
+    /// The stream, unless it was let go.
+    pub(crate) fn into_stream(self) -> Option<Stream> {
+        match self {
+            Stage::Handshaking(stream) => Some(stream),
+            Stage::Open(socket) => Some(socket.into_inner()),
+            Stage::Over => None,
+        }
+    }
+}
+
 /// What a wire waits by. It takes all the descriptors of a wire but its socket.
-#[derive(Drop)]
 pub(crate) struct Seat {
     poll: Poll,
     events: Events,
     bell: Arc<Bell>,
+}
+
+impl Drop for Seat {
+    fn drop(self) {
+        let Seat {
+            poll: _,
+            events: _,
+            bell: _,
+        } = self;
+    }
 }
 
 impl Seat {
@@ -88,6 +110,12 @@ impl Seat {
             .register(listener, Token(0), Interest::READABLE)
     }
 
+    // Ends its waits at what comes over this stream, and at room in it, too.
+    fn watch_stream(&self, stream: &mut Stream) -> io::Result<()> {
+        let both = Interest::READABLE | Interest::WRITABLE;
+        self.poll.registry().register(stream, Token(0), both)
+    }
+
     /// The bell that ends its waits.
     pub(crate) fn bell(&self) -> Result<Arc<Bell>, AllocError> {
         self.bell.clone()
@@ -100,19 +128,17 @@ impl Seat {
 }
 
 /// A socket, what it waits by, and a message that is still to be answered.
-#[derive(Drop)]
 pub(crate) struct Wire<R: rt::Clock + Wait + Copy> {
-    host: R,
-    alloc: Global,
-    poll: Poll,
-    events: Events,
-    stage: Stage,
-    kept: Option<Message>,
+    pub(crate) host: R,
+    pub(crate) alloc: Global,
+    seat: Seat,
+    pub(crate) stage: Stage,
+    kept: Option<Incoming>,
     settings: Settings,
     // When it began, where its settings have to do with time.
     begun: Option<Instant>,
-    // When something last came, since it began.
-    heard: Duration,
+    /// When something last came, since it began.
+    pub(crate) heard: Duration,
     // When its client was pinged since then, if it was.
     pinged: Option<Duration>,
     bucket: Bucket,
@@ -120,24 +146,49 @@ pub(crate) struct Wire<R: rt::Clock + Wait + Copy> {
     is_held: bool,
     // Whether the socket may have something to read: it told of something since it last had nothing.
     is_ready: bool,
-    bells: Arc<Bells>,
-    bell: Arc<Bell>,
+    pub(crate) bells: Arc<Bells>,
     // Its number among the bells, while it is one of them.
     number: Option<u64>,
     // The rooms that its connection attends.
     rooms: Vec<u32>,
-    // What is to be sent: whole frames.
-    out: Vec<u8>,
-    // How many messages were taken since all that was to be sent had left.
-    read_ahead: u32,
+    /// What is to be sent: whole frames.
+    pub(crate) out: Vec<u8>,
+    /// How many messages were taken since all that was to be sent had left.
+    pub(crate) read_ahead: u32,
     // Where it is to ring.
     rings: Vec<Option<u32>>,
     // Whether its bell is missing somewhere, since memory was refused: it then looks as often as one that has none.
     is_deaf: bool,
 }
 
-// The limits of a socket.
-fn config() -> WebSocketConfig {
+impl<R: rt::Clock + Wait + Copy> Drop for Wire<R> {
+    fn drop(self) {
+        let Wire {
+            host: _,
+            alloc: _,
+            seat: _,
+            stage: _,
+            kept: _,
+            settings: _,
+            begun: _,
+            heard: _,
+            pinged: _,
+            bucket: _,
+            is_held: _,
+            is_ready: _,
+            bells: _,
+            number: _,
+            rooms: _,
+            out: _,
+            read_ahead: _,
+            rings: _,
+            is_deaf: _,
+        } = self;
+    }
+}
+
+/// The limits of a socket.
+pub(crate) fn config() -> WebSocketConfig {
     WebSocketConfig::default()
         .read_buffer_size(READ_SIZE)
         .write_buffer_size(WRITE_SIZE)
@@ -145,21 +196,49 @@ fn config() -> WebSocketConfig {
         .max_frame_size(Some(MESSAGE_LIMIT))
 }
 
-// Whether a call has to wait for the socket.
-fn would_block(error: &Error) -> bool {
-    match error {
-        Error::Io(cause) => cause.kind() == ErrorKind::WouldBlock,
-        _ => false,
-    }
+/// Why the socket didn't do what it was asked. Its own error has many parts to drop, so it is taken for this at once.
+#[derive(Clone, Copy)]
+pub(crate) enum SocketEnd {
+    /// It has nothing, or no room, now.
+    Blocked,
+    /// Both sides have said that they close.
+    Closed,
+    /// Memory was refused.
+    NoMemory,
+    /// The client broke the protocol: what a Close frame says of that (RFC 6455 7.4.1).
+    Breach(CloseCode, &'static str),
+    /// All else.
+    Failed,
 }
 
-// What a Close frame says of an error, where the client broke the protocol (RFC 6455 7.4.1).
-fn breach(error: &Error) -> Option<(CloseCode, &'static str)> {
-    match error {
-        Error::Protocol(cause) => Some((CloseCode::Protocol, breach_of_protocol(cause)?)),
-        Error::Utf8 => Some((CloseCode::Invalid, "the text is not UTF-8")),
-        Error::Capacity(_) => Some((CloseCode::Size, "the message has over 65536 bytes")),
-        _ => None,
+impl SocketEnd {
+    /// What an error means.
+    pub(crate) fn of(error: Error) -> SocketEnd {
+        SocketEnd::meant_by(&error)
+    }
+
+    fn meant_by(error: &Error) -> SocketEnd {
+        match error {
+            Error::ConnectionClosed => SocketEnd::Closed,
+            Error::OutOfMemory => SocketEnd::NoMemory,
+            Error::Io(cause) => {
+                if cause.kind() == ErrorKind::WouldBlock {
+                    SocketEnd::Blocked
+                } else {
+                    SocketEnd::Failed
+                }
+            }
+            Error::Protocol(cause) => match breach_of_protocol(cause) {
+                Some(reason) => SocketEnd::Breach(CloseCode::Protocol, reason),
+                None => SocketEnd::Failed,
+            },
+            Error::Utf8 => SocketEnd::Breach(CloseCode::Invalid, "the text is not UTF-8"),
+            Error::Capacity(_) => SocketEnd::Breach(
+                CloseCode::Size,
+                "the message has over 65536 bytes",
+            ),
+            _ => SocketEnd::Failed,
+        }
     }
 }
 
@@ -193,19 +272,64 @@ fn told(cause: CloseCause) -> (CloseCode, &'static str) {
     }
 }
 
-// Whether the protocol itself answers a message.
-fn has_reply(message: &Result<Message, Error>) -> bool {
-    match message {
-        Ok(Message::Ping(_)) | Ok(Message::Close(_)) => true,
-        Ok(Message::Text(_)) | Ok(Message::Binary(_)) | Ok(Message::Pong(_)) | Err(_) => false,
+// What a message asks of who takes it.
+#[derive(Clone, Copy)]
+enum Kind {
+    // An answer alone.
+    Plain,
+    // A reply of the protocol itself.
+    Ping,
+    // That, and the end.
+    Close,
+}
+
+// A message of the client.
+struct Incoming {
+    message: Message,
+}
+
+impl Drop for Incoming {
+    fn drop(self) {
+        let Incoming { message: _ } = self;
     }
 }
 
-// Whether a message says that the client closes.
-fn is_close(message: &Result<Message, Error>) -> bool {
-    match message {
-        Ok(message) => message.is_close(),
-        Err(_) => false,
+impl Incoming {
+    fn kind(&self) -> Kind {
+        match &self.message {
+            Message::Text(_) | Message::Binary(_) | Message::Pong(_) => Kind::Plain,
+            Message::Ping(_) => Kind::Ping,
+            Message::Close(_) => Kind::Close,
+        }
+    }
+
+    // It as an answer, unless memory is refused for its bytes.
+    fn answer(&self, alloc: Global) -> Next {
+        let bytes = match &self.message {
+            Message::Text(text) => text.as_bytes().to_vec(alloc),
+            Message::Binary(bytes) => bytes.as_slice().to_vec(alloc),
+            Message::Ping(_) | Message::Pong(_) | Message::Close(_) => return Next::Quiet,
+        };
+        match bytes {
+            Ok(bytes) => Next::Text(bytes),
+            Err(_) => Next::NoMemory,
+        }
+    }
+}
+
+/// Reads once. `None`: there is nothing now.
+pub(crate) fn read_some(stream: &mut Stream, chunk: &mut [u8]) -> Result<Option<usize>, Failed>
+    ensures bound { IfOk result (λ read. IfSome read (λ count. count ≤ length chunk.new)) }
+{
+    match stream.read(chunk) {
+        Ok(count) => Ok(Some(count)),
+        Err(error) => {
+            if error.kind() == ErrorKind::WouldBlock {
+                Ok(None)
+            } else {
+                Err(Failed)
+            }
+        }
     }
 }
 
@@ -220,11 +344,9 @@ impl<R: rt::Clock + Wait + Copy> Wire<R> {
         seat: Seat,
         stream: TcpStream,
     ) -> io::Result<Wire<R>> {
-        let Seat { poll, events, bell } = seat;
         stream.set_nonblocking(true)?;
         let mut stream = Stream::from_std(stream);
-        let both = Interest::READABLE | Interest::WRITABLE;
-        poll.registry().register(&mut stream, Token(0), both)?;
+        seat.watch_stream(&mut stream)?;
         let begun = if settings.need_clock() {
             Some(Instant::now(&host)?)
         } else {
@@ -233,8 +355,7 @@ impl<R: rt::Clock + Wait + Copy> Wire<R> {
         Ok(Wire {
             host,
             alloc,
-            poll,
-            events,
+            seat,
             stage: Stage::Handshaking(stream),
             kept: None,
             settings,
@@ -245,7 +366,6 @@ impl<R: rt::Clock + Wait + Copy> Wire<R> {
             is_held: false,
             is_ready: true,
             bells,
-            bell,
             number: None,
             rooms: Vec::new(alloc),
             out: Vec::new(alloc),
@@ -277,7 +397,7 @@ impl<R: rt::Clock + Wait + Copy> Wire<R> {
     pub(crate) fn next(&mut self) -> Next {
         let next = self.next_answer();
         // What happens from now on is seen by the look that follows this answer, or ends the wait of the next call.
-        self.bell.make_ready();
+        self.seat.bell.make_ready();
         next
     }
 
@@ -303,7 +423,7 @@ impl<R: rt::Clock + Wait + Copy> Wire<R> {
 
     // What the client says, after one wait where there is nothing. What is to be sent leaves before the wait, or when some messages were
     // taken since it last did: so texts that came together are answered together.
-    fn next_of_client(&mut self) -> io::Result<Next> {
+    fn next_of_client(&mut self) -> Result<Next, Failed> {
         if self.read_ahead < READ_AHEAD {
             if let Some(next) = self.read_in_turn()? {
                 self.read_ahead = self.read_ahead.saturating_add(1);
@@ -323,16 +443,24 @@ impl<R: rt::Clock + Wait + Copy> Wire<R> {
         }
     }
 
-    // How long ago it began; zero where its settings have nothing to do with time.
-    fn now(&self) -> io::Result<Duration> {
+    /// How long ago it began; zero where its settings have nothing to do with time.
+    pub(crate) fn now(&self) -> Result<Duration, Failed> {
         match &self.begun {
             None => Ok(Duration::ZERO),
-            Some(begun) => begun.elapsed(&self.host),
+            Some(begun) => self.passed(*begun),
+        }
+    }
+
+    // How long ago this moment was.
+    fn passed(&self, begun: Instant) -> Result<Duration, Failed> {
+        match begun.elapsed(&self.host) {
+            Ok(passed) => Ok(passed),
+            Err(_) => Err(Failed),
         }
     }
 
     // What the socket gives now, and None where it has nothing, or where its client said so much that it is read later.
-    fn read_in_turn(&mut self) -> io::Result<Option<Next>> {
+    fn read_in_turn(&mut self) -> Result<Option<Next>, Failed> {
         let now = self.now()?;
         self.is_held = !self.bucket.wait(now).is_zero();
         if self.is_held {
@@ -349,9 +477,9 @@ impl<R: rt::Clock + Wait + Copy> Wire<R> {
 
     // Waits for the client or for the bell. Where the client isn't read yet, it waits for the time at which it is, and not for the socket,
     // which tells of what came only once; and it looks again when it is woken by more.
-    fn rest(&mut self) -> io::Result<()> {
+    fn rest(&mut self) -> Result<(), Failed> {
         for _ in 0..u64::MAX {
-            if self.bell.has_rung() {
+            if self.seat.bell.has_rung() {
                 return Ok(());
             }
             let now = self.now()?;
@@ -387,7 +515,7 @@ impl<R: rt::Clock + Wait + Copy> Wire<R> {
     }
 
     // Pings a client that was silent for long, and gives up one that doesn't answer. Of one that isn't read yet nothing is known.
-    fn judge_silence(&mut self) -> io::Result<Next> {
+    fn judge_silence(&mut self) -> Result<Next, Failed> {
         let Some(seconds) = self.settings.ping else {
             return Ok(Next::Quiet);
         };
@@ -398,7 +526,7 @@ impl<R: rt::Clock + Wait + Copy> Wire<R> {
         if self.pinged.is_some() {
             return Ok(Next::Failed);
         }
-        match self.put(Message::Ping(Bytes::from_static(b""))) {
+        match self.ping() {
             Ok(()) => {
                 self.pinged = Some(now);
                 Ok(Next::Quiet)
@@ -408,30 +536,9 @@ impl<R: rt::Clock + Wait + Copy> Wire<R> {
         }
     }
 
-    // Writes all that is to be sent, and rings.
-    fn send_all(&mut self) -> Result<(), SendEnd> {
-        self.read_ahead = 0;
-        let written = self.write_out(None);
-        self.ring_bells();
-        written?;
-        let Stage::Open(socket) = &mut self.stage else {
-            return Err(SendEnd::Failed);
-        };
-        match socket.flush() {
-            Ok(()) => Ok(()),
-            Err(error) => {
-                if would_block(&error) {
-                    self.flush()
-                } else {
-                    Err(SendEnd::Failed)
-                }
-            }
-        }
-    }
-
-    // Lets its bell hang with those of the others.
-    fn hang_bell(&mut self) {
-        match self.bells.add(&self.host, &self.bell) {
+    /// Lets its bell hang with those of the others.
+    pub(crate) fn hang_bell(&mut self) {
+        match self.bells.add(&self.host, &self.seat.bell) {
             Ok(number) => self.number = Some(number),
             Err(_) => self.is_deaf = true,
         }
@@ -479,7 +586,7 @@ impl<R: rt::Clock + Wait + Copy> Wire<R> {
             return Ok(());
         };
         self.rooms.push(room)?;
-        self.bells.attend(&self.host, number, &self.bell, room)
+        self.bells.attend(&self.host, number, &self.seat.bell, room)
     }
 
     /// Rings at a place, as what is to be sent is sent.
@@ -497,303 +604,17 @@ impl<R: rt::Clock + Wait + Copy> Wire<R> {
         self.bells.ring(&self.host, place, self.number.unwrap_or(0));
     }
 
-    // Rings where it was to.
-    fn ring_bells(&mut self) {
+    /// Rings where it was to.
+    pub(crate) fn ring_bells(&mut self) {
         for place in self.rings.as_slice() {
             self.ring_at(*place);
         }
         self.rings.clear();
     }
 
-    /// Sends a text: it leaves as the link waits for its client, or when there is enough to send. Where the socket has no room it waits
-    /// for some.
-    pub(crate) fn send(&mut self, text: &str) -> Result<(), SendEnd> {
-        self.shake_hands()?;
-        self.begin_frame(text.len())?;
-        let begun = self.begin_of(text.len())?;
-        self.put_part(text, begun)
-    }
-
-    /// Sends a message of a room, or of the hall, as `send` sends its text, which is never made: its lines are put to what is to be
-    /// sent, and of a long one what is to be sent leaves in between.
-    pub(crate) fn send_message(&mut self, room: Option<&str>, msg: &Msg) -> Result<(), SendEnd> {
-        self.shake_hands()?;
-        let bytes = msg.text_bytes(room);
-        self.begin_frame(bytes)?;
-        let begun = self.begin_of(bytes)?;
-        let mut is_first = true;
-        if let Some(id) = room {
-            self.put_part(">", begun)?;
-            self.put_part(id, begun)?;
-            is_first = false;
-        }
-        for line in msg.lines.as_slice() {
-            if !is_first {
-                self.put_part("\n", begun)?;
-            }
-            self.put_part(line.as_str(), begun)?;
-            is_first = false;
-        }
-        Ok(())
-    }
-
-    // When the sending of so many bytes begins, of which some leave before the last is put: so long a frame has its time from then on.
-    fn begin_of(&self, bytes: usize) -> Result<Option<Instant>, SendEnd> {
-        if bytes <= WRITE_SIZE {
-            return Ok(None);
-        }
-        match Instant::now(&self.host) {
-            Ok(begun) => Ok(Some(begun)),
-            Err(_) => Err(SendEnd::Failed),
-        }
-    }
-
-    // Puts the header of a frame with a text of so many bytes to what is to be sent, which leaves before where the frame has no room
-    // behind it. Then there is memory for the frame, or for its pieces: one that was begun has to be ended.
-    fn begin_frame(&mut self, bytes: usize) -> Result<(), SendEnd> {
-        let header = FrameHeader::new(OpCode::Data(Data::Text), None);
-        let room = header.len(bytes as u64).saturating_add(bytes);
-        if self.out.len().saturating_add(room) > WRITE_SIZE {
-            self.write_out(None)?;
-        }
-        if self.out.reserve(room.min(WRITE_SIZE)).is_err() {
-            return Err(SendEnd::NoMemory);
-        }
-        match header.format(bytes as u64, &mut self.out) {
-            Ok(()) => Ok(()),
-            Err(_) => Err(SendEnd::NoMemory),
-        }
-    }
-
-    // Puts a part of a frame to what is to be sent, which leaves before where the part has no room behind it. A part that is longer than
-    // that may be leaves as it is.
-    fn put_part(&mut self, part: &str, begun: Option<Instant>) -> Result<(), SendEnd> {
-        if self.out.len().saturating_add(part.len()) > WRITE_SIZE {
-            self.write_out(begun)?;
-        }
-        if part.len() > WRITE_SIZE {
-            return self.write_bytes(part.as_bytes(), begun);
-        }
-        match self.out.extend_from_slice(part.as_bytes()) {
-            Ok(()) => Ok(()),
-            Err(_) => Err(SendEnd::Failed),
-        }
-    }
-
-    // Writes all that is to be sent, within its time: from this moment, where there is none.
-    fn write_out(&mut self, begun: Option<Instant>) -> Result<(), SendEnd> {
-        if self.out.is_empty() {
-            return Ok(());
-        }
-        let mut out = mem::replace(&mut self.out, Vec::new(self.alloc));
-        let written = self.write_bytes(out.as_slice(), begun);
-        out.clear();
-        self.out = out;
-        written
-    }
-
-    // Writes all of these bytes, within their time. Before it waits it rings: a client that doesn't read holds up nobody else.
-    fn write_bytes(&mut self, bytes: &[u8], begun: Option<Instant>) -> Result<(), SendEnd> {
-        let mut rest = bytes;
-        let mut begun = begun;
-        for _ in 0..u64::MAX {
-            if rest.is_empty() {
-                return Ok(());
-            }
-            let Stage::Open(socket) = &mut self.stage else {
-                return Err(SendEnd::Failed);
-            };
-            match socket.get_mut().write(rest) {
-                Ok(0) => return Err(SendEnd::Failed),
-                Ok(count) => rest = &rest[count..],
-                Err(error) => {
-                    if error.kind() != ErrorKind::WouldBlock {
-                        return Err(SendEnd::Failed);
-                    }
-                    self.ring_bells();
-                    begun = Some(self.wait_to_write(begun)?);
-                }
-            }
-        }
-        Err(SendEnd::Failed)
-    }
-
-    // Waits for room in the socket, for what began at this moment, or begins now; and says when that is.
-    fn wait_to_write(&mut self, begun: Option<Instant>) -> Result<Instant, SendEnd> {
-        let begun = match begun {
-            Some(begun) => begun,
-            None => match Instant::now(&self.host) {
-                Ok(begun) => begun,
-                Err(_) => return Err(SendEnd::Failed),
-            },
-        };
-        match self.wait_since(begun, self.patience()) {
-            Ok(()) => Ok(begun),
-            Err(_) => Err(SendEnd::Failed),
-        }
-    }
-
-    // Puts a message of the protocol itself to what the socket sends.
-    fn put(&mut self, message: Message) -> Result<(), SendEnd> {
-        let Stage::Open(socket) = &mut self.stage else {
-            return Err(SendEnd::Failed);
-        };
-        match socket.write(message) {
-            Ok(()) => Ok(()),
-            Err(Error::OutOfMemory) => Err(SendEnd::NoMemory),
-            Err(error) => {
-                if would_block(&error) {
-                    self.flush()
-                } else {
-                    Err(SendEnd::Failed)
-                }
-            }
-        }
-    }
-
-    // Ends the handshake, where it isn't done, and tells whether it did.
-    fn shake_hands(&mut self) -> Result<bool, SendEnd> {
-        // A socket is too large to be moved for each message.
-        if let Stage::Open(_) = &self.stage {
-            return Ok(false);
-        }
-        match mem::replace(&mut self.stage, Stage::Over) {
-            Stage::Handshaking(stream) => {
-                self.stage = Stage::Open(self.finish_handshake(stream)?);
-                self.hang_bell();
-                match self.now() {
-                    Ok(now) => {
-                        self.heard = now;
-                        Ok(true)
-                    }
-                    Err(_) => Err(SendEnd::Failed),
-                }
-            }
-            Stage::Open(socket) => {
-                self.stage = Stage::Open(socket);
-                Ok(false)
-            }
-            Stage::Over => Err(SendEnd::Failed),
-        }
-    }
-
-    // Reads a request and answers it, within its time: a handshake opens the socket, and of all else the connection ends.
-    fn finish_handshake(&mut self, mut stream: Stream) -> Result<Socket, SendEnd> {
-        let Ok(begun) = Instant::now(&self.host) else {
-            return Err(SendEnd::Failed);
-        };
-        let mut bytes = Vec::new(self.alloc);
-        match self.read_request(&mut stream, &mut bytes, begun)? {
-            Request::Handshake { length, accept } => {
-                let mut answer = Vec::new(self.alloc);
-                match write_response(&accept, &[], &mut answer) {
-                    Ok(()) => {}
-                    Err(HandshakeError::OutOfMemory) => return Err(SendEnd::NoMemory),
-                    Err(_) => return Err(SendEnd::Failed),
-                }
-                // What came behind the head are the first frames.
-                let Ok(frames) = bytes.get(length..).unwrap_or(&[]).to_vec(self.alloc) else {
-                    return Err(SendEnd::NoMemory);
-                };
-                self.write(&mut stream, answer.as_slice(), begun)?;
-                Ok(WebSocket::from_partially_read(
-                    self.alloc,
-                    stream,
-                    NoMask,
-                    frames,
-                    Role::Server,
-                    Some(config()),
-                ))
-            }
-            Request::Refused(refusal) => {
-                let Ok(answer) = refusal.answer(self.alloc) else {
-                    return Err(SendEnd::NoMemory);
-                };
-                self.write(&mut stream, answer.as_bytes(), begun)?;
-                self.part(stream);
-                Err(SendEnd::Failed)
-            }
-            Request::Unfinished => Err(SendEnd::Failed),
-        }
-    }
-
-    // Reads until it is known whether the client asks for a handshake, within its time.
-    fn read_request(
-        &mut self,
-        stream: &mut Stream,
-        bytes: &mut Vec<u8>,
-        begun: Instant,
-    ) -> Result<Request, SendEnd> {
-        for _ in 0..HEAD_READS {
-            if !self.read_more(stream, bytes, begun)? {
-                // A client that sends nothing asks nothing.
-                if bytes.is_empty() {
-                    return Err(SendEnd::Failed);
-                }
-                return Ok(Request::Refused(Refusal::Malformed));
-            }
-            match judge(bytes.as_slice()) {
-                Request::Unfinished => {}
-                request => return Ok(request),
-            }
-        }
-        Ok(Request::Refused(Refusal::TooLong))
-    }
-
-    // Reads once, after a wait where there is nothing, within its time. `false` where the client sends nothing any more.
-    fn read_more(
-        &mut self,
-        stream: &mut Stream,
-        bytes: &mut Vec<u8>,
-        begun: Instant,
-    ) -> Result<bool, SendEnd> {
-        let mut chunk = [0; READ_SIZE];
-        for _ in 0..u64::MAX {
-            match stream.read(&mut chunk) {
-                Ok(count) => {
-                    return match bytes.extend_from_slice(&chunk[..count]) {
-                        Ok(()) => Ok(count > 0),
-                        Err(_) => Err(SendEnd::NoMemory),
-                    };
-                }
-                Err(error) => {
-                    if error.kind() != ErrorKind::WouldBlock {
-                        return Err(SendEnd::Failed);
-                    }
-                }
-            }
-            if self.bells.are_over() || self.wait_since(begun, PATIENCE).is_err() {
-                return Err(SendEnd::Failed);
-            }
-        }
-        Err(SendEnd::Failed)
-    }
-
-    // Writes all of an answer of HTTP, within its time.
-    fn write(&mut self, stream: &mut Stream, answer: &[u8], begun: Instant) -> Result<(), SendEnd> {
-        let mut rest = answer;
-        for _ in 0..u64::MAX {
-            if rest.is_empty() {
-                return Ok(());
-            }
-            match stream.write(rest) {
-                Ok(0) => return Err(SendEnd::Failed),
-                Ok(count) => rest = &rest[count..],
-                Err(error) => {
-                    if error.kind() != ErrorKind::WouldBlock
-                        || self.wait_since(begun, PATIENCE).is_err()
-                    {
-                        return Err(SendEnd::Failed);
-                    }
-                }
-            }
-        }
-        Err(SendEnd::Failed)
-    }
-
-    // Ends what is sent, and throws away what still comes, for a moment. If bytes were left unread, the host would end the connection
-    // by a reset, and the client might lose what it was told.
-    fn part(&mut self, mut stream: Stream) {
+    /// Ends what is sent, and throws away what still comes, for a moment. If bytes were left unread, the host would end the connection
+    /// by a reset, and the client might lose what it was told.
+    pub(crate) fn part(&mut self, stream: &mut Stream) {
         let Ok(begun) = Instant::now(&self.host) else {
             return;
         };
@@ -802,13 +623,10 @@ impl<R: rt::Clock + Wait + Copy> Wire<R> {
         }
         let mut chunk = [0; READ_SIZE];
         for _ in 0..u64::MAX {
-            let is_over = match stream.read(&mut chunk) {
-                Ok(0) => true,
-                Ok(_) => self.left(begun, PARTING).is_err(),
-                Err(error) => {
-                    error.kind() != ErrorKind::WouldBlock
-                        || self.wait_since(begun, PARTING).is_err()
-                }
+            let is_over = match read_some(stream, &mut chunk) {
+                Ok(Some(0)) | Err(_) => true,
+                Ok(Some(_)) => self.left(begun, PARTING).is_err(),
+                Ok(None) => self.wait_since(begun, PARTING).is_err(),
             };
             if is_over {
                 return;
@@ -828,50 +646,17 @@ impl<R: rt::Clock + Wait + Copy> Wire<R> {
             code,
             reason: Utf8Bytes::from_static(reason),
         };
-        let is_sent = match socket.close(Some(frame)) {
-            Ok(()) => true,
-            Err(error) => would_block(&error) && self.flush().is_ok(),
+        let is_sent = match has_left(socket.close(Some(frame))) {
+            Ok(true) => true,
+            Ok(false) => self.flush().is_ok(),
+            Err(_) => false,
         };
         if !is_sent {
             return;
         }
-        match mem::replace(&mut self.stage, Stage::Over) {
-            Stage::Open(socket) => self.part(socket.into_inner()),
-            Stage::Handshaking(_) | Stage::Over => {}
+        if let Some(mut stream) = mem::replace(&mut self.stage, Stage::Over).into_stream() {
+            self.part(&mut stream);
         }
-    }
-
-    // How long what is sent may take in all, in milliseconds. One that holds up the end of a server has less time.
-    fn patience(&self) -> u64 {
-        if self.bells.are_over() {
-            PARTING
-        } else {
-            PATIENCE
-        }
-    }
-
-    // Writes what waits to be sent, within its time. A part of it may have left.
-    fn flush(&mut self) -> Result<(), SendEnd> {
-        let Ok(begun) = Instant::now(&self.host) else {
-            return Err(SendEnd::Failed);
-        };
-        for _ in 0..u64::MAX {
-            if self.wait_since(begun, self.patience()).is_err() {
-                return Err(SendEnd::Failed);
-            }
-            let Stage::Open(socket) = &mut self.stage else {
-                return Err(SendEnd::Failed);
-            };
-            match socket.flush() {
-                Ok(()) => return Ok(()),
-                Err(error) => {
-                    if !would_block(&error) {
-                        return Err(SendEnd::Failed);
-                    }
-                }
-            }
-        }
-        Err(SendEnd::Failed)
     }
 
     // What the socket gives now, and None where it has nothing.
@@ -882,63 +667,87 @@ impl<R: rt::Clock + Wait + Copy> Wire<R> {
         if !self.is_ready {
             return None;
         }
-        let mut message = self.read_message();
-        // The reply leaves behind all that is to be sent.
-        if has_reply(&message) && self.write_out(None).is_err() {
-            return Some(Next::Failed);
-        }
-        // A close is answered and completed at once, if the socket has room.
-        if is_close(&message) {
-            message = self.read_message();
-        }
-        match message {
-            Ok(message) => Some(self.answer(message)),
-            Err(Error::ConnectionClosed) => Some(Next::End),
-            Err(Error::OutOfMemory) => Some(Next::NoMemory),
-            Err(error) => {
-                if would_block(&error) {
-                    self.is_ready = false;
-                    return None;
-                }
-                if let Some((code, reason)) = breach(&error) {
-                    self.close(code, reason);
-                }
-                Some(Next::Failed)
-            }
+        match self.read_message() {
+            Ok(message) => self.take(message),
+            Err(end) => self.judge(end),
         }
     }
 
     // The next message. First the reply to the last one leaves, so that a client that asks for replies and doesn't read them can't fill
     // the memory.
-    fn read_message(&mut self) -> Result<Message, Error> {
+    fn read_message(&mut self) -> Result<Incoming, SocketEnd> {
         let Stage::Open(socket) = &mut self.stage else {
-            return Err(Error::AlreadyClosed);
+            return Err(SocketEnd::Failed);
         };
-        socket.flush()?;
-        socket.read()
+        if let Err(error) = socket.flush() {
+            return Err(SocketEnd::of(error));
+        }
+        match socket.read() {
+            Ok(message) => Ok(Incoming { message }),
+            Err(error) => Err(SocketEnd::of(error)),
+        }
+    }
+
+    // What comes of a message. A reply of the protocol leaves behind all that is to be sent.
+    fn take(&mut self, message: Incoming) -> Option<Next> {
+        match message.kind() {
+            Kind::Plain => Some(self.answer(message)),
+            Kind::Ping => Some(self.answer_ping()),
+            Kind::Close => self.answer_close(),
+        }
+    }
+
+    fn answer_ping(&mut self) -> Next {
+        match self.write_out(None) {
+            Ok(()) => Next::Quiet,
+            Err(_) => Next::Failed,
+        }
+    }
+
+    // A close is answered and completed at once, if the socket has room.
+    fn answer_close(&mut self) -> Option<Next> {
+        if self.write_out(None).is_err() {
+            return Some(Next::Failed);
+        }
+        match self.read_message() {
+            Ok(message) => Some(self.answer(message)),
+            Err(end) => self.judge(end),
+        }
+    }
+
+    // What comes of a read that gave no message: None where the socket has nothing.
+    fn judge(&mut self, end: SocketEnd) -> Option<Next> {
+        match end {
+            SocketEnd::Blocked => {
+                self.is_ready = false;
+                None
+            }
+            SocketEnd::Closed => Some(Next::End),
+            SocketEnd::NoMemory => Some(Next::NoMemory),
+            SocketEnd::Breach(code, reason) => {
+                self.close(code, reason);
+                Some(Next::Failed)
+            }
+            SocketEnd::Failed => Some(Next::Failed),
+        }
     }
 
     // A message as an answer. Where memory is refused for its bytes it is kept.
-    fn answer(&mut self, message: Message) -> Next {
-        let bytes = match &message {
-            Message::Text(text) => text.as_bytes().to_vec(self.alloc),
-            Message::Binary(bytes) => bytes.as_slice().to_vec(self.alloc),
-            _ => return Next::Quiet,
-        };
-        match bytes {
-            Ok(bytes) => Next::Text(bytes),
-            Err(_) => {
-                self.kept = Some(message);
-                Next::NoMemory
-            }
+    fn answer(&mut self, message: Incoming) -> Next {
+        let next = message.answer(self.alloc);
+        if let Next::NoMemory = &next {
+            self.kept = Some(message);
         }
+        next
     }
 
     // Waits until the socket may be ready, or the bell rings, for so long at most. The socket tells only once of what came, so that is
     // noted until nothing was found.
-    fn wait(&mut self, most: Duration) -> io::Result<()> {
-        self.poll.poll(&mut self.events, Some(most))?;
-        for event in self.events.iter() {
+    fn wait(&mut self, most: Duration) -> Result<(), Failed> {
+        if self.seat.wait(most).is_err() {
+            return Err(Failed);
+        }
+        for event in self.seat.events.iter() {
             if event.token() == Token(0) {
                 self.is_ready = true;
             }
@@ -946,18 +755,18 @@ impl<R: rt::Clock + Wait + Copy> Wire<R> {
         Ok(())
     }
 
-    // How much of so many milliseconds is left since this moment, or TimedOut where nothing is.
-    fn left(&self, begun: Instant, most: u64) -> io::Result<Duration> {
-        let passed = begun.elapsed(&self.host)?;
+    // How much of so many milliseconds is left since this moment. Where nothing is it fails.
+    fn left(&self, begun: Instant, most: u64) -> Result<Duration, Failed> {
+        let passed = self.passed(begun)?;
         let left = Duration::from_millis(most).saturating_sub(passed);
         if left.is_zero() {
-            return Err(io::Error::from(ErrorKind::TimedOut));
+            return Err(Failed);
         }
         Ok(left)
     }
 
-    // Waits for what began at this moment and may take so many milliseconds, or TimedOut where its time is up.
-    fn wait_since(&mut self, begun: Instant, most: u64) -> io::Result<()> {
+    /// Waits for what began at this moment and may take so many milliseconds. Where its time is up it fails.
+    pub(crate) fn wait_since(&mut self, begun: Instant, most: u64) -> Result<(), Failed> {
         let left = self.left(begun, most)?;
         self.wait(left.min(Duration::from_millis(POLL)))
     }
