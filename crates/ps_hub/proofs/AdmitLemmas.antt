@@ -13,9 +13,8 @@ use Rattle.ps_histlock.proofs.Lists.{own_more}
 use Rattle.server_places.specs.declared.site.Root.{Root}
 use Rattle.server_places.specs.Halls.{hall_signer}
 use Rattle.ps_hub.specs.Hubs.{Hub}
-use Rattle.ps_hub.specs.Turns.{TurnsAtLast}
-use Rattle.ps_hub.specs.declared.pass.HallPass.{HallPass}
-use Rattle.ps_hub.specs.Passes.{AreOf, IsHallPass}
+use Rattle.server_pass.specs.Turns.{TurnsAtLast}
+use Rattle.ps_hub.specs.Passes.{HallPass, AreOf, IsHallPass}
 use Rattle.ps_hub.specs.Calls.{hall_entry, Admits, IsStranger}
 use Rattle.ps_hub.specs.declared.passes.Passes.{Passes}
 use Rattle.ps_hub.proofs.PassListLemmas.{hall_of}

@@ -1,36 +1,36 @@
 -- The other calls, from what happens to one pass.
-use Rattle.std.proofs.Common.{◌≡◌, ◌⊎◌, ℕ, ◌+◌, List, [], ◌∷◌, ◌++◌, Option, Some, None, Result, Ok, Err, refl, sym, ap, ◌∙◌, subst, inl, inr, ⊎_elim, Vec, Global}
-use Rattle.std.specs.Prelude.{slice_get, slice_set, IsSome, IsErr, IfOk, IfErr, OnOk, OnErr}
+use Rattle.std.proofs.Common.{◌≡◌, ◌⊎◌, ℕ, ◌+◌, List, [], ◌∷◌, Option, Some, None, Result, Ok, Err, refl, sym, ap, ◌∙◌, subst, inl, inr, ⊎_elim, Vec, Global}
+use Rattle.std.specs.Prelude.{slice_get, slice_set, IsSome, IfOk, OnOk, OnErr}
 use Rattle.std.specs.List.{AllZip}
-use Rattle.std.proofs.lemmas.List.{map-append}
 use Rattle.std.proofs.lemmas.Bool.{false≢true}
 use Rattle.std.proofs.lemmas.Option.{same_Some}
 use Rattle.ps_base.specs.declared.badge.Badge.{Badge}
 use Rattle.ps_base.specs.declared.msg.Msg.{Msg}
 use Rattle.ps_lines.specs.declared.command.Command.TheVariants as room_commands
-use Rattle.ps_lines.specs.declared.command.HallCmd.TheVariants as hall_commands
 use Rattle.rules_start.specs.declared.start.Start.{Start}
 use Rattle.ps_histlock.specs.declared.view.View.{View}
 use Rattle.ps_histlock.specs.Histories.{commands, signed}
+use Rattle.ps_histlock.specs.Seated.{TableId}
 use Rattle.ps_histlock.specs.Locks.{IsNameTaken}
 use Rattle.ps_histlock.specs.Signs.{Speaks}
 use Rattle.server_places.specs.declared.command.RoomCmd.{RoomCmd}
 use Rattle.server_places.specs.declared.command.RoomCmd.TheVariants.{Begin, Play}
 use Rattle.server_places.specs.declared.site.Site.{Site}
+use Rattle.server_places.specs.declared.site.Root.{Root}
 use Rattle.server_places.specs.Sites.{room_signer}
-use Rattle.server_places.specs.Halls.{HallAnswers}
-use Rattle.server_places.specs.Rooms.{Answers}
+use Rattle.server_places.specs.Tellings.{hall_telling, room_telling}
+use Rattle.server_places.specs.Halls.{HallStands, root_in, hall_signer}
+use Rattle.server_places.specs.Rooms.{Stands, site_in}
 use Rattle.ps_hub.specs.Hubs.{Hub, root_of, site_of}
-use Rattle.ps_hub.specs.Passes.{IsHallPass, IsRoomPass, numbers, AreOf, Keeps}
-use Rattle.ps_hub.specs.Turns.{TurnsAtLast, Rereads, TurnsInTheEnd}
-use Rattle.ps_hub.specs.Calls.{hall_entry, room_entry, BeginsAt, BeginsNothing, Starts, LooksAtMost, HallCaught, HallHanded, Caught, Handed, HallOnly, CatchesUpHall, CatchesUp, HandsOnHall, HandsOn, LooksHall, LooksRoom, Counts, QuitsBy, QuitsRoom, StaysInRoom, QuitsRoomAtMost, QuitsHall, StaysInHall, QuitsHallAtMost, QuitsWith, IsShutOut, IsShutOutAmong}
+use Rattle.ps_hub.specs.Passes.{HallPass, RoomPass, IsHallPass, IsRoomPass, numbers, Keeps}
+use Rattle.server_pass.specs.Turns.{TurnsAtLast, Rereads, TurnsInTheEnd}
+use Rattle.server_pass.specs.Catches.{LooksAtMost, Caught as CaughtAt, Handed as HandedAt}
+use Rattle.server_pass.specs.Passes.{IsPass}
+use Rattle.ps_hub.specs.Calls.{room_entry, BeginsAt, BeginsNothing, Starts, HallOnly, CatchesUpHall, CatchesUp, HandsOnHall, HandsOn, LooksHall, LooksRoom, Counts, QuitsBy, QuitsRoom, StaysInRoom, QuitsRoomAtMost, QuitsHall, StaysInHall, QuitsHallAtMost, QuitsWith, IsShutOut, IsShutOutAmong}
 use Rattle.ps_hub.specs.declared.out.QuitFault.{QuitFault}
 use Rattle.ps_hub.specs.declared.out.QuitFault.TheVariants as quit_faults
-use Rattle.ps_hub.specs.declared.pass.HallPass.{HallPass}
-use Rattle.ps_hub.specs.declared.pass.RoomPass.{RoomPass}
 use Rattle.ps_hub.specs.declared.passes.Passes.{Passes}
-use Rattle.ps_hub.proofs.QuitLemmas.{zip_weaker, zip_append, zip_self, IsDoneTo, parts_of}
-use Rattle.ps_hub.proofs.PassListLemmas.{kept_then, set_seam}
+use Rattle.ps_hub.proofs.PassListLemmas.{kept_then}
 
 -- ---- the begin of a battle
 
@@ -48,28 +48,32 @@ started hub start number pass_index old h mid k new (Err e) is keeps rest pass_l
 -- ---- catching up
 
 pub caught_hall : {E : Type 0} (hub : Hub) (old new : Passes) (h k : HallPass) (result : Result (Vec Msg Global) E) → IsHallPass hub old.conn h → old.hall ≡ Some h → new.hall ≡ Some k → new.rooms.items ≡ old.rooms.items → new.conn ≡ old.conn → new.badge ≡ old.badge
-    → IfOk result (λ msgs. (hub : Hub) (conn : ℕ) → IsHallPass hub conn h → HallCaught hub conn msgs.items h k) → OnErr result (LooksAtMost h.pass.1 k.pass.1 × (k.at ≡ h.at)) → CatchesUpHall hub old result new
-caught_hall hub old new h k (Ok msgs) p was is pass_lists conn badge ok err = record { before = h; behind = k; was = was; is = is; done = ok hub old.conn p; rooms = pass_lists; conn = conn; badge = badge }
+    → IfOk result (λ msgs. (conn : ℕ) (place : TableId × Root)
+    → IsPass root_in HallStands hall_signer hall_telling conn place h → CaughtAt hall_telling conn place.1 msgs.items h k) → OnErr result (LooksAtMost h.pass.1 k.pass.1 × (k.at ≡ h.at)) → CatchesUpHall hub old result new
+caught_hall hub old new h k (Ok msgs) p was is pass_lists conn badge ok err = record { before = h; behind = k; was = was; is = is; done = ok old.conn (hub.hall, root_of hub) p; rooms = pass_lists; conn = conn; badge = badge }
 caught_hall hub old new h k (Err e) p was is pass_lists conn badge ok err = record { before = h; behind = k; was = was; is = is; done = err; rooms = pass_lists; conn = conn; badge = badge }
 
 pub caught_room : {E : Type 0} (hub : Hub) (pass_index : ℕ) (old new : Passes) (h k : RoomPass) (result : Result (Vec Msg Global) E) → IsRoomPass hub old.conn h → slice_get old.rooms.items pass_index ≡ Some h → new ≡ record old { rooms = new.rooms } → new.rooms.items ≡ slice_set old.rooms.items pass_index k
-    → (k.number ≡ h.number) × (k.id ≡ h.id) → IfOk result (λ msgs. (hub : Hub) (conn : ℕ) → IsRoomPass hub conn h → Caught hub conn msgs.items h k) → OnErr result (LooksAtMost h.pass.1 k.pass.1 × (k.at ≡ h.at)) → CatchesUp hub pass_index old result new
+    → (k.number ≡ h.number) × (k.id ≡ h.id) → IfOk result (λ msgs. (conn : ℕ) (place : TableId × Site)
+    → IsPass site_in Stands room_signer room_telling conn place h → CaughtAt room_telling conn place.1 msgs.items h k) → OnErr result (LooksAtMost h.pass.1 k.pass.1 × (k.at ≡ h.at)) → CatchesUp hub pass_index old result new
 caught_room hub pass_index old new h k (Ok msgs) p was rest pass_list same ok err =
-    record { before = h; behind = k; was = was; rooms = pass_list; number = same.0; id = same.1; done = ok hub old.conn p; conn = ap (λ (q : Passes). q.conn) rest; badge = ap (λ (q : Passes). q.badge) rest; hall = ap (λ (q : Passes). q.hall) rest }
+    record { before = h; behind = k; was = was; rooms = pass_list; number = same.0; id = same.1; done = ok old.conn (h.pass.0, site_of hub h.number) p.place; conn = ap (λ (q : Passes). q.conn) rest; badge = ap (λ (q : Passes). q.badge) rest; hall = ap (λ (q : Passes). q.hall) rest }
 caught_room hub pass_index old new h k (Err e) p was rest pass_list same ok err =
     record { before = h; behind = k; was = was; rooms = pass_list; number = same.0; id = same.1; done = err; conn = ap (λ (q : Passes). q.conn) rest; badge = ap (λ (q : Passes). q.badge) rest; hall = ap (λ (q : Passes). q.hall) rest }
 
 -- ---- handing on
 
 pub handed_hall : {E : Type 0} (hub : Hub) (old new : Passes) (h k : HallPass) (result : Result (Vec Msg Global) E) → IsHallPass hub old.conn h → old.hall ≡ Some h → new.hall ≡ Some k → new.rooms.items ≡ old.rooms.items → new.conn ≡ old.conn → new.badge ≡ old.badge
-    → IfOk result (λ msgs. (hub : Hub) (conn : ℕ) → IsHallPass hub conn h → HallHanded hub conn msgs.items h k) → OnErr result (Rereads h.pass.1 k.pass.1 × (k.at ≡ h.at)) → HandsOnHall hub old result new
-handed_hall hub old new h k (Ok msgs) p was is pass_lists conn badge ok err = record { before = h; behind = k; was = was; is = is; done = ok hub old.conn p; rooms = pass_lists; conn = conn; badge = badge }
+    → IfOk result (λ msgs. (conn : ℕ) (place : TableId × Root)
+    → IsPass root_in HallStands hall_signer hall_telling conn place h → HandedAt hall_telling conn place.1 msgs.items h k) → OnErr result (Rereads h.pass.1 k.pass.1 × (k.at ≡ h.at)) → HandsOnHall hub old result new
+handed_hall hub old new h k (Ok msgs) p was is pass_lists conn badge ok err = record { before = h; behind = k; was = was; is = is; done = ok old.conn (hub.hall, root_of hub) p; rooms = pass_lists; conn = conn; badge = badge }
 handed_hall hub old new h k (Err e) p was is pass_lists conn badge ok err = record { before = h; behind = k; was = was; is = is; done = err; rooms = pass_lists; conn = conn; badge = badge }
 
 pub handed_room : {E : Type 0} (hub : Hub) (pass_index : ℕ) (old new : Passes) (h k : RoomPass) (result : Result (Vec Msg Global) E) → IsRoomPass hub old.conn h → slice_get old.rooms.items pass_index ≡ Some h → new ≡ record old { rooms = new.rooms } → new.rooms.items ≡ slice_set old.rooms.items pass_index k
-    → (k.number ≡ h.number) × (k.id ≡ h.id) → IfOk result (λ msgs. (hub : Hub) (conn : ℕ) → IsRoomPass hub conn h → Handed hub conn msgs.items h k) → OnErr result (Rereads h.pass.1 k.pass.1 × (k.at ≡ h.at)) → HandsOn hub pass_index old result new
+    → (k.number ≡ h.number) × (k.id ≡ h.id) → IfOk result (λ msgs. (conn : ℕ) (place : TableId × Site)
+    → IsPass site_in Stands room_signer room_telling conn place h → HandedAt room_telling conn place.1 msgs.items h k) → OnErr result (Rereads h.pass.1 k.pass.1 × (k.at ≡ h.at)) → HandsOn hub pass_index old result new
 handed_room hub pass_index old new h k (Ok msgs) p was rest pass_list same ok err =
-    record { before = h; behind = k; was = was; rooms = pass_list; number = same.0; id = same.1; done = ok hub old.conn p; conn = ap (λ (q : Passes). q.conn) rest; badge = ap (λ (q : Passes). q.badge) rest; hall = ap (λ (q : Passes). q.hall) rest }
+    record { before = h; behind = k; was = was; rooms = pass_list; number = same.0; id = same.1; done = ok old.conn (h.pass.0, site_of hub h.number) p.place; conn = ap (λ (q : Passes). q.conn) rest; badge = ap (λ (q : Passes). q.badge) rest; hall = ap (λ (q : Passes). q.hall) rest }
 handed_room hub pass_index old new h k (Err e) p was rest pass_list same ok err =
     record { before = h; behind = k; was = was; rooms = pass_list; number = same.0; id = same.1; done = err; conn = ap (λ (q : Passes). q.conn) rest; badge = ap (λ (q : Passes). q.badge) rest; hall = ap (λ (q : Passes). q.hall) rest }
 

@@ -1,28 +1,27 @@
 -- Entering a place, from what happens to its pass.
-use Rattle.std.proofs.Common.{◌≡◌, ◌≢◌, ◌⊎◌, ℕ, ◌<◌, ◌≤◌, List, Some, None, Err, sym, ap, ◌∙◌, subst, inl, inr, ⊎_elim}
+use Rattle.std.proofs.Common.{◌≡◌, ℕ, ◌<◌, ◌≤◌, List, Some, Err, sym, ap, ◌∙◌, subst, inl, inr}
 use Rattle.std.specs.Prelude.{slice_set}
 use Rattle.ps_hub.specs.Hubs.{Hub}
 use Rattle.ps_hub.specs.Names.{Names}
-use Rattle.ps_hub.specs.Passes.{IsRoomPass, AreOf, Keeps}
-use Rattle.ps_hub.specs.Turns.{RoomRead}
+use Rattle.ps_hub.specs.Passes.{RoomPass, IsRoomPass, AreOf, Keeps}
+use Rattle.ps_base.specs.declared.msg.Msg.{Msg}
+use Rattle.ps_histlock.specs.Histories.{commands}
+use Rattle.server_places.specs.Rooms.{Pulls}
 use Rattle.ps_hub.specs.Calls.{Held, NotHeld, HeldUp, Unheld, Holds, EntersAt, EnterFails}
 use Rattle.ps_hub.specs.declared.out.EnterFault.{EnterFault}
 use Rattle.ps_hub.specs.declared.out.EnterFault.TheVariants.{NoSuchRoom, Busy, NoMemory}
-use Rattle.ps_hub.specs.declared.pass.RoomPass.{RoomPass}
 use Rattle.ps_hub.specs.declared.passes.Passes.{Passes}
-use Rattle.ps_hub.specs.declared.taken.Read.TheVariants.{Done}
 use Rattle.ps_hub.proofs.PassLemmas.{room_held, room_told, chat_held}
-use Rattle.ps_hub.proofs.ToldLemmas.{turns_grow}
 use Rattle.ps_hub.proofs.PassListLemmas.{are_set, are_kept, kept_pass, kept_at, kept_then}
 
 -- ---- at one pass
 
 -- the room that the turn found has the id
-pub found_of : (hub : Hub) (conn : ℕ) (h m k : RoomPass) (id : List ℕ) → 16 ≤ h.number → m.number ≡ h.number → RoomRead h Done m →
-    m.cursor.id ≡ Some id → k ≡ record m { id = Some id }
+pub found_of : (hub : Hub) (conn : ℕ) (h m k : RoomPass) (id : List ℕ) (msgs : List Msg) → 16 ≤ h.number → m.number ≡ h.number
+    → Pulls h.pass.1.origin (commands m.pass.1.seen) h.cursor msgs m.cursor → m.cursor.id ≡ Some id → k ≡ record m { id = Some id }
     → IsRoomPass hub conn h → IsRoomPass hub conn m → IsRoomPass hub conn k
-found_of hub conn h m k id high number told found is p q =
-    let room = room_told hub conn h m told.1.0 high number told.1.1 p q in
+found_of hub conn h m k id msgs high number pulled found is p q =
+    let room = room_told hub conn h m msgs high number pulled p q in
     room_held hub conn m k id is (room.0, room.1, room.2 ∙ found) q
 
 -- a chat room is held at once

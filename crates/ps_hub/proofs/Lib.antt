@@ -1,10 +1,8 @@
-pub mod ToldLemmas
 pub mod PassLemmas
 pub mod PassListLemmas
 pub mod LockLemmas
 pub mod NameLemmas
 pub mod EnterLemmas
-pub mod CatchLemmas
 pub mod MeetLemmas
 pub mod OfLemmas
 pub mod OrderLemmas

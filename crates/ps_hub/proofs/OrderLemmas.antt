@@ -14,7 +14,8 @@ use Rattle.server_places.specs.declared.site.Root.{Root}
 use Rattle.server_places.specs.Halls.{HallAnswers}
 use Rattle.ps_hub.specs.Hubs.{Hub, site_of}
 use Rattle.ps_hub.specs.Names.{Names}
-use Rattle.ps_hub.specs.Passes.{Adds, IsHallPass, IsRoomPass, numbers, IsRising, AreOf}
+use Rattle.server_pass.specs.Passes.{Adds}
+use Rattle.ps_hub.specs.Passes.{HallPass, RoomPass, IsHallPass, IsRoomPass, numbers, IsRising, AreOf}
 use Rattle.ps_hub.specs.Calls.{hall_entry, room_entry, badge_after, Held, EntersAt, EnterFails, not_entered, HallGoes, HallOrdered}
 use Rattle.ps_hub.specs.Calls.{HallFails, HallTakes, RoomGoes, RoomTakes, Orders}
 use Rattle.ps_hub.specs.declared.out.EnterFault.{EnterFault}
@@ -22,8 +23,6 @@ use Rattle.ps_hub.specs.declared.out.EnterFault.TheVariants as enter_faults
 use Rattle.ps_hub.specs.declared.out.HubFault.{HubFault}
 use Rattle.ps_hub.specs.declared.out.HubFault.TheVariants.{OwnLimit, Taken, NoSuchRoom, Busy, NoMemory}
 use Rattle.ps_hub.specs.declared.out.HubOut.{HubOut}
-use Rattle.ps_hub.specs.declared.pass.HallPass.{HallPass}
-use Rattle.ps_hub.specs.declared.pass.RoomPass.{RoomPass}
 use Rattle.ps_hub.specs.declared.passes.Passes.{Passes}
 use Rattle.ps_hub.proofs.PassListLemmas.{but_at, said_of}
 

@@ -12,9 +12,7 @@ use Rattle.ps_histlock.specs.Signs.{Speaks}
 use Rattle.ps_histlock.proofs.SignLemmas.{speaks_first}
 use Rattle.server_places.specs.Halls.{hall_signer}
 use Rattle.ps_hub.specs.Hubs.{Hub}
-use Rattle.ps_hub.specs.Passes.{IsHallPass, IsRoomPass, numbers, IsRising, AreOf, IsAsBefore, IsGap, IsAdded, IsNewPass, Keeps, ButFor}
-use Rattle.ps_hub.specs.declared.pass.HallPass.{HallPass}
-use Rattle.ps_hub.specs.declared.pass.RoomPass.{RoomPass}
+use Rattle.ps_hub.specs.Passes.{HallPass, RoomPass, IsHallPass, IsRoomPass, numbers, IsRising, AreOf, IsAsBefore, IsGap, IsAdded, IsNewPass, Keeps, ButFor}
 use Rattle.ps_hub.specs.declared.passes.Passes.{Passes}
 use Rattle.ps_hub.proofs.PassLemmas.{room_new}
 

@@ -2,10 +2,10 @@
 use Rattle.std.proofs.Common.{◌≡◌, ◌⊎◌, ℕ, zero, suc, ◌+◌, ◌<◌, List, [], ◌∷◌, ◌++◌, length, take, drop, set, Some, Result, Ok, Err, refl, sym, ap, ◌∙◌, subst, inl, inr, arith}
 use Rattle.std.specs.Prelude.{slice_get, slice_set, IfErr, OnOk, OnErr}
 use Rattle.std.specs.Result.{result_and}
+use Rattle.ps_hub.specs.Passes.{RoomPass}
 use Rattle.ps_hub.specs.Calls.{IsShutOut, IsShutOutAmong}
 use Rattle.ps_hub.specs.declared.out.QuitFault.{QuitFault}
 use Rattle.ps_hub.specs.declared.out.QuitFault.TheVariants as quit_faults
-use Rattle.ps_hub.specs.declared.pass.RoomPass.{RoomPass}
 use Rattle.std.specs.List.{AllZip}
 use Rattle.std.proofs.lemmas.List.{take-append-drop, drop_at}
 use Rattle.std.proofs.lemmas.List.Elements.{length_all_zip}

@@ -1,5 +1,5 @@
 -- What the calls of a hub do.
-use Rattle.std.specs.Prelude.{◌≡◌, ◌≢◌, ◌⊎◌, ℕ, ◌<◌, ◌≤◌, List, [], ◌∷◌, ◌++◌, length, take, slice_get, slice_set, All, IsSome, Option, Some, None, Result, Ok, Err}
+use Rattle.std.specs.Prelude.{◌≡◌, ◌≢◌, ◌⊎◌, ℕ, ◌<◌, ◌≤◌, List, [], length, slice_get, slice_set, All, IsSome, Option, Some, None, Result, Ok, Err}
 use Rattle.std.specs.List.{AllZip}
 use Rattle.std.specs.declared.vec.Vec.{Vec}
 use Rattle.std.specs.declared.alloc.Global.{Global}
@@ -35,8 +35,8 @@ use Rattle.ps_users.specs.Refusals.{read_of}
 use Rattle.server_places.specs.declared.site.Root.{Root}
 use Rattle.server_places.specs.declared.site.Site.{Site}
 use Rattle.server_places.specs.Sites.{Tells, id_told, room_signer}
-use Rattle.server_places.specs.Rooms.{Answers, Shows}
-use Rattle.server_places.specs.Halls.{HallAnswers, HallShows, hall_signer}
+use Rattle.server_places.specs.Rooms.{Answers}
+use Rattle.server_places.specs.Halls.{HallAnswers, hall_signer}
 use Rattle.ps_hub.specs.declared.out.AdmitFault.{AdmitFault}
 use Rattle.ps_hub.specs.declared.out.AdmitFault.TheVariants as admit_faults
 use Rattle.ps_hub.specs.declared.out.QuitFault.{QuitFault}
@@ -46,13 +46,13 @@ use Rattle.ps_hub.specs.declared.out.EnterFault.TheVariants as enter_faults
 use Rattle.ps_hub.specs.declared.out.HubFault.{HubFault}
 use Rattle.ps_hub.specs.declared.out.HubFault.TheVariants as hub_faults
 use Rattle.ps_hub.specs.declared.out.HubOut.{HubOut}
-use Rattle.ps_hub.specs.declared.pass.HallPass.{HallPass}
-use Rattle.ps_hub.specs.declared.pass.RoomPass.{RoomPass}
 use Rattle.ps_hub.specs.declared.passes.Passes.{Passes}
 use Rattle.ps_hub.specs.Hubs.{Hub, root_of, site_of}
 use Rattle.ps_hub.specs.Names.{IsNoChat, IsBattleId, Names}
-use Rattle.ps_hub.specs.Passes.{IsHallPass, IsAsBefore, ButFor, lines_of}
-use Rattle.ps_hub.specs.Turns.{Turns, TurnsAtLast, Rereads, TurnsInTheEnd, FallsShort, FallsShortAtLast}
+use Rattle.server_pass.specs.Catches.{IsFresh, LooksAtMost, Caught as CaughtAt, Handed as HandedAt}
+use Rattle.server_pass.specs.Turns.{Turns, TurnsAtLast, Rereads, TurnsInTheEnd, FallsShort, FallsShortAtLast}
+use Rattle.server_places.specs.Tellings.{hall_telling, room_telling}
+use Rattle.ps_hub.specs.Passes.{HallPass, RoomPass, IsHallPass, IsAsBefore, ButFor}
 
 -- ---- entries
 
@@ -302,42 +302,11 @@ NeedsBadge (Room id cmd) passes = IsSome passes.badge
 
 -- ---- catching up
 
--- a look shows at least all that the pass knew, and no less than any before
-abbrev pub IsFresh : {O C : Type 0} → View O C → ℕ → Type 0
-IsFresh v n = (length v.known ≤ n) × All (λ (m : ℕ). m ≤ n) v.looks
-
--- A look, and then turns without an entry, none if it showed no more than the cursor had passed.
-pub record LooksAnd {O C : Type 0} (v : View O C) (passed : ℕ) (w : View O C) (now : ℕ) : Type 0 where
-  pub shown : ℕ
-  pub seen : length v.seen ≤ shown
-  pub fresh : IsFresh v shown
-  pub read : Rereads (after_look v shown) w
-  pub idle : shown ≤ passed → w ≡ after_look v shown
-  -- all that the look showed is among the first `now` entries
-  pub answered : shown ≤ now
-
--- a look, and then turns without an entry, if any
-abbrev pub LooksAtMost : {O C : Type 0} → View O C → View O C → Type 0
-LooksAtMost v w = (n : ℕ) × (length v.seen ≤ n) × Rereads (after_look v n) w × IsFresh v n
-
--- The messages that are handed out are those past the place up to which they were, up to a place further on.
-module _ {C : Type 0} (shows : List C → List (List (List ℕ)) → Type 0) where
-  pub record HandsOut (cmds : List C) (at : ℕ) (msgs : List Msg) (more : List C) (now : ℕ) : Type 0 where
-    pub before : List (List (List ℕ))
-    pub shown_before : shows (take at cmds) before
-    pub on : at ≤ now
-    pub within : now ≤ length more
-    pub shown : shows (take now more) (before ++ lines_of msgs)
-
 abbrev pub HallCaught : Hub → ℕ → List Msg → HallPass → HallPass → Type 0
-HallCaught hub conn msgs h k =
-    LooksAnd h.pass.1 h.cursor.passed k.pass.1 k.at
-    × HandsOut (HallShows conn (root_of hub)) (commands h.pass.1.seen) h.at msgs (commands k.pass.1.seen) k.at
+HallCaught hub conn msgs h k = CaughtAt hall_telling conn (root_of hub) msgs h k
 
--- A piece was handed out, for which turns without an entry were taken, if any.
 abbrev pub HallHanded : Hub → ℕ → List Msg → HallPass → HallPass → Type 0
-HallHanded hub conn msgs h k =
-    Rereads h.pass.1 k.pass.1 × HandsOut (HallShows conn (root_of hub)) (commands h.pass.1.seen) h.at msgs (commands k.pass.1.seen) k.at
+HallHanded hub conn msgs h k = HandedAt hall_telling conn (root_of hub) msgs h k
 
 -- what a call does to the pass of the hall, and to nothing else
 pub record HallOnly (does : HallPass → HallPass → Type 0) (old new : Passes) : Type 0 where
@@ -360,14 +329,10 @@ HandsOnHall hub old (Ok msgs) new = HallOnly (HallHanded hub old.conn msgs.items
 HandsOnHall hub old (Err e) new = HallOnly (λ h k. Rereads h.pass.1 k.pass.1 × (k.at ≡ h.at)) old new
 
 abbrev pub Caught : Hub → ℕ → List Msg → RoomPass → RoomPass → Type 0
-Caught hub conn msgs h k =
-    LooksAnd h.pass.1 h.cursor.passed k.pass.1 k.at
-    × HandsOut (Shows conn (site_of hub h.number)) (commands h.pass.1.seen) h.at msgs (commands k.pass.1.seen) k.at
+Caught hub conn msgs h k = CaughtAt room_telling conn (site_of hub h.number) msgs h k
 
 abbrev pub Handed : Hub → ℕ → List Msg → RoomPass → RoomPass → Type 0
-Handed hub conn msgs h k =
-    Rereads h.pass.1 k.pass.1
-    × HandsOut (Shows conn (site_of hub h.number)) (commands h.pass.1.seen) h.at msgs (commands k.pass.1.seen) k.at
+Handed hub conn msgs h k = HandedAt room_telling conn (site_of hub h.number) msgs h k
 
 -- what a call does to the pass that stands at an index of the list, and to nothing else
 pub record RoomOnly (pass_index : ℕ) (does : RoomPass → RoomPass → Type 0) (old new : Passes) : Type 0 where

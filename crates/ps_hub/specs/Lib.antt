@@ -1,6 +1,5 @@
 pub mod Hubs
 pub mod Names
 pub mod Passes
-pub mod Turns
 pub mod Calls
 pub mod Meetings

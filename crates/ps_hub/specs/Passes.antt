@@ -1,76 +1,54 @@
 -- What a connection has of the places of a hub.
-use Rattle.std.specs.Prelude.{◌≡◌, ◌≢◌, ◌⊎◌, ℕ, ◌<◌, ◌≤◌, List, [], ◌∷◌, ◌++◌, map, length, take, slice_get, All, Option, Some, None}
+use Rattle.std.specs.Prelude.{◌≡◌, ◌≢◌, ◌⊎◌, ℕ, ◌<◌, ◌≤◌, List, [], ◌∷◌, ◌++◌, map, length, slice_get, All, Option, Some, None}
 use Rattle.std.specs.List.{AllWithin}
-use Rattle.ps_base.specs.declared.msg.Msg.{Msg}
-use Rattle.ps_base.specs.Messages.{msg_lines}
 use Rattle.ps_lines.specs.declared.command.HallCmd.TheVariants.{Open}
 use Rattle.ps_hall.specs.declared.entry.HallEntry.{HallEntry}
 use Rattle.ps_histlock.specs.Histories.{commands}
 use Rattle.ps_histlock.specs.Seated.{TableId}
-use Rattle.ps_histlock.specs.Locks.{OwnSigns}
 use Rattle.ps_histlock.specs.declared.view.Entry.{Entry}
 use Rattle.ps_histlock.specs.declared.view.View.{View}
-use Rattle.ps_histlock.specs.Signs.{SignsAs}
 use Rattle.ps_histlock.specs.Views.{newcomer}
+use Rattle.server_pass.specs.Passes.{IsPass}
+use Rattle.server_pass.specs.declared.pass.PlacePass.{PlacePass}
+use Rattle.server_places.specs.declared.command.RoomCmd.{RoomCmd}
+use Rattle.server_places.specs.declared.cursor.HallCursor.{HallCursor}
+use Rattle.server_places.specs.declared.cursor.RoomCursor.{RoomCursor}
+use Rattle.server_places.specs.declared.site.Root.{Root}
+use Rattle.server_places.specs.declared.site.Site.{Site}
 use Rattle.server_places.specs.Sites.{Tells, id_told, room_signer}
-use Rattle.server_places.specs.Rooms.{cursor_of, Shows, StandsAt, IsAtRestInRoom}
-use Rattle.server_places.specs.Halls.{HallShows, HallStandsAt, IsAtRestInHall, hall_signer}
+use Rattle.server_places.specs.Rooms.{cursor_of, site_in, Stands}
+use Rattle.server_places.specs.Halls.{root_in, HallStands, hall_signer}
+use Rattle.server_places.specs.Tellings.{hall_telling, room_telling}
 use Rattle.ps_hub.specs.Hubs.{Hub, root_of, site_of, lock_of}
-use Rattle.ps_hub.specs.declared.pass.HallPass.{HallPass}
-use Rattle.ps_hub.specs.declared.pass.RoomPass.{RoomPass}
 use Rattle.ps_hub.specs.declared.passes.Passes.{Passes}
 use Rattle.ps_room.specs.Stories.{Story}
 
--- the lines of messages
-abbrev pub lines_of : List Msg → List (List (List ℕ))
-lines_of msgs = map msg_lines msgs
+-- what a connection has of the hall
+abbrev pub HallPass : Type 0
+HallPass = PlacePass (TableId × View Root HallEntry) HallCursor (Unit {0}) (Unit {0})
 
-module _ {C X : Type 0} (shows : List C → List (List (List ℕ)) → Type 0) (stands_at : List C → X → Type 0) where
-  -- Of the history that a pass has seen the messages of the first `passed` entries were pulled, and those of the first `at`
-  -- were handed out; what is kept lies between.
-  pub record IsTold (cmds : List C) (x : X) (passed : ℕ) (kept : List (List (List ℕ))) (at : ℕ) : Type 0 where
-    pub within : passed ≤ length cmds
-    pub handed_out : at ≤ passed
-    pub cursor : stands_at (take passed cmds) x
-    pub before : List (List (List ℕ))
-    pub shown_before : shows (take at cmds) before
-    pub shown : shows (take passed cmds) (before ++ kept)
+-- what it has of the place of a room: its number, and the id by which it is held, if it is
+abbrev pub RoomPass : Type 0
+RoomPass = PlacePass (TableId × View Site RoomCmd) RoomCursor ℕ (Option (List ℕ))
 
--- none is less than one before it
-abbrev pub NeverFalls : List ℕ → Type 0
-NeverFalls [] = Unit {0}
-NeverFalls (n ∷ ns) = All (λ (m : ℕ). n ≤ m) ns × NeverFalls ns
-
--- a call let the pass make more entries, and say as much
-abbrev pub Adds : {O C : Type 0} → View O C → View O C → Type 0
-Adds {O} {C} v w = (more : List (Entry C)) × (w.said ≡ v.said ++ more) × (w.mine ≡ v.mine ++ more)
-
--- A pass of the hall of this hub. No look shows less than one before it. All that it signs it signs by the connection's number, and what it knows to be signed so is
--- what it has said.
-pub record IsHallPass (hub : Hub) (conn : ℕ) (h : HallPass) : Type 0 where
-  pub lock : h.pass.0 ≡ hub.hall
-  pub origin : h.pass.1.origin ≡ root_of hub
-  pub rest : IsAtRestInHall h.pass.1
-  pub looks : NeverFalls h.pass.1.looks
-  pub signs : SignsAs hall_signer conn h.pass.1.said
-  pub own : OwnSigns hall_signer h.pass.1 h.pass.1.known
-  pub told : IsTold (HallShows conn (root_of hub)) (HallStandsAt conn (root_of hub)) (commands h.pass.1.seen) h.cursor h.cursor.passed (lines_of (h.kept.items ++ h.fresh.items)) h.at
+-- a pass of the hall of this hub
+abbrev pub IsHallPass : Hub → ℕ → HallPass → Type 0
+IsHallPass hub conn h = IsPass root_in HallStands hall_signer hall_telling conn (hub.hall, root_of hub) h
 
 -- the room by whose id a place is held is that of the pass's history
 abbrev pub HeldBy : Option (List ℕ) → Hub → RoomPass → Type 0
 HeldBy None hub k = Unit {0}
 HeldBy (Some id) hub k = (told : Option Story) × Tells (site_of hub k.number) (commands k.pass.1.seen) told × (id_told told ≡ Some id)
 
--- a pass of the place of a room of this hub, in the same way; it has said what it has made
+-- a pass of a place with this name
+abbrev pub IsAtPlace : Hub → ℕ → TableId → RoomPass → Type 0
+IsAtPlace hub conn name k = IsPass site_in Stands room_signer room_telling conn (name, site_of hub k.number) k
+
+-- a pass of the place of a room of this hub; it has said what it has made
 pub record IsRoomPass (hub : Hub) (conn : ℕ) (k : RoomPass) : Type 0 where
+  pub place : IsAtPlace hub conn k.pass.0 k
   pub lock : lock_of hub k.number ≡ Some k.pass.0
-  pub origin : k.pass.1.origin ≡ site_of hub k.number
-  pub rest : IsAtRestInRoom k.pass.1
-  pub looks : NeverFalls k.pass.1.looks
   pub said : k.pass.1.said ≡ k.pass.1.mine
-  pub signs : SignsAs room_signer conn k.pass.1.said
-  pub own : OwnSigns room_signer k.pass.1 k.pass.1.known
-  pub told : IsTold (Shows conn (site_of hub k.number)) (StandsAt conn (site_of hub k.number)) (commands k.pass.1.seen) k.cursor k.cursor.passed (lines_of (k.kept.items ++ k.fresh.items)) k.at
   pub held : HeldBy k.id hub k
 
 -- the numbers of the places of a list

@@ -1,16 +1,17 @@
 //! The begin of a connection.
-ghost use Rattle.std.specs.Prelude.{◌≡◌, IfOk, IfErr};
+ghost use Rattle.std.specs.Prelude.{IfOk, IfErr};
 ghost use Rattle.ps_hub.specs.Passes.{AreOf};
 ghost use Rattle.ps_hub.specs.Calls.{Admits, IsRefused};
 
 use crate::hub::Hub;
+use crate::let_go::let_go;
 use crate::out::AdmitFault;
-use crate::pass::HallPass;
+use crate::pass::hall_pass;
 use crate::passes::Passes;
-use crate::taken::{Ended, let_go};
 use ps_base::number::{ConnNo, Moment};
 use ps_hall::entry::HallEntry;
 use ps_lines::command::HallCmd;
+use server_pass::taken::Taken;
 use std::sync::Wait;
 
 impl Hub {
@@ -23,21 +24,21 @@ impl Hub {
         ensures does { IfOk result (λ p. Admits self.now conn moment p) }
     {
         let lock = self.hall_lock();
-        let mut opener = HallPass::new(self.alloc, conn, lock);
+        let mut opener = hall_pass(self.alloc, conn, lock);
         let entry = HallEntry {
             conn,
             moment,
             cmd: HallCmd::Open,
         };
         match opener.turn(rt, lock, entry) {
-            Ended::Done => Ok(Passes {
+            Taken::Done { out: () } => Ok(Passes {
                 conn,
                 badge: None,
                 hall: Some(opener.heir(lock)),
                 rooms: Vec::new(self.alloc),
             }),
-            Ended::NameTaken => Err(AdmitFault::Taken { opener }),
-            Ended::NoMemory => {
+            Taken::NameTaken { reason: () } => Err(AdmitFault::Taken { opener }),
+            Taken::NoMemory => {
                 let_go(opener);
                 Err(AdmitFault::NoMemory)
             }

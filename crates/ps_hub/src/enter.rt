@@ -3,16 +3,16 @@ ghost use Rattle.std.specs.Prelude.{◌≡◌, ◌≢◌, ◌≤◌, ℕ, None, 
 ghost use Rattle.ps_room.specs.Openings.{first_battle};
 ghost use Rattle.ps_hub.specs.Hubs.{lock_of};
 ghost use Rattle.ps_hub.specs.Names.{Names};
-ghost use Rattle.ps_hub.specs.Passes.{AreOf, IsRoomPass, IsAsBefore, Keeps};
+ghost use Rattle.ps_hub.specs.Passes.{RoomPass, AreOf, IsRoomPass, IsAsBefore, Keeps};
 ghost use Rattle.ps_hub.specs.Calls.{Enters, Holds};
 
 use crate::hub::Hub;
 use crate::out::EnterFault;
-use crate::pass::{RoomPass, is_held};
+use crate::pass::{RoomPass, is_held, room_pass};
 use crate::passes::Passes;
-use crate::taken::Read;
 use ps_base::text::Text;
 use ps_room::opening::FIRST_BATTLE;
+use server_pass::taken::Taken;
 use server_places::cursor::RoomCursor;
 use std::alloc::AllocError;
 
@@ -80,7 +80,7 @@ impl Hub {
             None => {}
         }
         let lock = self.lock(number);
-        passes.add(RoomPass::new(self.alloc, passes.conn, number, lock))
+        passes.add(room_pass(self.alloc, passes.conn, number, lock))
     }
 
     // Holds the place of a pass by an id that names it.
@@ -118,9 +118,9 @@ impl Hub {
     {
         let lock = self.lock(pass.number);
         match pass.try_read(lock) {
-            Read::Done => {}
-            Read::Busy { word } => return Err(EnterFault::Busy { word }),
-            Read::NoMemory => return Err(EnterFault::NoMemory),
+            Taken::Done { out: () } => {}
+            Taken::Busy { back: word } => return Err(EnterFault::Busy { word }),
+            Taken::NoMemory => return Err(EnterFault::NoMemory),
         }
         if !is_found(&pass.cursor, name.as_str()) {
             return Err(EnterFault::NoSuchRoom);

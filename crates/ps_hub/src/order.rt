@@ -1,20 +1,21 @@
 //! Entries of a connection.
-ghost use Rattle.std.specs.Prelude.{◌≡◌, ℕ, IfOk, IsSome, Some};
+ghost use Rattle.std.specs.Prelude.{◌≡◌, IfOk, IsSome, Some};
 ghost use Rattle.ps_base.specs.declared.badge.Badge.{Badge};
 ghost use Rattle.ps_lines.specs.declared.order.Order.TheVariants.{Hall, Room};
 ghost use Rattle.ps_histlock.specs.Signs.{SignsAs, Speaks};
 ghost use Rattle.server_places.specs.Halls.{hall_signer};
 ghost use Rattle.ps_hub.specs.Hubs.{Hub, site_of};
-ghost use Rattle.ps_hub.specs.Passes.{Adds, AreOf, IsHallPass, IsRoomPass};
+ghost use Rattle.server_pass.specs.Passes.{Adds};
+ghost use Rattle.ps_hub.specs.Passes.{AreOf, IsHallPass, IsRoomPass};
 ghost use Rattle.ps_hub.specs.Calls.{Orders, HallTakes, RoomTakes, NeedsBadge, name_asked, badge_after, not_entered, room_gave};
 ghost use Rattle.ps_room.specs.declared.entry.Entry.{Entry};
 ghost use Rattle.server_places.specs.declared.command.RoomCmd.TheVariants.{Play};
 
 use crate::hub::Hub;
+use crate::let_go::let_go;
 use crate::out::{EnterFault, HubFault, HubOut};
 use crate::pass::{HallPass, RoomPass};
 use crate::passes::Passes;
-use crate::taken::{Taken, let_go};
 use ps_base::badge::Badge;
 use ps_base::name::Name;
 use ps_base::number::Moment;
@@ -27,6 +28,7 @@ use ps_lines::order::Order;
 use ps_room::entry::Entry;
 use ps_room::outcome::RoomOut;
 use ps_users::read::read_of;
+use server_pass::taken::{Back, Taken};
 use server_places::command::RoomCmd;
 use server_places::hall_place::HallPlace;
 use std::alloc::{AllocError, Global};
@@ -113,26 +115,30 @@ fn room_gave(gave: Option<RoomOut>) -> HubOut
     }
 }
 
-impl HallPass {
-    // One entry of the hall.
-    fn enter(&mut self, lock: &HistLock<HallPlace>, entry: HallEntry) -> Result<HallOut, HubFault>
-        requires lock { self.old.pass.0 ≡ lock.now.0 }
-        requires signs { SignsAs hall_signer entry.conn self.old.pass.1.said × Speaks hall_signer entry.conn self.old.pass.1.said }
-        ensures of { (hub : Hub) → IsHallPass hub entry.conn self.old → IsHallPass hub entry.conn self.new }
-        ensures adds { Adds self.old.pass.1 self.new.pass.1 }
-        ensures does { HallTakes entry self.old result self.new }
-        ensures at { self.new.at ≡ self.old.at }
-    {
-        match self.try_turn(lock, entry) {
-            Taken::Done { out } => Ok(out),
-            Taken::Busy { word, cmd } => Err(HubFault::Busy {
-                word,
-                order: Order::Hall(cmd.cmd),
-            }),
-            Taken::OwnLimit => Err(HubFault::OwnLimit { room: None }),
-            Taken::NameTaken => unreachable!(),
-            Taken::NoMemory => Err(HubFault::NoMemory),
-        }
+// One entry of the hall.
+fn enter_hall(
+    pass: &mut HallPass,
+    lock: &HistLock<HallPlace>,
+    entry: HallEntry,
+) -> Result<HallOut, HubFault>
+    requires lock { pass.old.pass.0 ≡ lock.now.0 }
+    requires signs { SignsAs hall_signer entry.conn pass.old.pass.1.said × Speaks hall_signer entry.conn pass.old.pass.1.said }
+    ensures of { (hub : Hub) → IsHallPass hub entry.conn pass.old → IsHallPass hub entry.conn pass.new }
+    ensures adds { Adds pass.old.pass.1 pass.new.pass.1 }
+    ensures does { HallTakes entry pass.old result pass.new }
+    ensures at { pass.new.at ≡ pass.old.at }
+{
+    match pass.try_turn(lock, entry) {
+        Taken::Done { out } => Ok(out),
+        Taken::Busy {
+            back: Back { word, cmd },
+        } => Err(HubFault::Busy {
+            word,
+            order: Order::Hall(cmd.cmd),
+        }),
+        Taken::OwnLimit { reason: () } => Err(HubFault::OwnLimit { room: None }),
+        Taken::NameTaken { reason: () } => unreachable!(),
+        Taken::NoMemory => Err(HubFault::NoMemory),
     }
 }
 
@@ -188,7 +194,7 @@ impl Hub {
         let Some(hall) = &mut passes.hall else {
             unreachable!()
         };
-        let gave = match hall.enter(self.hall_lock(), entry) {
+        let gave = match enter_hall(hall, self.hall_lock(), entry) {
             Ok(gave) => gave,
             Err(fault) => return Err(fault),
         };
@@ -251,12 +257,14 @@ impl Hub {
         let lock = self.lock(pass.number);
         match pass.try_turn(lock, RoomCmd::Play(entry)) {
             Taken::Done { out } => Ok(room_gave(out)),
-            Taken::Busy { word, cmd } => Err(HubFault::Busy {
+            Taken::Busy {
+                back: Back { word, cmd },
+            } => Err(HubFault::Busy {
                 word,
                 order: order_again(id, cmd),
             }),
-            Taken::OwnLimit => Err(HubFault::OwnLimit { room: Some(id) }),
-            Taken::NameTaken => Err(HubFault::Taken),
+            Taken::OwnLimit { reason: () } => Err(HubFault::OwnLimit { room: Some(id) }),
+            Taken::NameTaken { reason: () } => Err(HubFault::Taken),
             Taken::NoMemory => Err(HubFault::NoMemory),
         }
     }

@@ -1,6 +1,6 @@
 //! What a connection has of a hub.
-ghost use Rattle.std.specs.Prelude.{◌≡◌, ◌≢◌, ◌≤◌, ◌++◌, ◌∷◌, [], None, Some, All, IfOk, IfSome, IfNone, OnErr, length, slice_get};
-ghost use Rattle.ps_hub.specs.Passes.{IsAdded, IsAsBefore, IsGap};
+ghost use Rattle.std.specs.Prelude.{◌≡◌, ◌≢◌, ◌≤◌, [], None, Some, All, IfOk, IfSome, IfNone, OnErr, length, slice_get};
+ghost use Rattle.ps_hub.specs.Passes.{RoomPass, IsAdded, IsAsBefore, IsGap};
 
 use crate::pass::{HallPass, RoomPass, is_held};
 use ps_base::badge::Badge;

@@ -1,14 +1,15 @@
 //! The end of a connection.
-ghost use Rattle.std.specs.Prelude.{◌≡◌, ℕ, All, None, IsSome, IfErr, OnOk, OnErr};
+ghost use Rattle.std.specs.Prelude.{◌≡◌, ◌++◌, All, IsSome, IfErr, OnOk, OnErr};
 ghost use Rattle.std.specs.List.{AllZip};
 ghost use Rattle.ps_hub.specs.Hubs.{Hub};
-ghost use Rattle.ps_hub.specs.Passes.{Adds, AreOf, IsHallPass, IsRoomPass};
+ghost use Rattle.server_pass.specs.Passes.{Adds};
+ghost use Rattle.ps_hub.specs.Passes.{AreOf, IsHallPass, IsRoomPass};
 ghost use Rattle.ps_lines.specs.declared.command.Command.TheVariants.{Quit};
 ghost use Rattle.server_places.specs.declared.command.RoomCmd.TheVariants.{Play};
 ghost use Rattle.server_places.specs.Sites.{room_signer};
 ghost use Rattle.ps_histlock.specs.Locks.{IsNameTaken};
-ghost use Rattle.ps_hub.specs.Turns.{IfKeptOutAtLast};
-ghost use Rattle.ps_hub.specs.Turns.{Rereads, TurnsInTheEnd, RoomTurnUpTo};
+ghost use Rattle.server_places.specs.Rooms.{Answers, PullsUpTo};
+ghost use Rattle.server_pass.specs.Turns.{TakesAtLast, IfKeptOut, Rereads, TurnsInTheEnd};
 ghost use Rattle.ps_hub.specs.Calls.{room_entry, Quits, MayQuit, QuitsRoom, StaysInRoom, QuitsRoomAtMost};
 ghost use Rattle.ps_hub.specs.Calls.{QuitsHall, StaysInHall, QuitsHallAtMost, HallOnly, IsShutOut, IsShutOutAmong};
 
@@ -17,119 +18,117 @@ use crate::out::QuitFault;
 use crate::pass::{HallPass, RoomPass};
 use crate::passes::Passes;
 use crate::pauses::Pauses;
-use crate::taken::Ended;
 use ps_base::badge::Badge;
 use ps_base::number::{ConnNo, Moment};
 use ps_hall::entry::HallEntry;
 use ps_histlock::HistLock;
 use ps_lines::command::{Command, HallCmd};
 use ps_room::entry::Entry;
+use server_pass::taken::{Taken, Waited};
 use server_places::command::RoomCmd;
 use server_places::hall_place::HallPlace;
 use server_places::room_place::RoomPlace;
 use std::alloc::{AllocError, Global};
 use std::sync::Wait;
 
-impl HallPass {
-    // The Quit, which is tried again after a pause while there is none, for want of memory or since the pass is full, and a pause is left.
-    fn quit<R: Wait>(
-        &mut self,
-        rt: &R,
-        lock: &HistLock<HallPlace>,
-        conn: ConnNo,
-        moment: Moment,
-        pauses: &mut Pauses,
-    ) -> Result<(), AllocError>
-        requires lock { self.old.pass.0 ≡ lock.now.0 }
-        requires of { (hub : Hub) × IsHallPass hub conn self.old }
-        ensures of { (hub : Hub) → IsHallPass hub conn self.old → IsHallPass hub conn self.new }
-        ensures adds { Adds self.old.pass.1 self.new.pass.1 }
-        ensures ok { OnOk result (QuitsHall conn moment self.old self.new) }
-        ensures err { OnErr result (StaysInHall self.old self.new) }
-    {
-        for _ in rt.forever() {
-            let entry = HallEntry {
-                conn,
-                moment,
-                cmd: HallCmd::Quit,
-            };
-            match self.turn_unread(rt, lock, entry) {
-                Ended::Done => return Ok(()),
-                // Not met: the connection's own Open is signed by its number, so nobody else's entry can be.
-                Ended::NameTaken => return Err(AllocError),
-                Ended::NoMemory => {}
-            }
-            if !pauses.take(rt) {
-                return Err(AllocError);
-            }
+// The Quit in the hall, which is tried again after a pause while there is none, for want of memory or since the pass is full, and a
+// pause is left.
+fn quit_by_hall_pass<R: Wait>(
+    rt: &R,
+    pass: &mut HallPass,
+    lock: &HistLock<HallPlace>,
+    conn: ConnNo,
+    moment: Moment,
+    pauses: &mut Pauses,
+) -> Result<(), AllocError>
+    requires lock { pass.old.pass.0 ≡ lock.now.0 }
+    requires of { (hub : Hub) × IsHallPass hub conn pass.old }
+    ensures of { (hub : Hub) → IsHallPass hub conn pass.old → IsHallPass hub conn pass.new }
+    ensures adds { Adds pass.old.pass.1 pass.new.pass.1 }
+    ensures ok { OnOk result (QuitsHall conn moment pass.old pass.new) }
+    ensures err { OnErr result (StaysInHall pass.old pass.new) }
+{
+    for _ in rt.forever() {
+        let entry = HallEntry {
+            conn,
+            moment,
+            cmd: HallCmd::Quit,
+        };
+        match pass.turn_unread(rt, lock, entry) {
+            Taken::Done { out: () } => return Ok(()),
+            // Not met: the connection's own Open is signed by its number, so nobody else's entry can be.
+            Taken::NameTaken { reason: () } => return Err(AllocError),
+            Taken::NoMemory => {}
         }
-        unreachable!()
+        if !pauses.take(rt) {
+            return Err(AllocError);
+        }
     }
+    unreachable!()
 }
 
-impl RoomPass {
-    // One try of the Quit.
-    fn try_quit<R: Wait>(
-        &mut self,
-        rt: &R,
-        alloc: Global,
-        lock: &HistLock<RoomPlace>,
-        conn: ConnNo,
-        badge: &Badge,
-        moment: Moment,
-    ) -> Ended
-        requires lock { self.old.pass.0 ≡ lock.now.0 }
-        requires of { (hub : Hub) × IsRoomPass hub conn self.old }
-        ensures lock { self.new.pass.0 ≡ self.old.pass.0 }
-        ensures of { (hub : Hub) → IsRoomPass hub conn self.old → IsRoomPass hub conn self.new }
-        ensures same { (self.new.at ≡ self.old.at) × (self.new.number ≡ self.old.number) × (self.new.id ≡ self.old.id) }
-        ensures does { RoomTurnUpTo self.old (Play (room_entry conn badge.now moment Quit)) result self.new }
-        ensures taken { IfKeptOutAtLast result (IsNameTaken room_signer self.old.pass.1.said self.new.pass.1.seen (Play (room_entry conn badge.now moment Quit))) }
-    {
-        let badge = match badge.copy(alloc) {
-            Ok(badge) => badge,
-            Err(_) => return Ended::NoMemory,
-        };
-        let entry = Entry {
-            conn,
-            badge,
-            moment,
-            cmd: Command::Quit,
-        };
-        self.turn_unread(rt, lock, RoomCmd::Play(entry))
-    }
+// One try of the Quit in a room.
+fn try_quit<R: Wait>(
+    rt: &R,
+    alloc: Global,
+    pass: &mut RoomPass,
+    lock: &HistLock<RoomPlace>,
+    conn: ConnNo,
+    badge: &Badge,
+    moment: Moment,
+) -> Waited
+    requires lock { pass.old.pass.0 ≡ lock.now.0 }
+    requires of { (hub : Hub) × IsRoomPass hub conn pass.old }
+    ensures lock { pass.new.pass.0 ≡ pass.old.pass.0 }
+    ensures of { (hub : Hub) → IsRoomPass hub conn pass.old → IsRoomPass hub conn pass.new }
+    ensures same { (pass.new.at ≡ pass.old.at) × (pass.new.number ≡ pass.old.number) × (pass.new.id ≡ pass.old.id) }
+    ensures does { TakesAtLast Answers PullsUpTo pass.old.pass.1 pass.old.cursor (pass.old.kept.items ++ pass.old.fresh.items)
+        (Play (room_entry conn badge.now moment Quit)) result pass.new.pass.1 pass.new.cursor (pass.new.kept.items ++ pass.new.fresh.items) }
+    ensures taken { IfKeptOut result (IsNameTaken room_signer pass.old.pass.1.said pass.new.pass.1.seen (Play (room_entry conn badge.now moment Quit))) }
+{
+    let badge = match badge.copy(alloc) {
+        Ok(badge) => badge,
+        Err(_) => return Taken::NoMemory,
+    };
+    let entry = Entry {
+        conn,
+        badge,
+        moment,
+        cmd: Command::Quit,
+    };
+    pass.turn_unread(rt, lock, RoomCmd::Play(entry))
+}
 
-    // The Quit, which is tried again after a pause while there is none, for want of memory or since the pass is full, and a pause is left.
-    fn quit<R: Wait>(
-        &mut self,
-        rt: &R,
-        alloc: Global,
-        lock: &HistLock<RoomPlace>,
-        conn: ConnNo,
-        badge: &Badge,
-        moment: Moment,
-        pauses: &mut Pauses,
-    ) -> Result<(), QuitFault>
-        requires lock { self.old.pass.0 ≡ lock.now.0 }
-        requires of { (hub : Hub) × IsRoomPass hub conn self.old }
-        ensures of { (hub : Hub) → IsRoomPass hub conn self.old → IsRoomPass hub conn self.new }
-        ensures same { (self.new.at ≡ self.old.at) × (self.new.number ≡ self.old.number) × (self.new.id ≡ self.old.id) }
-        ensures taken { IfErr result (IsShutOut conn self.new) }
-        ensures ok { OnOk result (TurnsInTheEnd self.old.pass.1 (Play (room_entry conn badge.now moment Quit)) self.new.pass.1) }
-        ensures err { OnErr result ((self.new.cursor ≡ self.old.cursor) × Rereads self.old.pass.1 self.new.pass.1) }
-    {
-        for _ in rt.forever() {
-            match self.try_quit(rt, alloc, lock, conn, badge, moment) {
-                Ended::Done => return Ok(()),
-                Ended::NameTaken => return Err(QuitFault::Taken),
-                Ended::NoMemory => {}
-            }
-            if !pauses.take(rt) {
-                return Err(QuitFault::NoMemory);
-            }
+// The Quit in a room, tried again in the same way.
+fn quit_by_room_pass<R: Wait>(
+    rt: &R,
+    alloc: Global,
+    pass: &mut RoomPass,
+    lock: &HistLock<RoomPlace>,
+    conn: ConnNo,
+    badge: &Badge,
+    moment: Moment,
+    pauses: &mut Pauses,
+) -> Result<(), QuitFault>
+    requires lock { pass.old.pass.0 ≡ lock.now.0 }
+    requires of { (hub : Hub) × IsRoomPass hub conn pass.old }
+    ensures of { (hub : Hub) → IsRoomPass hub conn pass.old → IsRoomPass hub conn pass.new }
+    ensures same { (pass.new.at ≡ pass.old.at) × (pass.new.number ≡ pass.old.number) × (pass.new.id ≡ pass.old.id) }
+    ensures taken { IfErr result (IsShutOut conn pass.new) }
+    ensures ok { OnOk result (TurnsInTheEnd pass.old.pass.1 (Play (room_entry conn badge.now moment Quit)) pass.new.pass.1) }
+    ensures err { OnErr result ((pass.new.cursor ≡ pass.old.cursor) × Rereads pass.old.pass.1 pass.new.pass.1) }
+{
+    for _ in rt.forever() {
+        match try_quit(rt, alloc, pass, lock, conn, badge, moment) {
+            Taken::Done { out: () } => return Ok(()),
+            Taken::NameTaken { reason: () } => return Err(QuitFault::Taken),
+            Taken::NoMemory => {}
         }
-        unreachable!()
+        if !pauses.take(rt) {
+            return Err(QuitFault::NoMemory);
+        }
     }
+    unreachable!()
 }
 
 impl Hub {
@@ -218,7 +217,7 @@ impl Hub {
         }
         let Some(badge) = badge else { unreachable!() };
         let lock = self.lock(pass.number);
-        pass.quit(rt, self.alloc, lock, conn, badge, moment, pauses)
+        quit_by_room_pass(rt, self.alloc, pass, lock, conn, badge, moment, pauses)
     }
 
     // The Quit in the hall.
@@ -238,6 +237,6 @@ impl Hub {
         let Some(hall) = &mut passes.hall else {
             unreachable!()
         };
-        hall.quit(rt, self.hall_lock(), conn, moment, pauses)
+        quit_by_hall_pass(rt, hall, self.hall_lock(), conn, moment, pauses)
     }
 }

@@ -3,15 +3,16 @@ ghost use Rattle.std.specs.Prelude.{◌≡◌, ◌≤◌, ℕ, Some, OnOk, OnErr
 ghost use Rattle.rules_start.specs.Fits.{IsFit};
 ghost use Rattle.ps_base.specs.Limits.{most_battles};
 ghost use Rattle.server_places.specs.declared.command.RoomCmd.TheVariants.{Begin};
-ghost use Rattle.ps_hub.specs.Turns.{TurnsAtLast};
+ghost use Rattle.server_pass.specs.Turns.{TurnsAtLast};
 ghost use Rattle.ps_hub.specs.Passes.{AreOf, IsRoomPass};
 ghost use Rattle.ps_hub.specs.Calls.{Starts, BeginsNothing};
 
 use crate::hub::Hub;
+use crate::let_go::let_go;
 use crate::pass::RoomPass;
 use crate::passes::Passes;
-use crate::taken::{Ended, let_go};
 use rules_start::start::Start;
+use server_pass::taken::Taken;
 use server_places::command::RoomCmd;
 use std::alloc::AllocError;
 use std::sync::Wait;
@@ -50,9 +51,9 @@ impl Hub {
     {
         let lock = self.lock(pass.number);
         match pass.turn(rt, lock, RoomCmd::Begin(start)) {
-            Ended::Done => Ok(()),
-            Ended::NameTaken => unreachable!(),
-            Ended::NoMemory => Err(AllocError),
+            Taken::Done { out: () } => Ok(()),
+            Taken::NameTaken { reason: () } => unreachable!(),
+            Taken::NoMemory => Err(AllocError),
         }
     }
 }

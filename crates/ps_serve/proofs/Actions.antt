@@ -10,8 +10,7 @@ use Rattle.server_places.specs.Rooms.{Shows}
 use Rattle.rules_start.specs.declared.start.Start.{Start}
 use Rattle.ps_hub.specs.Calls.{room_entry}
 use Rattle.ps_hub.specs.Hubs.{Hub, site_of}
-use Rattle.ps_hub.specs.declared.pass.HallPass.{HallPass}
-use Rattle.ps_hub.specs.declared.pass.RoomPass.{RoomPass}
+use Rattle.ps_hub.specs.Passes.{HallPass, RoomPass}
 use Rattle.ps_histlock.specs.Histories.{commands}
 use Rattle.ps_serve.specs.Acts.{in_hall, in_room, nowhere, Act, heard, after_act, after_acts, IsAct, AreActs, hall_of, hall_entries, room_of, room_cmds, is_at, since, asked_by, asked, begins_by, begins, begun_by, all_begun}
 use Rattle.ps_serve.specs.Sendings.{Sending, AreLooksAnswered}

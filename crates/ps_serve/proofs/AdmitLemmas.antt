@@ -14,10 +14,8 @@ use Rattle.server_places.specs.declared.site.Root.{Root}
 use Rattle.server_places.specs.Halls.{HallShows}
 use Rattle.ps_hub.specs.Hubs.{Hub, root_of}
 use Rattle.ps_hub.specs.Names.{Names}
-use Rattle.ps_hub.specs.Passes.{AreOf}
+use Rattle.ps_hub.specs.Passes.{HallPass, RoomPass, AreOf}
 use Rattle.ps_hub.specs.Calls.{hall_entry, Admits}
-use Rattle.ps_hub.specs.declared.pass.HallPass.{HallPass}
-use Rattle.ps_hub.specs.declared.pass.RoomPass.{RoomPass}
 use Rattle.ps_hub.specs.declared.passes.Passes.{Passes}
 use Rattle.ps_hub.proofs.AdmitLemmas.{admit_seen, admit_other}
 use Rattle.ps_serve.specs.Names.{LooksFreshly}

@@ -9,10 +9,9 @@ use Rattle.server_places.specs.declared.command.RoomCmd.{RoomCmd}
 use Rattle.server_places.specs.Sites.{room_signer}
 use Rattle.server_places.specs.Halls.{hall_signer}
 use Rattle.ps_hub.specs.Hubs.{Hub}
-use Rattle.ps_hub.specs.Passes.{AreOf, IsRoomPass}
-use Rattle.ps_hub.specs.Meetings.{IsHeardRightly, HallsMeet, RoomsMet, HasNone, RoomsMeet}
-use Rattle.ps_hub.specs.declared.pass.HallPass.{HallPass}
-use Rattle.ps_hub.specs.declared.pass.RoomPass.{RoomPass}
+use Rattle.ps_hub.specs.Passes.{HallPass, RoomPass, AreOf, IsRoomPass}
+use Rattle.server_pass.specs.Meetings.{IsHeardRightly}
+use Rattle.ps_hub.specs.Meetings.{HallsMeet, RoomsMet, HasNone, RoomsMeet}
 use Rattle.ps_hub.specs.declared.passes.Passes.{Passes}
 use Rattle.ps_hub.proofs.PassListLemmas.{at_place, said_of, speaks_of}
 use Rattle.ps_serve.specs.Sessions.{IsHeardInHall, AgreeInHall, IsHeardInRoom, AgreeInRoom}

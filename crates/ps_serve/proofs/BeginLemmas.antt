@@ -21,8 +21,7 @@ use Rattle.server_places.specs.Halls.{HallAnswers}
 use Rattle.server_places.proofs.NumberLemmas.{numbers_rise}
 use Rattle.ps_hub.specs.Hubs.{Hub, root_of}
 use Rattle.ps_hub.specs.Calls.{hall_entry}
-use Rattle.ps_hub.specs.declared.pass.HallPass.{HallPass}
-use Rattle.ps_hub.specs.declared.pass.RoomPass.{RoomPass}
+use Rattle.ps_hub.specs.Passes.{HallPass, RoomPass}
 use Rattle.ps_serve.specs.Acts.{in_hall, in_room, nowhere, Act, quiet, heard, hall_of, hall_entries, room_of, room_cmds, begins_by, begins, begun_by, all_begun}
 use Rattle.ps_serve.specs.Sittings.{HallGave, Gave, AreGiven, SaysNothing, LastGave, AreAlmostGiven}
 use Rattle.ps_serve.specs.Ends.{start_in, starts_in}

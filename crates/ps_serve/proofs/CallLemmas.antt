@@ -8,7 +8,7 @@ use Rattle.ps_base.specs.declared.msg.Msg.{Msg}
 use Rattle.ps_base.specs.Messages.{text_of, texts_of}
 use Rattle.ps_outside.specs.Links.{Talk, after_text}
 use Rattle.ps_hub.specs.Hubs.{Hub}
-use Rattle.ps_hub.specs.declared.pass.RoomPass.{RoomPass}
+use Rattle.ps_hub.specs.Passes.{RoomPass}
 use Rattle.ps_hub.specs.declared.passes.Passes.{Passes}
 use Rattle.ps_serve.specs.Tellings.{after_texts, TellsRoom}
 use Rattle.ps_serve.proofs.SendingLemmas.{one_message_more}

@@ -19,7 +19,7 @@ use Rattle.ps_outside.specs.Links.{Talk, LinkCounts}
 use Rattle.ps_outside.specs.declared.link.Arrival.{Arrival}
 use Rattle.ps_base.specs.ById.{ById}
 use Rattle.ps_hub.specs.Hubs.{Hub}
-use Rattle.ps_hub.specs.declared.pass.RoomPass.{RoomPass}
+use Rattle.ps_hub.specs.Passes.{RoomPass}
 use Rattle.ps_session.specs.Counts.{count_in, raised, with_left}
 use Rattle.ps_session.specs.declared.session.TheConstants.{MOST_TEXTS}
 use Rattle.ps_session.specs.Sessions.{Record, begun, is_full, counted, uncounted}

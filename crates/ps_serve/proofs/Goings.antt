@@ -3,7 +3,7 @@ use Rattle.std.proofs.Common.{◌≡◌, ◌≢◌, ◌<◌, List, [], ◌∷◌
 use Rattle.std.specs.Prelude.{All}
 use Rattle.std.specs.List.{AllZip}
 use Rattle.std.proofs.lemmas.List.Elements.{Contains-get_or, AllZip-get_or, length_all_zip}
-use Rattle.ps_hub.specs.declared.pass.RoomPass.{RoomPass}
+use Rattle.ps_hub.specs.Passes.{RoomPass}
 use Rattle.ps_hub.proofs.QuitLemmas.{zip_self}
 use Rattle.ps_serve.specs.Sittings.{AreApart}
 use Rattle.ps_serve.proofs.PassLists.{IsKin, kin_self, Grows}

@@ -13,14 +13,12 @@ use Rattle.ps_histlock.specs.Histories.{commands}
 use Rattle.ps_histlock.proofs.Lists.{prefix_self}
 use Rattle.server_places.specs.declared.command.RoomCmd.{RoomCmd}
 use Rattle.server_places.specs.declared.command.RoomCmd.TheVariants.{Begin}
-use Rattle.server_places.specs.Rooms.{Answers}
 use Rattle.ps_session.specs.Sessions.{Record, counted}
 use Rattle.ps_session.specs.Routes.{taken}
-use Rattle.ps_hub.specs.Hubs.{Hub, site_of}
-use Rattle.ps_hub.specs.Passes.{AreOf, IsAsBefore}
-use Rattle.ps_hub.specs.Turns.{TurnsAtLast}
+use Rattle.ps_hub.specs.Hubs.{Hub}
+use Rattle.ps_hub.specs.Passes.{RoomPass, AreOf, IsAsBefore}
+use Rattle.server_pass.specs.Turns.{TurnsAtLast}
 use Rattle.ps_hub.specs.Calls.{hall_entry, badge_after, BeginsAt, BeginsNothing}
-use Rattle.ps_hub.specs.declared.pass.RoomPass.{RoomPass}
 use Rattle.ps_hub.specs.declared.passes.Passes.{Passes}
 use Rattle.ps_serve.specs.Acts.{Act, heard, in_hall, with_given, room_cmds, hall_entries, since}
 use Rattle.ps_serve.specs.Sendings.{Sending}

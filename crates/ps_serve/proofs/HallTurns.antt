@@ -1,5 +1,5 @@
 -- What an order to the hall leaves of a session.
-use Rattle.std.proofs.Common.{◌≡◌, ◌⊎◌, ℕ, List, [], ◌∷◌, ◌++◌, length, refl, sym, ap, ◌∙◌, subst, inl, inr, ⊎_elim, Option, Some, None, Ok, Err, append_assoc}
+use Rattle.std.proofs.Common.{◌≡◌, ◌⊎◌, ℕ, List, [], ◌∷◌, ◌++◌, length, refl, sym, ap, ◌∙◌, subst, inl, ⊎_elim, Option, Some, None, Ok, Err, append_assoc}
 use Rattle.std.proofs.lemmas.List.{length-map}
 use mathlib.Core.List.{IsPrefix}
 use Rattle.ps_base.specs.declared.badge.Badge.{Badge}
@@ -19,11 +19,11 @@ use Rattle.ps_histlock.specs.Turns.{turned}
 use Rattle.ps_histlock.specs.declared.lock.TheConstants.{OWN_LIMIT}
 use Rattle.server_places.specs.Halls.{HallAnswers, hall_after}
 use Rattle.ps_hub.specs.Hubs.{Hub, root_of}
-use Rattle.ps_hub.specs.Turns.{Turns, FallsShort}
+use Rattle.server_pass.specs.Turns.{Turns, FallsShort}
 use Rattle.ps_hub.specs.Calls.{hall_entry, badge_after, HallOrdered, HallGoes}
 use Rattle.ps_hub.specs.declared.out.HubFault.TheVariants as hub_faults
 use Rattle.ps_hub.specs.declared.out.HubOut.{HubOut}
-use Rattle.ps_hub.specs.declared.pass.HallPass.{HallPass}
+use Rattle.ps_hub.specs.Passes.{HallPass}
 use Rattle.ps_hub.specs.declared.passes.Passes.{Passes}
 use Rattle.ps_serve.specs.declared.obey.Unmade.{Unmade}
 use Rattle.ps_serve.specs.declared.obey.Unmade.TheVariants as unmade
@@ -33,7 +33,7 @@ use Rattle.ps_serve.specs.Sittings.{HallGave}
 use Rattle.ps_serve.specs.Obeys.{OrdersAtLast, Unmakes, report}
 use Rattle.ps_serve.proofs.Prefixes.{prefix_same}
 use Rattle.ps_serve.proofs.Actions.{hall_more}
-use Rattle.ps_serve.proofs.Moves.{Moves, stays, turns_move, enters_move, entered_moves, entered_seen}
+use Rattle.ps_serve.proofs.Moves.{Moves, stays, turns_move, entered_moves, entered_seen}
 use Rattle.ps_serve.proofs.Halls.{IsHall, IsHallKin}
 use Rattle.ps_serve.proofs.Tries.{one_hall, InHall, hall_goes, hall_tries}
 

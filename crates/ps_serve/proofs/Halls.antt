@@ -11,8 +11,7 @@ use Rattle.server_places.specs.Halls.{HallShows}
 use Rattle.ps_hub.specs.Hubs.{Hub, root_of}
 use Rattle.ps_hub.specs.Names.{Names}
 use Rattle.ps_hub.specs.Calls.{hall_entry, room_entry, NamesNone}
-use Rattle.ps_hub.specs.declared.pass.HallPass.{HallPass}
-use Rattle.ps_hub.specs.declared.pass.RoomPass.{RoomPass}
+use Rattle.ps_hub.specs.Passes.{HallPass, RoomPass}
 use Rattle.ps_serve.specs.Acts.{Made, in_hall, in_room, nowhere, Act, quiet, heard, since, hall_entries, room_cmds}
 use Rattle.ps_serve.specs.Sendings.{Sending, AreLooksAnswered}
 use Rattle.ps_serve.specs.Sittings.{IsSent, HasOpen, RoomGave, IsUnfound, IsOthers, IsNowhere, GaveMade, Gave, AreGiven, SaysNothing, LastGave, AreAlmostGiven}

@@ -10,8 +10,7 @@ use Rattle.server_places.specs.Rooms.{Shows}
 use Rattle.server_places.specs.Halls.{HallShows, hall_opened}
 use Rattle.ps_hub.specs.Hubs.{Hub, root_of, site_of}
 use Rattle.ps_hub.specs.Names.{Names}
-use Rattle.ps_hub.specs.declared.pass.HallPass.{HallPass}
-use Rattle.ps_hub.specs.declared.pass.RoomPass.{RoomPass}
+use Rattle.ps_hub.specs.Passes.{HallPass, RoomPass}
 use Rattle.ps_hub.proofs.CallLemmas.{some_value}
 use Rattle.ps_serve.specs.Sendings.{Sending, text_if, text_from, texts_from, message_text, message_texts}
 use Rattle.ps_serve.specs.Sittings.{IsFromBy, IsFrom}

@@ -10,9 +10,9 @@ use Rattle.ps_histlock.proofs.Lists.{prefix_self, prefix_length, own_between}
 use mathlib.Core.List.{IsPrefix}
 use Rattle.ps_base.specs.declared.msg.Msg.{Msg}
 use Rattle.ps_base.specs.Messages.{msg_lines, texts_of}
-use Rattle.ps_hub.specs.Passes.{lines_of}
-use Rattle.ps_hub.specs.Turns.{TurnsAtLast, ReadsOn, Rereads}
-use Rattle.ps_hub.specs.Calls.{IsFresh, HandsOut}
+use Rattle.server_pass.specs.Tellings.{lines_of}
+use Rattle.server_pass.specs.Turns.{TurnsAtLast, ReadsOn, Rereads}
+use Rattle.server_pass.specs.Catches.{IsFresh, HandsOut}
 use Rattle.ps_serve.specs.Sendings.{Sending, texts_from, texts_before, message_texts, IsLookAnswered, AreLooksAnswered}
 use Rattle.ps_serve.specs.Sittings.{IsSent, IsCaughtUp, IsPartSent, AreAlmostAnswered}
 use Rattle.ps_serve.proofs.Prefixes.{prefix_same, prefix_trans, take_prefix}

@@ -8,7 +8,7 @@ use Rattle.ps_histlock.specs.Views.{after_meeting, Extends}
 use Rattle.ps_histlock.specs.Turns.{turned, IsBusy}
 use Rattle.ps_histlock.proofs.Lists.{prefix_self, prefix_more, prefix_trans}
 use Rattle.ps_histlock.proofs.TurnLemmas.{commands_more}
-use Rattle.ps_hub.specs.Turns.{Turns, TurnsAtLast, ReadsOn, Rereads, TurnsInTheEnd}
+use Rattle.server_pass.specs.Turns.{Turns, TurnsAtLast, ReadsOn, Rereads, TurnsInTheEnd}
 
 module _ {O C : Type 0} where
   -- It forgets nothing, and these commands more are its own.

@@ -23,13 +23,11 @@ use Rattle.server_places.specs.declared.site.Site.{Site}
 use Rattle.server_places.specs.declared.command.RoomCmd.{RoomCmd}
 use Rattle.server_places.specs.declared.command.RoomCmd.TheVariants.{Begin, Play}
 use Rattle.server_places.specs.Sites.{Opens, battle_at, chat_at, plays, BattleTells, TellsBy, Tells, id_told}
-use Rattle.server_places.proofs.TellLemmas.{one_story, tells_more}
+use Rattle.server_places.specs.StoryLaws.{one_story, tells_more}
 use Rattle.ps_hub.specs.Hubs.{Hub, site_of}
 use Rattle.ps_hub.specs.Names.{IsBattleId, IsNoChat, Names}
-use Rattle.ps_hub.specs.Passes.{HeldBy, IsRoomPass}
+use Rattle.ps_hub.specs.Passes.{HallPass, RoomPass, HeldBy, IsRoomPass}
 use Rattle.ps_hub.specs.Calls.{NamesNone}
-use Rattle.ps_hub.specs.declared.pass.HallPass.{HallPass}
-use Rattle.ps_hub.specs.declared.pass.RoomPass.{RoomPass}
 use Rattle.ps_hub.proofs.NameLemmas.{names_battle, names_none}
 use Rattle.ps_serve.specs.Acts.{in_hall, in_room, nowhere, Act, quiet, heard, room_of, room_cmds, since, begins, begun_by, all_begun}
 use Rattle.ps_serve.specs.Sittings.{HallGave, IsOthers, IsNowhere, Gave, AreGiven, SaysNothing, LastGave, AreApart}
@@ -196,7 +194,7 @@ module _ (hub : Hub) (conn : ℕ) (h : HallPass) (rooms : List RoomPass) (are : 
   begin_before done k start before ck made c there own =
       let by = k.pass.1.number in
       let rest = All-contains (IsRoomPass hub conn) rooms k are ck in
-      let front : IsPrefix (entries_of by before) k.pass.1.mine = (entries_of by there.0, sym (entries_of-append by before there.0) ∙ ap (entries_of by) there.1 ∙ sym rest.rest.2) in
+      let front : IsPrefix (entries_of by before) k.pass.1.mine = (entries_of by there.0, sym (entries_of-append by before there.0) ∙ ap (entries_of by) there.1 ∙ sym rest.place.rest.2) in
       let cmds : IsPrefix (commands (entries_of by before)) (commands k.pass.1.mine) = prefix_commands (entries_of by before) k.pass.1.mine front in
       let early = All-contains (λ (x : RoomPass). IsPrefix (room_cmds conn x.number done) (commands x.pass.1.mine)) rooms k made ck in
       let same : commands (entries_of by before) ≡ room_cmds conn k.number done = same_front (commands (entries_of by before)) (room_cmds conn k.number done) (commands k.pass.1.mine) cmds early (length-map (entries_of by before) (λ (e : Made RoomCmd). e.cmd) ∙ own) in

@@ -6,8 +6,7 @@ use mathlib.Core.List.{IsPrefix}
 use Rattle.rules_start.specs.declared.start.Start.{Start}
 use Rattle.ps_histlock.proofs.Lists.{prefix_self}
 use Rattle.ps_hub.specs.Hubs.{Hub}
-use Rattle.ps_hub.specs.Passes.{ButFor, IsNewPass}
-use Rattle.ps_hub.specs.declared.pass.RoomPass.{RoomPass}
+use Rattle.ps_hub.specs.Passes.{RoomPass, ButFor, IsNewPass}
 use Rattle.ps_hub.specs.declared.passes.Passes.{Passes}
 use Rattle.ps_hub.proofs.PassListLemmas.{all_left, all_right, all_at, all_add}
 use Rattle.ps_serve.specs.Sittings.{AreApart, IsBegun, IsFrom, IsFromBy}

@@ -12,11 +12,10 @@ use Rattle.ps_outside.specs.Links.{Talk}
 use Rattle.server_places.specs.Halls.{HallShows}
 use Rattle.server_places.specs.Rooms.{Shows}
 use Rattle.ps_hub.specs.Hubs.{Hub, root_of, site_of}
-use Rattle.ps_hub.specs.Passes.{AreOf, IsHallPass, IsRoomPass}
-use Rattle.ps_hub.specs.Turns.{Rereads}
-use Rattle.ps_hub.specs.Calls.{HandsOut, HallOnly, HallHanded, RoomOnly, Handed, LooksRoom}
-use Rattle.ps_hub.specs.declared.pass.HallPass.{HallPass}
-use Rattle.ps_hub.specs.declared.pass.RoomPass.{RoomPass}
+use Rattle.ps_hub.specs.Passes.{HallPass, RoomPass, AreOf, IsHallPass, IsRoomPass}
+use Rattle.server_pass.specs.Turns.{Rereads}
+use Rattle.server_pass.specs.Catches.{HandsOut}
+use Rattle.ps_hub.specs.Calls.{HallOnly, HallHanded, RoomOnly, Handed, LooksRoom}
 use Rattle.ps_hub.specs.declared.passes.Passes.{Passes}
 use Rattle.ps_hub.proofs.PassListLemmas.{get_set, hall_of}
 use Rattle.ps_serve.specs.Tellings.{after_texts, SendsHall, TellsHall, SendsOfHall, SendsRoom, SendsOfRoom, RoomTells, TellsRoom, TellsRoomPart}
@@ -121,9 +120,9 @@ room_of hub passes place h are there = subst (IsRoomPass hub passes.conn) (get_o
 
 room_nothing : (hub : Hub) (conn : ℕ) (h k : RoomPass) → IsRoomPass hub conn h → Rereads h.pass.1 k.pass.1 → k.at ≡ h.at → Handed hub conn [] h k
 room_nothing hub conn h k is r same =
-    let out : h.at ≤ h.cursor.passed = is.told.handed_out in
-    let within : h.cursor.passed ≤ length (commands h.pass.1.seen) = is.told.within in
-    (r, hands_none (Shows conn (site_of hub h.number)) (commands h.pass.1.seen) h.at is.told.before (commands k.pass.1.seen) k.at is.told.shown_before (omega arith) (prefix_commands h.pass.1.seen k.pass.1.seen (reread h.pass.1 k.pass.1 r).grows) same)
+    let out : h.at ≤ h.cursor.passed = is.place.told.handed_out in
+    let within : h.cursor.passed ≤ length (commands h.pass.1.seen) = is.place.told.within in
+    (r, hands_none (Shows conn (site_of hub h.number)) (commands h.pass.1.seen) h.at is.place.told.before (commands k.pass.1.seen) k.at is.place.told.shown_before (omega arith) (prefix_commands h.pass.1.seen k.pass.1.seen (reread h.pass.1 k.pass.1 r).grows) same)
 
 -- one call behind another at the same place
 abbrev room_both : (place : ℕ) (does other all : RoomPass → RoomPass → Type 0) (old mid new : Passes) (a : RoomOnly place does old mid) (b : RoomOnly place other mid new) → (does a.before a.behind → other a.behind b.behind → all a.before b.behind) → RoomOnly place all old new

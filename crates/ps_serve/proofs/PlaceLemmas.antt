@@ -17,12 +17,10 @@ use Rattle.server_places.specs.declared.site.Site.{Site}
 use Rattle.server_places.specs.Sites.{view_told}
 use Rattle.server_places.specs.Rooms.{Shows}
 use Rattle.server_places.specs.Halls.{HallShows}
-use Rattle.server_places.proofs.TellLemmas.{one_story}
+use Rattle.server_places.specs.StoryLaws.{one_story}
 use Rattle.ps_hub.specs.Hubs.{Hub, root_of, site_of}
-use Rattle.ps_hub.specs.Passes.{IsHallPass, IsRoomPass}
+use Rattle.ps_hub.specs.Passes.{HallPass, RoomPass, IsHallPass, IsRoomPass}
 use Rattle.ps_hub.specs.Calls.{LooksHall, HallHanded}
-use Rattle.ps_hub.specs.declared.pass.HallPass.{HallPass}
-use Rattle.ps_hub.specs.declared.pass.RoomPass.{RoomPass}
 use Rattle.ps_serve.specs.Acts.{Act, since, hall_of, hall_entries, room_of, room_cmds}
 use Rattle.ps_serve.specs.Sendings.{Sending, texts_from}
 use Rattle.ps_serve.specs.Sittings.{IsSent, IsCaughtUp, IsPartSent, HallSits, RoomWaits, SitsBy, PlaceSits, IsAs, HallLeft, LooksLeft, PlaceLeft}
@@ -124,7 +122,7 @@ place_tells hub conn acts m shown ss news h k msgs sits held told answered numbe
     (ap (λ (es : List (Entry RoomCmd)). commands es) l.mine ∙ sits.0, now, held_tells hub conn acts m ss news h k shown h.id held sits.2 l now told.out.within answered time last)
 
 pub place_up : (hub : Hub) (conn shown : ℕ) (h k : RoomPass) (msgs : List Msg) → RoomTells hub conn shown msgs h k → shown ≤ k.at → IsRoomPass hub conn h → IsRoomPass hub conn k → IsCaughtUp k.pass.1 k.at
-place_up hub conn shown h k msgs told answered was is = caught_up h.pass.1 k.pass.1 shown k.at (looked h.pass.1 k.pass.1 shown told.read) told.fresh told.seen answered was.rest.2 is.rest.2
+place_up hub conn shown h k msgs told answered was is = caught_up h.pass.1 k.pass.1 shown k.at (looked h.pass.1 k.pass.1 shown told.read) told.fresh told.seen answered was.place.rest.2 is.place.rest.2
 
 -- ---- a place from which nothing was sent now
 

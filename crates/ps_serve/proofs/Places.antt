@@ -16,8 +16,7 @@ use Rattle.server_places.specs.Sites.{chat_at, TellsBy, Tells, view_told}
 use Rattle.server_places.specs.Rooms.{Shows}
 use Rattle.ps_hub.specs.Hubs.{Hub, site_of}
 use Rattle.ps_hub.specs.Names.{Names}
-use Rattle.ps_hub.specs.Passes.{IsNewPass}
-use Rattle.ps_hub.specs.declared.pass.RoomPass.{RoomPass}
+use Rattle.ps_hub.specs.Passes.{RoomPass, IsNewPass}
 use Rattle.ps_serve.specs.Acts.{Act, room_cmds, since, asked, begins}
 use Rattle.ps_serve.specs.Sendings.{Sending, texts_from, message_texts, AreLooksAnswered}
 use Rattle.ps_serve.specs.Sittings.{IsSent, RoomSits, LastLacks, RoomWaits, SitsBy, PlaceSits, IsUntouched, AreApart, IsCaughtUp}

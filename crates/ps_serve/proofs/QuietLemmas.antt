@@ -7,8 +7,7 @@ use Rattle.ps_histlock.specs.Histories.{commands}
 use Rattle.ps_session.specs.Sessions.{Record, begun}
 use Rattle.server_places.specs.Rooms.{Shows}
 use Rattle.ps_hub.specs.Hubs.{Hub, site_of}
-use Rattle.ps_hub.specs.declared.pass.HallPass.{HallPass}
-use Rattle.ps_hub.specs.declared.pass.RoomPass.{RoomPass}
+use Rattle.ps_hub.specs.Passes.{HallPass, RoomPass}
 use Rattle.ps_hub.specs.declared.passes.Passes.{Passes}
 use Rattle.ps_serve.specs.Acts.{Act, quiet, hall_entries, room_cmds, since, asked, begins, all_begun}
 use Rattle.ps_serve.specs.Sendings.{Sending, AreLooksAnswered}

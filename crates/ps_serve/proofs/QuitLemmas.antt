@@ -19,10 +19,8 @@ use Rattle.server_places.specs.Rooms.{Shows}
 use Rattle.server_places.specs.Halls.{HallShows}
 use Rattle.ps_hub.specs.Hubs.{Hub, root_of, site_of}
 use Rattle.ps_hub.specs.Names.{Names}
-use Rattle.ps_hub.specs.Passes.{IsHallPass, IsRoomPass}
+use Rattle.ps_hub.specs.Passes.{HallPass, RoomPass, IsHallPass, IsRoomPass}
 use Rattle.ps_hub.specs.Calls.{hall_entry, room_entry, QuitsHall, QuitsHallAtMost, QuitsBy, QuitsRoom, QuitsRoomAtMost}
-use Rattle.ps_hub.specs.declared.pass.HallPass.{HallPass}
-use Rattle.ps_hub.specs.declared.pass.RoomPass.{RoomPass}
 use Rattle.ps_hub.proofs.CallLemmas.{some_value}
 use Rattle.ps_serve.specs.declared.closed.End.{End}
 use Rattle.ps_serve.specs.Acts.{hall_entries, room_cmds, since}
@@ -135,8 +133,8 @@ room_goes h k more w = record { grew = record { place = w.place; id = λ id e. w
 
 pub room_within : (hub : Hub) (conn : ℕ) (k : RoomPass) → IsRoomPass hub conn k → k.at ≤ length k.pass.1.seen
 room_within hub conn k is =
-    let out : k.at ≤ k.cursor.passed = is.told.handed_out in
-    let there : k.cursor.passed ≤ length (commands k.pass.1.seen) = is.told.within in
+    let out : k.at ≤ k.cursor.passed = is.place.told.handed_out in
+    let there : k.cursor.passed ≤ length (commands k.pass.1.seen) = is.place.told.within in
     let long = length-map k.pass.1.seen (λ (x : Entry RoomCmd). x.cmd) in
     omega arith
 

@@ -8,9 +8,7 @@ use Rattle.ps_histlock.specs.Histories.{commands}
 use Rattle.ps_session.specs.Sessions.{Record, begun}
 use Rattle.server_places.specs.Halls.{HallShows}
 use Rattle.ps_hub.specs.Hubs.{Hub, root_of}
-use Rattle.ps_hub.specs.Passes.{AreOf}
-use Rattle.ps_hub.specs.declared.pass.HallPass.{HallPass}
-use Rattle.ps_hub.specs.declared.pass.RoomPass.{RoomPass}
+use Rattle.ps_hub.specs.Passes.{HallPass, RoomPass, AreOf}
 use Rattle.ps_hub.specs.declared.passes.Passes.{Passes}
 use Rattle.ps_serve.specs.Acts.{Act, after_act, after_acts, IsAct, AreActs, hall_of, hall_entries, begun_by, all_begun}
 use Rattle.ps_serve.specs.Sendings.{Sending}

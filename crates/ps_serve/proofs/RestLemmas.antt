@@ -13,9 +13,7 @@ use Rattle.server_places.specs.Rooms.{Shows}
 use Rattle.server_places.specs.Halls.{HallShows}
 use Rattle.ps_hub.specs.Hubs.{Hub, root_of, site_of}
 use Rattle.ps_hub.specs.Names.{Names}
-use Rattle.ps_hub.specs.Passes.{AreOf, IsHallPass, IsRoomPass}
-use Rattle.ps_hub.specs.declared.pass.HallPass.{HallPass}
-use Rattle.ps_hub.specs.declared.pass.RoomPass.{RoomPass}
+use Rattle.ps_hub.specs.Passes.{HallPass, RoomPass, AreOf, IsHallPass, IsRoomPass}
 use Rattle.ps_hub.specs.declared.passes.Passes.{Passes}
 use Rattle.ps_hub.proofs.PassListLemmas.{hall_of}
 use Rattle.ps_serve.specs.declared.closed.End.{End}
@@ -140,7 +138,7 @@ by_name (Some id) hub conn t k s = s.named
 pub room_whole : (hub : Hub) (conn : ℕ) (t : Account) (k : RoomPass) → IsRoomPass hub conn k → commands k.pass.1.mine ≡ room_cmds conn k.number t.acts → IsSent (Shows conn (site_of hub k.number)) (commands k.pass.1.seen) k.at k.id (Some k.number) t.sendings → HeldOrNone k.id hub conn t k → (IsSome k.id → IsAtEnd t.acts k.pass.1 k.at) → RoomRests false false hub conn t k
 room_whole hub conn t k is made sent s end = record {
   entries = made;
-  given = room_given k.id false conn t k (λ held. handed_at k.pass.1.number k.at k.pass.1.mine k.pass.1.seen (room_cmds conn k.number t.acts) is.rest.2 made (⊎_elim (λ (e : t.acts ≡ []). inl (ap (room_cmds conn k.number) e)) (λ (u : IsCaughtUp k.pass.1 k.at). inr u.own) (end held)));
+  given = room_given k.id false conn t k (λ held. handed_at k.pass.1.number k.at k.pass.1.mine k.pass.1.seen (room_cmds conn k.number t.acts) is.place.rest.2 made (⊎_elim (λ (e : t.acts ≡ []). inl (ap (room_cmds conn k.number) e)) (λ (u : IsCaughtUp k.pass.1 k.at). inr u.own) (end held)));
   looks = by_looks k.id hub conn t k s end;
   sent = sent;
   named = by_name k.id hub conn t k s;

@@ -21,14 +21,12 @@ use Rattle.server_places.specs.Rooms.{Answers}
 use Rattle.ps_session.specs.Sessions.{Record}
 use Rattle.ps_hub.specs.Hubs.{Hub, site_of}
 use Rattle.ps_hub.specs.Names.{Names}
-use Rattle.ps_hub.specs.Passes.{AreOf, IsAsBefore}
-use Rattle.ps_hub.specs.Turns.{Turns}
+use Rattle.ps_hub.specs.Passes.{HallPass, RoomPass, AreOf, IsAsBefore}
+use Rattle.server_pass.specs.Turns.{Turns}
 use Rattle.ps_hub.specs.Calls.{hall_entry, room_entry, NamesNone, EntersAt, NotHeld, Unheld, Lacks, EnterFails, RoomOrdered, RoomGoes, RoomFails}
 use Rattle.ps_hub.specs.declared.out.EnterFault.TheVariants as enter_faults
 use Rattle.ps_hub.specs.declared.out.HubFault.TheVariants as hub_faults
 use Rattle.ps_hub.specs.declared.out.HubOut.{HubOut}
-use Rattle.ps_hub.specs.declared.pass.HallPass.{HallPass}
-use Rattle.ps_hub.specs.declared.pass.RoomPass.{RoomPass}
 use Rattle.ps_hub.specs.declared.passes.Passes.{Passes}
 use Rattle.ps_hub.proofs.NameLemmas.{names_none as no_name}
 use Rattle.ps_room.specs.Openings.{first_battle}
@@ -39,7 +37,7 @@ use Rattle.ps_serve.proofs.Prefixes.{prefix_front, prefix_same}
 use Rattle.ps_serve.proofs.Names.{one_place}
 use Rattle.ps_serve.proofs.PassLists.{IsBeside, new_all, has_new, new_apart, IsKin, kin_self, Grows, grows_trans, grows_beside}
 use Rattle.ps_serve.proofs.Actions.{hall_more, cmds_more, cmds_here, joins_here, quiet_room, quiet_nowhere, quiet_asked}
-use Rattle.ps_serve.proofs.Moves.{Moves, stays, turns_move, enters_move, entered_moves, entered_seen, turned_seen, one_turn}
+use Rattle.ps_serve.proofs.Moves.{Moves, stays, turns_move, entered_moves, entered_seen, turned_seen, one_turn}
 use Rattle.ps_serve.proofs.Places.{IsMoved, kin_moved, told_moved, IsPlace, IsBattle, HasPlace, AreSitting, sitting_at, sitting_on, place_on}
 use Rattle.ps_serve.proofs.Halls.{IsHallKin, hall_as}
 use Rattle.ps_serve.proofs.Tries.{Between, hall_start, InHall, beside_of, place_was}

@@ -9,7 +9,7 @@ use Rattle.ps_base.specs.declared.msg.Msg.{Msg}
 use Rattle.ps_outside.specs.Links.{Talk, with_text, after_text}
 use Rattle.ps_outside.specs.declared.link.SentText.{SentText}
 use Rattle.ps_base.specs.Messages.{text_of, texts_of}
-use Rattle.ps_hub.specs.Passes.{lines_of}
+use Rattle.server_pass.specs.Tellings.{lines_of}
 use Rattle.ps_serve.specs.Sendings.{Sending, is_place, text_from, texts_from, text_before, texts_before, message_text, message_texts}
 use Rattle.ps_serve.specs.Steps.{after_sendings}
 use Rattle.ps_serve.specs.Tellings.{after_texts}

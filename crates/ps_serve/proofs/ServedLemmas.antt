@@ -1,5 +1,5 @@
 -- What a session promises at its end.
-use Rattle.std.proofs.Common.{◌≡◌, ℕ, ◌+◌, ◌-◌, ◌<◌, ◌≤◌, Bool, true, false, zero, suc, List, [], ◌∷◌, ◌++◌, length, get_or, Option, Some, None, Err, refl, ap, sym, ◌∙◌, subst, inl, inr, ⊎_elim, append_assoc, arith}
+use Rattle.std.proofs.Common.{◌≡◌, ℕ, ◌+◌, ◌-◌, ◌<◌, ◌≤◌, Bool, true, false, zero, suc, List, [], ◌∷◌, ◌++◌, length, get_or, Option, Some, None, refl, ap, sym, ◌∙◌, subst, inl, inr, ⊎_elim, append_assoc, arith}
 use Rattle.std.specs.Prelude.{All, Contains, IsSome, IfSome}
 use Rattle.std.specs.List.{AllZip}
 use Rattle.std.proofs.lemmas.List.{append-nil}
@@ -16,10 +16,8 @@ use Rattle.ps_hub.specs.Hubs.{Hub, root_of, site_of}
 use Rattle.server_places.specs.Rooms.{Shows}
 use Rattle.server_places.specs.Halls.{HallShows}
 use Rattle.ps_hub.specs.Names.{Names}
-use Rattle.ps_hub.specs.Passes.{AreOf, IsRoomPass}
+use Rattle.ps_hub.specs.Passes.{HallPass, RoomPass, AreOf, IsRoomPass}
 use Rattle.ps_hub.specs.Calls.{QuitsHall, QuitsRoom, QuitsRoomAtMost, QuitsHallAtMost, QuitsWith}
-use Rattle.ps_hub.specs.declared.pass.HallPass.{HallPass}
-use Rattle.ps_hub.specs.declared.pass.RoomPass.{RoomPass}
 use Rattle.ps_hub.specs.declared.passes.Passes.{Passes}
 use Rattle.ps_hub.proofs.PassListLemmas.{hall_of}
 use Rattle.ps_serve.specs.Names.{LooksFreshly}
@@ -177,7 +175,7 @@ history_of : (hub : Hub) (conn : ℕ) (passes : Passes) → AreOf hub passes →
 history_of hub conn passes are conn_is apart = record {
   conn_is = conn_is;
   hall = at_hall (IsHallOf hub) passes are.hall_pass are.hall (record { lock_is = are.hall_is.lock; origin_is = are.hall_is.origin; at_rest = are.hall_is.rest });
-  rooms = All-weaker (IsRoomPass hub passes.conn) (IsRoomOf hub) (λ k is. (k.pass.0, is.lock, record { lock_is = refl; origin_is = is.origin; at_rest = is.rest })) passes.rooms.items are.rooms;
+  rooms = All-weaker (IsRoomPass hub passes.conn) (IsRoomOf hub) (λ k is. (k.pass.0, is.lock, record { lock_is = refl; origin_is = is.place.origin; at_rest = is.place.rest })) passes.rooms.items are.rooms;
   apart = apart;
 }
 
@@ -232,7 +230,7 @@ served end hub conn t old new talk0 talk counts0 counts start hours0 hours1 hour
       looks = record {
         hall = at_hall (HallLooks b hub conn t) new k q.hall q.keeps.looks;
         rooms = room_facts b s hub conn t old new (RoomLooks b hub conn t) (λ h x rq. rq.keeps.looks) q.rooms;
-        fresh = record { hall = at_hall (λ (h : HallPass). LooksFreshly h.pass.1) new k q.hall ((hall_of hub new k q.are q.hall).looks, (hall_of hub new k q.are q.hall).rest.9); rooms = λ i d lt. ((q.are.rooms i d lt).looks, (q.are.rooms i d lt).rest.9) };
+        fresh = record { hall = at_hall (λ (h : HallPass). LooksFreshly h.pass.1) new k q.hall ((hall_of hub new k q.are q.hall).looks, (hall_of hub new k q.are q.hall).rest.9); rooms = λ i d lt. ((q.are.rooms i d lt).place.looks, (q.are.rooms i d lt).place.rest.9) };
       };
       of = record { of = λ some. q.are; named = named };
       history = history_of hub conn new q.are q.conn_is apart;

@@ -16,7 +16,7 @@ use Rattle.server_places.specs.Rooms.{Shows}
 use Rattle.ps_hub.specs.Hubs.{Hub, site_of}
 use Rattle.ps_hub.specs.Names.{Names}
 use Rattle.ps_hub.specs.Calls.{Lacks, room_entry}
-use Rattle.ps_hub.specs.declared.pass.RoomPass.{RoomPass}
+use Rattle.ps_hub.specs.Passes.{RoomPass}
 use Rattle.ps_serve.specs.Acts.{Act, heard, in_hall, in_room, nowhere, is_at, room_of, room_cmds, since, asked, begins, begins_by}
 use Rattle.ps_serve.specs.Sendings.{Sending}
 use Rattle.ps_serve.specs.Sittings.{RoomSits, RoomWaits, SitsBy, LastLacks, LooksLeft, AreAlmostAnswered, PlaceLeft, PlaceFull, HeldFull, IsCaughtUp}

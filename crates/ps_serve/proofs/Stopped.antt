@@ -16,12 +16,11 @@ use Rattle.ps_outside.specs.Clocks.{IsNow, after_now}
 use Rattle.ps_session.specs.Sessions.{Record, is_full, counted}
 use Rattle.ps_session.specs.Routes.{taken, place_of, after_no_room}
 use Rattle.ps_hub.specs.Hubs.{Hub}
-use Rattle.ps_hub.specs.Passes.{AreOf, IsAsBefore}
+use Rattle.ps_hub.specs.Passes.{RoomPass, AreOf, IsAsBefore}
 use Rattle.ps_hub.specs.Calls.{NeedsBadge, Held, EntersAt, EnterFails, RoomFails, EntryFails, BeginsAt, BeginsNothing}
 use Rattle.ps_hub.specs.declared.out.EnterFault.TheVariants as enter_faults
 use Rattle.ps_hub.specs.declared.out.HubFault.TheVariants as hub_faults
 use Rattle.ps_hub.specs.declared.out.HubOut.{HubOut}
-use Rattle.ps_hub.specs.declared.pass.RoomPass.{RoomPass}
 use Rattle.ps_hub.specs.declared.passes.Passes.{Passes}
 use Rattle.ps_hub.proofs.CallLemmas.{some_value}
 use Rattle.ps_serve.specs.declared.obey.Stop.{Stop}

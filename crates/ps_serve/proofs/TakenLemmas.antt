@@ -10,9 +10,7 @@ use Rattle.server_places.specs.Sites.{room_signer}
 use Rattle.server_places.specs.Halls.{hall_signer}
 use Rattle.ps_outside.specs.Links.{Talk, LinkCounts}
 use Rattle.ps_hub.specs.Hubs.{Hub}
-use Rattle.ps_hub.specs.Passes.{AreOf, IsRoomPass}
-use Rattle.ps_hub.specs.declared.pass.HallPass.{HallPass}
-use Rattle.ps_hub.specs.declared.pass.RoomPass.{RoomPass}
+use Rattle.ps_hub.specs.Passes.{HallPass, RoomPass, AreOf, IsRoomPass}
 use Rattle.ps_hub.specs.declared.passes.Passes.{Passes}
 use Rattle.ps_hub.proofs.PassListLemmas.{hall_of, said_of, speaks_of}
 use Rattle.ps_serve.specs.declared.closed.End.TheVariants as ends
@@ -67,7 +65,7 @@ hall_name hub passes h are is =
     (are.opened, are.is_open, p.own passes.conn (speaks_of hub passes h are is) ∙ ap (λ (l : List (Entry HallEntry)). signed hall_signer passes.conn (commands l)) said)
 
 room_name : (hub : Hub) (conn : ℕ) (k : RoomPass) → IsRoomPass hub conn k → RoomName conn k
-room_name hub conn k p = λ speaks. p.own conn (subst (λ l. Speaks room_signer conn l) (sym p.said) speaks) ∙ ap (λ l. signed room_signer conn (commands l)) p.said
+room_name hub conn k p = λ speaks. p.place.own conn (subst (λ l. Speaks room_signer conn l) (sym p.said) speaks) ∙ ap (λ l. signed room_signer conn (commands l)) p.said
 
 at_hall : (P : HallPass → Type 0) (hall : Option HallPass) → ((h : HallPass) → hall ≡ Some h → P h) → IfSome hall P
 at_hall P None each = tt

@@ -14,10 +14,8 @@ use Rattle.ps_session.specs.Sessions.{Record, begun}
 use Rattle.ps_base.specs.Messages.{texts_of}
 use Rattle.ps_outside.specs.Links.{Talk}
 use Rattle.ps_hub.specs.Hubs.{Hub}
-use Rattle.ps_hub.specs.Passes.{AreOf, IsHallPass}
+use Rattle.ps_hub.specs.Passes.{HallPass, RoomPass, AreOf, IsHallPass}
 use Rattle.ps_hub.specs.Calls.{HallOnly, HallHanded, LooksHall}
-use Rattle.ps_hub.specs.declared.pass.HallPass.{HallPass}
-use Rattle.ps_hub.specs.declared.pass.RoomPass.{RoomPass}
 use Rattle.ps_hub.specs.declared.passes.Passes.{Passes}
 use Rattle.ps_hub.proofs.PassListLemmas.{all_left, hall_of}
 use Rattle.ps_serve.specs.declared.closed.End.{End}

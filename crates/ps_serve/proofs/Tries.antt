@@ -12,12 +12,10 @@ use Rattle.ps_histlock.specs.Turns.{IsBusy}
 use Rattle.ps_session.specs.Sessions.{Record}
 use Rattle.ps_hub.specs.Hubs.{Hub}
 use Rattle.ps_hub.specs.Names.{Names}
-use Rattle.ps_hub.specs.Passes.{IsHallPass, IsRoomPass, ButFor}
-use Rattle.ps_hub.specs.Turns.{Turns}
+use Rattle.ps_hub.specs.Passes.{HallPass, RoomPass, IsHallPass, IsRoomPass, ButFor}
+use Rattle.server_pass.specs.Turns.{Turns}
 use Rattle.ps_hub.specs.Calls.{Held, HeldUp, EntersAt, HallGoes, RoomFails, Orders}
 use Rattle.ps_hub.specs.declared.out.HubFault.TheVariants as hub_faults
-use Rattle.ps_hub.specs.declared.pass.HallPass.{HallPass}
-use Rattle.ps_hub.specs.declared.pass.RoomPass.{RoomPass}
 use Rattle.ps_hub.specs.declared.passes.Passes.{Passes}
 use Rattle.ps_serve.specs.Acts.{Act, hall_entries}
 use Rattle.ps_serve.specs.Sendings.{Sending}
@@ -54,7 +52,7 @@ amid_start hub conn open_at acts ss session passes who s = record {
 }
   where
     within : (k : RoomPass) → IsRoomPass hub passes.conn k → k.at ≤ length (commands k.pass.1.seen)
-    within k p = (let out : k.at ≤ k.cursor.passed = p.told.handed_out in let end : k.cursor.passed ≤ length (commands k.pass.1.seen) = p.told.within in omega arith)
+    within k p = (let out : k.at ≤ k.cursor.passed = p.place.told.handed_out in let end : k.cursor.passed ≤ length (commands k.pass.1.seen) = p.place.told.within in omega arith)
 
 -- and of the hall
 pub hall_start : (hub : Hub) (conn open_at : ℕ) (acts : List Act) (ss : List Sending) (session : Record) (passes : Passes) (s : Sits hub conn open_at acts (length acts) ss session passes) → IsHall hub conn open_at (hall_entries conn acts) (length acts) ss s.hall_pass

@@ -11,10 +11,9 @@ use Rattle.ps_laws.proofs.HallHistoryLemmas.{hall_views_are_equal}
 use Rattle.ps_laws.proofs.HallRatings.{hall_whole}
 use Rattle.server_places.specs.Sites.{Tells, view_told}
 use Rattle.server_places.specs.Rooms.{Shows}
-use Rattle.server_places.proofs.TellLemmas.{one_story}
+use Rattle.server_places.specs.StoryLaws.{one_story}
 use Rattle.ps_hub.specs.Hubs.{Hub, site_of}
-use Rattle.ps_hub.specs.declared.pass.HallPass.{HallPass}
-use Rattle.ps_hub.specs.declared.pass.RoomPass.{RoomPass}
+use Rattle.ps_hub.specs.Passes.{HallPass, RoomPass}
 use Rattle.ps_serve.specs.Sendings.{texts_from, message_texts}
 use Rattle.ps_serve.specs.Ends.{Account, HallSent, RoomSent, hall_seen, LosesNothing, hall_world, HallElsewhere, RoomElsewhere}
 

@@ -39,10 +39,8 @@ use Rattle.server_places.specs.Halls.{HallShows, IsAtRestInHall}
 use Rattle.std.specs.FinMap.{empty}
 use Rattle.ps_hub.specs.Hubs.{Hub, root_of, site_of, lock_of}
 use Rattle.ps_hub.specs.Names.{IsNoChat, Names}
-use Rattle.ps_hub.specs.Passes.{AreOf}
+use Rattle.ps_hub.specs.Passes.{HallPass, RoomPass, AreOf}
 use Rattle.ps_hub.specs.Calls.{hall_entry, room_entry}
-use Rattle.ps_hub.specs.declared.pass.HallPass.{HallPass}
-use Rattle.ps_hub.specs.declared.pass.RoomPass.{RoomPass}
 use Rattle.ps_hub.specs.declared.passes.Passes.{Passes}
 use Rattle.ps_serve.specs.declared.closed.End.{End}
 use Rattle.ps_serve.specs.declared.closed.End.TheVariants as ends

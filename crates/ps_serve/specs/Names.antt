@@ -10,11 +10,10 @@ use Rattle.ps_histlock.specs.declared.view.View.{View}
 use Rattle.server_places.specs.Sites.{room_signer}
 use Rattle.server_places.specs.Halls.{hall_signer}
 use Rattle.ps_hub.specs.Hubs.{Hub}
-use Rattle.ps_hub.specs.Passes.{NeverFalls}
+use Rattle.server_pass.specs.Passes.{NeverFalls}
+use Rattle.ps_hub.specs.Passes.{HallPass, RoomPass}
 use Rattle.ps_hub.specs.Calls.{hall_entry, IsStranger, IsShutOutAmong}
 use Rattle.ps_hub.specs.declared.out.QuitFault.TheVariants as quit_faults
-use Rattle.ps_hub.specs.declared.pass.HallPass.{HallPass}
-use Rattle.ps_hub.specs.declared.pass.RoomPass.{RoomPass}
 use Rattle.ps_hub.specs.declared.passes.Passes.{Passes}
 use Rattle.ps_serve.specs.declared.closed.End.{End}
 use Rattle.ps_serve.specs.declared.closed.End.TheVariants as ends

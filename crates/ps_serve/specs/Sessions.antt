@@ -11,8 +11,7 @@ use Rattle.server_places.specs.Halls.{hall_signer}
 use Rattle.ps_outside.specs.Links.{Talk, LinkCounts}
 use Rattle.ps_hub.specs.Hubs.{Hub}
 use Rattle.ps_hub.specs.Calls.{hall_entry}
-use Rattle.ps_hub.specs.declared.pass.HallPass.{HallPass}
-use Rattle.ps_hub.specs.declared.pass.RoomPass.{RoomPass}
+use Rattle.ps_hub.specs.Passes.{HallPass, RoomPass}
 use Rattle.ps_hub.specs.declared.passes.Passes.{Passes}
 use Rattle.ps_serve.specs.declared.closed.Closed.{Closed}
 use Rattle.ps_serve.specs.Steps.{Hours}

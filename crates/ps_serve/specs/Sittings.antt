@@ -23,11 +23,9 @@ use Rattle.server_places.specs.Rooms.{Answers, Shows}
 use Rattle.server_places.specs.Halls.{HallAnswers, HallShows}
 use Rattle.ps_hub.specs.Hubs.{Hub, root_of, site_of}
 use Rattle.ps_hub.specs.Names.{Names}
-use Rattle.ps_hub.specs.Passes.{AreOf}
+use Rattle.ps_hub.specs.Passes.{HallPass, RoomPass, AreOf}
 use Rattle.server_places.specs.Sites.{Tells, id_told}
 use Rattle.ps_hub.specs.Calls.{hall_entry, room_entry, Lacks, NamesNone}
-use Rattle.ps_hub.specs.declared.pass.HallPass.{HallPass}
-use Rattle.ps_hub.specs.declared.pass.RoomPass.{RoomPass}
 use Rattle.ps_hub.specs.declared.passes.Passes.{Passes}
 use Rattle.ps_serve.specs.Acts.{Made, in_hall, in_room, nowhere, Act, quiet, heard, after_acts, AreActs, hall_entries, room_cmds, since, asked, begins, all_begun}
 use Rattle.ps_serve.specs.Sendings.{Sending, texts_from, message_texts, AreLooksAnswered}

@@ -8,9 +8,10 @@ use Rattle.ps_histlock.specs.Histories.{commands}
 use Rattle.ps_histlock.specs.Views.{after_look}
 use Rattle.server_places.specs.Rooms.{Shows}
 use Rattle.ps_hub.specs.Hubs.{Hub, site_of}
-use Rattle.ps_hub.specs.Turns.{Rereads}
-use Rattle.ps_hub.specs.Calls.{IsFresh, HandsOut, HallOnly, HallHanded, RoomOnly, Handed}
-use Rattle.ps_hub.specs.declared.pass.RoomPass.{RoomPass}
+use Rattle.server_pass.specs.Turns.{Rereads}
+use Rattle.server_pass.specs.Catches.{IsFresh, HandsOut}
+use Rattle.ps_hub.specs.Calls.{HallOnly, HallHanded, RoomOnly, Handed}
+use Rattle.ps_hub.specs.Passes.{RoomPass}
 use Rattle.ps_hub.specs.declared.passes.Passes.{Passes}
 
 -- these texts are behind those that the link was sent, where it tells them

@@ -1,6 +1,5 @@
-pub mod TellLemmas
 pub mod PlainLemmas
 pub mod StandLemmas
-pub mod GoOnLemmas
+pub mod IdLemmas
 pub mod HallLemmas
 pub mod NumberLemmas

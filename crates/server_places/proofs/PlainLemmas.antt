@@ -1,5 +1,5 @@
 -- From which command on all are entries of the room, and what the first so many commands tell.
-use Rattle.std.proofs.Common.{◌≡◌, ℕ, ◌≤◌, ◌+◌, ◌-◌, List, [], ◌∷◌, ◌++◌, length, take, drop, Option, Some, None, option_map, refl, sym, ap, ◌∙◌, subst, arith}
+use Rattle.std.proofs.Common.{◌≡◌, ℕ, ◌≤◌, ◌+◌, ◌-◌, List, [], ◌∷◌, ◌++◌, length, take, drop, Some, sym, ap, ◌∙◌, subst, arith}
 use Rattle.std.proofs.lemmas.List.{length-append, length-take-le, length-drop, take_all, drop_all, take-take, take-append-le, drop-append-le, take-append-drop}
 use Rattle.std.proofs.lemmas.List.Elements.{filter_map-append}
 use Rattle.std.proofs.lemmas.Option.{same_Some}
@@ -10,7 +10,7 @@ use Rattle.server_places.specs.declared.command.RoomCmd.TheVariants.{Begin, Play
 use Rattle.server_places.specs.declared.site.Site.{Site}
 use Rattle.server_places.specs.Sites.{play_of, plays, Tells}
 use Rattle.server_places.specs.Rooms.{IsPlain}
-use Rattle.server_places.proofs.TellLemmas.{one_story, going_on, tells_more}
+use Rattle.server_places.specs.StoryLaws.{one_story, going_on, tells_more}
 
 -- ---- more commands
 

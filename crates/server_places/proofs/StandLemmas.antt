@@ -1,11 +1,10 @@
 -- What one more command makes of a place, and what is pulled of it.
-use Rattle.std.proofs.Common.{◌≡◌, ℕ, ◌≤◌, ◌+◌, ◌-◌, false, List, [], ◌∷◌, ◌++◌, map, length, take, Option, Some, None, option_map, refl, sym, ap, ◌∙◌, subst, inl, inr, arith}
+use Rattle.std.proofs.Common.{◌≡◌, ℕ, ◌≤◌, ◌+◌, ◌-◌, false, List, [], ◌∷◌, ◌++◌, length, take, Option, Some, None, option_map, refl, sym, ap, ◌∙◌, subst, inl, inr, arith}
 use Rattle.std.specs.Prelude.{nat_lt}
 use Rattle.std.proofs.lemmas.Bool.Decides.{nat_tests}
 use Rattle.std.proofs.lemmas.List.{append-nil, length-append, length-take-le, take_all}
 use Rattle.std.proofs.lemmas.Option.{none-some}
 use Rattle.ps_base.specs.declared.msg.Msg.{Msg}
-use Rattle.ps_base.specs.Messages.{msg_lines}
 use Rattle.rules_start.specs.declared.start.Start.{Start}
 use Rattle.ps_splitlog.specs.Reads.{read_past, cursor_past}
 use Rattle.ps_room.specs.declared.entry.Entry.{Entry}
@@ -19,8 +18,8 @@ use Rattle.server_places.specs.declared.command.RoomCmd.TheVariants.{Begin, Play
 use Rattle.server_places.specs.declared.cursor.RoomCursor.{RoomCursor}
 use Rattle.server_places.specs.declared.site.Site.{Site}
 use Rattle.server_places.specs.Sites.{chat_at, battle_at, TellsBy, Tells}
-use Rattle.server_places.specs.Rooms.{Place, IsPlainIf, Stands, Answers, BeginsBy, Begins, room_after, room_out, Reads, Piece, Pulls, ReadsRoom}
-use Rattle.server_places.proofs.TellLemmas.{tells_more, tells_waits, tells_opens, tells_stays}
+use Rattle.server_places.specs.Rooms.{Place, IsPlainIf, Stands, Answers, BeginsBy, Begins, room_after, room_out, Piece, Pulls, ReadsRoom}
+use Rattle.server_places.specs.StoryLaws.{tells_more, tells_waits, tells_opens, tells_stays}
 use Rattle.server_places.proofs.PlainLemmas.{plain_at_end, plain_more, Earlier, earlier}
 
 -- ---- before the first command

@@ -1,5 +1,5 @@
 //! The hall behind its lock.
-ghost use Rattle.std.specs.Prelude.{◌≡◌, ◌<◌, ◌^◌, [], IfOk, IfSome, OnErr};
+ghost use Rattle.std.specs.Prelude.{◌≡◌, ◌<◌, [], IfOk, IfSome, OnErr};
 ghost use Rattle.std.specs.Arc.{arc_value};
 ghost use Rattle.server_places.specs.Halls.{HallStands, ReadsHall};
 
@@ -14,6 +14,7 @@ use ps_hall::outcome::HallOut;
 use ps_hall::piece::HallPiece;
 use ps_histlock::Kept;
 use rules_config::config::Config;
+use server_pass::told::Told;
 use std::alloc::{AllocError, Global};
 use std::marker::Model;
 use std::sync::Arc;
@@ -138,5 +139,22 @@ impl Kept for HallPlace {
         }
         let msgs = read_on(self.alloc, &self.hall, self.count, cursor)?;
         Ok(msgs)
+    }
+}
+
+impl Told for HallPlace {
+    ghost use Rattle.server_places.specs.Tellings.{hall_telling};
+    ghost use Rattle.server_places.specs.HallLaws.{hall_tells};
+
+    ghost telling = { hall_telling };
+
+    ghost tells = { hall_tells };
+
+    fn passed(cursor: &HallCursor) -> u64 {
+        cursor.passed
+    }
+
+    fn bound(cursor: &mut HallCursor, until: Option<u64>) {
+        cursor.until = until;
     }
 }

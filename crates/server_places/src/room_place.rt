@@ -1,5 +1,5 @@
 //! The place of a room behind its lock.
-ghost use Rattle.std.specs.Prelude.{◌≡◌, ◌↔◌, ◌<◌, ◌≤◌, ◌+◌, ◌^◌, true, [], Some, None, IfSome, IfOk, OnOk, OnErr};
+ghost use Rattle.std.specs.Prelude.{◌≡◌, ◌↔◌, ◌<◌, ◌≤◌, ◌+◌, true, [], Some, None, IfSome, IfOk, OnOk, OnErr};
 ghost use Rattle.std.specs.Arc.{arc_value};
 ghost use Rattle.ps_room.specs.Logs.{record_in, seen_opened, seen_after, out_of};
 ghost use Rattle.ps_room.specs.Openings.{chat_opening, first_battle};
@@ -24,6 +24,7 @@ use rules_config::config::Config;
 use rules_config::settings::ChatRoom;
 use rules_start::fit::is_fit;
 use rules_start::start::Start;
+use server_pass::told::Told;
 use std::alloc::{AllocError, Global};
 use std::marker::Model;
 use std::sync::Arc;
@@ -287,5 +288,22 @@ impl Kept for RoomPlace {
                 Ok(msgs)
             }
         }
+    }
+}
+
+impl Told for RoomPlace {
+    ghost use Rattle.server_places.specs.Tellings.{room_telling};
+    ghost use Rattle.server_places.specs.RoomLaws.{room_tells};
+
+    ghost telling = { room_telling };
+
+    ghost tells = { room_tells };
+
+    fn passed(cursor: &RoomCursor) -> u64 {
+        cursor.passed
+    }
+
+    fn bound(cursor: &mut RoomCursor, until: Option<u64>) {
+        cursor.until = until;
     }
 }

@@ -1,5 +1,5 @@
-use Rattle.server_places.proofs.GoOnLemmas.{pulls_go_on}
-use Rattle.server_places.proofs.HallLemmas.{hall_goes_on}
+use Rattle.server_places.specs.RoomLaws.{pulls_go_on}
+use Rattle.server_places.specs.HallLaws.{hall_goes_on}
 use Rattle.server_places.proofs.law.law_of_places.Goals as goal
 
 pub returns-clause-hall : goal.returns-clause-hall

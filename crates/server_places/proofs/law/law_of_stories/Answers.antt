@@ -1,4 +1,4 @@
-use Rattle.server_places.proofs.TellLemmas.{one_story, tells_more}
+use Rattle.server_places.specs.StoryLaws.{one_story, tells_more}
 use Rattle.server_places.proofs.law.law_of_stories.Goals as goal
 
 pub returns-clause-one : goal.returns-clause-one

@@ -1,5 +1,5 @@
 use Rattle.std.proofs.Common.{◌≡◌, List, Some, slice_get, sym, subst}
-use Rattle.ps_hub.specs.declared.pass.RoomPass.{RoomPass}
+use Rattle.ps_hub.specs.Passes.{RoomPass}
 use Rattle.tests_serve.proofs.connection.holds.Goals as goal
 
 pub returns-in-Some : goal.returns-in-Some

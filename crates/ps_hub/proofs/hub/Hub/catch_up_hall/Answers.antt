@@ -1,11 +1,12 @@
 use Rattle.std.proofs.Common.{refl}
+use Rattle.ps_hub.specs.Hubs.{root_of}
 use Rattle.ps_hub.proofs.PassListLemmas.{hall_of}
 use Rattle.ps_hub.proofs.OrderLemmas.{are_hall}
 use Rattle.ps_hub.proofs.CallLemmas.{caught_hall}
 use Rattle.ps_hub.proofs.hub.Hub.catch_up_hall.Goals as goal
 
 pub returns-clause-of : goal.returns-clause-of
-returns-clause-of g c = are_hall c.args.self.now c.args.passes.now _ c.in-Some.hall c.catch_up.new.self c.requires c.in-Some.is refl (c.catch_up.ensures.of c.args.self.now c.args.passes.now.conn (hall_of c.args.self.now c.args.passes.now c.in-Some.hall c.requires c.in-Some.is)) c.catch_up.ensures.adds refl refl
+returns-clause-of g c = are_hall c.args.self.now c.args.passes.now _ c.in-Some.hall c.catch_up.new.self c.requires c.in-Some.is refl (c.catch_up.ensures.of c.args.passes.now.conn (c.args.self.now.hall, root_of c.args.self.now) (hall_of c.args.self.now c.args.passes.now c.in-Some.hall c.requires c.in-Some.is)) c.catch_up.ensures.grows.adds refl refl
 
 pub returns-clause-does : goal.returns-clause-does
 returns-clause-does g c = caught_hall c.args.self.now c.args.passes.now _ c.in-Some.hall c.catch_up.new.self c.catch_up.result (hall_of c.args.self.now c.args.passes.now c.in-Some.hall c.requires c.in-Some.is) c.in-Some.is refl refl refl refl c.catch_up.ensures.ok c.catch_up.ensures.err

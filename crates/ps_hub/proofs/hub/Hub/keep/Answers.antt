@@ -8,7 +8,7 @@ returns-in-Some-clause-ok c =
 
 pub returns-clause-ok : goal.returns-clause-ok
 returns-clause-ok c = if_ok_then _ _ c.add.result c.add.ensures.ok (λ pass_index added. (
-  c.new.result,
-  keeps_added c.args.self.now c.args.number pass_index c.args.passes.now c.new.result c.add.new.self
-      c.in-None.ensures.none (c.new.ensures c.args.self.now c.lock-lock.ensures.name c.lock-lock.ensures.origin) added,
+  c.room_pass.result,
+  keeps_added c.args.self.now c.args.number pass_index c.args.passes.now c.room_pass.result c.add.new.self
+      c.in-None.ensures.none (c.room_pass.ensures c.args.self.now c.lock-lock.ensures.name c.lock-lock.ensures.origin) added,
 ))

@@ -1,7 +1,9 @@
 use Rattle.std.proofs.Common.{◌≡◌, ◌<◌, length, refl, ap, inl, inr, ◌∙◌, arith}
 use Rattle.std.proofs.lemmas.Option.{slice_get_within, get_or_from_slice_get}
-use Rattle.ps_hub.specs.Passes.{IsRoomPass}
-use Rattle.ps_hub.specs.declared.pass.RoomPass.{RoomPass}
+use Rattle.ps_hub.specs.Passes.{RoomPass, IsRoomPass}
+use Rattle.server_pass.proofs.MeetLemmas.{grows_met}
+use Rattle.ps_hub.specs.Hubs.{site_of}
+use Rattle.ps_hub.proofs.PassLemmas.{room_again}
 use Rattle.ps_hub.proofs.PassListLemmas.{are_set, read_there, read_pass}
 use Rattle.ps_hub.proofs.MeetLemmas.{at_lock}
 use Rattle.ps_hub.proofs.hub.Hub.meet_in_room.Goals as goal
@@ -51,10 +53,15 @@ returns-clause-of c =
     let other_there = read_there c.args.other.now.rooms.items c.in-Some-position.another other_found.0 c.index_mut-2.result.now
     other_found.1 c.index_mut-2.ensures.value in (
       are_set c.args.self.now c.args.passes.now _ c.in-Some.one c.index_mut.result.now c.meet.new.self c.requires.0 there (ap (λ (k : RoomPass). k.number) c.meet.ensures.same) refl refl
-          (c.meet.ensures.of c.args.self.now c.args.passes.now.conn (read_pass c.args.self.now c.args.passes.now c.in-Some.one c.index_mut.result.now c.requires.0 there)),
+          (room_again c.args.self.now c.args.passes.now.conn c.index_mut.result.now c.meet.new.self (ap (λ (k : RoomPass). k.number) c.meet.ensures.same)
+          (ap (λ (k : RoomPass). k.id) c.meet.ensures.same) (grows_met c.index_mut.result.now.pass.1 c.meet.new.self.pass.1 c.meet.ensures.met.one)
+          (c.meet.ensures.of c.args.passes.now.conn (c.index_mut.result.now.pass.0, site_of c.args.self.now c.index_mut.result.now.number))
+          (read_pass c.args.self.now c.args.passes.now c.in-Some.one c.index_mut.result.now c.requires.0 there)),
       are_set c.args.self.now c.args.other.now _ c.in-Some-position.another c.index_mut-2.result.now c.meet.new.other c.requires.1
           other_there (ap (λ (k : RoomPass). k.number) c.meet.ensures.same_other) refl refl
-          (c.meet.ensures.of_other c.args.self.now c.args.other.now.conn
+          (room_again c.args.self.now c.args.other.now.conn c.index_mut-2.result.now c.meet.new.other (ap (λ (k : RoomPass). k.number) c.meet.ensures.same_other)
+          (ap (λ (k : RoomPass). k.id) c.meet.ensures.same_other) (grows_met c.index_mut-2.result.now.pass.1 c.meet.new.other.pass.1 c.meet.ensures.met.other)
+          (c.meet.ensures.of_other c.args.other.now.conn (c.index_mut-2.result.now.pass.0, site_of c.args.self.now c.index_mut-2.result.now.number))
           (read_pass c.args.self.now c.args.other.now c.in-Some-position.another c.index_mut-2.result.now c.requires.1 other_there)),
     )
 

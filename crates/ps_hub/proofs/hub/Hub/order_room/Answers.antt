@@ -1,9 +1,9 @@
 use Rattle.std.proofs.Common.{◌≡◌, ◌<◌, ℕ, List, length, Some, refl, sym, ap, subst, ◌∙◌, arith}
 use Rattle.std.proofs.lemmas.Option.{slice_get_within, get_or_from_slice_get}
 use Rattle.ps_base.specs.declared.badge.Badge.{Badge}
+use Rattle.ps_hub.specs.Passes.{RoomPass}
 use Rattle.ps_hub.specs.Names.{Names}
 use Rattle.ps_hub.specs.Calls.{Held, EntersAt, EnterFails}
-use Rattle.ps_hub.specs.declared.pass.RoomPass.{RoomPass}
 use Rattle.ps_hub.proofs.PassListLemmas.{are_set, read_there, read_pass}
 use Rattle.ps_hub.proofs.OrderLemmas.{room_not_entered, room_orders}
 use Rattle.ps_hub.proofs.hub.Hub.order_room.Goals as goal

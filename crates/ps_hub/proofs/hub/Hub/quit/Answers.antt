@@ -1,9 +1,8 @@
 use Rattle.std.proofs.Common.{List, length, refl, sym, ap, subst, ◌∙◌}
 use Rattle.std.specs.Prelude.{All}
 use Rattle.std.specs.List.{AllZip}
-use Rattle.ps_hub.specs.Passes.{IsRoomPass, numbers}
+use Rattle.ps_hub.specs.Passes.{RoomPass, IsRoomPass, numbers}
 use Rattle.ps_hub.specs.Calls.{QuitsRoom, QuitsRoomAtMost, QuitsHall, QuitsHallAtMost, IsShutOutAmong}
-use Rattle.ps_hub.specs.declared.pass.RoomPass.{RoomPass}
 use Rattle.ps_hub.proofs.PassListLemmas.{are_rooms, lent}
 use Rattle.ps_hub.proofs.CallLemmas.{quits_with, quit_numbers}
 use Rattle.ps_hub.proofs.hub.Hub.quit.Goals as goal

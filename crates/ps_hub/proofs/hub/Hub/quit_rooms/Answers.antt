@@ -1,10 +1,9 @@
 use Rattle.std.proofs.Common.{◌+◌, ◌<◌, length, get_or, IsSome, Result, refl, sym, subst, arith}
 use Rattle.std.specs.Prelude.{slice_set, IfErr, OnOk}
 use Rattle.std.proofs.lemmas.Option.{slice_get-get_or}
-use Rattle.ps_hub.specs.Passes.{IsRoomPass}
+use Rattle.ps_hub.specs.Passes.{RoomPass, IsRoomPass}
 use Rattle.ps_hub.specs.Calls.{QuitsRoom, StaysInRoom, QuitsRoomAtMost}
 use Rattle.ps_hub.specs.declared.out.QuitFault.{QuitFault}
-use Rattle.ps_hub.specs.declared.pass.RoomPass.{RoomPass}
 use Rattle.ps_hub.proofs.PassListLemmas.{at_place, after_set}
 use Rattle.ps_hub.proofs.QuitLemmas.{IsDoneTo, IsShutOutBefore, done_there, done_next, done_if_ok, one_of, shut_next, shut_at_last}
 use Rattle.ps_hub.proofs.hub.Hub.quit_rooms.Goals as goal

@@ -1,7 +1,7 @@
 use Rattle.std.proofs.Common.{◌≡◌, List, length, Some, refl, sym, ap, ◌∙◌, arith, rules}
 use Rattle.std.specs.Prelude.{slice_get}
 use Rattle.std.proofs.lemmas.Option.{slice_get_read}
-use Rattle.ps_hub.specs.declared.pass.RoomPass.{RoomPass}
+use Rattle.ps_hub.specs.Passes.{RoomPass}
 use Rattle.ps_hub.proofs.passes.Passes.position.Goals as goal
 
 pub returns-then-rooms-pass_index-clause-found : goal.returns-then-rooms-pass_index-clause-found

@@ -1,0 +1,4 @@
+pub mod ToldLemmas
+pub mod PassLemmas
+pub mod CatchLemmas
+pub mod MeetLemmas

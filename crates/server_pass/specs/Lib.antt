@@ -1,0 +1,5 @@
+pub mod Tellings
+pub mod Turns
+pub mod Passes
+pub mod Catches
+pub mod Meetings
