@@ -1,16 +1,16 @@
 -- What a turn leaves of its pass, for those who keep passes.
-use Rattle.std.proofs.Common.{◌≡◌, ◌≢◌, ◌+◌, ◌≤◌, ◌%◌, ℕ, List, [], ◌∷◌, ◌++◌, length, length-append, Option, Some, None, refl, ap, sym, ◌∙◌, subst, inl, inr, ◌⊎◌, ⊎_elim, Vec, Global}
+use Rattle.std.proofs.Common.{◌≡◌, ◌≢◌, ◌+◌, ◌≤◌, ◌%◌, ℕ, List, [], ◌∷◌, ◌++◌, length, length-append, refl, ap, sym, ◌∙◌, subst, inl, inr, ◌⊎◌, ⊎_elim, Vec, Global}
 use Rattle.std.proofs.lemmas.List.{map-append}
 use Rattle.std.proofs.lemmas.List.Elements.{All-append, AllZip-push}
 use mathlib.Core.List.{IsPrefix}
 use Rattle.ps_histlock.specs.declared.view.Entry.{Entry}
 use Rattle.ps_histlock.specs.declared.view.View.{View}
 use Rattle.ps_histlock.specs.declared.turn.TurnOf.{TurnOf}
-use Rattle.ps_histlock.specs.declared.turn.TurnOf.TheVariants.{Done, Late, Busy, OwnLimit, Taken, NoMemory}
+use Rattle.ps_histlock.specs.declared.turn.TurnOf.TheVariants.{Done, Late}
 use Rattle.ps_histlock.specs.Histories.{commands, entry}
 use Rattle.ps_histlock.specs.Views.{after_look, after_meeting, after_entry, after_turn, holder, HasGrown, IsAtRest, Extends}
-use Rattle.ps_histlock.specs.Turns.{Turned, Written, IsBusy, turned}
-use Rattle.ps_histlock.proofs.Lists.{prefix_self, prefix_more, all_one, all_begin}
+use Rattle.ps_histlock.specs.Turns.{Written, IsBusy}
+use Rattle.ps_histlock.proofs.Lists.{prefix_self, all_one, all_begin}
 
 module _ {C : Type 0} where
   pub commands-append : (xs ys : List (Entry C)) → commands (xs ++ ys) ≡ commands xs ++ commands ys
@@ -19,49 +19,6 @@ module _ {C : Type 0} where
   -- one entry more is one command more
   pub commands_more : (xs : List (Entry C)) (by : ℕ) (c : C) → commands (xs ++ entry by c ∷ []) ≡ commands xs ++ c ∷ []
   commands_more xs by c = commands-append xs (entry by c ∷ [])
-
-module _ {O C : Type 0} where
-  -- What no turn changes of its pass
-  pub record IsSamePass (v w : View O C) : Type 0 where
-    pub origin : w.origin ≡ v.origin
-    pub number : w.number ≡ v.number
-    pub looks : w.looks ≡ v.looks
-
-  -- The turn made no entry, and found a history that begins with all that its pass had seen
-  pub record HasRead (v w : View O C) : Type 0 where
-    pub log : List (Entry C)
-    pub found : Extends v log
-    pub seen : w.seen ≡ log
-    pub mine : w.mine ≡ v.mine
-
-  -- The turn made the entry c, at once behind a history that begins with all that its pass had seen
-  pub record HasEntered (v : View O C) (c : C) (w : View O C) : Type 0 where
-    pub log : List (Entry C)
-    pub found : Extends v log
-    pub seen : w.seen ≡ log ++ entry v.number c ∷ []
-    pub mine : w.mine ≡ v.mine ++ entry v.number c ∷ []
-    pub commands_are : commands w.seen ≡ commands log ++ c ∷ []
-
-  grows_turned : (v : View O C) (log : List (Entry C)) (cmd : Option C) → Extends v log → IsPrefix v.seen (turned v log cmd).seen
-  grows_turned v log None found = found.0
-  grows_turned v log (Some c) found = prefix_more v.seen log (entry v.number c ∷ []) found.0
-
-  grows_busy : (v w : View O C) (word : ℕ) → IsBusy v word w → IsPrefix v.seen w.seen
-  grows_busy v w word busy =
-      ⊎_elim
-      (λ (b : (word % 2 ≡ 1) × (w ≡ after_meeting v word)). subst (λ (u : View O C). IsPrefix v.seen u.seen) (sym b.1) (prefix_self v.seen))
-      (λ (b : (first : ℕ) × (first ≢ word) × (w ≡ after_meeting (after_meeting v first) word)). subst (λ (u : View O C). IsPrefix v.seen u.seen) (sym b.2) (prefix_self v.seen))
-      busy
-
-module _ {O C U X M : Type 0} (answers : O → List C → C → U → Type 0) (pulls : O → List C → X → List M → X → Type 0) where
-  -- whatever the turn answers, its pass forgets nothing that it had seen
-  pub grows : (v : View O C) (x : X) (cmd : Option C) (t : TurnOf C U M) (w : View O C) (y : X) → Turned answers pulls v x cmd t w y → IsPrefix v.seen w.seen
-  grows v x cmd (Done out msgs) w y told = subst (λ (u : View O C). IsPrefix v.seen u.seen) (sym told.2) (grows_turned v told.0 cmd told.1)
-  grows v x cmd (Late out) w y told = subst (λ (u : View O C). IsPrefix v.seen u.seen) (sym told.2) (grows_turned v told.0 cmd told.1)
-  grows v x cmd (Busy word back) w y told = grows_busy v w word told.0
-  grows v x cmd (OwnLimit back) w y told = subst (λ (u : View O C). IsPrefix v.seen u.seen) (sym told.3) (prefix_self v.seen)
-  grows v x cmd (Taken back) w y told = subst (λ (u : View O C). IsPrefix v.seen u.seen) (sym told.1.2) (grows_turned v told.1.0 None told.1.1)
-  grows v x cmd NoMemory w y told = subst (λ (u : View O C). IsPrefix v.seen u.seen) (sym told.1.2) (grows_turned v told.1.0 None told.1.1)
 
 module _ {O C : Type 0} where
   -- who has the turn had seen, before it and before each turn ahead of it, what begins the history, which no look was ahead of
@@ -90,9 +47,9 @@ module _ {K O C : Type 0} (origin : K → O) (stands : List C → K → Type 0) 
       → IsAtRest origin stands (after_turn (holder (after_meeting v n) log))
   rest_turned v log n r found stood = (r.0, refl, found.2, r.3, r.4, prefix_self log, r.6, grown_held v log n r.7 found, λ some. stood, r.9)
 
-module _ {O C U X M : Type 0} (answers : O → List C → C → U → Type 0) (pulls : O → List C → X → List M → X → Type 0) where
+module _ {O C U X M B : Type 0} (answers : O → List C → C → U → Type 0) (pulls : O → List C → X → List M → X → Type 0) where
   -- a turn that made its entry
-  pub entered : (v : View O C) (x : X) (c : C) (t : TurnOf C U M) (w : View O C) (y : X) → Written answers pulls v x c t w y
-      → ((out : Option U) × (msgs : Vec M Global) × (t ≡ Done out msgs)) ⊎ ((out : Option U) × (t ≡ Late out)) → w ≡ after_entry v c
-  entered v x c t w y told (inl is) = (subst (λ (u : TurnOf C U M). Written answers pulls v x c u w y) is.2 told).0
-  entered v x c t w y told (inr is) = (subst (λ (u : TurnOf C U M). Written answers pulls v x c u w y) is.1 told).0
+  pub entered : (v : View O C) (x : X) (c : C) (t : TurnOf C U M B) (w : View O C) (y : X) → Written answers pulls v x c t w y
+      → ((out : U) × (msgs : Vec M Global) × (t ≡ Done out msgs)) ⊎ ((out : U) × (t ≡ Late out)) → w ≡ after_entry v c
+  entered v x c t w y told (inl is) = (subst (λ (u : TurnOf C U M B). Written answers pulls v x c u w y) is.2 told).0
+  entered v x c t w y told (inr is) = (subst (λ (u : TurnOf C U M B). Written answers pulls v x c u w y) is.1 told).0

@@ -16,5 +16,5 @@ pub use home::Home;
 pub use kept::Kept;
 pub use lock::{HistLock, OWN_LIMIT, Opener, Pass};
 pub use together::{authentic, look_after, no_others};
-pub use turn::{Turn, TurnOf};
+pub use turn::{Tried, Turn, TurnOf, Unread, Waited};
 pub use view::{Entry, View};

@@ -1,5 +1,5 @@
 //! The lock, its passes, and the calls.
-ghost use Rattle.std.specs.Prelude.{All, ◌≡◌, ◌≢◌, ◌+◌, ◌≤◌, ◌<◌, ◌^◌, ◌*◌, ◌/◌, ◌++◌, ℕ, List, true, false, [], ◌∷◌, length, Option, IfOk, IfErr, IsTrue, IsFalse, None, Some, IsSome, IfSome};
+ghost use Rattle.std.specs.Prelude.{All, ◌≡◌, ◌≢◌, ◌+◌, ◌≤◌, ◌<◌, ◌^◌, ◌*◌, ◌/◌, ◌++◌, ℕ, List, true, false, [], ◌∷◌, length, Option, IfOk, IfErr, OnErr, IsTrue, IsFalse, None, Some, IsSome, IfSome};
 ghost use mathlib.Core.List.{IsPrefix};
 ghost use Rattle.ps_histlock.specs.Histories.{commands, entry, entries_of, longer, AreOneList};
 ghost use Rattle.ps_histlock.specs.Views.{newcomer, offspring, heir_of, with_number, after_look, after_meeting, after_entry, after_turn, holder, hearing, informed, comparing, compared, counted, knowing, HasGrown, HasLooked, IsAtRest, Extends};
@@ -9,7 +9,7 @@ ghost use Rattle.atomic_table.specs.Table.{step, Allows};
 ghost use Rattle.ps_histlock.specs.Homes.{home_origin, HomeStands};
 ghost use Rattle.ps_histlock.specs.Locks.{Stands, IsKept, MaySign, OwnSigns, SignsOn, HasSigned, IsNameTaken, MayGoOn, IsAnothers};
 ghost use Rattle.ps_histlock.specs.declared.view.View.{View};
-ghost use Rattle.ps_histlock.specs.Turns.{Turned, turned, TurnedAtLast, IsBusy, IsNotBusy, Read, Written};
+ghost use Rattle.ps_histlock.specs.Turns.{Turned, AtLast, Enters, Reads, ReadsInTurn, IsBusy, IsNotBusy, Written};
 ghost use Rattle.ps_histlock.specs.declared.lock.TheConstants.{OWN_LIMIT};
 ghost use Rattle.ps_histlock.specs.declared.turn.TurnOf.TheVariants.{OwnLimit, Taken};
 ghost use Rattle.ps_histlock.specs.declared.view.Entry.{Entry};
@@ -20,14 +20,14 @@ use crate::rule::{
     Append, Arrive, Count, Cut, Differ, Far, Hear, HearAnother, Inherit, Learn, Look, Meet, Name,
     Release, Rule, Seize, Tell, Writes,
 };
-use crate::turn::{Turn, TurnOf};
+use crate::turn::{Tried, Turn, TurnOf, Unread, Waited};
 use crate::view::View;
 use atomic_table::{Play, Refused, Seat, Table};
+use crossbeam_utils::Backoff;
 use std::alloc::{AllocError, Global};
 use std::marker::{Brand, Model};
 use std::snapshot::Snapshot;
 use std::sync::Wait;
-use std::thread;
 
 /// How many entries one pass may make: all texts that a connection may give to one place, 256 reports of battles that they
 /// end, and its end.
@@ -383,20 +383,23 @@ impl<K: Kept> HistLock<K> {
     }
 
     // The rest of a turn that asks for no entry.
-    fn read(&self, seat: &mut OwnSeat<K>, cursor: &mut K::Cursor, home: Home<K>) -> Turn<K>
+    fn pull(
+        &self,
+        seat: &mut OwnSeat<K>,
+        cursor: &mut K::Cursor,
+        home: Home<K>,
+    ) -> Result<Vec<K::Msg>, AllocError>
         requires seat_state { (seat.old.table_id ≡ self.now.0) × (seat.old.me.1 ≡ (0, None) ∷ []) }
         requires turn { (seat.old.me.0.holds ≡ true) × (seat.old.me.0.letter ≡ false) }
         requires value { (K.origin home.kept ≡ seat.old.me.0.origin) × HomeStands K.stands K.signer (commands seat.old.me.0.seen) home }
         ensures same { (seat.new.table_id ≡ seat.old.table_id) × (seat.new.id ≡ seat.old.id) }
         ensures released { seat.new.me ≡ (after_turn seat.old.me.0, []) }
-        ensures does { Read K.answers K.pulls seat.old.me.0 cursor.old result cursor.new }
+        ensures ok { IfOk result (λ msgs. K.pulls seat.old.me.0.origin (commands seat.old.me.0.seen) cursor.old msgs.items cursor.new) }
+        ensures err { OnErr result (cursor.new ≡ cursor.old) }
     {
         let msgs = home.pull(cursor);
         self.release(seat, home);
-        match msgs {
-            Ok(msgs) => TurnOf::Done { out: None, msgs },
-            Err(_) => TurnOf::Late { out: None },
-        }
+        msgs
     }
 
     // The rest of a turn that asks for an entry, that of the command which W names.
@@ -406,7 +409,7 @@ impl<K: Kept> HistLock<K> {
         cursor: &mut K::Cursor,
         mut home: Home<K>,
         cmd: K::Cmd,
-    ) -> Turn<K>
+    ) -> Tried<K>
         requires seat_state { (seat.old.table_id ≡ self.now.0) × (seat.old.me.1 ≡ (0, None) ∷ []) }
         requires turn { (seat.old.me.0.holds ≡ true) × (seat.old.me.0.named ≡ true) × (seat.old.me.0.letter ≡ false) × (seat.old.me.0.heard ≡ []) × (seat.old.me.0.speaks ≡ true) }
         requires own { (seat.old.me.0.mine ≡ entries_of seat.old.me.0.number seat.old.me.0.seen) × (seat.old.me.0.known ≡ seat.old.me.0.seen) }
@@ -426,11 +429,8 @@ impl<K: Kept> HistLock<K> {
                 let msgs = home.pull(cursor);
                 self.append::<W>(seat, home);
                 match msgs {
-                    Ok(msgs) => TurnOf::Done {
-                        out: Some(out),
-                        msgs,
-                    },
-                    Err(_) => TurnOf::Late { out: Some(out) },
+                    Ok(msgs) => TurnOf::Done { out, msgs },
+                    Err(_) => TurnOf::Late { out },
                 }
             }
             Err(_) => {
@@ -440,8 +440,129 @@ impl<K: Kept> HistLock<K> {
         }
     }
 
-    /// One turn, unless somebody else has it: applies the command, if there is one, as the next entry of the history, and
+    /// One turn that makes an entry, unless somebody else has it: applies the command as the next entry of the history, and
     /// pulls the messages past the cursor. It waits for nobody. A pass signs by one name only.
+    ///
+    /// `Busy` only where it met an odd word, or two words that differ; `OwnLimit` exactly where the pass has made `OWN_LIMIT`
+    /// entries; `Taken` only where an entry is signed by the name of the command, and none that the pass may speak for, and
+    /// then there is no entry. `Late` and `NoMemory` are out of memory, with the entry and without it.
+    pub fn try_enter(&self, pass: &mut Pass<K>, cursor: &mut K::Cursor, cmd: K::Cmd) -> Tried<K>
+        requires lock { pass.old.0 ≡ self.now.0 }
+        requires sign { SignsOn K.signer pass.old.1.said cmd }
+        ensures lock { pass.new.0 ≡ pass.old.0 }
+        ensures does { Enters K.answers K.pulls (λ back. back ≡ cmd) pass.old.1 cursor.old cmd result pass.new.1 cursor.new }
+        ensures limit { length pass.old.1.mine ≡ OWN_LIMIT → (result ≡ OwnLimit cmd) × (pass.new ≡ pass.old) × (cursor.new ≡ cursor.old) }
+        ensures taken { (back : K.Cmd) → result ≡ Taken back → IsNameTaken K.signer pass.old.1.said pass.new.1.seen cmd }
+        ensures signed { OwnSigns K.signer pass.new.1 pass.new.1.known }
+        ensures rest { IsAtRest K.origin K.stands pass.new.1 }
+    {
+        if pass.own >= OWN_LIMIT {
+            return TurnOf::OwnLimit { cmd };
+        }
+        let home = match self.seize(&mut pass.seat) {
+            Ok(home) => home,
+            Err(word) => return TurnOf::Busy { word, cmd },
+        };
+        if is_anothers(pass.has_signed, &home, &cmd) {
+            self.release(&mut pass.seat, home);
+            return TurnOf::Taken { cmd };
+        }
+        let has_signed = signs_with::<K>(pass.has_signed, &cmd);
+        let turn = self.write::<Brand>(&mut pass.seat, cursor, home, cmd);
+        if let TurnOf::Done { .. } | TurnOf::Late { .. } = &turn {
+            pass.own += 1;
+            pass.has_signed = has_signed;
+        }
+        turn
+    }
+
+    /// One turn that makes an entry, as `try_enter`, again and again until it isn't `Busy`: at once at first, and then after
+    /// others ran.
+    pub fn enter<R: Wait>(
+        &self,
+        rt: &R,
+        pass: &mut Pass<K>,
+        cursor: &mut K::Cursor,
+        cmd: K::Cmd,
+    ) -> Waited<K>
+        requires lock { pass.old.0 ≡ self.now.0 }
+        requires sign { SignsOn K.signer pass.old.1.said cmd }
+        ensures lock { pass.new.0 ≡ pass.old.0 }
+        ensures does { AtLast (λ v. Enters K.answers K.pulls (λ back. ⊥) v cursor.old cmd result pass.new.1 cursor.new) pass.old.1 }
+        ensures limit { length pass.old.1.mine ≡ OWN_LIMIT → (result ≡ OwnLimit cmd) × (pass.new ≡ pass.old) × (cursor.new ≡ cursor.old) }
+        ensures taken { (back : K.Cmd) → result ≡ Taken back → IsNameTaken K.signer pass.old.1.said pass.new.1.seen cmd }
+        ensures signed { OwnSigns K.signer pass.new.1 pass.new.1.known }
+        ensures rest { IsAtRest K.origin K.stands pass.new.1 }
+    {
+        let backoff = Backoff::new();
+        let mut left = cmd;
+        for _ in rt.forever() {
+            match self.try_enter(pass, cursor, left) {
+                TurnOf::Busy { word: _, cmd } => {
+                    left = cmd;
+                    backoff.snooze();
+                }
+                TurnOf::Done { out, msgs } => return TurnOf::Done { out, msgs },
+                TurnOf::Late { out } => return TurnOf::Late { out },
+                TurnOf::OwnLimit { cmd } => return TurnOf::OwnLimit { cmd },
+                TurnOf::Taken { cmd } => return TurnOf::Taken { cmd },
+                TurnOf::NoMemory => return TurnOf::NoMemory,
+            }
+        }
+        unreachable!()
+    }
+
+    /// One turn that makes no entry, unless somebody else has it: pulls the messages past the cursor. It waits for nobody.
+    ///
+    /// `Busy` only where it met an odd word, or two words that differ; `NoMemory` where there is none for the messages.
+    pub fn try_read(
+        &self,
+        pass: &mut Pass<K>,
+        cursor: &mut K::Cursor,
+    ) -> Result<Vec<K::Msg>, Unread>
+        requires { pass.old.0 ≡ self.now.0 }
+        ensures lock { pass.new.0 ≡ pass.old.0 }
+        ensures does { Reads K.pulls pass.old.1 cursor.old result pass.new.1 cursor.new }
+        ensures signed { OwnSigns K.signer pass.new.1 pass.new.1.known }
+        ensures rest { IsAtRest K.origin K.stands pass.new.1 }
+    {
+        let home = match self.seize(&mut pass.seat) {
+            Ok(home) => home,
+            Err(word) => return Err(Unread::Busy { word }),
+        };
+        match self.pull(&mut pass.seat, cursor, home) {
+            Ok(msgs) => Ok(msgs),
+            Err(_) => Err(Unread::NoMemory),
+        }
+    }
+
+    /// One turn that makes no entry, as `try_read`, again and again until it has the turn: at once at first, and then after
+    /// others ran. `AllocError` where there is no memory for the messages: then the cursor is where it was.
+    pub fn read<R: Wait>(
+        &self,
+        rt: &R,
+        pass: &mut Pass<K>,
+        cursor: &mut K::Cursor,
+    ) -> Result<Vec<K::Msg>, AllocError>
+        requires { pass.old.0 ≡ self.now.0 }
+        ensures lock { pass.new.0 ≡ pass.old.0 }
+        ensures does { AtLast (λ v. ReadsInTurn K.pulls v cursor.old result pass.new.1 cursor.new) pass.old.1 }
+        ensures signed { OwnSigns K.signer pass.new.1 pass.new.1.known }
+        ensures rest { IsAtRest K.origin K.stands pass.new.1 }
+    {
+        let backoff = Backoff::new();
+        for _ in rt.forever() {
+            match self.try_read(pass, cursor) {
+                Err(Unread::Busy { word: _ }) => backoff.snooze(),
+                Ok(msgs) => return Ok(msgs),
+                Err(Unread::NoMemory) => return Err(AllocError),
+            }
+        }
+        unreachable!()
+    }
+
+    /// One turn, unless somebody else has it: applies the command, if there is one, as `try_enter`, and else pulls the
+    /// messages past the cursor, as `try_read`. It waits for nobody. A pass signs by one name only.
     ///
     /// `Busy` only where it met an odd word, or two words that differ; `OwnLimit` exactly where there is a command and
     /// the pass has made `OWN_LIMIT` entries; `Taken` only where an entry is signed by the name of the command, and none that the
@@ -462,28 +583,26 @@ impl<K: Kept> HistLock<K> {
         ensures signed { OwnSigns K.signer pass.new.1 pass.new.1.known }
         ensures rest { IsAtRest K.origin K.stands pass.new.1 }
     {
-        if cmd.is_some() && pass.own >= OWN_LIMIT {
-            return TurnOf::OwnLimit { cmd };
-        }
-        let home = match self.seize(&mut pass.seat) {
-            Ok(home) => home,
-            Err(word) => return TurnOf::Busy { word, cmd },
-        };
         match cmd {
-            None => self.read(&mut pass.seat, cursor, home),
-            Some(cmd) => {
-                if is_anothers(pass.has_signed, &home, &cmd) {
-                    self.release(&mut pass.seat, home);
-                    return TurnOf::Taken { cmd: Some(cmd) };
-                }
-                let has_signed = signs_with::<K>(pass.has_signed, &cmd);
-                let turn = self.write::<Brand>(&mut pass.seat, cursor, home, cmd);
-                if let TurnOf::Done { .. } | TurnOf::Late { .. } = &turn {
-                    pass.own += 1;
-                    pass.has_signed = has_signed;
-                }
-                turn
-            }
+            None => match self.try_read(pass, cursor) {
+                Ok(msgs) => TurnOf::Done { out: None, msgs },
+                Err(Unread::Busy { word }) => TurnOf::Busy { word, cmd: None },
+                Err(Unread::NoMemory) => TurnOf::Late { out: None },
+            },
+            Some(cmd) => match self.try_enter(pass, cursor, cmd) {
+                TurnOf::Done { out, msgs } => TurnOf::Done {
+                    out: Some(out),
+                    msgs,
+                },
+                TurnOf::Late { out } => TurnOf::Late { out: Some(out) },
+                TurnOf::Busy { word, cmd } => TurnOf::Busy {
+                    word,
+                    cmd: Some(cmd),
+                },
+                TurnOf::OwnLimit { cmd } => TurnOf::OwnLimit { cmd: Some(cmd) },
+                TurnOf::Taken { cmd } => TurnOf::Taken { cmd: Some(cmd) },
+                TurnOf::NoMemory => TurnOf::NoMemory,
+            },
         }
     }
 
@@ -498,23 +617,28 @@ impl<K: Kept> HistLock<K> {
         requires lock { pass.old.0 ≡ self.now.0 }
         requires sign { IfSome cmd (SignsOn K.signer pass.old.1.said) }
         ensures lock { pass.new.0 ≡ pass.old.0 }
-        ensures does { TurnedAtLast K.answers K.pulls pass.old.1 cursor.old cmd result pass.new.1 cursor.new }
+        ensures does { AtLast (λ v. Turned K.answers K.pulls v cursor.old cmd result pass.new.1 cursor.new) pass.old.1 }
         ensures taken { IsNotBusy result }
         ensures named { (back : Option K.Cmd) → result ≡ Taken back → IfSome cmd (IsNameTaken K.signer pass.old.1.said pass.new.1.seen) }
         ensures limit { IsSome cmd → length pass.old.1.mine ≡ OWN_LIMIT → (result ≡ OwnLimit cmd) × (pass.new ≡ pass.old) × (cursor.new ≡ cursor.old) }
         ensures signed { OwnSigns K.signer pass.new.1 pass.new.1.known }
         ensures rest { IsAtRest K.origin K.stands pass.new.1 }
     {
-        let mut left = cmd;
-        for _ in rt.forever() {
-            match self.try_turn(pass, cursor, left) {
-                TurnOf::Busy { word: _, cmd } => {
-                    left = cmd;
-                    thread::yield_now();
-                }
-                turn => return turn,
-            }
+        match cmd {
+            None => match self.read(rt, pass, cursor) {
+                Ok(msgs) => TurnOf::Done { out: None, msgs },
+                Err(_) => TurnOf::Late { out: None },
+            },
+            Some(cmd) => match self.enter(rt, pass, cursor, cmd) {
+                TurnOf::Done { out, msgs } => TurnOf::Done {
+                    out: Some(out),
+                    msgs,
+                },
+                TurnOf::Late { out } => TurnOf::Late { out: Some(out) },
+                TurnOf::OwnLimit { cmd } => TurnOf::OwnLimit { cmd: Some(cmd) },
+                TurnOf::Taken { cmd } => TurnOf::Taken { cmd: Some(cmd) },
+                TurnOf::NoMemory => TurnOf::NoMemory,
+            },
         }
-        unreachable!()
     }
 }

@@ -256,15 +256,3 @@ but_at hub pass_index old h k new there rest pass_list same = kept_then hub h.nu
 pub if_ok_then : {A E : Type 0} (P Q : A → Type 0) (r : Result A E) → IfOk r P → ((x : A) → P x → Q x) → IfOk r Q
 if_ok_then P Q (Ok x) p f = f x p
 if_ok_then P Q (Err e) p f = tt
-
-pub if_ok_both : {A E : Type 0} (P Q S : A → Type 0) (r : Result A E) → IfOk r P → IfOk r Q → ((x : A) → P x → Q x → S x) → IfOk r S
-if_ok_both P Q S (Ok x) p q f = f x p q
-if_ok_both P Q S (Err e) p q f = tt
-
-pub on_err_then : {A E : Type 0} (P Q : Type 0) (r : Result A E) → OnErr r P → (P → Q) → OnErr r Q
-on_err_then P Q (Ok x) p f = tt
-on_err_then P Q (Err e) p f = f p
-
-pub on_err_is : {A E : Type 0} (P : Type 0) (r : Result A E) → P → OnErr r P
-on_err_is P (Ok x) p = tt
-on_err_is P (Err e) p = p

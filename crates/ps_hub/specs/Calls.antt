@@ -1,5 +1,6 @@
 -- What the calls of a hub do.
-use Rattle.std.specs.Prelude.{◌≡◌, ◌≢◌, ◌⊎◌, ℕ, ◌<◌, ◌≤◌, List, [], length, slice_get, slice_set, All, IsSome, Option, Some, None, Result, Ok, Err}
+use Rattle.std.specs.Prelude.{◌≡◌, ◌≢◌, ◌⊎◌, ℕ, ◌<◌, ◌≤◌, List, [], length, slice_get, slice_set, All, IsSome, Option, Some, None}
+use Rattle.std.specs.Prelude.{Result, Ok, Err}
 use Rattle.std.specs.List.{AllZip}
 use Rattle.std.specs.declared.vec.Vec.{Vec}
 use Rattle.std.specs.declared.alloc.Global.{Global}
@@ -28,7 +29,7 @@ use Rattle.ps_histlock.specs.Histories.{commands, signed}
 use Rattle.ps_histlock.specs.Views.{after_look, newcomer, heir_of, with_number, Extends}
 use Rattle.ps_histlock.specs.Locks.{IsNameTaken}
 use Rattle.ps_histlock.specs.Signs.{Speaks}
-use Rattle.ps_histlock.specs.Turns.{turned, IsBusy}
+use Rattle.ps_histlock.specs.Turns.{turned, Turns, IsBusy}
 use Rattle.server_places.specs.declared.command.RoomCmd.{RoomCmd}
 use Rattle.server_places.specs.declared.command.RoomCmd.TheVariants.{Begin, Play}
 use Rattle.ps_users.specs.Refusals.{read_of}
@@ -50,7 +51,7 @@ use Rattle.ps_hub.specs.declared.passes.Passes.{Passes}
 use Rattle.ps_hub.specs.Hubs.{Hub, root_of, site_of}
 use Rattle.ps_hub.specs.Names.{IsNoChat, IsBattleId, Names}
 use Rattle.server_pass.specs.Catches.{IsFresh, LooksAtMost, Caught as CaughtAt, Handed as HandedAt}
-use Rattle.server_pass.specs.Turns.{Turns, TurnsAtLast, Rereads, TurnsInTheEnd, FallsShort, FallsShortAtLast}
+use Rattle.server_pass.specs.Turns.{TurnsAtLast, Rereads, TurnsInTheEnd, FallsShort, FallsShortAtLast}
 use Rattle.server_places.specs.Tellings.{hall_telling, room_telling}
 use Rattle.ps_hub.specs.Passes.{HallPass, RoomPass, IsHallPass, IsAsBefore, ButFor}
 
@@ -81,7 +82,8 @@ Held id h k = ((h.id ≡ Some id) × (k ≡ h))
 -- room with that id. Never of a chat room.
 abbrev pub NotHeld : Hub → List ℕ → RoomPass → RoomPass → Type 0
 NotHeld hub id h k = (first_battle ≤ h.number)
-    × (((other : List ℕ) × (h.id ≡ Some other) × (other ≢ id) × (k ≡ h)) ⊎ ((h.id ≡ None) × (k.id ≡ None) × (k.at ≡ h.at) × Turns h.pass.1 None k.pass.1 × Lacks hub id k))
+    × (((other : List ℕ) × (h.id ≡ Some other) × (other ≢ id) × (k ≡ h))
+    ⊎ ((h.id ≡ None) × (k.id ≡ None) × (k.at ≡ h.at) × Turns h.pass.1 None k.pass.1 × Lacks hub id k))
 
 -- somebody else had the turn. Never of a chat room.
 abbrev pub HeldUp : ℕ → RoomPass → RoomPass → Type 0
@@ -90,7 +92,8 @@ HeldUp word h k = (first_battle ≤ h.number) × (h.id ≡ None) × (k.id ≡ No
 -- Out of memory: at the most the pass took a turn without an entry, and that only at the place of a battle which isn't
 -- held. No message was pulled, so the cursor stands where it stood.
 abbrev pub Unheld : RoomPass → RoomPass → Type 0
-Unheld h k = (k.id ≡ h.id) × (k.at ≡ h.at) × (k.cursor ≡ h.cursor) × ((k.pass.1 ≡ h.pass.1) ⊎ ((first_battle ≤ h.number) × (h.id ≡ None) × Turns h.pass.1 None k.pass.1))
+Unheld h k = (k.id ≡ h.id) × (k.at ≡ h.at) × (k.cursor ≡ h.cursor)
+    × ((k.pass.1 ≡ h.pass.1) ⊎ ((first_battle ≤ h.number) × (h.id ≡ None) × Turns h.pass.1 None k.pass.1))
 
 -- what a call that enters does to the pass of the place that the id names
 pub record EntersAt (hub : Hub) (id : List ℕ) (does : RoomPass → RoomPass → Type 0) (old new : Passes) : Type 0 where
@@ -137,7 +140,8 @@ pub record HallGoes (does : HallPass → HallPass → Type 0) (old new : Passes)
 pub record HallOrdered (hub : Hub) (cmd : HallCmd) (moment : ℕ) (old : Passes) (out : HubOut) (new : Passes) : Type 0 where
   pub log : List (Made HallEntry)
   pub gave : HallOut
-  pub goes : HallGoes (λ h k. Extends h.pass.1 log × (k.pass.1 ≡ turned h.pass.1 log (Some (hall_entry old.conn moment cmd))) × (length h.pass.1.mine ≢ OWN_LIMIT)) old new
+  pub goes : HallGoes (λ h k. Extends h.pass.1 log × (k.pass.1 ≡ turned h.pass.1 log (Some (hall_entry old.conn moment cmd)))
+      × (length h.pass.1.mine ≢ OWN_LIMIT)) old new
   pub answer : HallAnswers (root_of hub) (commands log) (hall_entry old.conn moment cmd) gave
   pub badge_out : out.badge ≡ gave.badge
   pub start : out.start ≡ gave.start
@@ -147,19 +151,24 @@ pub record HallOrdered (hub : Hub) (cmd : HallCmd) (moment : ℕ) (old : Passes)
 
 -- the badge is as before
 abbrev pub HallFails : Hub → HallCmd → ℕ → Passes → HubFault → Passes → Type 0
-HallFails hub cmd moment old (hub_faults.OwnLimit room) new = (room ≡ None) × (new.badge ≡ old.badge) × HallGoes (λ h k. (length h.pass.1.mine ≡ OWN_LIMIT) × (k.pass ≡ h.pass)) old new
+HallFails hub cmd moment old (hub_faults.OwnLimit room) new = (room ≡ None) × (new.badge ≡ old.badge)
+    × HallGoes (λ h k. (length h.pass.1.mine ≡ OWN_LIMIT) × (k.pass ≡ h.pass)) old new
 HallFails hub cmd moment old hub_faults.Taken new = ⊥
 HallFails hub cmd moment old hub_faults.NoSuchRoom new = ⊥
-HallFails hub cmd moment old (hub_faults.Busy word order) new = (order ≡ Hall cmd) × (new.badge ≡ old.badge) × HallGoes (λ h k. IsBusy h.pass.1 word k.pass.1 × (length h.pass.1.mine ≢ OWN_LIMIT)) old new
-HallFails hub cmd moment old hub_faults.NoMemory new = (new.badge ≡ old.badge) × HallGoes (λ h k. FallsShort h.pass.1 h.cursor k.pass.1 k.cursor) old new
+HallFails hub cmd moment old (hub_faults.Busy word order) new = (order ≡ Hall cmd) × (new.badge ≡ old.badge)
+    × HallGoes (λ h k. IsBusy h.pass.1 word k.pass.1 × (length h.pass.1.mine ≢ OWN_LIMIT)) old new
+HallFails hub cmd moment old hub_faults.NoMemory new = (new.badge ≡ old.badge)
+    × HallGoes (λ h k. FallsShort h.pass.1 h.cursor k.pass.1 k.cursor) old new
 
 -- what a turn with this entry does to the pass of the hall
 abbrev pub HallTakes : HallEntry → HallPass → Result HallOut HubFault → HallPass → Type 0
-HallTakes e h (Ok gave) k = (log : List (Made HallEntry)) × Extends h.pass.1 log × (k.pass.1 ≡ turned h.pass.1 log (Some e)) × HallAnswers h.pass.1.origin (commands log) e gave × (length h.pass.1.mine ≢ OWN_LIMIT)
+HallTakes e h (Ok gave) k = (log : List (Made HallEntry)) × Extends h.pass.1 log × (k.pass.1 ≡ turned h.pass.1 log (Some e))
+    × HallAnswers h.pass.1.origin (commands log) e gave × (length h.pass.1.mine ≢ OWN_LIMIT)
 HallTakes e h (Err (hub_faults.OwnLimit room)) k = (room ≡ None) × (length h.pass.1.mine ≡ OWN_LIMIT) × (k.pass ≡ h.pass)
 HallTakes e h (Err hub_faults.Taken) k = ⊥
 HallTakes e h (Err hub_faults.NoSuchRoom) k = ⊥
-HallTakes e h (Err (hub_faults.Busy word order)) k = (order ≡ Hall e.cmd) × IsBusy h.pass.1 word k.pass.1 × (length h.pass.1.mine ≢ OWN_LIMIT)
+HallTakes e h (Err (hub_faults.Busy word order)) k = (order ≡ Hall e.cmd) × IsBusy h.pass.1 word k.pass.1
+    × (length h.pass.1.mine ≢ OWN_LIMIT)
 HallTakes e h (Err hub_faults.NoMemory) k = FallsShort h.pass.1 h.cursor k.pass.1 k.cursor
 
 -- the name that a command asks for, if it asks for one
@@ -196,7 +205,8 @@ pub record RoomOrdered (hub : Hub) (id : List ℕ) (cmd : Command) (moment : ℕ
   pub number : ℕ
   pub log : List (Made RoomCmd)
   pub gave : Option RoomOut
-  pub goes : RoomGoes hub id (λ h k. (h.number ≡ number) × Extends h.pass.1 log × (k.pass.1 ≡ turned h.pass.1 log (Some (Play (room_entry old.conn badge moment cmd)))) × (length h.pass.1.mine ≢ OWN_LIMIT)) old new
+  pub goes : RoomGoes hub id (λ h k. (h.number ≡ number) × Extends h.pass.1 log
+      × (k.pass.1 ≡ turned h.pass.1 log (Some (Play (room_entry old.conn badge moment cmd)))) × (length h.pass.1.mine ≢ OWN_LIMIT)) old new
   pub answer : Answers (site_of hub number) (commands log) (Play (room_entry old.conn badge moment cmd)) gave
   pub no_badge : out.badge ≡ None
   pub start : out.start ≡ None
@@ -210,20 +220,24 @@ IsKeptOut cmd h k = Turns h.pass.1 None k.pass.1 × (k.cursor ≡ h.cursor) × I
 -- what a turn with this entry does to the pass of a place that is held by this id
 abbrev pub RoomTakes : Site → List ℕ → Entry → RoomPass → Result HubOut HubFault → RoomPass → Type 0
 RoomTakes site id e h (Ok out) k =
-    (log : List (Made RoomCmd)) × (gave : Option RoomOut) × Extends h.pass.1 log × (k.pass.1 ≡ turned h.pass.1 log (Some (Play e))) × Answers site (commands log) (Play e) gave × (out ≡ room_gave gave) × (length h.pass.1.mine ≢ OWN_LIMIT)
+    (log : List (Made RoomCmd)) × (gave : Option RoomOut) × Extends h.pass.1 log × (k.pass.1 ≡ turned h.pass.1 log (Some (Play e)))
+    × Answers site (commands log) (Play e) gave × (out ≡ room_gave gave) × (length h.pass.1.mine ≢ OWN_LIMIT)
 RoomTakes site id e h (Err (hub_faults.OwnLimit room)) k = (room ≡ Some id) × (length h.pass.1.mine ≡ OWN_LIMIT) × (k.pass ≡ h.pass)
 RoomTakes site id e h (Err hub_faults.Taken) k = IsKeptOut (Play e) h k
 RoomTakes site id e h (Err hub_faults.NoSuchRoom) k = ⊥
-RoomTakes site id e h (Err (hub_faults.Busy word order)) k = (order ≡ Room id e.cmd) × IsBusy h.pass.1 word k.pass.1 × (length h.pass.1.mine ≢ OWN_LIMIT)
+RoomTakes site id e h (Err (hub_faults.Busy word order)) k = (order ≡ Room id e.cmd) × IsBusy h.pass.1 word k.pass.1
+    × (length h.pass.1.mine ≢ OWN_LIMIT)
 RoomTakes site id e h (Err hub_faults.NoMemory) k = FallsShort h.pass.1 h.cursor k.pass.1 k.cursor
 
 -- after the place is held
 abbrev pub RoomFails : Hub → List ℕ → Command → ℕ → Passes → HubFault → Passes → Type 0
-RoomFails hub id cmd moment old (hub_faults.OwnLimit room) new = (room ≡ Some id) × RoomGoes hub id (λ h k. (length h.pass.1.mine ≡ OWN_LIMIT) × (k.pass ≡ h.pass)) old new
+RoomFails hub id cmd moment old (hub_faults.OwnLimit room) new = (room ≡ Some id)
+    × RoomGoes hub id (λ h k. (length h.pass.1.mine ≡ OWN_LIMIT) × (k.pass ≡ h.pass)) old new
 RoomFails hub id cmd moment old hub_faults.Taken new =
     (badge : Badge) × (old.badge ≡ Some badge) × RoomGoes hub id (IsKeptOut (Play (room_entry old.conn badge moment cmd))) old new
 RoomFails hub id cmd moment old hub_faults.NoSuchRoom new = ⊥
-RoomFails hub id cmd moment old (hub_faults.Busy word order) new = (order ≡ Room id cmd) × RoomGoes hub id (λ h k. IsBusy h.pass.1 word k.pass.1 × (length h.pass.1.mine ≢ OWN_LIMIT)) old new
+RoomFails hub id cmd moment old (hub_faults.Busy word order) new = (order ≡ Room id cmd)
+    × RoomGoes hub id (λ h k. IsBusy h.pass.1 word k.pass.1 × (length h.pass.1.mine ≢ OWN_LIMIT)) old new
 RoomFails hub id cmd moment old hub_faults.NoMemory new =
     (badge : Badge) × (old.badge ≡ Some badge) × RoomGoes hub id (λ h k. FallsShort h.pass.1 h.cursor k.pass.1 k.cursor) old new
 
@@ -245,8 +259,10 @@ not_entered enter_faults.NoMemory id cmd = hub_faults.NoMemory
 abbrev pub Orders : Hub → Order → ℕ → Passes → Result HubOut HubFault → Passes → Type 0
 Orders hub (Hall cmd) moment old (Ok out) new = HallOrdered hub cmd moment old out new
 Orders hub (Hall cmd) moment old (Err fault) new = HallFails hub cmd moment old fault new
-Orders hub (Room id cmd) moment old (Ok out) new = (mid : Passes) × EntersAt hub id (Held id) old mid × RoomOrdered hub id cmd moment mid out new
-Orders hub (Room id cmd) moment old (Err fault) new = EntryFails hub id cmd old fault new ⊎ ((mid : Passes) × EntersAt hub id (Held id) old mid × RoomFails hub id cmd moment mid fault new)
+Orders hub (Room id cmd) moment old (Ok out) new = (mid : Passes) × EntersAt hub id (Held id) old mid
+    × RoomOrdered hub id cmd moment mid out new
+Orders hub (Room id cmd) moment old (Err fault) new = EntryFails hub id cmd old fault new
+    ⊎ ((mid : Passes) × EntersAt hub id (Held id) old mid × RoomFails hub id cmd moment mid fault new)
 
 -- ---- the begin of a battle
 

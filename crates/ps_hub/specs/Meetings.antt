@@ -52,4 +52,5 @@ HasNone number passes = All (λ (k : RoomPass). k.number ≢ number) passes.room
 
 -- they met, or one has no pass of that place, and nothing changed
 abbrev pub RoomsMeet : ℕ → Passes → Passes → Passes → Passes → Type 0
-RoomsMeet number old new other after = RoomsMet number old new other after ⊎ ((HasNone number old ⊎ HasNone number other) × (new ≡ old) × (after ≡ other))
+RoomsMeet number old new other after = RoomsMet number old new other after
+    ⊎ ((HasNone number old ⊎ HasNone number other) × (new ≡ old) × (after ≡ other))

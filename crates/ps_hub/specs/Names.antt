@@ -24,4 +24,5 @@ IsFirstChat config id number = IsChatId config id number × ((before : ℕ) → 
 
 -- the one place that an id names: a chat room's, or else a battle's
 abbrev pub Names : Settings → List ℕ → ℕ → Type 0
-Names config id number = (IsFirstChat config id number × (number < first_battle)) ⊎ ((n : ℕ) × IsBattleId id n × (number ≡ room_of_battle n) × IsNoChat config id)
+Names config id number = (IsFirstChat config id number × (number < first_battle))
+    ⊎ ((n : ℕ) × IsBattleId id n × (number ≡ room_of_battle n) × IsNoChat config id)

@@ -103,7 +103,8 @@ pub record IsNewPass (hub : Hub) (conn number : ℕ) (k : RoomPass) : Type 0 whe
 pub record Keeps (hub : Hub) (number pass_index : ℕ) (old : Passes) (k : RoomPass) (new : Passes) : Type 0 where
   pub before : List RoomPass
   pub behind : List RoomPass
-  pub was : (old.rooms.items ≡ before ++ k ∷ behind) ⊎ ((old.rooms.items ≡ before ++ behind) × All (λ other. other.number ≢ number) old.rooms.items × IsNewPass hub old.conn number k)
+  pub was : (old.rooms.items ≡ before ++ k ∷ behind)
+      ⊎ ((old.rooms.items ≡ before ++ behind) × All (λ other. other.number ≢ number) old.rooms.items × IsNewPass hub old.conn number k)
   pub is : new.rooms.items ≡ before ++ k ∷ behind
   pub stands : length before ≡ pass_index
   pub number_is : k.number ≡ number
@@ -114,7 +115,8 @@ pub record Keeps (hub : Hub) (number pass_index : ℕ) (old : Passes) (k : RoomP
 pub record ButFor (hub : Hub) (old : Passes) (h k : RoomPass) (new : Passes) : Type 0 where
   pub before : List RoomPass
   pub behind : List RoomPass
-  pub was : (old.rooms.items ≡ before ++ h ∷ behind) ⊎ ((old.rooms.items ≡ before ++ behind) × All (λ other. other.number ≢ h.number) old.rooms.items × IsNewPass hub old.conn h.number h)
+  pub was : (old.rooms.items ≡ before ++ h ∷ behind)
+      ⊎ ((old.rooms.items ≡ before ++ behind) × All (λ other. other.number ≢ h.number) old.rooms.items × IsNewPass hub old.conn h.number h)
   pub is : new.rooms.items ≡ before ++ k ∷ behind
   pub same_place : k.number ≡ h.number
   pub conn : new.conn ≡ old.conn

@@ -11,7 +11,7 @@ use crate::passes::Passes;
 use ps_base::number::{ConnNo, Moment};
 use ps_hall::entry::HallEntry;
 use ps_lines::command::HallCmd;
-use server_pass::taken::Taken;
+use server_pass::turn_end::TurnEnd;
 use std::sync::Wait;
 
 impl Hub {
@@ -31,14 +31,14 @@ impl Hub {
             cmd: HallCmd::Open,
         };
         match opener.turn(rt, lock, entry) {
-            Taken::Done { out: () } => Ok(Passes {
+            TurnEnd::Done { out: () } => Ok(Passes {
                 conn,
                 badge: None,
                 hall: Some(opener.heir(lock)),
                 rooms: Vec::new(self.alloc),
             }),
-            Taken::NameTaken { reason: () } => Err(AdmitFault::Taken { opener }),
-            Taken::NoMemory => {
+            TurnEnd::NameTaken => Err(AdmitFault::Taken { opener }),
+            TurnEnd::NoMemory => {
                 let_go(opener);
                 Err(AdmitFault::NoMemory)
             }

@@ -2,7 +2,8 @@
 ghost use Rattle.std.specs.Prelude.{◌<◌, length};
 ghost use Rattle.std.specs.Option.{option_copied};
 ghost use Rattle.ps_hub.specs.Passes.{AreOf};
-ghost use Rattle.ps_hub.specs.Calls.{CatchesUp, CatchesUpHall, HandsOn, HandsOnHall, IsHeldBy, Catches, HallOnly, RoomOnly, LooksHall, LooksRoom, Counts};
+ghost use Rattle.ps_hub.specs.Calls.{CatchesUp, CatchesUpHall, HandsOn, HandsOnHall, IsHeldBy, Catches, HallOnly, RoomOnly};
+ghost use Rattle.ps_hub.specs.Calls.{LooksHall, LooksRoom, Counts};
 
 use crate::hub::Hub;
 use crate::passes::Passes;

@@ -11,8 +11,8 @@ use crate::out::EnterFault;
 use crate::pass::{RoomPass, is_held, room_pass};
 use crate::passes::Passes;
 use ps_base::text::Text;
+use ps_histlock::Unread;
 use ps_room::opening::FIRST_BATTLE;
-use server_pass::taken::Taken;
 use server_places::cursor::RoomCursor;
 use std::alloc::AllocError;
 
@@ -53,7 +53,8 @@ impl Hub {
         requires { AreOf self.now passes.old }
         ensures of { AreOf self.now passes.new }
         ensures does { Enters self.now id.now passes.old result passes.new }
-        ensures here { IfOk result (λ pass_index. (k : RoomPass) × (slice_get passes.new.rooms.items pass_index ≡ Some k) × (k.id ≡ Some id.now) × Names self.now.config id.now k.number) }
+        ensures here { IfOk result (λ pass_index. (k : RoomPass) × (slice_get passes.new.rooms.items pass_index ≡ Some k)
+            × (k.id ≡ Some id.now) × Names self.now.config id.now k.number) }
     {
         let Some(number) = self.place_of(id) else {
             return Err(EnterFault::NoSuchRoom);
@@ -118,9 +119,9 @@ impl Hub {
     {
         let lock = self.lock(pass.number);
         match pass.try_read(lock) {
-            Taken::Done { out: () } => {}
-            Taken::Busy { back: word } => return Err(EnterFault::Busy { word }),
-            Taken::NoMemory => return Err(EnterFault::NoMemory),
+            Ok(()) => {}
+            Err(Unread::Busy { word }) => return Err(EnterFault::Busy { word }),
+            Err(Unread::NoMemory) => return Err(EnterFault::NoMemory),
         }
         if !is_found(&pass.cursor, name.as_str()) {
             return Err(EnterFault::NoSuchRoom);

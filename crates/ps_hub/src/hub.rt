@@ -42,9 +42,18 @@ impl Model for Hub {
 
     ghost Value = { Seen };
 
-    ghost view = { λ h. record { config = arc_value h.config; dex = arc_value h.dex; hall = h.hall.0; chats = map name_of h.chats.items; battles = map name_of h.battles.items } };
+    ghost view = { λ h. record {
+      config = arc_value h.config;
+      dex = arc_value h.dex;
+      hall = h.hall.0;
+      chats = map name_of h.chats.items;
+      battles = map name_of h.battles.items;
+    } };
 
-    ghost invariant = { λ h. (h.hall.1 ≡ record { config = arc_value h.config; dex = arc_value h.dex }) × AreAt (arc_value h.config) (arc_value h.dex) 0 h.chats.items × AreAt (arc_value h.config) (arc_value h.dex) first_battle h.battles.items × (length h.chats.items ≡ length (arc_value h.config).rooms) × (length h.battles.items ≡ most_battles) };
+    ghost invariant = { λ h. (h.hall.1 ≡ record { config = arc_value h.config; dex = arc_value h.dex })
+        × AreAt (arc_value h.config) (arc_value h.dex) 0 h.chats.items
+        × AreAt (arc_value h.config) (arc_value h.dex) first_battle h.battles.items
+        × (length h.chats.items ≡ length (arc_value h.config).rooms) × (length h.battles.items ≡ most_battles) };
 }
 
 /// A hub that nobody can use yet: each of its locks has its opener here, so no place has an entry, and none can come before the
@@ -134,12 +143,12 @@ fn open_rooms(locks: &[HistLock<RoomPlace>], mut openers: Vec<Opener<RoomPlace>>
     }
 }
 
-// The lock at this place of a list.
-fn lock_at(locks: &[HistLock<RoomPlace>], pass_index: usize) -> Option<&HistLock<RoomPlace>>
-    ensures found { IfSome result (λ l. slice_get locks.now pass_index ≡ Some l.now) }
-    ensures none { IfNone result (slice_get locks.now pass_index ≡ None) }
+// The lock at this index of a list.
+fn lock_at(locks: &[HistLock<RoomPlace>], lock_index: usize) -> Option<&HistLock<RoomPlace>>
+    ensures found { IfSome result (λ l. slice_get locks.now lock_index ≡ Some l.now) }
+    ensures none { IfNone result (slice_get locks.now lock_index ≡ None) }
 {
-    locks.get(pass_index)
+    locks.get(lock_index)
 }
 
 impl NewHub {

@@ -28,7 +28,7 @@ use ps_lines::order::Order;
 use ps_room::entry::Entry;
 use ps_room::outcome::RoomOut;
 use ps_users::read::read_of;
-use server_pass::taken::{Back, Taken};
+use server_pass::turn_end::{Back, TurnEnd};
 use server_places::command::RoomCmd;
 use server_places::hall_place::HallPlace;
 use std::alloc::{AllocError, Global};
@@ -129,16 +129,16 @@ fn enter_hall(
     ensures at { pass.new.at ≡ pass.old.at }
 {
     match pass.try_turn(lock, entry) {
-        Taken::Done { out } => Ok(out),
-        Taken::Busy {
+        TurnEnd::Done { out } => Ok(out),
+        TurnEnd::Busy {
             back: Back { word, cmd },
         } => Err(HubFault::Busy {
             word,
             order: Order::Hall(cmd.cmd),
         }),
-        Taken::OwnLimit { reason: () } => Err(HubFault::OwnLimit { room: None }),
-        Taken::NameTaken { reason: () } => unreachable!(),
-        Taken::NoMemory => Err(HubFault::NoMemory),
+        TurnEnd::OwnLimit { reason: () } => Err(HubFault::OwnLimit { room: None }),
+        TurnEnd::NameTaken => unreachable!(),
+        TurnEnd::NoMemory => Err(HubFault::NoMemory),
     }
 }
 
@@ -152,7 +152,8 @@ impl Hub {
     /// `NoSuchRoom` and `Busy` come as of `enter`, and then there is no entry. `Busy` also comes where the turn of the entry
     /// met an odd word, or two words that differ; the order comes back. `OwnLimit` comes exactly where the connection's pass
     /// has made `OWN_LIMIT` entries at the place. `Taken` comes only where an entry stands in the room under the number of the
-    /// connection, which its pass hasn't made, and then there is no entry. After `NoMemory` there is no entry; where memory ran out only for what an entry tells, that is still to come.
+    /// connection, which its pass hasn't made, and then there is no entry. After `NoMemory` there is no entry; where memory ran out
+    /// only for what an entry tells, that is still to come.
     /// It waits for nobody.
     pub fn order(
         &self,
@@ -256,16 +257,16 @@ impl Hub {
     {
         let lock = self.lock(pass.number);
         match pass.try_turn(lock, RoomCmd::Play(entry)) {
-            Taken::Done { out } => Ok(room_gave(out)),
-            Taken::Busy {
+            TurnEnd::Done { out } => Ok(room_gave(out)),
+            TurnEnd::Busy {
                 back: Back { word, cmd },
             } => Err(HubFault::Busy {
                 word,
                 order: order_again(id, cmd),
             }),
-            Taken::OwnLimit { reason: () } => Err(HubFault::OwnLimit { room: Some(id) }),
-            Taken::NameTaken { reason: () } => Err(HubFault::Taken),
-            Taken::NoMemory => Err(HubFault::NoMemory),
+            TurnEnd::OwnLimit { reason: () } => Err(HubFault::OwnLimit { room: Some(id) }),
+            TurnEnd::NameTaken => Err(HubFault::Taken),
+            TurnEnd::NoMemory => Err(HubFault::NoMemory),
         }
     }
 }

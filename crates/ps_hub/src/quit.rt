@@ -24,7 +24,7 @@ use ps_hall::entry::HallEntry;
 use ps_histlock::HistLock;
 use ps_lines::command::{Command, HallCmd};
 use ps_room::entry::Entry;
-use server_pass::taken::{Taken, Waited};
+use server_pass::turn_end::{TurnEnd, Waited};
 use server_places::command::RoomCmd;
 use server_places::hall_place::HallPlace;
 use server_places::room_place::RoomPlace;
@@ -55,10 +55,10 @@ fn quit_by_hall_pass<R: Wait>(
             cmd: HallCmd::Quit,
         };
         match pass.turn_unread(rt, lock, entry) {
-            Taken::Done { out: () } => return Ok(()),
+            TurnEnd::Done { out: () } => return Ok(()),
             // Not met: the connection's own Open is signed by its number, so nobody else's entry can be.
-            Taken::NameTaken { reason: () } => return Err(AllocError),
-            Taken::NoMemory => {}
+            TurnEnd::NameTaken => return Err(AllocError),
+            TurnEnd::NoMemory => {}
         }
         if !pauses.take(rt) {
             return Err(AllocError);
@@ -83,12 +83,14 @@ fn try_quit<R: Wait>(
     ensures of { (hub : Hub) → IsRoomPass hub conn pass.old → IsRoomPass hub conn pass.new }
     ensures same { (pass.new.at ≡ pass.old.at) × (pass.new.number ≡ pass.old.number) × (pass.new.id ≡ pass.old.id) }
     ensures does { TakesAtLast Answers PullsUpTo pass.old.pass.1 pass.old.cursor (pass.old.kept.items ++ pass.old.fresh.items)
-        (Play (room_entry conn badge.now moment Quit)) result pass.new.pass.1 pass.new.cursor (pass.new.kept.items ++ pass.new.fresh.items) }
-    ensures taken { IfKeptOut result (IsNameTaken room_signer pass.old.pass.1.said pass.new.pass.1.seen (Play (room_entry conn badge.now moment Quit))) }
+        (Play (room_entry conn badge.now moment Quit)) result pass.new.pass.1 pass.new.cursor
+        (pass.new.kept.items ++ pass.new.fresh.items) }
+    ensures taken { IfKeptOut result (IsNameTaken room_signer pass.old.pass.1.said pass.new.pass.1.seen
+        (Play (room_entry conn badge.now moment Quit))) }
 {
     let badge = match badge.copy(alloc) {
         Ok(badge) => badge,
-        Err(_) => return Taken::NoMemory,
+        Err(_) => return TurnEnd::NoMemory,
     };
     let entry = Entry {
         conn,
@@ -120,9 +122,9 @@ fn quit_by_room_pass<R: Wait>(
 {
     for _ in rt.forever() {
         match try_quit(rt, alloc, pass, lock, conn, badge, moment) {
-            Taken::Done { out: () } => return Ok(()),
-            Taken::NameTaken { reason: () } => return Err(QuitFault::Taken),
-            Taken::NoMemory => {}
+            TurnEnd::Done { out: () } => return Ok(()),
+            TurnEnd::NameTaken => return Err(QuitFault::Taken),
+            TurnEnd::NoMemory => {}
         }
         if !pauses.take(rt) {
             return Err(QuitFault::NoMemory);

@@ -12,7 +12,7 @@ use crate::let_go::let_go;
 use crate::pass::RoomPass;
 use crate::passes::Passes;
 use rules_start::start::Start;
-use server_pass::taken::Taken;
+use server_pass::turn_end::TurnEnd;
 use server_places::command::RoomCmd;
 use std::alloc::AllocError;
 use std::sync::Wait;
@@ -51,9 +51,9 @@ impl Hub {
     {
         let lock = self.lock(pass.number);
         match pass.turn(rt, lock, RoomCmd::Begin(start)) {
-            Taken::Done { out: () } => Ok(()),
-            Taken::NameTaken { reason: () } => unreachable!(),
-            Taken::NoMemory => Err(AllocError),
+            TurnEnd::Done { out: () } => Ok(()),
+            TurnEnd::NameTaken => unreachable!(),
+            TurnEnd::NoMemory => Err(AllocError),
         }
     }
 }

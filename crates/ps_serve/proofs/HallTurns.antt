@@ -15,11 +15,11 @@ use Rattle.ps_hall.specs.Records.{Record as HallRecord}
 use Rattle.ps_hall.specs.Halls.{verdict, out_by}
 use Rattle.ps_histlock.specs.declared.view.Entry.{Entry}
 use Rattle.ps_histlock.specs.Histories.{commands, entry, entries_of}
-use Rattle.ps_histlock.specs.Turns.{turned}
+use Rattle.ps_histlock.specs.Turns.{turned, Turns}
 use Rattle.ps_histlock.specs.declared.lock.TheConstants.{OWN_LIMIT}
 use Rattle.server_places.specs.Halls.{HallAnswers, hall_after}
 use Rattle.ps_hub.specs.Hubs.{Hub, root_of}
-use Rattle.server_pass.specs.Turns.{Turns, FallsShort}
+use Rattle.server_pass.specs.Turns.{FallsShort}
 use Rattle.ps_hub.specs.Calls.{hall_entry, badge_after, HallOrdered, HallGoes}
 use Rattle.ps_hub.specs.declared.out.HubFault.TheVariants as hub_faults
 use Rattle.ps_hub.specs.declared.out.HubOut.{HubOut}

@@ -5,10 +5,10 @@ use Rattle.ps_histlock.specs.declared.view.Entry.{Entry}
 use Rattle.ps_histlock.specs.declared.view.View.{View}
 use Rattle.ps_histlock.specs.Histories.{commands, entry}
 use Rattle.ps_histlock.specs.Views.{after_meeting, Extends}
-use Rattle.ps_histlock.specs.Turns.{turned, IsBusy}
+use Rattle.ps_histlock.specs.Turns.{turned, Turns, IsBusy}
 use Rattle.ps_histlock.proofs.Lists.{prefix_self, prefix_more, prefix_trans}
 use Rattle.ps_histlock.proofs.TurnLemmas.{commands_more}
-use Rattle.server_pass.specs.Turns.{Turns, TurnsAtLast, ReadsOn, Rereads, TurnsInTheEnd}
+use Rattle.server_pass.specs.Turns.{TurnsAtLast, ReadsOn, Rereads, TurnsInTheEnd}
 
 module _ {O C : Type 0} where
   -- It forgets nothing, and these commands more are its own.

@@ -21,8 +21,8 @@ use Rattle.ps_hub.specs.declared.out.EnterFault.TheVariants as enter_faults
 use Rattle.ps_hub.specs.declared.out.HubFault.TheVariants as hub_faults
 use Rattle.ps_hub.specs.declared.out.HubOut.{HubOut}
 use Rattle.ps_hub.specs.declared.passes.Passes.{Passes}
-use Rattle.ps_serve.specs.declared.obey.Stop.{Stop}
-use Rattle.ps_serve.specs.declared.obey.Stop.TheVariants as stops
+use Rattle.ps_session.specs.declared.session.TakeFault.{TakeFault}
+use Rattle.ps_session.specs.declared.session.TakeFault.TheVariants as take_faults
 use Rattle.ps_serve.specs.declared.obey.Unmade.TheVariants as unmade
 use Rattle.ps_serve.specs.Acts.{Made, in_hall, in_room, nowhere, Act, heard, with_given}
 use Rattle.ps_serve.specs.Sendings.{Sending}
@@ -36,7 +36,7 @@ use Rattle.ps_serve.proofs.HallOrders.{in_hall_start, hall_reaches, begins_reach
 use Rattle.ps_serve.proofs.RoomOrders.{AtRoom, hall_from, reach_quiet, reach_hall, room_done, FindsNone, finds_none}
 
 -- no answer is one
-not_stop : {P : Type 0} → (stop : Stop) → None ≡ Some stop → P
+not_stop : {P : Type 0} → (stop : TakeFault) → None ≡ Some stop → P
 not_stop stop e = absurd (true≢false (sym (ap is_some e)))
 
 -- an uncounted text leaves the badge
@@ -106,7 +106,7 @@ module _ (hub : Hub) (conn open_at : ℕ) (acts : List Act) (ss : List Sending) 
 
     nowhere_follows : (id : List ℕ) (cmd : Command) (mid : Passes) → taken r bytes ≡ Ok (Room id cmd) → IsSome old.badge → OrdersAtLast hub (Room id cmd) moment old (Err hub_faults.NoSuchRoom) mid → after ≡ after_no_room (counted (Some id) r)
         → (full : Bool) → is_full None (counted (Some id) r) ≡ full → TellsNowhereIf full hub moment mid None new → Goes bytes moment after new
-    nowhere_follows id cmd mid take has t session true e f = not_stop (stops.OwnLimit None) f.0
+    nowhere_follows id cmd mid take has t session true e f = not_stop (take_faults.Limit None) f.0
     nowhere_follows id cmd mid take has t session false e f =
         let d = none_found bytes moment id cmd mid t in
         let told = hall_made hub conn open_at acts ss s.hall_pass mid (Bad NoSuchRoom) moment mid new f.0 f.0.start refl (hall_from hub conn open_at acts ss r old s (heard bytes moment (nowhere d.asked id cmd)) mid d.reach) f.1 in
@@ -119,16 +119,16 @@ module _ (hub : Hub) (conn open_at : ℕ) (acts : List Act) (ss : List Sending) 
     goes : (order : Order) → taken r bytes ≡ Ok order → NeedsBadge order old → Obeys hub order moment (counted (place_of order) r) old None after new → Goes bytes moment after new
     goes (Hall cmd) take needs o = ⊎_elim
         (λ (d : (out : HubOut) × (mid : Passes) × OrdersAtLast hub (Hall cmd) moment old (Ok out) mid × (after ≡ with_given out.badge (counted None r)) × Follows hub moment out.start out.ended mid None new). hall_follows cmd d.0 d.1 take d.2 d.3 d.0.start d.0.ended refl refl d.4)
-        (λ (rest : ((mid : Passes) × OrdersAtLast hub (Hall cmd) moment old (Err hub_faults.NoSuchRoom) mid × (after ≡ after_no_room (counted None r)) × TellsNowhere hub moment (counted None r) mid None new) ⊎ ((None ≡ Some stops.NoMemory) × Unmakes hub (Hall cmd) moment old unmade.NoMemory new)). ⊎_elim
+        (λ (rest : ((mid : Passes) × OrdersAtLast hub (Hall cmd) moment old (Err hub_faults.NoSuchRoom) mid × (after ≡ after_no_room (counted None r)) × TellsNowhere hub moment (counted None r) mid None new) ⊎ ((None ≡ Some take_faults.NoMemory) × Unmakes hub (Hall cmd) moment old unmade.NoMemory new)). ⊎_elim
         (λ (d : (mid : Passes) × OrdersAtLast hub (Hall cmd) moment old (Err hub_faults.NoSuchRoom) mid × (after ≡ after_no_room (counted None r)) × TellsNowhere hub moment (counted None r) mid None new). absurd d.1.3)
-        (λ (d : (None ≡ Some stops.NoMemory) × Unmakes hub (Hall cmd) moment old unmade.NoMemory new). not_stop stops.NoMemory d.0)
+        (λ (d : (None ≡ Some take_faults.NoMemory) × Unmakes hub (Hall cmd) moment old unmade.NoMemory new). not_stop take_faults.NoMemory d.0)
         rest)
         o
     goes (Room id cmd) take needs o = ⊎_elim
         (λ (d : (out : HubOut) × (mid : Passes) × OrdersAtLast hub (Room id cmd) moment old (Ok out) mid × (after ≡ with_given out.badge (counted (Some id) r)) × Follows hub moment out.start out.ended mid None new). room_follows id cmd d.0 d.1 take needs d.2 d.3 d.0.start d.0.ended refl refl d.4)
-        (λ (rest : ((mid : Passes) × OrdersAtLast hub (Room id cmd) moment old (Err hub_faults.NoSuchRoom) mid × (after ≡ after_no_room (counted (Some id) r)) × TellsNowhere hub moment (counted (Some id) r) mid None new) ⊎ ((None ≡ Some stops.NoMemory) × Unmakes hub (Room id cmd) moment old unmade.NoMemory new)). ⊎_elim
+        (λ (rest : ((mid : Passes) × OrdersAtLast hub (Room id cmd) moment old (Err hub_faults.NoSuchRoom) mid × (after ≡ after_no_room (counted (Some id) r)) × TellsNowhere hub moment (counted (Some id) r) mid None new) ⊎ ((None ≡ Some take_faults.NoMemory) × Unmakes hub (Room id cmd) moment old unmade.NoMemory new)). ⊎_elim
         (λ (d : (mid : Passes) × OrdersAtLast hub (Room id cmd) moment old (Err hub_faults.NoSuchRoom) mid × (after ≡ after_no_room (counted (Some id) r)) × TellsNowhere hub moment (counted (Some id) r) mid None new). nowhere_follows id cmd d.0 take needs d.1 d.2 (is_full None (counted (Some id) r)) refl d.3)
-        (λ (d : (None ≡ Some stops.NoMemory) × Unmakes hub (Room id cmd) moment old unmade.NoMemory new). not_stop stops.NoMemory d.0)
+        (λ (d : (None ≡ Some take_faults.NoMemory) × Unmakes hub (Room id cmd) moment old unmade.NoMemory new). not_stop take_faults.NoMemory d.0)
         rest)
         o
 

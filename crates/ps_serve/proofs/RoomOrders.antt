@@ -12,7 +12,7 @@ use Rattle.rules_start.specs.declared.start.Start.{Start}
 use Rattle.ps_room.specs.declared.outcome.Ending.{Ending}
 use Rattle.ps_histlock.specs.declared.view.Entry.{Entry}
 use Rattle.ps_histlock.specs.Histories.{commands, entry, entries_of}
-use Rattle.ps_histlock.specs.Turns.{turned}
+use Rattle.ps_histlock.specs.Turns.{turned, Turns}
 use Rattle.ps_histlock.proofs.Lists.{prefix_self}
 use Rattle.server_places.specs.declared.command.RoomCmd.{RoomCmd}
 use Rattle.server_places.specs.declared.command.RoomCmd.TheVariants.{Play}
@@ -22,7 +22,6 @@ use Rattle.ps_session.specs.Sessions.{Record}
 use Rattle.ps_hub.specs.Hubs.{Hub, site_of}
 use Rattle.ps_hub.specs.Names.{Names}
 use Rattle.ps_hub.specs.Passes.{HallPass, RoomPass, AreOf, IsAsBefore}
-use Rattle.server_pass.specs.Turns.{Turns}
 use Rattle.ps_hub.specs.Calls.{hall_entry, room_entry, NamesNone, EntersAt, NotHeld, Unheld, Lacks, EnterFails, RoomOrdered, RoomGoes, RoomFails}
 use Rattle.ps_hub.specs.declared.out.EnterFault.TheVariants as enter_faults
 use Rattle.ps_hub.specs.declared.out.HubFault.TheVariants as hub_faults

@@ -23,8 +23,8 @@ use Rattle.ps_hub.specs.declared.out.HubFault.TheVariants as hub_faults
 use Rattle.ps_hub.specs.declared.out.HubOut.{HubOut}
 use Rattle.ps_hub.specs.declared.passes.Passes.{Passes}
 use Rattle.ps_hub.proofs.CallLemmas.{some_value}
-use Rattle.ps_serve.specs.declared.obey.Stop.{Stop}
-use Rattle.ps_serve.specs.declared.obey.Stop.TheVariants as stops
+use Rattle.ps_session.specs.declared.session.TakeFault.{TakeFault}
+use Rattle.ps_session.specs.declared.session.TakeFault.TheVariants as take_faults
 use Rattle.ps_serve.specs.declared.obey.Unmade.TheVariants as unmade
 use Rattle.ps_serve.specs.Acts.{Made, in_hall, in_room, nowhere, Act, heard, order_in, IsAct, with_given, hall_entries}
 use Rattle.ps_serve.specs.Sendings.{Sending}
@@ -41,14 +41,14 @@ use Rattle.ps_serve.proofs.HallOrders.{in_hall_start, hall_breaks, begins_break,
 use Rattle.ps_serve.proofs.RoomOrders.{hall_from, break_hall, room_done, entry_breaks, no_memory_breaks, own_limit_breaks}
 use Rattle.ps_serve.proofs.Obeyed.{at_room, none_found, no_badge_lost}
 
-one_stop : (a b : Stop) → Some a ≡ Some b → a ≡ b
+one_stop : (a b : TakeFault) → Some a ≡ Some b → a ≡ b
 one_stop a b e = ap (stop_or a) e
   where
-    stop_or : Stop → Option Stop → Stop
+    stop_or : TakeFault → Option TakeFault → TakeFault
     stop_or a None = a
     stop_or a (Some x) = x
 
-never_none : {P : Type 0} → (stop : Stop) → Some stop ≡ None → P
+never_none : {P : Type 0} → (stop : TakeFault) → Some stop ≡ None → P
 never_none stop e = absurd (true≢false (ap is_some e))
 
 module _ (hub : Hub) (conn open_at : ℕ) (acts : List Act) (ss : List Sending) (r : Record) (old : Passes) (s : Sits hub conn open_at acts (length acts) ss r old) (bytes : List ℕ) (hours now : Hours) where
@@ -107,15 +107,15 @@ module _ (hub : Hub) (conn open_at : ℕ) (acts : List Act) (ss : List Sending) 
       left = left_here hub conn open_at acts ss r old s new t;
     }
 
-    abbrev Stopping : Stop → Type 0
+    abbrev Stopping : TakeFault → Type 0
     Stopping stop = Stops stop hub conn open_at acts ss bytes r old hours now new
 
-    short_is : (stop : Stop) → stop ≡ stops.NoMemory → StopsShort hub conn open_at acts ss bytes r hours now new → Stopping stop
-    short_is stop e t = subst (λ (x : Stop). Stops x hub conn open_at acts ss bytes r old hours now new) (sym e) t
+    short_is : (stop : TakeFault) → stop ≡ take_faults.NoMemory → StopsShort hub conn open_at acts ss bytes r hours now new → Stopping stop
+    short_is stop e t = subst (λ (x : TakeFault). Stops x hub conn open_at acts ss bytes r old hours now new) (sym e) t
 
     -- ---- orders to the hall
 
-    hall_stops : (stop : Stop) (cmd : HallCmd) (out : HubOut) (mid : Passes) → taken r bytes ≡ Ok (Hall cmd) → OrdersAtLast hub (Hall cmd) moment old (Ok out) mid
+    hall_stops : (stop : TakeFault) (cmd : HallCmd) (out : HubOut) (mid : Passes) → taken r bytes ≡ Ok (Hall cmd) → OrdersAtLast hub (Hall cmd) moment old (Ok out) mid
         → (start : Option Start) (ended : Option Ending) → out.start ≡ start → out.ended ≡ ended → Follows hub moment start ended mid (Some stop) new → Stopping stop
     hall_stops stop cmd out mid take t (Some start) ended e1 e2 f =
         let d = hall_made hub conn open_at acts ss s.hall_pass old cmd moment old mid out (Some start) e1 (in_hall_start hub conn open_at acts ss r old s) t in
@@ -128,7 +128,7 @@ module _ (hub : Hub) (conn open_at : ℕ) (acts : List Act) (ss : List Sending) 
 
     -- ---- orders to a room
 
-    room_stops : (stop : Stop) (id : List ℕ) (cmd : Command) (out : HubOut) (mid : Passes) → taken r bytes ≡ Ok (Room id cmd) → IsSome old.badge → OrdersAtLast hub (Room id cmd) moment old (Ok out) mid
+    room_stops : (stop : TakeFault) (id : List ℕ) (cmd : Command) (out : HubOut) (mid : Passes) → taken r bytes ≡ Ok (Room id cmd) → IsSome old.badge → OrdersAtLast hub (Room id cmd) moment old (Ok out) mid
         → (start : Option Start) (ended : Option Ending) → out.start ≡ start → out.ended ≡ ended → Follows hub moment start ended mid (Some stop) new → Stopping stop
     room_stops stop id cmd out mid take has t (Some start) ended e1 e2 f = absurd (none-some start (sym t.3.2.start ∙ e1))
     room_stops stop id cmd out mid take has t None None e1 e2 f = never_none stop f.0
@@ -140,7 +140,7 @@ module _ (hub : Hub) (conn open_at : ℕ) (acts : List Act) (ss : List Sending) 
         (break_hall hub conn open_at acts ss r old s (heard bytes moment (in_room t.3.2.goes.before.number id cmd t.3.2.badge (Some ending))) (report ending) moment mid new has are refl refl d broke))
 
     -- no such room, and the hall takes no text more, or memory ran out for the Bad
-    nowhere_stops : (stop : Stop) (id : List ℕ) (cmd : Command) (mid : Passes) → taken r bytes ≡ Ok (Room id cmd) → IsSome old.badge → OrdersAtLast hub (Room id cmd) moment old (Err hub_faults.NoSuchRoom) mid
+    nowhere_stops : (stop : TakeFault) (id : List ℕ) (cmd : Command) (mid : Passes) → taken r bytes ≡ Ok (Room id cmd) → IsSome old.badge → OrdersAtLast hub (Room id cmd) moment old (Err hub_faults.NoSuchRoom) mid
         → (full : Bool) → is_full None (counted (Some id) r) ≡ full → TellsNowhereIf full hub moment mid (Some stop) new → Stopping stop
     nowhere_stops stop id cmd mid take has t true e f =
         let d = none_found hub conn open_at acts ss r old s bytes moment id cmd mid t in
@@ -165,7 +165,7 @@ module _ (hub : Hub) (conn open_at : ℕ) (acts : List Act) (ss : List Sending) 
               (λ i x lt some. subst IsSome (sym badge) has)
               record { number = refl; seen = prefix_self s.hall_pass.pass.1.seen };
         } in
-        subst (λ (x : Stop). Stops x hub conn open_at acts ss bytes r old hours now new) (sym (one_stop stop (stops.OwnLimit None) f.0)) (inr (refl, t))
+        subst (λ (x : TakeFault). Stops x hub conn open_at acts ss bytes r old hours now new) (sym (one_stop stop (take_faults.Limit None) f.0)) (inr (refl, t))
     nowhere_stops stop id cmd mid take has t false e f =
         let d = none_found hub conn open_at acts ss r old s bytes moment id cmd mid t in
         let broke = hall_unmade hub conn open_at acts ss s.hall_pass mid (Bad NoSuchRoom) moment mid f.1.0 new (hall_from hub conn open_at acts ss r old s (heard bytes moment (nowhere d.asked id cmd)) mid d.reach) f.1.1 in
@@ -193,20 +193,20 @@ module _ (hub : Hub) (conn open_at : ℕ) (acts : List Act) (ss : List Sending) 
 
     -- ---- all of them
 
-    pub stopped_of : (after : Record) (stop : Stop) (order : Order) → taken r bytes ≡ Ok order → NeedsBadge order old → Obeys hub order moment (counted (place_of order) r) old (Some stop) after new → Stops stop hub conn open_at acts ss bytes r old hours now new
+    pub stopped_of : (after : Record) (stop : TakeFault) (order : Order) → taken r bytes ≡ Ok order → NeedsBadge order old → Obeys hub order moment (counted (place_of order) r) old (Some stop) after new → Stops stop hub conn open_at acts ss bytes r old hours now new
     stopped_of after stop (Hall cmd) take needs o = ⊎_elim
         (λ (d : (out : HubOut) × (mid : Passes) × OrdersAtLast hub (Hall cmd) moment old (Ok out) mid × (after ≡ with_given out.badge (counted None r)) × Follows hub moment out.start out.ended mid (Some stop) new). hall_stops stop cmd d.0 d.1 take d.2 d.0.start d.0.ended refl refl d.4)
-        (λ (rest : ((mid : Passes) × OrdersAtLast hub (Hall cmd) moment old (Err hub_faults.NoSuchRoom) mid × (after ≡ after_no_room (counted None r)) × TellsNowhere hub moment (counted None r) mid (Some stop) new) ⊎ ((Some stop ≡ Some stops.NoMemory) × Unmakes hub (Hall cmd) moment old unmade.NoMemory new)). ⊎_elim
+        (λ (rest : ((mid : Passes) × OrdersAtLast hub (Hall cmd) moment old (Err hub_faults.NoSuchRoom) mid × (after ≡ after_no_room (counted None r)) × TellsNowhere hub moment (counted None r) mid (Some stop) new) ⊎ ((Some stop ≡ Some take_faults.NoMemory) × Unmakes hub (Hall cmd) moment old unmade.NoMemory new)). ⊎_elim
         (λ (d : (mid : Passes) × OrdersAtLast hub (Hall cmd) moment old (Err hub_faults.NoSuchRoom) mid × (after ≡ after_no_room (counted None r)) × TellsNowhere hub moment (counted None r) mid (Some stop) new). absurd d.1.3)
-        (λ (d : (Some stop ≡ Some stops.NoMemory) × Unmakes hub (Hall cmd) moment old unmade.NoMemory new).
-        short_is stop (one_stop stop stops.NoMemory d.0) (short_in (in_hall cmd None None) (take, tt) (hall_breaks hub conn open_at acts ss r old s bytes moment cmd new are
+        (λ (d : (Some stop ≡ Some take_faults.NoMemory) × Unmakes hub (Hall cmd) moment old unmade.NoMemory new).
+        short_is stop (one_stop stop take_faults.NoMemory d.0) (short_in (in_hall cmd None None) (take, tt) (hall_breaks hub conn open_at acts ss r old s bytes moment cmd new are
         (hall_unmade hub conn open_at acts ss s.hall_pass old cmd moment old unmade.NoMemory new (in_hall_start hub conn open_at acts ss r old s) d.1))))
         rest)
         o
     stopped_of after stop (Room id cmd) take needs o = ⊎_elim
         (λ (d : (out : HubOut) × (mid : Passes) × OrdersAtLast hub (Room id cmd) moment old (Ok out) mid × (after ≡ with_given out.badge (counted (Some id) r)) × Follows hub moment out.start out.ended mid (Some stop) new). room_stops stop id cmd d.0 d.1 take needs d.2 d.0.start d.0.ended refl refl d.4)
-        (λ (rest : ((mid : Passes) × OrdersAtLast hub (Room id cmd) moment old (Err hub_faults.NoSuchRoom) mid × (after ≡ after_no_room (counted (Some id) r)) × TellsNowhere hub moment (counted (Some id) r) mid (Some stop) new) ⊎ ((Some stop ≡ Some stops.NoMemory) × Unmakes hub (Room id cmd) moment old unmade.NoMemory new)). ⊎_elim
+        (λ (rest : ((mid : Passes) × OrdersAtLast hub (Room id cmd) moment old (Err hub_faults.NoSuchRoom) mid × (after ≡ after_no_room (counted (Some id) r)) × TellsNowhere hub moment (counted (Some id) r) mid (Some stop) new) ⊎ ((Some stop ≡ Some take_faults.NoMemory) × Unmakes hub (Room id cmd) moment old unmade.NoMemory new)). ⊎_elim
         (λ (d : (mid : Passes) × OrdersAtLast hub (Room id cmd) moment old (Err hub_faults.NoSuchRoom) mid × (after ≡ after_no_room (counted (Some id) r)) × TellsNowhere hub moment (counted (Some id) r) mid (Some stop) new). nowhere_stops stop id cmd d.0 take needs d.1 (is_full None (counted (Some id) r)) refl d.3)
-        (λ (d : (Some stop ≡ Some stops.NoMemory) × Unmakes hub (Room id cmd) moment old unmade.NoMemory new). short_is stop (one_stop stop stops.NoMemory d.0) (room_fails id cmd take needs d.1))
+        (λ (d : (Some stop ≡ Some take_faults.NoMemory) × Unmakes hub (Room id cmd) moment old unmade.NoMemory new). short_is stop (one_stop stop take_faults.NoMemory d.0) (room_fails id cmd take needs d.1))
         rest)
         o

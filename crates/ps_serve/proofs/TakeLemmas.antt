@@ -16,8 +16,7 @@ use Rattle.ps_hub.specs.Hubs.{Hub}
 use Rattle.ps_hub.specs.declared.passes.Passes.{Passes}
 use Rattle.ps_serve.specs.declared.closed.End.{End}
 use Rattle.ps_serve.specs.declared.closed.End.TheVariants as ends
-use Rattle.ps_serve.specs.declared.obey.Stop.{Stop}
-use Rattle.ps_serve.specs.declared.obey.Stop.TheVariants as stops
+use Rattle.ps_session.specs.declared.session.TakeFault.{TakeFault}
 use Rattle.ps_serve.specs.Acts.{Made, Act, quiet, heard, arrival_of, moment_of, moments_of}
 use Rattle.ps_serve.specs.Sendings.{Sending}
 use Rattle.ps_serve.specs.Sittings.{Sits, IsUpToDate, Left}
@@ -185,7 +184,7 @@ module _ (hub : Hub) (conn open_at left : ℕ) (acts : List Act) (ss : List Send
   -- ---- a text that became nothing
 
   pub rest_bad : (s : Record) (p p1 : Passes) (bytes : Vec ℕ Global) (was mid : Option Talk) (c0 c1 : LinkCounts) (h h1 : Hours) → Stands hub conn open_at acts ss s p talk0 was counts0 c0 hours0 h → mid ≡ after_next (nexts.Text bytes) was → IsNext was (nexts.Text bytes) → HasNextCause c0 c1 (nexts.Text bytes)
-      → Stops stops.BadText hub conn open_at acts ss bytes.items s p h h1 p1 → ComesToRest (ends.BadText bytes) hub conn open_at left p1 talk0 mid counts0 c1 hours0 h1
+      → Stops take_faults.BadText hub conn open_at acts ss bytes.items s p h h1 p1 → ComesToRest (ends.BadText bytes) hub conn open_at left p1 talk0 mid counts0 c1 hours0 h1
   rest_bad s p p1 bytes was mid c0 c1 h h1 st is front cause stop =
       subst (λ (q : Passes). ComesToRest (ends.BadText bytes) hub conn open_at left q talk0 mid counts0 c1 hours0 h1) (sym stop.1)
       (
@@ -235,7 +234,7 @@ module _ (hub : Hub) (conn open_at left : ℕ) (acts : List Act) (ss : List Send
       )
 
   pub rest_many : (room : Option (List ℕ)) (s : Record) (p p1 : Passes) (bytes : Vec ℕ Global) (was mid : Option Talk) (c0 c1 : LinkCounts) (h h1 : Hours) → Stands hub conn open_at acts ss s p talk0 was counts0 c0 hours0 h → mid ≡ after_next (nexts.Text bytes) was → IsNext was (nexts.Text bytes) → HasNextCause c0 c1 (nexts.Text bytes)
-      → Stops (stops.OwnLimit room) hub conn open_at acts ss bytes.items s p h h1 p1 → ComesToRest (ends.OwnLimit room) hub conn open_at left p1 talk0 mid counts0 c1 hours0 h1
+      → Stops (take_faults.Limit room) hub conn open_at acts ss bytes.items s p h h1 p1 → ComesToRest (ends.OwnLimit room) hub conn open_at left p1 talk0 mid counts0 c1 hours0 h1
   rest_many room s p p1 bytes was mid c0 c1 h h1 st is front cause stop =
       ⊎_elim
       (λ (l : (taken s bytes.items ≡ Err (take_faults.Limit room)) × (p1 ≡ p) × (h1 ≡ h)). rest_limit room s p p1 bytes was mid c0 c1 h h1 st is front cause l)
@@ -278,7 +277,7 @@ module _ (hub : Hub) (conn open_at left : ℕ) (acts : List Act) (ss : List Send
       )
 
   pub rest_short : (s : Record) (p p1 : Passes) (bytes : Vec ℕ Global) (was mid : Option Talk) (c0 c1 : LinkCounts) (h h1 : Hours) → Stands hub conn open_at acts ss s p talk0 was counts0 c0 hours0 h → mid ≡ after_next (nexts.Text bytes) was → IsNext was (nexts.Text bytes)
-      → Stops stops.NoMemory hub conn open_at acts ss bytes.items s p h h1 p1 → ComesToRest ends.NoMemory hub conn open_at left p1 talk0 mid counts0 c1 hours0 h1
+      → Stops take_faults.NoMemory hub conn open_at acts ss bytes.items s p h h1 p1 → ComesToRest ends.NoMemory hub conn open_at left p1 talk0 mid counts0 c1 hours0 h1
   rest_short s p p1 bytes was mid c0 c1 h h1 st is front q =
       ⊎_elim
       (λ (none : q.last ≡ []). short_before s p p1 bytes was mid c0 c1 h h1 st is front q none)
@@ -290,14 +289,14 @@ module _ (hub : Hub) (conn open_at left : ℕ) (acts : List Act) (ss : List Send
       q.last_is
 
   -- a text stopped the session
-  pub rest_stopped : (stop : Stop) (s : Record) (p p1 : Passes) (lent : List ℕ) (bytes : Vec ℕ Global) (was mid : Option Talk) (c0 c1 : LinkCounts) (h h1 : Hours) → Stands hub conn open_at acts ss s p talk0 was counts0 c0 hours0 h → mid ≡ after_next (nexts.Text bytes) was → IsNext was (nexts.Text bytes) → HasNextCause c0 c1 (nexts.Text bytes)
+  pub rest_stopped : (stop : TakeFault) (s : Record) (p p1 : Passes) (lent : List ℕ) (bytes : Vec ℕ Global) (was mid : Option Talk) (c0 c1 : LinkCounts) (h h1 : Hours) → Stands hub conn open_at acts ss s p talk0 was counts0 c0 hours0 h → mid ≡ after_next (nexts.Text bytes) was → IsNext was (nexts.Text bytes) → HasNextCause c0 c1 (nexts.Text bytes)
       → lent ≡ bytes.items → Stops stop hub conn open_at acts ss lent s p h h1 p1 → ComesToRest (end_after stop bytes) hub conn open_at left p1 talk0 mid counts0 c1 hours0 h1
   rest_stopped stop s p p1 lent bytes was mid c0 c1 h h1 st is front cause same stopped =
       by_stop stop (subst (λ (b : List ℕ). Stops stop hub conn open_at acts ss b s p h h1 p1) same stopped) where
-        by_stop : (stop : Stop) → Stops stop hub conn open_at acts ss bytes.items s p h h1 p1 → ComesToRest (end_after stop bytes) hub conn open_at left p1 talk0 mid counts0 c1 hours0 h1
-        by_stop stops.BadText q = rest_bad s p p1 bytes was mid c0 c1 h h1 st is front cause q
-        by_stop (stops.OwnLimit room) q = rest_many room s p p1 bytes was mid c0 c1 h h1 st is front cause q
-        by_stop stops.NoMemory q = rest_short s p p1 bytes was mid c0 c1 h h1 st is front q
+        by_stop : (stop : TakeFault) → Stops stop hub conn open_at acts ss bytes.items s p h h1 p1 → ComesToRest (end_after stop bytes) hub conn open_at left p1 talk0 mid counts0 c1 hours0 h1
+        by_stop take_faults.BadText q = rest_bad s p p1 bytes was mid c0 c1 h h1 st is front cause q
+        by_stop (take_faults.Limit room) q = rest_many room s p p1 bytes was mid c0 c1 h h1 st is front cause q
+        by_stop take_faults.NoMemory q = rest_short s p p1 bytes was mid c0 c1 h h1 st is front q
 
   -- ---- it broke off while it told what happened
 

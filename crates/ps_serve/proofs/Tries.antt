@@ -8,12 +8,11 @@ use Rattle.ps_lines.specs.declared.order.Order.{Order}
 use Rattle.ps_lines.specs.declared.order.Order.TheVariants.{Hall, Room}
 use Rattle.ps_hall.specs.declared.entry.HallEntry.{HallEntry}
 use Rattle.ps_histlock.specs.Histories.{commands}
-use Rattle.ps_histlock.specs.Turns.{IsBusy}
+use Rattle.ps_histlock.specs.Turns.{Turns, IsBusy}
 use Rattle.ps_session.specs.Sessions.{Record}
 use Rattle.ps_hub.specs.Hubs.{Hub}
 use Rattle.ps_hub.specs.Names.{Names}
 use Rattle.ps_hub.specs.Passes.{HallPass, RoomPass, IsHallPass, IsRoomPass, ButFor}
-use Rattle.server_pass.specs.Turns.{Turns}
 use Rattle.ps_hub.specs.Calls.{Held, HeldUp, EntersAt, HallGoes, RoomFails, Orders}
 use Rattle.ps_hub.specs.declared.out.HubFault.TheVariants as hub_faults
 use Rattle.ps_hub.specs.declared.passes.Passes.{Passes}

@@ -114,7 +114,8 @@ begin_at number (Some start) = if room_of_battle start.number == number then Beg
 
 abbrev pub room_made : ℕ → ℕ → ℕ → Made → List RoomCmd
 room_made conn number moment (in_hall cmd badge start) = begin_at number start
-room_made conn number moment (in_room other id cmd badge ended) = if other == number then Play (room_entry conn badge moment cmd) ∷ [] else []
+room_made conn number moment (in_room other id cmd badge ended) = if other == number then Play (room_entry conn badge moment cmd)
+    ∷ [] else []
 room_made conn number moment (nowhere asked id cmd) = []
 
 abbrev pub room_of : ℕ → ℕ → Act → List RoomCmd

@@ -1,5 +1,6 @@
 -- What a session promises at its end.
-use Rattle.std.specs.Prelude.{◌≡◌, ◌≢◌, ◌⊎◌, ℕ, ◌+◌, ◌-◌, ◌≤◌, Bool, true, false, List, [], ◌∷◌, ◌++◌, length, take, map, All, Contains, IsSome, Option, Some, None, Ok, Err, IfSome}
+use Rattle.std.specs.Prelude.{◌≡◌, ◌≢◌, ◌⊎◌, ℕ, ◌+◌, ◌-◌, ◌≤◌, Bool, true, false, List, [], ◌∷◌, ◌++◌, length, take, map, All}
+use Rattle.std.specs.Prelude.{Contains, IsSome, Option, Some, None, Ok, Err, IfSome}
 use Rattle.std.specs.List.{filter_map}
 use mathlib.Core.List.{IsPrefix}
 use Rattle.ps_base.specs.declared.badge.Badge.{Badge}
@@ -44,9 +45,11 @@ use Rattle.ps_hub.specs.Calls.{hall_entry, room_entry}
 use Rattle.ps_hub.specs.declared.passes.Passes.{Passes}
 use Rattle.ps_serve.specs.declared.closed.End.{End}
 use Rattle.ps_serve.specs.declared.closed.End.TheVariants as ends
-use Rattle.ps_serve.specs.Acts.{nowhere, Act, heard, after_acts, AreActs, arrival_of, moments_of, hall_entries, room_cmds, since, begins, all_begun}
+use Rattle.ps_serve.specs.Acts.{nowhere, Act, heard, after_acts, AreActs, arrival_of, moments_of, hall_entries, room_cmds, since}
+use Rattle.ps_serve.specs.Acts.{begins, all_begun}
 use Rattle.ps_serve.specs.Sendings.{Sending, sent_text, texts_from, message_texts, AreLooksAnswered}
-use Rattle.ps_serve.specs.Sittings.{IsSent, HasOpen, IsPartSent, AreAlmostAnswered, IsNowhere, AreGiven, AreAlmostGiven, RoomWaits, AreApart}
+use Rattle.ps_serve.specs.Sittings.{IsSent, HasOpen, IsPartSent, AreAlmostAnswered, IsNowhere, AreGiven, AreAlmostGiven, RoomWaits}
+use Rattle.ps_serve.specs.Sittings.{AreApart}
 use Rattle.ps_serve.specs.Steps.{Hours, Asked}
 use Rattle.ps_serve.specs.Names.{AreLooksFresh}
 
@@ -98,6 +101,10 @@ AreOfWay conn t = AreActs (begun conn) t.acts
 abbrev pub IsAccount : ℕ → Account → Option Talk → Option Talk → Type 0
 IsAccount conn t old new = AreOfLink t old new × AreOfWay conn t
 
+-- of some account of the connection and what its link says, this holds
+abbrev pub SomeAccount : ℕ → Option Talk → Option Talk → (Account → Type 0) → Type 0
+SomeAccount conn before after Says = (account : Account) × IsAccount conn account before after × Says account
+
 -- ---- sent is the view
 
 -- The texts that were sent from a place are the whole view over the entries that were handed out; where the session broke off, a
@@ -111,7 +118,8 @@ abbrev pub HallSent : Bool → Hub → ℕ → Account → HallPass → Type 0
 HallSent broken hub conn t h = IsSentSo (HallShows conn (root_of hub)) broken (commands h.pass.1.seen) h.at None None t.sendings
 
 abbrev pub RoomSent : Bool → Hub → ℕ → Account → RoomPass → Type 0
-RoomSent broken hub conn t k = IsSentSo (Shows conn (site_of hub k.number)) broken (commands k.pass.1.seen) k.at k.id (Some k.number) t.sendings
+RoomSent broken hub conn t k = IsSentSo (Shows conn (site_of hub k.number)) broken (commands k.pass.1.seen) k.at k.id (Some k.number)
+    t.sendings
 
 pub record SentIsView (end : End) (hub : Hub) (conn : ℕ) (t : Account) (passes : Passes) : Type 0 where
   pub hall : IfSome passes.hall (HallSent (is_broken end) hub conn t)
@@ -165,7 +173,8 @@ HallMade short conn t h = AllThenQuit short (commands h.pass.1.mine) (hall_entri
 -- so has the pass of a place that is held, the Quit with the badge that is kept; at one that isn't there are Begins alone
 abbrev pub RoomMadeBy : Option (List ℕ) → Bool → ℕ → Option Badge → Account → RoomPass → Type 0
 RoomMadeBy None short conn badge t k = AllOrPart short (commands k.pass.1.mine) (room_cmds conn k.number t.acts)
-RoomMadeBy (Some id) short conn badge t k = (b : Badge) × (badge ≡ Some b) × AllThenQuit short (commands k.pass.1.mine) (room_cmds conn k.number t.acts) (room_quit conn b t.left)
+RoomMadeBy (Some id) short conn badge t k = (b : Badge) × (badge ≡ Some b)
+    × AllThenQuit short (commands k.pass.1.mine) (room_cmds conn k.number t.acts) (room_quit conn b t.left)
 
 abbrev pub RoomMade : Bool → ℕ → Option Badge → Account → RoomPass → Type 0
 RoomMade short conn badge t k = RoomMadeBy k.id short conn badge t k
@@ -214,7 +223,9 @@ IsAsked end hub t k = IsAskedBy k.id hub t k
 pub record IsRightlyNowhere (hub : Hub) (done : List Act) (id : List ℕ) (rooms : List RoomPass) : Type 0 where
   pub no_chat : IsNoChat hub.config id
   pub not_held : All (λ (k : RoomPass). k.id ≡ Some id → since k.number done ≡ []) rooms
-  pub not_own : All (λ (k : RoomPass). (start : Start) (history : List Entry) → Contains (begins k.number done) start → Tells (site_of hub k.number) (commands k.pass.1.seen) (Some (story (battle_at (site_of hub k.number) start) history)) → (battle_at (site_of hub k.number) start).id ≢ id) rooms
+  pub not_own : All (λ (k : RoomPass). (start : Start) (history : List Entry) → Contains (begins k.number done) start
+      → Tells (site_of hub k.number) (commands k.pass.1.seen) (Some (story (battle_at (site_of hub k.number) start) history))
+      → (battle_at (site_of hub k.number) start).id ≢ id) rooms
 
 abbrev pub IsRightly : Hub → List Act → Act → List RoomPass → Type 0
 IsRightly hub done (heard bytes moment (nowhere asked id cmd)) rooms = IsRightlyNowhere hub done id rooms
@@ -244,7 +255,8 @@ moments_in t = t.opened ∷ (moments_of t.acts ++ (t.extra ++ t.left ∷ []))
 
 -- a text that is no act has a moment only where it was taken for an order
 abbrev pub HasExtra : ℕ → Account → Type 0
-HasExtra conn t = (t.extra ≡ []) ⊎ ((bytes : List ℕ) × (order : Order) × (t.rest ≡ bytes ∷ []) × (taken (after_acts (begun conn) t.acts) bytes ≡ Ok order) × (length t.extra ≡ 1))
+HasExtra conn t = (t.extra ≡ []) ⊎ ((bytes : List ℕ) × (order : Order) × (t.rest ≡ bytes ∷ [])
+    × (taken (after_acts (begun conn) t.acts) bytes ≡ Ok order) × (length t.extra ≡ 1))
 
 -- if out of memory, also for the Open alone, if that wasn't made
 abbrev pub TellsMoments : End → ℕ → Account → Option HallPass → Hours → Hours → Type 0
@@ -262,15 +274,19 @@ TellsMoments end conn t hall old new = (t.extra ≡ []) × Asked old (moments_in
 module _ {C : Type 0} (shows : List C → List (List (List ℕ)) → Type 0) where
   abbrev pub AreLooksSo : Bool → List C → ℕ → Option (List ℕ) → Option ℕ → List Sending → ℕ → ℕ → List ℕ → Type 0
   AreLooksSo true cmds at room place ss first count looks = AreAlmostAnswered shows cmds room place ss first (count - 1) count looks
-  AreLooksSo false cmds at room place ss first count looks = (length looks ≡ count) × AreLooksAnswered shows cmds room place ss first looks × All (λ n. n ≤ at) looks
+  AreLooksSo false cmds at room place ss first count looks = (length looks ≡ count)
+      × AreLooksAnswered shows cmds room place ss first looks × All (λ n. n ≤ at) looks
 
 abbrev pub HallLooks : Bool → Hub → ℕ → Account → HallPass → Type 0
-HallLooks broken hub conn t h = AreLooksSo (HallShows conn (root_of hub)) broken (commands h.pass.1.seen) h.at None None t.sendings 1 (length t.acts) h.pass.1.looks
+HallLooks broken hub conn t h = AreLooksSo (HallShows conn (root_of hub)) broken (commands h.pass.1.seen) h.at None None t.sendings 1
+    (length t.acts) h.pass.1.looks
 
 -- a place that isn't held has no look
 abbrev pub RoomLooksBy : Option (List ℕ) → Bool → Hub → ℕ → Account → RoomPass → Type 0
 RoomLooksBy None broken hub conn t k = k.pass.1.looks ≡ []
-RoomLooksBy (Some id) broken hub conn t k = AreLooksSo (Shows conn (site_of hub k.number)) broken (commands k.pass.1.seen) k.at (Some id) (Some k.number) t.sendings (length t.acts - length (since k.number t.acts) + 1) (length (since k.number t.acts)) k.pass.1.looks
+RoomLooksBy (Some id) broken hub conn t k = AreLooksSo (Shows conn (site_of hub k.number)) broken (commands k.pass.1.seen) k.at
+    (Some id) (Some k.number) t.sendings (length t.acts - length (since k.number t.acts) + 1) (length (since k.number t.acts))
+    k.pass.1.looks
 
 abbrev pub RoomLooks : Bool → Hub → ℕ → Account → RoomPass → Type 0
 RoomLooks broken hub conn t k = RoomLooksBy k.id broken hub conn t k
@@ -370,10 +386,12 @@ hall_world hub h = hall_story (record { config = hub.config; dex = hub.dex; rank
 
 -- what was sent from a place is the view over every world that is the same to the connection
 abbrev pub HallElsewhere : Bool → Hub → ℕ → Account → HallPass → Type 0
-HallElsewhere broken hub conn t h = (other : HallStory) → AreHallsSame conn (hall_world hub h) other → IsTextsOf broken None None t.sendings (hall_view_of conn other)
+HallElsewhere broken hub conn t h = (other : HallStory) → AreHallsSame conn (hall_world hub h) other
+    → IsTextsOf broken None None t.sendings (hall_view_of conn other)
 
 abbrev pub RoomElsewhere : Bool → Hub → ℕ → Account → RoomPass → Type 0
-RoomElsewhere broken hub conn t k = (s other : Story) → Tells (site_of hub k.number) (take k.at (commands k.pass.1.seen)) (Some s) → AreSame conn s other → IsTextsOf broken k.id (Some k.number) t.sendings (view_of conn other)
+RoomElsewhere broken hub conn t k = (s other : Story) → Tells (site_of hub k.number) (take k.at (commands k.pass.1.seen)) (Some s)
+    → AreSame conn s other → IsTextsOf broken k.id (Some k.number) t.sendings (view_of conn other)
 
 pub record TwoWorlds (end : End) (hub : Hub) (conn : ℕ) (t : Account) (passes : Passes) : Type 0 where
   pub hall : IfSome passes.hall (HallElsewhere (is_broken end) hub conn t)
@@ -399,18 +417,23 @@ HasEmptyInbox end talk = Unit {0}
 abbrev pub IsTooMany : Option (List ℕ) → Hub → ℕ → Account → List RoomPass → List ℕ → Type 0
 IsTooMany room hub conn t rooms bytes =
     ((taken (after_acts (begun conn) t.acts) bytes ≡ Err (take_faults.Limit room)) × (t.extra ≡ []))
-    ⊎ ((room ≡ None) × (id : List ℕ) × (cmd : Command) × (asked : Option ℕ) × (taken (after_acts (begun conn) t.acts) bytes ≡ Ok (Room id cmd)) × (is_full None (counted (Some id) (after_acts (begun conn) t.acts)) ≡ true) × IsNowhere hub conn t.acts asked id rooms × (length t.extra ≡ 1))
+    ⊎ ((room ≡ None) × (id : List ℕ) × (cmd : Command) × (asked : Option ℕ)
+    × (taken (after_acts (begun conn) t.acts) bytes ≡ Ok (Room id cmd))
+    × (is_full None (counted (Some id) (after_acts (begun conn) t.acts)) ≡ true) × IsNowhere hub conn t.acts asked id rooms
+    × (length t.extra ≡ 1))
 
 -- BadText and OwnLimit only by the text that came last, and what it is taken for after the acts; at the other ends but out of memory
 -- each text that came is an act.
 abbrev pub HasTextCause : End → Hub → ℕ → Account → List RoomPass → Type 0
-HasTextCause (ends.BadText bytes) hub conn t rooms = (t.rest ≡ bytes.items ∷ []) × (taken (after_acts (begun conn) t.acts) bytes.items ≡ Err take_faults.BadText)
+HasTextCause (ends.BadText bytes) hub conn t rooms = (t.rest ≡ bytes.items ∷ [])
+    × (taken (after_acts (begun conn) t.acts) bytes.items ≡ Err take_faults.BadText)
 HasTextCause (ends.OwnLimit room) hub conn t rooms = (bytes : List ℕ) × (t.rest ≡ bytes ∷ []) × IsTooMany room hub conn t rooms bytes
 HasTextCause ends.NoMemory hub conn t rooms = length t.rest ≤ 1
 HasTextCause ends.Taken hub conn t rooms = length t.rest ≤ 1
 HasTextCause end hub conn t rooms = t.rest ≡ []
 
-pub record HasCause (end : End) (hub : Hub) (conn : ℕ) (t : Account) (rooms : List RoomPass) (talk : Option Talk) (old new : LinkCounts) : Type 0 where
+pub record HasCause (end : End) (hub : Hub) (conn : ℕ) (t : Account) (rooms : List RoomPass) (talk : Option Talk)
+    (old new : LinkCounts) : Type 0 where
   pub counts : HasCountCause end old new
   pub inbox : HasEmptyInbox end talk
   pub text : HasTextCause end hub conn t rooms
@@ -444,7 +467,8 @@ pub record IsWithin (hub : Hub) (conn : ℕ) (t : Account) (rooms : List RoomPas
 
 -- where the link tells its talk, holds texts within the limits, and doesn't fail
 abbrev pub EndsWellWithin : End → Hub → ℕ → Account → List RoomPass → Option Talk → LinkCounts → LinkCounts → Type 0
-EndsWellWithin end hub conn t rooms told old new = (talk : Talk) → told ≡ Some talk → IsWithin hub conn t rooms talk.inbox → (Rose old.faults new.faults → ⊥) → EndsWell end
+EndsWellWithin end hub conn t rooms told old new = (talk : Talk) → told ≡ Some talk → IsWithin hub conn t rooms talk.inbox
+    → (Rose old.faults new.faults → ⊥) → EndsWell end
 
 -- so few texts in all that whatever becomes of them no place is given too many, and each can be read
 pub record AreFew (inbox : List Arrival) : Type 0 where
@@ -453,7 +477,8 @@ pub record AreFew (inbox : List Arrival) : Type 0 where
 
 -- ---- all of it
 
-pub record Served (end : End) (hub : Hub) (conn : ℕ) (t : Account) (passes : Passes) (old_talk talk : Option Talk) (old_counts counts : LinkCounts) (old_hours hours : Hours) : Type 0 where
+pub record Served (end : End) (hub : Hub) (conn : ℕ) (t : Account) (passes : Passes) (old_talk talk : Option Talk)
+    (old_counts counts : LinkCounts) (old_hours hours : Hours) : Type 0 where
   pub told : IsAccount conn t old_talk talk
   pub sent : SentIsView end hub conn t passes
   pub labels : All (IsLabelled hub passes.rooms.items) t.sendings

@@ -26,15 +26,18 @@ IfTaken other P = Unit {0}
 -- Under the number of the connection stands an entry in the hall, which the pass that was to make its Open met; or one in a room,
 -- which its pass there hasn't made.
 abbrev pub IsTaken : Hub → ℕ → Passes → Option HallPass → Type 0
-IsTaken hub conn passes refused = ((h : HallPass) × (refused ≡ Some h) × IsStranger hub conn h) ⊎ IsShutOutAmong conn passes.rooms.items quit_faults.Taken
+IsTaken hub conn passes refused = ((h : HallPass) × (refused ≡ Some h) × IsStranger hub conn h)
+    ⊎ IsShutOutAmong conn passes.rooms.items quit_faults.Taken
 
 -- Of all that the pass knows of the hall, what stands under the number of the connection is its Open and its own entries, in order.
 abbrev pub HallName : ℕ → HallPass → Type 0
-HallName conn h = (opened : Entry HallEntry) × ((moment : ℕ) × (opened.cmd ≡ hall_entry conn moment Open)) × (signed hall_signer conn (commands h.pass.1.known) ≡ signed hall_signer conn (commands (opened ∷ h.pass.1.mine)))
+HallName conn h = (opened : Entry HallEntry) × ((moment : ℕ) × (opened.cmd ≡ hall_entry conn moment Open))
+    × (signed hall_signer conn (commands h.pass.1.known) ≡ signed hall_signer conn (commands (opened ∷ h.pass.1.mine)))
 
 -- the same of a room where it has made an entry
 abbrev pub RoomName : ℕ → RoomPass → Type 0
-RoomName conn k = Speaks room_signer conn k.pass.1.mine → signed room_signer conn (commands k.pass.1.known) ≡ signed room_signer conn (commands k.pass.1.mine)
+RoomName conn k = Speaks room_signer conn k.pass.1.mine
+    → signed room_signer conn (commands k.pass.1.known) ≡ signed room_signer conn (commands k.pass.1.mine)
 
 -- nobody else has spoken under the number of the connection
 pub record HasOwnNames (conn : ℕ) (passes : Passes) : Type 0 where

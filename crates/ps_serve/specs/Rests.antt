@@ -12,27 +12,30 @@ use Rattle.ps_hub.specs.Passes.{HallPass, RoomPass, AreOf}
 use Rattle.ps_hub.specs.declared.passes.Passes.{Passes}
 use Rattle.ps_serve.specs.declared.closed.End.{End}
 use Rattle.ps_serve.specs.declared.closed.End.TheVariants as ends
-use Rattle.ps_serve.specs.declared.obey.Stop.{Stop}
-use Rattle.ps_serve.specs.declared.obey.Stop.TheVariants as stops
+use Rattle.ps_session.specs.declared.session.TakeFault.{TakeFault}
+use Rattle.ps_session.specs.declared.session.TakeFault.TheVariants as take_faults
 use Rattle.ps_serve.specs.Acts.{Act, after_acts, moments_of, hall_entries, room_cmds, all_begun}
 use Rattle.ps_serve.specs.Sendings.{Sending}
 use Rattle.ps_serve.specs.Sittings.{HasOpen, Sits, AreApart, IsFrom, IsBegun}
 use Rattle.ps_serve.specs.Steps.{Hours, Asked, Stands}
-use Rattle.ps_serve.specs.Ends.{Account, is_short, is_broken, IsAccount, AllOrPart, HallGiven, RoomGiven, HallLooks, RoomLooks, HallSent, RoomSent, AreAnswers, IsAsked, HasExtra, AreSure, HasCause}
+use Rattle.ps_serve.specs.Ends.{Account, is_short, is_broken, IsAccount, AllOrPart, HallGiven, RoomGiven, HallLooks, RoomLooks}
+use Rattle.ps_serve.specs.Ends.{HallSent, RoomSent, AreAnswers, IsAsked, HasExtra, AreSure, HasCause}
 
 -- the end of a session that these bytes stopped
-abbrev pub end_after : Stop → Vec ℕ Global → End
-end_after stops.BadText bytes = ends.BadText bytes
-end_after (stops.OwnLimit room) bytes = ends.OwnLimit room
-end_after stops.NoMemory bytes = ends.NoMemory
+abbrev pub end_after : TakeFault → Vec ℕ Global → End
+end_after take_faults.BadText bytes = ends.BadText bytes
+end_after (take_faults.Limit room) bytes = ends.OwnLimit room
+end_after take_faults.NoMemory bytes = ends.NoMemory
 
 -- a session between two answers of its link, whatever it has done
 abbrev pub IsSitting : Hub → Record → Passes → Type 0
-IsSitting hub session passes = (conn : ℕ) × (open_at : ℕ) × (acts : List Act) × (ss : List Sending) × Sits hub conn open_at acts (length acts) ss session passes
+IsSitting hub session passes = (conn : ℕ) × (open_at : ℕ) × (acts : List Act) × (ss : List Sending)
+    × Sits hub conn open_at acts (length acts) ss session passes
 
 -- it has gone on, and stands again
 abbrev pub GoesOn : Hub → ℕ → ℕ → Record → Passes → Option Talk → Option Talk → LinkCounts → LinkCounts → Hours → Hours → Type 0
-GoesOn hub conn open_at session passes old_talk talk old_counts counts old_hours hours = (acts : List Act) × (ss : List Sending) × Stands hub conn open_at acts ss session passes old_talk talk old_counts counts old_hours hours
+GoesOn hub conn open_at session passes old_talk talk old_counts counts old_hours hours = (acts : List Act) × (ss : List Sending)
+    × Stands hub conn open_at acts ss session passes old_talk talk old_counts counts old_hours hours
 
 -- ---- before the Quits
 
@@ -57,7 +60,8 @@ HasExtraAt (ends.OwnLimit room) conn t = HasExtra conn t
 HasExtraAt end conn t = t.extra ≡ []
 
 -- what a session did, sent and has at this end, before its Quits
-pub record Rests (end : End) (hub : Hub) (conn : ℕ) (t : Account) (passes : Passes) (old_talk talk : Option Talk) (old_counts counts : LinkCounts) (old_hours hours : Hours) : Type 0 where
+pub record Rests (end : End) (hub : Hub) (conn : ℕ) (t : Account) (passes : Passes) (old_talk talk : Option Talk)
+    (old_counts counts : LinkCounts) (old_hours hours : Hours) : Type 0 where
   pub are : AreOf hub passes
   pub conn_is : passes.conn ≡ conn
   pub told : IsAccount conn t old_talk talk
@@ -82,4 +86,5 @@ pub record Rests (end : End) (hub : Hub) (conn : ℕ) (t : Account) (passes : Pa
 
 -- with any moment for the Quits
 abbrev pub ComesToRest : End → Hub → ℕ → ℕ → ℕ → Passes → Option Talk → Option Talk → LinkCounts → LinkCounts → Hours → Hours → Type 0
-ComesToRest end hub conn open_at left passes old_talk talk old_counts counts old_hours hours = (t : Account) × (t.opened ≡ open_at) × (t.left ≡ left) × Rests end hub conn t passes old_talk talk old_counts counts old_hours hours
+ComesToRest end hub conn open_at left passes old_talk talk old_counts counts old_hours hours = (t : Account) × (t.opened ≡ open_at)
+    × (t.left ≡ left) × Rests end hub conn t passes old_talk talk old_counts counts old_hours hours

@@ -1,5 +1,6 @@
 -- What a session sent.
-use Rattle.std.specs.Prelude.{ℕ, ◌+◌, ◌≤◌, ◌==◌, Bool, true, false, List, [], ◌∷◌, length, take, map, nat_le, Option, Some, None, if◌then◌else◌}
+use Rattle.std.specs.Prelude.{ℕ, ◌+◌, ◌≤◌, ◌==◌, Bool, true, false, List, [], ◌∷◌, length, take, map, nat_le, Option, Some, None}
+use Rattle.std.specs.Prelude.{if◌then◌else◌}
 use Rattle.std.specs.List.{filter_map}
 use mathlib.Core.List.{IsPrefix}
 use Rattle.ps_base.specs.Messages.{joined, headed}
@@ -64,4 +65,5 @@ module _ {C : Type 0} (shows : List C → List (List (List ℕ)) → Type 0) whe
   -- The looks of a place in order, the first at the answer with the number `first`.
   abbrev pub AreLooksAnswered : List C → Option (List ℕ) → Option ℕ → List Sending → ℕ → List ℕ → Type 0
   AreLooksAnswered cmds room place ss first [] = Unit {0}
-  AreLooksAnswered cmds room place ss first (n ∷ looks) = IsLookAnswered cmds room (texts_before place first ss) n × AreLooksAnswered cmds room place ss (first + 1) looks
+  AreLooksAnswered cmds room place ss first (n ∷ looks) = IsLookAnswered cmds room (texts_before place first ss) n
+      × AreLooksAnswered cmds room place ss (first + 1) looks

@@ -38,7 +38,8 @@ pub record IsSession (hub : Hub) (conn : ℕ) (closed : Closed) : Type 0 where
 -- that the first made, in order.
 abbrev pub IsHeardInHall : ℕ → HallPass → HallPass → Type 0
 IsHeardInHall conn h k =
-    (opened : Entry HallEntry) × ((moment : ℕ) × (opened.cmd ≡ hall_entry conn moment Open)) × IsPrefix (signed hall_signer conn (commands k.pass.1.seen)) (signed hall_signer conn (commands (opened ∷ h.pass.1.mine)))
+    (opened : Entry HallEntry) × ((moment : ℕ) × (opened.cmd ≡ hall_entry conn moment Open))
+    × IsPrefix (signed hall_signer conn (commands k.pass.1.seen)) (signed hall_signer conn (commands (opened ∷ h.pass.1.mine)))
 
 -- What two connections have seen of the hall begins one and the same history, with the same numbers, commands and moments; and what
 -- each has seen there as said by the other was said by the other.
@@ -54,7 +55,8 @@ pub record AgreeInHall (one other : Passes) : Type 0 where
 -- the same of a room where the first has made an entry: what the second has seen there under its number are its entries, in order
 -- and with nothing left out before them
 abbrev pub IsHeardInRoom : ℕ → RoomPass → RoomPass → Type 0
-IsHeardInRoom conn h k = Speaks room_signer conn h.pass.1.mine → IsPrefix (signed room_signer conn (commands k.pass.1.seen)) (signed room_signer conn (commands h.pass.1.mine))
+IsHeardInRoom conn h k = Speaks room_signer conn h.pass.1.mine
+    → IsPrefix (signed room_signer conn (commands k.pass.1.seen)) (signed room_signer conn (commands h.pass.1.mine))
 
 pub record AgreeInRoom (number : ℕ) (one other : Passes) : Type 0 where
   pub at : ℕ

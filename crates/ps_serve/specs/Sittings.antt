@@ -1,5 +1,6 @@
 -- What a session has kept since its begin: its passes agree with what it did and with what it sent.
-use Rattle.std.specs.Prelude.{◌≡◌, ◌≢◌, ◌⊎◌, ℕ, ◌+◌, ◌-◌, ◌≤◌, List, [], ◌∷◌, ◌++◌, length, take, All, Contains, IsSome, Bool, true, false, Option, Some, None}
+use Rattle.std.specs.Prelude.{◌≡◌, ◌≢◌, ◌⊎◌, ℕ, ◌+◌, ◌-◌, ◌≤◌, List, [], ◌∷◌, ◌++◌, length, take, All, Contains, IsSome, Bool, true}
+use Rattle.std.specs.Prelude.{false, Option, Some, None}
 use mathlib.Core.List.{IsPrefix}
 use Rattle.ps_base.specs.declared.badge.Badge.{Badge}
 use Rattle.ps_lines.specs.declared.command.Command.{Command}
@@ -27,7 +28,8 @@ use Rattle.ps_hub.specs.Passes.{HallPass, RoomPass, AreOf}
 use Rattle.server_places.specs.Sites.{Tells, id_told}
 use Rattle.ps_hub.specs.Calls.{hall_entry, room_entry, Lacks, NamesNone}
 use Rattle.ps_hub.specs.declared.passes.Passes.{Passes}
-use Rattle.ps_serve.specs.Acts.{Made, in_hall, in_room, nowhere, Act, quiet, heard, after_acts, AreActs, hall_entries, room_cmds, since, asked, begins, all_begun}
+use Rattle.ps_serve.specs.Acts.{Made, in_hall, in_room, nowhere, Act, quiet, heard, after_acts, AreActs, hall_entries, room_cmds}
+use Rattle.ps_serve.specs.Acts.{since, asked, begins, all_begun}
 use Rattle.ps_serve.specs.Sendings.{Sending, texts_from, message_texts, AreLooksAnswered}
 
 -- ---- what was sent of what a pass has seen
@@ -60,7 +62,8 @@ pub record HasOpen (conn open_at : ℕ) (h : HallPass) : Type 0 where
 -- A place that is held: the room is joined since the first act that made an entry in it, and was looked at since then.
 pub record RoomSits (hub : Hub) (conn : ℕ) (acts : List Act) (looked : ℕ) (ss : List Sending) (id : List ℕ) (k : RoomPass) : Type 0 where
   pub count : length k.pass.1.looks + (length acts - looked) ≡ length (since k.number acts)
-  pub looks : AreLooksAnswered (Shows conn (site_of hub k.number)) (commands k.pass.1.seen) (Some id) (Some k.number) ss (length acts - length (since k.number acts) + 1) k.pass.1.looks
+  pub looks : AreLooksAnswered (Shows conn (site_of hub k.number)) (commands k.pass.1.seen) (Some id) (Some k.number) ss
+      (length acts - length (since k.number acts) + 1) k.pass.1.looks
   pub named : Names hub.config id k.number
 
 -- the last of some ids that were asked isn't that of the room of the place, as far as its pass has seen
@@ -86,12 +89,15 @@ SitsBy None hub conn acts looked ss k = RoomWaits hub acts k
 
 -- the id that stands before what is sent from a place
 abbrev pub PlaceSits : Hub → ℕ → List Act → ℕ → List Sending → RoomPass → Type 0
-PlaceSits hub conn acts looked ss k = (commands k.pass.1.mine ≡ room_cmds conn k.number acts) × IsSent (Shows conn (site_of hub k.number)) (commands k.pass.1.seen) k.at k.id (Some k.number) ss × SitsBy k.id hub conn acts looked ss k
+PlaceSits hub conn acts looked ss k = (commands k.pass.1.mine ≡ room_cmds conn k.number acts)
+    × IsSent (Shows conn (site_of hub k.number)) (commands k.pass.1.seen) k.at k.id (Some k.number) ss
+    × SitsBy k.id hub conn acts looked ss k
 
 -- ---- what the entries gave
 
 -- What the hall answered to an entry. It stands in the history that the pass has seen, behind those that the acts `done` made.
-pub record HallGave (hub : Hub) (conn : ℕ) (done : List Act) (moment : ℕ) (cmd : HallCmd) (badge : Option Badge) (start : Option Start) (h : HallPass) : Type 0 where
+pub record HallGave (hub : Hub) (conn : ℕ) (done : List Act) (moment : ℕ) (cmd : HallCmd) (badge : Option Badge)
+    (start : Option Start) (h : HallPass) : Type 0 where
   pub before : List (Entry HallEntry)
   pub out : HallOut
   pub there : IsPrefix (before ++ entry h.pass.1.number (hall_entry conn moment cmd) ∷ []) h.pass.1.seen
@@ -101,7 +107,8 @@ pub record HallGave (hub : Hub) (conn : ℕ) (done : List Act) (moment : ℕ) (c
   pub start_is : start ≡ out.start
 
 -- what a room answered
-pub record RoomGave (hub : Hub) (conn : ℕ) (done : List Act) (moment number : ℕ) (id : List ℕ) (cmd : Command) (badge : Badge) (ended : Option Ending) (k : RoomPass) : Type 0 where
+pub record RoomGave (hub : Hub) (conn : ℕ) (done : List Act) (moment number : ℕ) (id : List ℕ) (cmd : Command) (badge : Badge)
+    (ended : Option Ending) (k : RoomPass) : Type 0 where
   pub place : k.number ≡ number
   pub held : k.id ≡ Some id
   pub before : List (Entry RoomCmd)
@@ -142,7 +149,8 @@ IsNowhere hub conn done (Some number) id rooms = (k : RoomPass) × Contains room
 -- what an act made is what its place answered
 abbrev pub GaveMade : Hub → ℕ → List Act → ℕ → Made → HallPass → List RoomPass → Type 0
 GaveMade hub conn done moment (in_hall cmd badge start) h rooms = HallGave hub conn done moment cmd badge start h
-GaveMade hub conn done moment (in_room number id cmd badge ended) h rooms = (k : RoomPass) × Contains rooms k × RoomGave hub conn done moment number id cmd badge ended k
+GaveMade hub conn done moment (in_room number id cmd badge ended) h rooms = (k : RoomPass) × Contains rooms k
+    × RoomGave hub conn done moment number id cmd badge ended k
 GaveMade hub conn done moment (nowhere asked id cmd) h rooms = IsNowhere hub conn done asked id rooms
 
 -- the same of an act, behind those `done`
@@ -160,7 +168,8 @@ AreGiven hub conn done (a ∷ rest) h rooms = Gave hub conn done a h rooms × Ar
 abbrev pub SaysNothing : Act → List RoomPass → Type 0
 SaysNothing quiet rooms = Unit {0}
 SaysNothing (heard bytes moment (in_hall cmd badge start)) rooms = (badge ≡ None) × (start ≡ None)
-SaysNothing (heard bytes moment (in_room number id cmd badge ended)) rooms = (ended ≡ None) × ((k : RoomPass) × Contains rooms k × (k.number ≡ number) × (k.id ≡ Some id))
+SaysNothing (heard bytes moment (in_room number id cmd badge ended)) rooms = (ended ≡ None)
+    × ((k : RoomPass) × Contains rooms k × (k.number ≡ number) × (k.id ≡ Some id))
 SaysNothing (heard bytes moment (nowhere asked id cmd)) rooms = ⊥
 
 -- the last act, if there is one, is so given too, or says of no answer
@@ -171,7 +180,8 @@ LastGave hub conn sure (a ∷ rest) h rooms = (Gave hub conn sure a h rooms ⊎ 
 -- What the acts that are sure made is what their places answered; one more at the most stands behind them, and is so given too, or
 -- says of no answer.
 abbrev pub AreAlmostGiven : Hub → ℕ → List Act → List Act → HallPass → List RoomPass → Type 0
-AreAlmostGiven hub conn sure acts h rooms = (last : List Act) × (acts ≡ sure ++ last) × AreGiven hub conn [] sure h rooms × LastGave hub conn sure last h rooms
+AreAlmostGiven hub conn sure acts h rooms = (last : List Act) × (acts ≡ sure ++ last) × AreGiven hub conn [] sure h rooms
+    × LastGave hub conn sure last h rooms
 
 -- a text was sent from the hall, or from a room that is held
 abbrev pub IsFromBy : Option ℕ → List RoomPass → Type 0
@@ -202,7 +212,8 @@ pub record IsUntouched (conn number : ℕ) (acts : List Act) (ss : List Sending)
 
 -- A session between two answers of its link, or while it looks at its places: `acts` made their entries, and the places have had
 -- the looks of the first `looked` of them. Its Open was made at the moment `open_at`.
-pub record Sits (hub : Hub) (conn open_at : ℕ) (acts : List Act) (looked : ℕ) (ss : List Sending) (session : Record) (passes : Passes) : Type 0 where
+pub record Sits (hub : Hub) (conn open_at : ℕ) (acts : List Act) (looked : ℕ) (ss : List Sending) (session : Record)
+    (passes : Passes) : Type 0 where
   pub are : AreOf hub passes
   pub conn_is : passes.conn ≡ conn
   pub way : AreActs (begun conn) acts
@@ -247,7 +258,8 @@ sure_acts false early acts = early
 
 -- The looks of a place, of which at most the last wasn't answered: there are those of at least `sure` answers and of at most `acts`.
 module _ {C : Type 0} (shows : List C → List (List (List ℕ)) → Type 0) where
-  pub record AreAlmostAnswered (cmds : List C) (room : Option (List ℕ)) (place : Option ℕ) (ss : List Sending) (first sure most : ℕ) (looks : List ℕ) : Type 0 where
+  pub record AreAlmostAnswered (cmds : List C) (room : Option (List ℕ)) (place : Option ℕ) (ss : List Sending) (first sure most : ℕ)
+      (looks : List ℕ) : Type 0 where
     pub early : List ℕ
     pub last : List ℕ
     pub parts : looks ≡ early ++ last
@@ -258,16 +270,20 @@ module _ {C : Type 0} (shows : List C → List (List (List ℕ)) → Type 0) whe
 
   -- what was sent from a place is a prefix of the view over what was handed out
   abbrev pub IsPartSent : List C → ℕ → Option (List ℕ) → Option ℕ → List Sending → Type 0
-  IsPartSent cmds at room place ss = (view : List (List (List ℕ))) × shows (take at cmds) view × IsPrefix (texts_from place ss) (message_texts room view)
+  IsPartSent cmds at room place ss = (view : List (List (List ℕ))) × shows (take at cmds) view
+      × IsPrefix (texts_from place ss) (message_texts room view)
 
 pub record HallLeft (whole : Bool) (hub : Hub) (conn : ℕ) (early acts : List Act) (ss : List Sending) (h : HallPass) : Type 0 where
   pub entries : IsAs whole (hall_entries conn early) (commands h.pass.1.mine) (hall_entries conn acts)
-  pub looks : AreAlmostAnswered (HallShows conn (root_of hub)) (commands h.pass.1.seen) None None ss 1 (length acts - 1) (length acts) h.pass.1.looks
+  pub looks : AreAlmostAnswered (HallShows conn (root_of hub)) (commands h.pass.1.seen) None None ss 1 (length acts - 1) (length acts)
+      h.pass.1.looks
   pub sent : IsPartSent (HallShows conn (root_of hub)) (commands h.pass.1.seen) h.at None None ss
 
 abbrev pub LooksLeft : Option (List ℕ) → Hub → ℕ → List Act → List Sending → RoomPass → Type 0
 LooksLeft None hub conn acts ss k = k.pass.1.looks ≡ []
-LooksLeft (Some id) hub conn acts ss k = Names hub.config id k.number × AreAlmostAnswered (Shows conn (site_of hub k.number)) (commands k.pass.1.seen) (Some id) (Some k.number) ss (length acts - length (since k.number acts) + 1) (length (since k.number acts) - 1) (length (since k.number acts)) k.pass.1.looks
+LooksLeft (Some id) hub conn acts ss k = Names hub.config id k.number
+    × AreAlmostAnswered (Shows conn (site_of hub k.number)) (commands k.pass.1.seen) (Some id) (Some k.number) ss
+    (length acts - length (since k.number acts) + 1) (length (since k.number acts) - 1) (length (since k.number acts)) k.pass.1.looks
 
 pub record PlaceLeft (whole : Bool) (hub : Hub) (conn : ℕ) (early acts : List Act) (ss : List Sending) (k : RoomPass) : Type 0 where
   pub entries : IsAs whole (room_cmds conn k.number early) (commands k.pass.1.mine) (room_cmds conn k.number acts)
@@ -306,7 +322,8 @@ HeldFull (Some id) hub conn acts ss k = RoomSits hub conn acts (length acts) ss 
 HeldFull None hub conn acts ss k = k.pass.1.looks ≡ []
 
 abbrev pub PlaceFull : Hub → ℕ → List Act → List Sending → RoomPass → Type 0
-PlaceFull hub conn acts ss k = (commands k.pass.1.mine ≡ room_cmds conn k.number acts) × IsSent (Shows conn (site_of hub k.number)) (commands k.pass.1.seen) k.at k.id (Some k.number) ss × HeldFull k.id hub conn acts ss k
+PlaceFull hub conn acts ss k = (commands k.pass.1.mine ≡ room_cmds conn k.number acts)
+    × IsSent (Shows conn (site_of hub k.number)) (commands k.pass.1.seen) k.at k.id (Some k.number) ss × HeldFull k.id hub conn acts ss k
 
 pub record SitsFull (hub : Hub) (conn open_at : ℕ) (acts : List Act) (ss : List Sending) (passes : Passes) : Type 0 where
   pub are : AreOf hub passes

@@ -13,8 +13,7 @@ use Rattle.ps_hub.specs.Hubs.{Hub}
 use Rattle.ps_hub.specs.declared.passes.Passes.{Passes}
 use Rattle.ps_serve.specs.declared.closed.End.{End}
 use Rattle.ps_serve.specs.declared.closed.End.TheVariants as ends
-use Rattle.ps_serve.specs.declared.obey.Stop.{Stop}
-use Rattle.ps_serve.specs.declared.obey.Stop.TheVariants as stops
+use Rattle.ps_session.specs.declared.session.TakeFault.{TakeFault}
 use Rattle.ps_serve.specs.Acts.{Made, Act, heard, arrival_of, moments_of}
 use Rattle.ps_serve.specs.Sendings.{Sending, sent_text}
 use Rattle.ps_serve.specs.Sittings.{IsNowhere, Sits, SitsFull, IsUpToDate, Left}
@@ -30,7 +29,8 @@ Asked old [] new = new ≡ old
 Asked old (moment ∷ moments) new = IsNow old moment × Asked (after_now old) moments new
 
 -- a text was obeyed: it is an act more, whose entries were made
-pub record Hears (hub : Hub) (conn open_at : ℕ) (acts : List Act) (ss : List Sending) (bytes : List ℕ) (old new : Hours) (session : Record) (passes : Passes) : Type 0 where
+pub record Hears (hub : Hub) (conn open_at : ℕ) (acts : List Act) (ss : List Sending) (bytes : List ℕ) (old new : Hours)
+    (session : Record) (passes : Passes) : Type 0 where
   pub moment : ℕ
   pub made : Made
   pub asked : Asked old (moment ∷ []) new
@@ -38,7 +38,8 @@ pub record Hears (hub : Hub) (conn open_at : ℕ) (acts : List Act) (ss : List S
 
 -- it wasn't: it is no text; it is one more than its place takes, where the place may be that of the order, or the hall since no
 -- such room was there; or memory ran out, and its entries may be there in part
-pub record StopsFull (hub : Hub) (conn open_at : ℕ) (acts : List Act) (ss : List Sending) (bytes : List ℕ) (r : Record) (old_passes : Passes) (old new : Hours) (passes : Passes) : Type 0 where
+pub record StopsFull (hub : Hub) (conn open_at : ℕ) (acts : List Act) (ss : List Sending) (bytes : List ℕ) (r : Record)
+    (old_passes : Passes) (old new : Hours) (passes : Passes) : Type 0 where
   pub id : List ℕ
   pub cmd : Command
   pub taken_is : taken r bytes ≡ Ok (Room id cmd)
@@ -51,7 +52,8 @@ pub record StopsFull (hub : Hub) (conn open_at : ℕ) (acts : List Act) (ss : Li
   pub badge_is : passes.badge ≡ old_passes.badge
   pub up : IsUpToDate old_passes → IsUpToDate passes
 
-pub record StopsShort (hub : Hub) (conn open_at : ℕ) (acts : List Act) (ss : List Sending) (bytes : List ℕ) (r : Record) (old new : Hours) (passes : Passes) : Type 0 where
+pub record StopsShort (hub : Hub) (conn open_at : ℕ) (acts : List Act) (ss : List Sending) (bytes : List ℕ) (r : Record)
+    (old new : Hours) (passes : Passes) : Type 0 where
   pub last : List Act
   pub last_is : (last ≡ []) ⊎ ((moment : ℕ) × (made : Made) × (last ≡ heard bytes moment made ∷ []))
   pub moments : List ℕ
@@ -60,11 +62,14 @@ pub record StopsShort (hub : Hub) (conn open_at : ℕ) (acts : List Act) (ss : L
   pub agree : (last ≡ []) ⊎ (moments ≡ moments_of last)
   pub left : Left false hub conn open_at acts (acts ++ last) ss passes
 
-abbrev pub Stops : Stop → Hub → ℕ → ℕ → List Act → List Sending → List ℕ → Record → Passes → Hours → Hours → Passes → Type 0
-Stops stops.BadText hub conn open_at acts ss bytes r old_passes old new passes = (taken r bytes ≡ Err take_faults.BadText) × (passes ≡ old_passes) × (new ≡ old)
-Stops (stops.OwnLimit room) hub conn open_at acts ss bytes r old_passes old new passes =
-    ((taken r bytes ≡ Err (take_faults.Limit room)) × (passes ≡ old_passes) × (new ≡ old)) ⊎ ((room ≡ None) × StopsFull hub conn open_at acts ss bytes r old_passes old new passes)
-Stops stops.NoMemory hub conn open_at acts ss bytes r old_passes old new passes = StopsShort hub conn open_at acts ss bytes r old new passes
+abbrev pub Stops : TakeFault → Hub → ℕ → ℕ → List Act → List Sending → List ℕ → Record → Passes → Hours → Hours → Passes → Type 0
+Stops take_faults.BadText hub conn open_at acts ss bytes r old_passes old new passes = (taken r bytes ≡ Err take_faults.BadText)
+    × (passes ≡ old_passes) × (new ≡ old)
+Stops (take_faults.Limit room) hub conn open_at acts ss bytes r old_passes old new passes =
+    ((taken r bytes ≡ Err (take_faults.Limit room)) × (passes ≡ old_passes) × (new ≡ old))
+    ⊎ ((room ≡ None) × StopsFull hub conn open_at acts ss bytes r old_passes old new passes)
+Stops take_faults.NoMemory hub conn open_at acts ss bytes r old_passes old new passes = StopsShort hub conn open_at acts ss bytes r
+    old new passes
 
 -- ---- telling
 
@@ -77,7 +82,8 @@ after_sendings ss None = None
 after_sendings ss (Some talk) = Some (with_sendings ss talk)
 
 -- all that is held was looked at, and all that the looks showed and wasn't told yet was sent
-pub record Tells (hub : Hub) (conn open_at : ℕ) (acts : List Act) (a : Act) (ss : List Sending) (session : Record) (old new : Option Talk) (passes : Passes) : Type 0 where
+pub record Tells (hub : Hub) (conn open_at : ℕ) (acts : List Act) (a : Act) (ss : List Sending) (session : Record)
+    (old new : Option Talk) (passes : Passes) : Type 0 where
   pub more : List Sending
   pub now : All (λ (s : Sending). s.after ≡ length acts + 1) more
   pub sent : new ≡ after_sendings more old
@@ -89,7 +95,8 @@ is_fault ends.LinkFault = true
 is_fault other = false
 
 -- the link failed, or memory ran out: what wasn't told yet was sent in part
-pub record TellsPart (end : End) (hub : Hub) (conn open_at : ℕ) (acts : List Act) (a : Act) (ss : List Sending) (old new : Option Talk) (passes : Passes) : Type 0 where
+pub record TellsPart (end : End) (hub : Hub) (conn open_at : ℕ) (acts : List Act) (a : Act) (ss : List Sending)
+    (old new : Option Talk) (passes : Passes) : Type 0 where
   pub more : List Sending
   pub now : All (λ (s : Sending). s.after ≡ length acts + 1) more
   pub sent : new ≡ after_sendings more old
@@ -115,7 +122,8 @@ TalksIf acts ss (Some old) (Some new) = Talks acts ss old new
 TalksIf acts ss old new = ⊥
 
 -- A session between two answers of its link, since its Open.
-pub record Stands (hub : Hub) (conn open_at : ℕ) (acts : List Act) (ss : List Sending) (session : Record) (passes : Passes) (talk0 talk : Option Talk) (counts0 counts : LinkCounts) (hours0 hours : Hours) : Type 0 where
+pub record Stands (hub : Hub) (conn open_at : ℕ) (acts : List Act) (ss : List Sending) (session : Record) (passes : Passes)
+    (talk0 talk : Option Talk) (counts0 counts : LinkCounts) (hours0 hours : Hours) : Type 0 where
   pub sits : Sits hub conn open_at acts (length acts) ss session passes
   pub up : (acts ≡ []) ⊎ IsUpToDate passes
   pub talks : TalksIf acts ss talk0 talk

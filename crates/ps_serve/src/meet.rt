@@ -15,7 +15,8 @@ impl Closed {
         ensures of { ComeFrom hub.now self.new.passes × ComeFrom hub.now other.new.passes }
         ensures met { IsTrue result → HallsMeet self.old.passes self.new.passes other.old.passes other.new.passes }
         ensures agree { IsTrue result → AgreeInHall self.old.passes other.old.passes }
-        ensures apart { IsFalse result → ((self.old.passes.hall ≡ None) ⊎ (other.old.passes.hall ≡ None)) × (self.new ≡ self.old) × (other.new ≡ other.old) }
+        ensures apart { IsFalse result → ((self.old.passes.hall ≡ None) ⊎ (other.old.passes.hall ≡ None)) × (self.new ≡ self.old)
+            × (other.new ≡ other.old) }
     {
         match &self.passes.hall {
             None => return false,
@@ -34,8 +35,10 @@ impl Closed {
         requires { ComeFrom hub.now self.old.passes × ComeFrom hub.now other.old.passes }
         ensures of { ComeFrom hub.now self.new.passes × ComeFrom hub.now other.new.passes }
         ensures met { IsTrue result → RoomsMeet number self.old.passes self.new.passes other.old.passes other.new.passes }
-        ensures agree { IsTrue result → AgreeInRoom number self.old.passes other.old.passes ⊎ HasNone number self.old.passes ⊎ HasNone number other.old.passes }
-        ensures apart { IsFalse result → ((self.old.passes.hall ≡ None) ⊎ (other.old.passes.hall ≡ None)) × (self.new ≡ self.old) × (other.new ≡ other.old) }
+        ensures agree { IsTrue result → AgreeInRoom number self.old.passes other.old.passes ⊎ HasNone number self.old.passes
+            ⊎ HasNone number other.old.passes }
+        ensures apart { IsFalse result → ((self.old.passes.hall ≡ None) ⊎ (other.old.passes.hall ≡ None)) × (self.new ≡ self.old)
+            × (other.new ≡ other.old) }
     {
         match &self.passes.hall {
             None => return false,

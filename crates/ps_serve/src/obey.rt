@@ -12,6 +12,7 @@ ghost use Rattle.ps_serve.specs.Obeys.{Makes, MakesOnly, MayStart, Begins, repor
 
 use crate::heard::Heard;
 use crate::session::Sitting;
+use crossbeam_utils::Backoff;
 use ps_base::badge::Badge;
 use ps_base::number::Moment;
 use ps_base::text::Text;
@@ -25,18 +26,6 @@ use ps_session::session::TakeFault;
 use rules_start::start::Start;
 use std::alloc::Global;
 use std::sync::Wait;
-use std::thread;
-
-/// Why a text ends the session.
-#[derive(Debug, Drop)]
-pub(crate) enum Stop {
-    /// It has more than 8,192 bytes, or is no UTF-8.
-    BadText,
-    /// It is a text more than its place takes.
-    OwnLimit { room: Option<Text> },
-    /// Memory was wanting.
-    NoMemory,
-}
 
 // Why an order made no entry: there is no such room; or memory was wanting, or the room had an entry under the number of the
 // connection already.
@@ -56,17 +45,20 @@ impl Sitting {
         hub: &Hub,
         bytes: &[u8],
         clock: &mut C,
-    ) -> Option<Stop>
+    ) -> Option<TakeFault>
         requires of { AreOf hub.now self.old.passes }
         requires badge { self.old.passes.badge ≡ self.old.session.badge }
         ensures of { AreOf hub.now self.new.passes }
-        ensures heard { IfNone result ((conn open_at : ℕ) (acts : List Act) (ss : List Sending) → Sits hub.now conn open_at acts (length acts) ss self.old.session self.old.passes → Hears hub.now conn open_at acts ss bytes.now (C.hours clock.old) (C.hours clock.new) self.new.session self.new.passes) }
-        ensures stopped { IfSome result (λ stop. (conn open_at : ℕ) (acts : List Act) (ss : List Sending) → Sits hub.now conn open_at acts (length acts) ss self.old.session self.old.passes → Stops stop hub.now conn open_at acts ss bytes.now self.old.session self.old.passes (C.hours clock.old) (C.hours clock.new) self.new.passes) }
+        ensures heard { IfNone result ((conn open_at : ℕ) (acts : List Act) (ss : List Sending)
+            → Sits hub.now conn open_at acts (length acts) ss self.old.session self.old.passes
+            → Hears hub.now conn open_at acts ss bytes.now (C.hours clock.old) (C.hours clock.new) self.new.session self.new.passes) }
+        ensures stopped { IfSome result (λ stop. (conn open_at : ℕ) (acts : List Act) (ss : List Sending)
+            → Sits hub.now conn open_at acts (length acts) ss self.old.session self.old.passes
+            → Stops stop hub.now conn open_at acts ss bytes.now self.old.session self.old.passes (C.hours clock.old)
+            (C.hours clock.new) self.new.passes) }
     {
         match self.session.take(alloc, bytes) {
-            Err(TakeFault::BadText) => Some(Stop::BadText),
-            Err(TakeFault::Limit { room }) => Some(Stop::OwnLimit { room }),
-            Err(TakeFault::NoMemory) => Some(Stop::NoMemory),
+            Err(fault) => Some(fault),
             Ok(order) => {
                 self.heard = Heard::asked(alloc, &order);
                 let moment = clock.now();
@@ -76,7 +68,13 @@ impl Sitting {
     }
 
     // The entry of an order, and what follows from it.
-    fn obey<R: Wait>(&mut self, rt: &R, hub: &Hub, order: Order, moment: Moment) -> Option<Stop>
+    fn obey<R: Wait>(
+        &mut self,
+        rt: &R,
+        hub: &Hub,
+        order: Order,
+        moment: Moment,
+    ) -> Option<TakeFault>
         requires of { AreOf hub.now self.old.passes }
         requires badge { NeedsBadge order self.old.passes }
         requires last { IsLast order self.old.session }
@@ -86,11 +84,11 @@ impl Sitting {
         match self.order(rt, hub, order, moment) {
             Ok(out) => self.follow(rt, hub, out, moment),
             Err(Unmade::NoSuchRoom) => self.tell_nowhere(rt, hub, moment),
-            Err(Unmade::NoMemory) => Some(Stop::NoMemory),
+            Err(Unmade::NoMemory) => Some(TakeFault::NoMemory),
         }
     }
 
-    // One order, again and again until nobody else has the turn.
+    // One order, again and again until nobody else has the turn: at once at first, and then after others ran.
     fn order<R: Wait>(
         &mut self,
         rt: &R,
@@ -105,13 +103,14 @@ impl Sitting {
         ensures made { Makes hub.now order moment self.old.passes result self.new.passes }
         ensures starts { IfOk result (λ out. IfSome out.start (MayStart hub.now)) }
     {
+        let backoff = Backoff::new();
         let mut left = order;
         for _ in rt.forever() {
             match hub.order(&mut self.passes, left, moment) {
                 Ok(out) => return Ok(out),
                 Err(HubFault::Busy { word: _, order }) => {
                     left = order;
-                    thread::yield_now();
+                    backoff.snooze();
                 }
                 Err(HubFault::NoSuchRoom) => return Err(Unmade::NoSuchRoom),
                 // A pass has room for all texts of a connection, the Reports of its battles and its Quit.
@@ -125,7 +124,13 @@ impl Sitting {
     }
 
     // What follows from an entry: the badge is kept, a battle begins, the end of one is reported.
-    fn follow<R: Wait>(&mut self, rt: &R, hub: &Hub, out: HubOut, moment: Moment) -> Option<Stop>
+    fn follow<R: Wait>(
+        &mut self,
+        rt: &R,
+        hub: &Hub,
+        out: HubOut,
+        moment: Moment,
+    ) -> Option<TakeFault>
         requires of { AreOf hub.now self.old.passes }
         requires starts { IfSome out.start (MayStart hub.now) }
         ensures of { AreOf hub.now self.new.passes }
@@ -162,7 +167,7 @@ impl Sitting {
     }
 
     // The Begin of a battle.
-    fn begin<R: Wait>(&mut self, rt: &R, hub: &Hub, start: Start) -> Option<Stop>
+    fn begin<R: Wait>(&mut self, rt: &R, hub: &Hub, start: Start) -> Option<TakeFault>
         requires of { AreOf hub.now self.old.passes }
         requires may { MayStart hub.now start }
         ensures of { AreOf hub.now self.new.passes }
@@ -171,12 +176,18 @@ impl Sitting {
     {
         match hub.start(rt, &mut self.passes, start) {
             Ok(()) => None,
-            Err(_) => Some(Stop::NoMemory),
+            Err(_) => Some(TakeFault::NoMemory),
         }
     }
 
     // The Report of a battle's end.
-    fn report<R: Wait>(&mut self, rt: &R, hub: &Hub, ending: Ending, moment: Moment) -> Option<Stop>
+    fn report<R: Wait>(
+        &mut self,
+        rt: &R,
+        hub: &Hub,
+        ending: Ending,
+        moment: Moment,
+    ) -> Option<TakeFault>
         requires of { AreOf hub.now self.old.passes }
         ensures of { AreOf hub.now self.new.passes }
         ensures session { self.new.session ≡ self.old.session }
@@ -190,7 +201,7 @@ impl Sitting {
     }
 
     // The hall's Bad in the place of an order to a room that isn't there.
-    fn tell_nowhere<R: Wait>(&mut self, rt: &R, hub: &Hub, moment: Moment) -> Option<Stop>
+    fn tell_nowhere<R: Wait>(&mut self, rt: &R, hub: &Hub, moment: Moment) -> Option<TakeFault>
         requires of { AreOf hub.now self.old.passes }
         requires last { is_some self.old.session.last ≡ true }
         ensures of { AreOf hub.now self.new.passes }
@@ -198,13 +209,19 @@ impl Sitting {
         ensures told { TellsNowhere hub.now moment self.old.session self.old.passes result self.new.passes }
     {
         match self.session.no_room() {
-            None => Some(Stop::OwnLimit { room: None }),
+            None => Some(TakeFault::Limit { room: None }),
             Some(order) => self.make(rt, hub, order, moment),
         }
     }
 
     // One order, of which only matters that it was made.
-    fn make<R: Wait>(&mut self, rt: &R, hub: &Hub, order: Order, moment: Moment) -> Option<Stop>
+    fn make<R: Wait>(
+        &mut self,
+        rt: &R,
+        hub: &Hub,
+        order: Order,
+        moment: Moment,
+    ) -> Option<TakeFault>
         requires of { AreOf hub.now self.old.passes }
         requires badge { NeedsBadge order self.old.passes }
         ensures of { AreOf hub.now self.new.passes }
@@ -214,7 +231,7 @@ impl Sitting {
         let made = self.order(rt, hub, order, moment);
         match made {
             Ok(_out) => None,
-            Err(_why) => Some(Stop::NoMemory),
+            Err(_why) => Some(TakeFault::NoMemory),
         }
     }
 }

@@ -23,7 +23,8 @@ fn send_msgs<L: Link>(link: &mut L, room: Option<&str>, msgs: &[Msg]) -> Option<
     ensures counts { IfNone result (L.counts link.new ≡ L.counts link.old) }
     ensures cause { IfSome result (λ end. IsBreak end (L.counts link.old) (L.counts link.new)) }
     ensures told { IfNone result (L.talk link.new ≡ after_texts (texts_of (option_copied room.entry) msgs.now) (L.talk link.old)) }
-    ensures broke { IfSome result (λ end. (count : ℕ) × (L.talk link.new ≡ after_texts (take count (texts_of (option_copied room.entry) msgs.now)) (L.talk link.old))) }
+    ensures broke { IfSome result (λ end. (count : ℕ)
+        × (L.talk link.new ≡ after_texts (take count (texts_of (option_copied room.entry) msgs.now)) (L.talk link.old))) }
 {
     for msg in msgs {
         match link.send_message(room, msg) {
@@ -120,8 +121,12 @@ impl Sitting {
         ensures same { (self.new.session ≡ self.old.session) × (self.new.passes.badge ≡ self.old.passes.badge) }
         ensures counts { IfNone result (L.counts link.new ≡ L.counts link.old) }
         ensures cause { IfSome result (λ end. IsBreak end (L.counts link.old) (L.counts link.new)) }
-        ensures told { IfNone result ((conn open_at : ℕ) (acts : List Act) (a : Act) (ss : List Sending) → Sits hub.now conn open_at (acts ++ a ∷ []) (length acts) ss self.old.session self.old.passes → Tells hub.now conn open_at acts a ss self.old.session (L.talk link.old) (L.talk link.new) self.new.passes) }
-        ensures broke { IfSome result (λ end. (conn open_at : ℕ) (acts : List Act) (a : Act) (ss : List Sending) → Sits hub.now conn open_at (acts ++ a ∷ []) (length acts) ss self.old.session self.old.passes → TellsPart end hub.now conn open_at acts a ss (L.talk link.old) (L.talk link.new) self.new.passes) }
+        ensures told { IfNone result ((conn open_at : ℕ) (acts : List Act) (a : Act) (ss : List Sending)
+            → Sits hub.now conn open_at (acts ++ a ∷ []) (length acts) ss self.old.session self.old.passes
+            → Tells hub.now conn open_at acts a ss self.old.session (L.talk link.old) (L.talk link.new) self.new.passes) }
+        ensures broke { IfSome result (λ end. (conn open_at : ℕ) (acts : List Act) (a : Act) (ss : List Sending)
+            → Sits hub.now conn open_at (acts ++ a ∷ []) (length acts) ss self.old.session self.old.passes
+            → TellsPart end hub.now conn open_at acts a ss (L.talk link.old) (L.talk link.new) self.new.passes) }
     {
         self.notify(link);
         self.catch_up(rt, hub, link)
@@ -142,8 +147,12 @@ impl Sitting {
         ensures same { (self.new.session ≡ self.old.session) × (self.new.passes.badge ≡ self.old.passes.badge) }
         ensures counts { IfNone result (L.counts link.new ≡ L.counts link.old) }
         ensures cause { IfSome result (λ end. IsBreak end (L.counts link.old) (L.counts link.new)) }
-        ensures told { IfNone result ((conn open_at : ℕ) (acts : List Act) (a : Act) (ss : List Sending) → Sits hub.now conn open_at (acts ++ a ∷ []) (length acts) ss self.old.session self.old.passes → Tells hub.now conn open_at acts a ss self.old.session (L.talk link.old) (L.talk link.new) self.new.passes) }
-        ensures broke { IfSome result (λ end. (conn open_at : ℕ) (acts : List Act) (a : Act) (ss : List Sending) → Sits hub.now conn open_at (acts ++ a ∷ []) (length acts) ss self.old.session self.old.passes → TellsPart end hub.now conn open_at acts a ss (L.talk link.old) (L.talk link.new) self.new.passes) }
+        ensures told { IfNone result ((conn open_at : ℕ) (acts : List Act) (a : Act) (ss : List Sending)
+            → Sits hub.now conn open_at (acts ++ a ∷ []) (length acts) ss self.old.session self.old.passes
+            → Tells hub.now conn open_at acts a ss self.old.session (L.talk link.old) (L.talk link.new) self.new.passes) }
+        ensures broke { IfSome result (λ end. (conn open_at : ℕ) (acts : List Act) (a : Act) (ss : List Sending)
+            → Sits hub.now conn open_at (acts ++ a ∷ []) (length acts) ss self.old.session self.old.passes
+            → TellsPart end hub.now conn open_at acts a ss (L.talk link.old) (L.talk link.new) self.new.passes) }
     {
         let shown = hub.look_hall(&mut self.passes);
         for place in 0..self.passes.rooms.len() {
@@ -224,7 +233,8 @@ impl Sitting {
         ensures counts { IfNone result (L.counts link.new ≡ L.counts link.old) }
         ensures cause { IfSome result (λ end. IsBreak end (L.counts link.old) (L.counts link.new)) }
         ensures told { IfNone result (TellsRoom hub.now place self.old.passes self.new.passes (L.talk link.old) (L.talk link.new)) }
-        ensures broke { IfSome result (λ end. TellsRoomPart hub.now place self.old.passes self.new.passes (L.talk link.old) (L.talk link.new)) }
+        ensures broke { IfSome result (λ end. TellsRoomPart hub.now place self.old.passes self.new.passes (L.talk link.old)
+            (L.talk link.new)) }
     {
         if held_by(&self.passes.rooms[place]).is_none() {
             return None;
@@ -260,7 +270,8 @@ impl Sitting {
         ensures counts { IfNone result (L.counts link.new ≡ L.counts link.old) }
         ensures cause { IfSome result (λ end. IsBreak end (L.counts link.old) (L.counts link.new)) }
         ensures told { IfNone result (SendsRoom hub.now place self.old.passes self.new.passes (L.talk link.old) (L.talk link.new)) }
-        ensures broke { IfSome result (λ end. SendsOfRoom hub.now place self.old.passes self.new.passes (L.talk link.old) (L.talk link.new)) }
+        ensures broke { IfSome result (λ end. SendsOfRoom hub.now place self.old.passes self.new.passes (L.talk link.old)
+            (L.talk link.new)) }
     {
         match hub.hand_on_at(rt, &mut self.passes, place, shown) {
             Err(_) => Some(End::NoMemory),

@@ -7,21 +7,22 @@ ghost use Rattle.ps_serve.specs.Acts.{Act};
 ghost use Rattle.ps_serve.specs.Sendings.{Sending};
 ghost use Rattle.ps_serve.specs.Sittings.{Sits};
 ghost use Rattle.ps_serve.specs.Steps.{Hours, Stands};
-ghost use Rattle.ps_serve.specs.Ends.{Account, IsAccount, SentIsView, IsLabelled, EntriesAreMade, AnswersAreKept, IsOpen, TellsMoments, LooksAreAnswered, AreOfHub, OneHistory, OneBegin, LosesNothing, TwoWorlds, HasCause, EndsWell, EndsWellWithin, AreFew, Served, is_short};
+ghost use Rattle.ps_serve.specs.Ends.{Account, SomeAccount, SentIsView, IsLabelled, EntriesAreMade, AnswersAreKept, IsOpen};
+ghost use Rattle.ps_serve.specs.Ends.{TellsMoments, LooksAreAnswered, AreOfHub, OneHistory, OneBegin, LosesNothing, TwoWorlds};
+ghost use Rattle.ps_serve.specs.Ends.{HasCause, EndsWell, EndsWellWithin, AreFew, Served, is_short};
 ghost use Rattle.ps_serve.specs.Names.{IfTaken, IsTaken, HasOwnNames};
 ghost use Rattle.ps_serve.specs.Sessions.{IsSession};
 ghost use Rattle.ps_serve.specs.Rests.{end_after, IsSitting, GoesOn, ComesToRest};
 
 use crate::closed::{Closed, End};
 use crate::heard::Heard;
-use crate::obey::Stop;
 use ps_base::number::ConnNo;
 use ps_hub::hub::Hub;
 use ps_hub::out::{AdmitFault, QuitFault};
 use ps_hub::passes::Passes;
 use ps_outside::clock::Clock;
 use ps_outside::link::{Link, Next};
-use ps_session::session::Session;
+use ps_session::session::{Session, TakeFault};
 use std::alloc::Global;
 use std::sync::Wait;
 
@@ -35,13 +36,13 @@ pub(crate) struct Sitting {
 }
 
 // The end of a session that these bytes stopped.
-fn end_by(stop: Stop, bytes: Vec<u8>) -> End
+fn end_by(stop: TakeFault, bytes: Vec<u8>) -> End
     ensures { result ≡ end_after stop bytes }
 {
     match stop {
-        Stop::BadText => End::BadText { bytes },
-        Stop::OwnLimit { room } => End::OwnLimit { room },
-        Stop::NoMemory => End::NoMemory,
+        TakeFault::BadText => End::BadText { bytes },
+        TakeFault::Limit { room } => End::OwnLimit { room },
+        TakeFault::NoMemory => End::NoMemory,
     }
 }
 
@@ -58,8 +59,16 @@ impl Sitting {
     ) -> Option<End>
         requires { IsSitting hub.now self.old.session self.old.passes }
         ensures sits { IfNone result (IsSitting hub.now self.new.session self.new.passes) }
-        ensures goes_on { IfNone result ((talk0 : Option Talk) (counts0 : LinkCounts) (hours0 : Hours) (conn open_at : ℕ) (acts : List Act) (ss : List Sending) → Stands hub.now conn open_at acts ss self.old.session self.old.passes talk0 (L.talk link.old) counts0 (L.counts link.old) hours0 (C.hours clock.old) → GoesOn hub.now conn open_at self.new.session self.new.passes talk0 (L.talk link.new) counts0 (L.counts link.new) hours0 (C.hours clock.new)) }
-        ensures rests { IfSome result (λ end. (talk0 : Option Talk) (counts0 : LinkCounts) (hours0 : Hours) (conn open_at left : ℕ) (acts : List Act) (ss : List Sending) → Stands hub.now conn open_at acts ss self.old.session self.old.passes talk0 (L.talk link.old) counts0 (L.counts link.old) hours0 (C.hours clock.old) → ComesToRest end hub.now conn open_at left self.new.passes talk0 (L.talk link.new) counts0 (L.counts link.new) hours0 (C.hours clock.new)) }
+        ensures goes_on { IfNone result ((talk0 : Option Talk) (counts0 : LinkCounts) (hours0 : Hours) (conn open_at : ℕ)
+            (acts : List Act) (ss : List Sending) → Stands hub.now conn open_at acts ss self.old.session self.old.passes talk0
+            (L.talk link.old) counts0 (L.counts link.old) hours0 (C.hours clock.old)
+            → GoesOn hub.now conn open_at self.new.session self.new.passes talk0 (L.talk link.new) counts0 (L.counts link.new) hours0
+            (C.hours clock.new)) }
+        ensures rests { IfSome result (λ end. (talk0 : Option Talk) (counts0 : LinkCounts) (hours0 : Hours) (conn open_at left : ℕ)
+            (acts : List Act) (ss : List Sending) → Stands hub.now conn open_at acts ss self.old.session self.old.passes talk0
+            (L.talk link.old) counts0 (L.counts link.old) hours0 (C.hours clock.old)
+            → ComesToRest end hub.now conn open_at left self.new.passes talk0 (L.talk link.new) counts0 (L.counts link.new) hours0
+            (C.hours clock.new)) }
     {
         match link.next() {
             Next::Text(bytes) => match self.hear(alloc, rt, hub, bytes.as_slice(), clock) {
@@ -83,7 +92,11 @@ impl Sitting {
         clock: &mut C,
     ) -> End
         requires { IsSitting hub.now self.old.session self.old.passes }
-        ensures rests { (talk0 : Option Talk) (counts0 : LinkCounts) (hours0 : Hours) (conn open_at left : ℕ) (acts : List Act) (ss : List Sending) → Stands hub.now conn open_at acts ss self.old.session self.old.passes talk0 (L.talk link.old) counts0 (L.counts link.old) hours0 (C.hours clock.old) → ComesToRest result hub.now conn open_at left self.new.passes talk0 (L.talk link.new) counts0 (L.counts link.new) hours0 (C.hours clock.new) }
+        ensures rests { (talk0 : Option Talk) (counts0 : LinkCounts) (hours0 : Hours) (conn open_at left : ℕ) (acts : List Act)
+            (ss : List Sending) → Stands hub.now conn open_at acts ss self.old.session self.old.passes talk0 (L.talk link.old) counts0
+            (L.counts link.old) hours0 (C.hours clock.old)
+            → ComesToRest result hub.now conn open_at left self.new.passes talk0 (L.talk link.new) counts0 (L.counts link.new) hours0
+            (C.hours clock.new) }
     {
         for _ in rt.forever() {
             match self.take(alloc, rt, hub, link, clock) {
@@ -115,7 +128,8 @@ fn serve<R: Wait, L: Link, C: Clock>(
     link: &mut L,
     clock: &mut C,
 ) -> Closed
-    ensures served { (t : Account) × Served result.end hub.now conn t result.passes (L.talk link.old) (L.talk link.new) (L.counts link.old) (L.counts link.new) (C.hours clock.old) (C.hours clock.new) }
+    ensures served { (account : Account) × Served result.end hub.now conn account result.passes (L.talk link.old) (L.talk link.new)
+        (L.counts link.old) (L.counts link.new) (C.hours clock.old) (C.hours clock.new) }
     ensures taken { IfTaken result.end (IsTaken hub.now conn result.passes result.refused) }
 {
     let held = for_the_end(alloc);
@@ -185,25 +199,62 @@ pub fn serve_session<R: Wait, L: Link, C: Clock>(
     link: &mut L,
     clock: &mut C,
 ) -> Closed
-    ensures served { (t : Account) × Served result.end hub.now conn t result.passes (L.talk link.old) (L.talk link.new) (L.counts link.old) (L.counts link.new) (C.hours clock.old) (C.hours clock.new) }
-    ensures sent_is_the_view { (t : Account) × IsAccount conn t (L.talk link.old) (L.talk link.new) × SentIsView result.end hub.now conn t result.passes }
-    ensures labels { (t : Account) × IsAccount conn t (L.talk link.old) (L.talk link.new) × All (IsLabelled hub.now result.passes.rooms.items) t.sendings }
-    ensures entries_of_the_texts { (t : Account) × IsAccount conn t (L.talk link.old) (L.talk link.new) × EntriesAreMade result.end conn t result.passes }
-    ensures answers { (t : Account) × IsAccount conn t (L.talk link.old) (L.talk link.new) × AnswersAreKept result.end hub.now conn t result.passes }
-    ensures opened { (t : Account) × IsAccount conn t (L.talk link.old) (L.talk link.new) × IsOpen (is_short result.end) conn t result.passes result.passes.hall }
-    ensures moments { (t : Account) × IsAccount conn t (L.talk link.old) (L.talk link.new) × TellsMoments result.end conn t result.passes.hall (C.hours clock.old) (C.hours clock.new) }
-    ensures looks_are_answered { (t : Account) × IsAccount conn t (L.talk link.old) (L.talk link.new) × LooksAreAnswered result.end hub.now conn t result.passes }
+    // All that follows, of one and the same account of the session.
+    ensures served { (account : Account) × Served result.end hub.now conn account result.passes (L.talk link.old) (L.talk link.new)
+        (L.counts link.old) (L.counts link.new) (C.hours clock.old) (C.hours clock.new) }
+
+    // What was sent from a place is the whole view over what was handed out of its history, message by message; of a session that was
+    // broken off, a prefix of that. Each text from a room begins with the id by which it is held.
+    ensures sent_is_the_view { SomeAccount conn (L.talk link.old) (L.talk link.new) (λ account.
+        SentIsView result.end hub.now conn account result.passes) }
+    ensures labels { SomeAccount conn (L.talk link.old) (L.talk link.new) (λ account.
+        All (IsLabelled hub.now result.passes.rooms.items) account.sendings) }
+
+    // Its entries are those of the texts that the link gave, in order and each once, with the Begins and Reports that follow from them,
+    // and one Quit at each place; what an entry gave is what the hall or the room answered to it. Its Open stands in the hall.
+    ensures entries_of_the_texts { SomeAccount conn (L.talk link.old) (L.talk link.new) (λ account.
+        EntriesAreMade result.end conn account result.passes) }
+    ensures answers { SomeAccount conn (L.talk link.old) (L.talk link.new) (λ account.
+        AnswersAreKept result.end hub.now conn account result.passes) }
+    ensures opened { SomeAccount conn (L.talk link.old) (L.talk link.new) (λ account.
+        IsOpen (is_short result.end) conn account result.passes result.passes.hall) }
+
+    // The clock gave one moment for the Open, one for each text that became an order, and one for the Quits. At each place there was one
+    // look for each answer of the link, and all that it showed was handed out.
+    ensures moments { SomeAccount conn (L.talk link.old) (L.talk link.new) (λ account.
+        TellsMoments result.end conn account result.passes.hall (C.hours clock.old) (C.hours clock.new)) }
+    ensures looks_are_answered { SomeAccount conn (L.talk link.old) (L.talk link.new) (λ account.
+        LooksAreAnswered result.end hub.now conn account result.passes) }
+
+    // Its passes are of the hub, each of the one history of its place.
     ensures of_the_hub { AreOfHub hub.now result.passes }
     ensures one_history { OneHistory hub.now conn result.passes }
-    ensures one_begin { (t : Account) × IsAccount conn t (L.talk link.old) (L.talk link.new) × OneBegin result.end t result.passes.rooms.items }
+
+    // Each battle that an entry of it started it began once, and no other. In the hall that its pass saw, each match started its battle,
+    // and the ladder of each format is the fold over all won reports of its rated battles.
+    ensures one_begin { SomeAccount conn (L.talk link.old) (L.talk link.new) (λ account.
+        OneBegin result.end account result.passes.rooms.items) }
     ensures hall { IfSome result.passes.hall (LosesNothing hub.now) }
-    ensures two_worlds { (t : Account) × IsAccount conn t (L.talk link.old) (L.talk link.new) × TwoWorlds result.end hub.now conn t result.passes }
-    ensures cause { (t : Account) × IsAccount conn t (L.talk link.old) (L.talk link.new) × HasCause result.end hub.now conn t result.passes.rooms.items (L.talk link.new) (L.counts link.old) (L.counts link.new) }
-    ensures complete { (t : Account) × IsAccount conn t (L.talk link.old) (L.talk link.new) × EndsWellWithin result.end hub.now conn t result.passes.rooms.items (L.talk link.old) (L.counts link.old) (L.counts link.new) }
+
+    // What was sent from a place is also the view over every world there that is the same to the connection.
+    ensures two_worlds { SomeAccount conn (L.talk link.old) (L.talk link.new) (λ account.
+        TwoWorlds result.end hub.now conn account result.passes) }
+
+    // The end has its cause. A link that doesn't fail, and whose texts can be read and are within the limits, gives Closed, Taken or
+    // NoMemory.
+    ensures cause { SomeAccount conn (L.talk link.old) (L.talk link.new) (λ account.
+        HasCause result.end hub.now conn account result.passes.rooms.items (L.talk link.new) (L.counts link.old) (L.counts link.new)) }
+    ensures complete { SomeAccount conn (L.talk link.old) (L.talk link.new) (λ account.
+        EndsWellWithin result.end hub.now conn account result.passes.rooms.items (L.talk link.old) (L.counts link.old) (L.counts link.new)) }
+    ensures few_texts { (talk : Talk) → L.talk link.old ≡ Some talk → AreFew talk.inbox
+        → (Rose (L.counts link.old).faults (L.counts link.new).faults → ⊥) → EndsWell result.end }
+
+    // Taken comes only where an entry stood under its number before its own first one; else all that stands under it is its own.
     ensures taken { IfTaken result.end (IsTaken hub.now conn result.passes result.refused) }
     ensures own_names { HasOwnNames conn result.passes }
+
+    // All of it once more, as what two sessions of a hub that meet are compared by (`Closed::meet_in_hall`, `meet_in_room`).
     ensures session { IsSession hub.now conn result }
-    ensures few_texts { (talk : Talk) → L.talk link.old ≡ Some talk → AreFew talk.inbox → (Rose (L.counts link.old).faults (L.counts link.new).faults → ⊥) → EndsWell result.end }
 {
     serve(alloc, rt, hub, conn, link, clock)
 }

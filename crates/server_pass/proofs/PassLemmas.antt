@@ -13,7 +13,7 @@ use Rattle.ps_histlock.proofs.TurnLemmas.{rest_looked}
 use Rattle.server_pass.specs.Tellings.{Telling, IsLawful, UpTo, lines_of, IsTold}
 use Rattle.server_pass.specs.Turns.{ReadsAtLast, TakesAtLast}
 use Rattle.server_pass.specs.Passes.{NeverFalls, Grows, IsPass}
-use Rattle.server_pass.specs.declared.taken.Taken.{Taken}
+use Rattle.server_pass.specs.declared.turn_end.TurnEnd.{TurnEnd}
 use Rattle.server_pass.specs.declared.pass.PlacePass.{PlacePass}
 use Rattle.server_pass.proofs.ToldLemmas.{told_new, told_after, told_handed, takes_map, PullsOrNot, pulls_map, Leaves, signs_after, never_falls}
 
@@ -156,7 +156,7 @@ module _ {O C X : Type 0} (pulls : O → List C → X → List Msg → X → Typ
       subst (λ (b : X). ReadsAtLast (UpTo pulls t.bounded) v x kept result w b more) (sym off)
       (read_bounded v x until kept result w z more free (subst (λ (b : X). ReadsAtLast pulls v b kept result w z more) set told))
 
-  pub turn_up_to : {U T B L N : Type 0} (answers : O → List C → C → U → Type 0) (v : View O C) (x a z y : X) (until : Option ℕ) (kept : List Msg) (c : C) (e : Taken T B L N)
+  pub turn_up_to : {U T B L : Type 0} (answers : O → List C → C → U → Type 0) (v : View O C) (x a z y : X) (until : Option ℕ) (kept : List Msg) (c : C) (e : TurnEnd T B L)
       (w : View O C) (more : List Msg) → t.bounded None x ≡ x → a ≡ t.bounded until x → y ≡ t.bounded None z → TakesAtLast answers pulls v a kept c e w z more
       → TakesAtLast answers (UpTo pulls t.bounded) v x kept c e w y more
   turn_up_to answers v x a z y until kept c e w more free set off told =

@@ -9,7 +9,9 @@ use Rattle.ps_histlock.specs.declared.view.Entry.{Entry}
 use Rattle.ps_histlock.specs.declared.view.View.{View}
 use Rattle.ps_histlock.specs.Histories.{commands, entry}
 use Rattle.ps_histlock.specs.Views.{after_meeting, after_look, Extends}
-use Rattle.ps_histlock.specs.Turns.{turned, IsBusy}
+use Rattle.ps_histlock.specs.declared.turn.Unread.{Unread}
+use Rattle.ps_histlock.specs.declared.turn.Unread.TheVariants as unread
+use Rattle.ps_histlock.specs.Turns.{turned, Turns, IsBusy}
 use Rattle.ps_histlock.specs.Signs.{SignsAs, IsOf}
 use Rattle.ps_histlock.proofs.Lists.{prefix_self, prefix_more, prefix_trans}
 use Rattle.ps_histlock.proofs.TurnLemmas.{commands-append}
@@ -18,10 +20,10 @@ use Rattle.std.proofs.lemmas.List.Elements.{All-append}
 use Rattle.server_pass.specs.Tellings.{lines_of, IsTold, GoesOn}
 use Rattle.server_pass.specs.Passes.{Adds, NeverFalls, Grows}
 use Rattle.server_pass.specs.Catches.{HandsOut}
-use Rattle.server_pass.specs.Turns.{Turns, TurnsAtLast, ReadsOn, Rereads, PullsMore, Reads, ReadsAtLast, Takes, TakesAtLast}
-use Rattle.server_pass.specs.declared.taken.Back.{Back}
-use Rattle.server_pass.specs.declared.taken.Taken.{Taken}
-use Rattle.server_pass.specs.declared.taken.Taken.TheVariants.{Done, Busy, OwnLimit, NameTaken, NoMemory}
+use Rattle.server_pass.specs.Turns.{TurnsAtLast, ReadsOn, Rereads, PullsMore, Reads, ReadsAtLast, Takes, TakesAtLast}
+use Rattle.server_pass.specs.declared.turn_end.Back.{Back}
+use Rattle.server_pass.specs.declared.turn_end.TurnEnd.{TurnEnd}
+use Rattle.server_pass.specs.declared.turn_end.TurnEnd.TheVariants.{Done, Busy, OwnLimit, NameTaken, NoMemory}
 
 module _ {C X : Type 0} (shows : List C → List (List (List ℕ)) → Type 0) (stands_at : List C → X → Type 0) where
   pub told_new : (x : X) → stands_at [] x → shows [] [] → IsTold shows stands_at [] x 0 [] 0
@@ -289,13 +291,11 @@ module _ {O C X : Type 0} (pulls : O → List C → X → List Msg → X → Typ
   turn_leaves_at_last v x kept cmd w y more t pulled =
       tries_leave v x kept cmd w y more t.0 (turn_leaves (record v { met = v.met ++ t.0 }) x kept cmd w y more t.1 pulled)
 
-  pub reads_leave : {U L N : Type 0} (v : View O C) (x : X) (kept : List Msg) (r : Taken U ℕ L N) (w : View O C) (y : X) (more : List Msg)
+  pub reads_leave : {T : Type 0} (v : View O C) (x : X) (kept : List Msg) (r : Result T Unread) (w : View O C) (y : X) (more : List Msg)
       → Reads pulls v x kept r w y more → Leaves v x kept None w y more
-  reads_leave v x kept (Done out) w y more told = turn_leaves v x kept None w y more told.0 (inl told.1)
-  reads_leave v x kept (Busy word) w y more told = busy_leaves v x kept None word w y more told.0 (inr (told.1, told.2))
-  reads_leave v x kept (OwnLimit reason) w y more told = absurd told
-  reads_leave v x kept (NameTaken reason) w y more told = absurd told
-  reads_leave v x kept NoMemory w y more told = ⊎_elim
+  reads_leave v x kept (Ok done) w y more told = turn_leaves v x kept None w y more told.0 (inl told.1)
+  reads_leave v x kept (Err (unread.Busy word)) w y more told = busy_leaves v x kept None word w y more told.0 (inr (told.1, told.2))
+  reads_leave v x kept (Err unread.NoMemory) w y more told = ⊎_elim
       (λ (e : w ≡ v). same_leaves v x kept None w y more e (inr (told.1, told.2)))
       (λ (t : Turns v None w). turn_leaves v x kept None w y more t (inr (told.1, told.2)))
       told.0
@@ -309,23 +309,23 @@ module _ {O C X : Type 0} (pulls : O → List C → X → List Msg → X → Typ
       told.0
 
 module _ {O C U X : Type 0} (answers : O → List C → C → U → Type 0) (pulls : O → List C → X → List Msg → X → Type 0) where
-  pub takes_leave : {L N : Type 0} (v : View O C) (x : X) (kept : List Msg) (c : C) (t : Taken U (Back C) L N) (w : View O C) (y : X) (more : List Msg)
+  pub takes_leave : {L : Type 0} (v : View O C) (x : X) (kept : List Msg) (c : C) (t : TurnEnd U (Back C) L) (w : View O C) (y : X) (more : List Msg)
       → Takes answers pulls v x kept c t w y more → Leaves pulls v x kept (Some c) w y more
   takes_leave v x kept c (Done out) w y more told = turn_leaves pulls v x kept (Some c) w y more (told.0, told.1, told.2) told.4
   takes_leave v x kept c (Busy back) w y more told = busy_leaves pulls v x kept (Some c) back.word w y more told.0 (inr (told.2, told.3))
   takes_leave v x kept c (OwnLimit reason) w y more told = same_leaves pulls v x kept (Some c) w y more told.1 (inr (told.2, told.3))
-  takes_leave v x kept c (NameTaken reason) w y more told = silent_leaves pulls v x kept (Some c) w y more told.0 (inr (told.1, told.2))
+  takes_leave v x kept c NameTaken w y more told = silent_leaves pulls v x kept (Some c) w y more told.0 (inr (told.1, told.2))
   takes_leave v x kept c NoMemory w y more told = ⊎_elim
       (λ (e : w ≡ v). same_leaves pulls v x kept (Some c) w y more e (inr (told.0.0, told.1)))
       (λ (t : Turns v None w). silent_leaves pulls v x kept (Some c) w y more t (inr (told.0.0, told.1)))
       told.0.1
 
-  pub takes_leave_at_last : {T B L N : Type 0} (v : View O C) (x : X) (kept : List Msg) (c : C) (t : Taken T B L N) (w : View O C) (y : X) (more : List Msg)
+  pub takes_leave_at_last : {T B L : Type 0} (v : View O C) (x : X) (kept : List Msg) (c : C) (t : TurnEnd T B L) (w : View O C) (y : X) (more : List Msg)
       → TakesAtLast answers pulls v x kept c t w y more → Leaves pulls v x kept (Some c) w y more
   takes_leave_at_last v x kept c (Done out) w y more told = turn_leaves_at_last pulls v x kept (Some c) w y more told.0 told.1
   takes_leave_at_last v x kept c (Busy back) w y more told = absurd told
   takes_leave_at_last v x kept c (OwnLimit reason) w y more told = absurd told
-  takes_leave_at_last v x kept c (NameTaken reason) w y more told =
+  takes_leave_at_last v x kept c NameTaken w y more told =
       silent_leaves_at_last pulls v x kept (Some c) w y more told.0 (inr (told.1, told.2))
   takes_leave_at_last v x kept c NoMemory w y more told = ⊎_elim
       (λ (e : w ≡ v). same_leaves pulls v x kept (Some c) w y more e (inr (told.0.0, told.1)))
@@ -333,7 +333,7 @@ module _ {O C U X : Type 0} (answers : O → List C → C → U → Type 0) (pul
       told.0.1
 
   -- a turn with a command, and with a bound that is set for it alone
-  pub takes_map : {T B L N : Type 0} (more_pulls : O → List C → X → List Msg → X → Type 0) (v : View O C) (x z : X) (kept : List Msg) (c : C) (t : Taken T B L N)
+  pub takes_map : {T B L : Type 0} (more_pulls : O → List C → X → List Msg → X → Type 0) (v : View O C) (x z : X) (kept : List Msg) (c : C) (t : TurnEnd T B L)
       (w : View O C) (y u : X) (more : List Msg)
       → ((o : O) (cmds : List C) (msgs : List Msg) → pulls o cmds z msgs y → more_pulls o cmds x msgs u) → (y ≡ z → u ≡ x)
       → TakesAtLast answers pulls v z kept c t w y more → TakesAtLast answers more_pulls v x kept c t w u more
@@ -346,7 +346,7 @@ module _ {O C U X : Type 0} (answers : O → List C → C → U → Type 0) (pul
   )
   takes_map more_pulls v x z kept c (Busy back) w y u more pulled still told = told
   takes_map more_pulls v x z kept c (OwnLimit reason) w y u more pulled still told = told
-  takes_map more_pulls v x z kept c (NameTaken reason) w y u more pulled still told = (told.0, still told.1, told.2)
+  takes_map more_pulls v x z kept c NameTaken w y u more pulled still told = (told.0, still told.1, told.2)
   takes_map more_pulls v x z kept c NoMemory w y u more pulled still told = ((still told.0.0, told.0.1), told.1)
 
 module _ {O C : Type 0} where

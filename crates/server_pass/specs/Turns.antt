@@ -6,16 +6,14 @@ use Rattle.ps_histlock.specs.declared.view.View.{View}
 use Rattle.ps_histlock.specs.declared.lock.TheConstants.{OWN_LIMIT}
 use Rattle.ps_histlock.specs.Histories.{commands}
 use Rattle.ps_histlock.specs.Views.{Extends}
-use Rattle.ps_histlock.specs.Turns.{turned, IsBusy}
-use Rattle.server_pass.specs.declared.taken.Back.{Back}
-use Rattle.server_pass.specs.declared.taken.Taken.{Taken}
-use Rattle.server_pass.specs.declared.taken.Taken.TheVariants.{Done, Busy, OwnLimit, NameTaken, NoMemory}
+use Rattle.ps_histlock.specs.declared.turn.Unread.{Unread}
+use Rattle.ps_histlock.specs.declared.turn.Unread.TheVariants as unread
+use Rattle.ps_histlock.specs.Turns.{turned, Turns, IsBusy}
+use Rattle.server_pass.specs.declared.turn_end.Back.{Back}
+use Rattle.server_pass.specs.declared.turn_end.TurnEnd.{TurnEnd}
+use Rattle.server_pass.specs.declared.turn_end.TurnEnd.TheVariants.{Done, Busy, OwnLimit, NameTaken, NoMemory}
 
 module _ {O C : Type 0} where
-  -- a turn that found a history, which begins with what the pass had seen
-  abbrev pub Turns : View O C → Option C → View O C → Type 0
-  Turns v cmd w = (log : List (Entry C)) × Extends v log × (w ≡ turned v log cmd)
-
   -- the same after tries in vain, which met these words
   abbrev pub TurnsAtLast : View O C → Option C → View O C → Type 0
   TurnsAtLast v cmd w = (words : List ℕ) × Turns (record v { met = v.met ++ words }) cmd w
@@ -52,12 +50,10 @@ module _ {O C X : Type 0} (pulls : O → List C → X → List Msg → X → Typ
   PullsIfCan o cmds x kept y more = PullsMore o cmds x kept y more ⊎ ((y ≡ x) × (more ≡ kept))
 
   -- Of the view, the cursor and the messages kept before, how a turn without a command ended, and the three after
-  abbrev pub Reads : {U L N : Type 0} → View O C → X → List Msg → Taken U ℕ L N → View O C → X → List Msg → Type 0
-  Reads v x kept (Done out) w y more = Turns v None w × PullsMore v.origin (commands w.seen) x kept y more
-  Reads v x kept (Busy word) w y more = IsBusy v word w × (y ≡ x) × (more ≡ kept)
-  Reads v x kept (OwnLimit reason) w y more = ⊥
-  Reads v x kept (NameTaken reason) w y more = ⊥
-  Reads v x kept NoMemory w y more = ((w ≡ v) ⊎ Turns v None w) × (y ≡ x) × (more ≡ kept)
+  abbrev pub Reads : {T : Type 0} → View O C → X → List Msg → Result T Unread → View O C → X → List Msg → Type 0
+  Reads v x kept (Ok done) w y more = Turns v None w × PullsMore v.origin (commands w.seen) x kept y more
+  Reads v x kept (Err (unread.Busy word)) w y more = IsBusy v word w × (y ≡ x) × (more ≡ kept)
+  Reads v x kept (Err unread.NoMemory) w y more = ((w ≡ v) ⊎ Turns v None w) × (y ≡ x) × (more ≡ kept)
 
   -- the same after tries in vain: it isn't busy then
   abbrev pub ReadsAtLast : {T E : Type 0} → View O C → X → List Msg → Result T E → View O C → X → List Msg → Type 0
@@ -66,31 +62,31 @@ module _ {O C X : Type 0} (pulls : O → List C → X → List Msg → X → Typ
 
 module _ {O C U X : Type 0} (answers : O → List C → C → U → Type 0) (pulls : O → List C → X → List Msg → X → Type 0) where
   -- Of the view, the cursor, the messages kept and the command before, what a turn with it gave, and the three after
-  abbrev pub Takes : {L N : Type 0} → View O C → X → List Msg → C → Taken U (Back C) L N → View O C → X → List Msg → Type 0
+  abbrev pub Takes : {L : Type 0} → View O C → X → List Msg → C → TurnEnd U (Back C) L → View O C → X → List Msg → Type 0
   Takes v x kept c (Done out) w y more =
       (log : List (Entry C)) × Extends v log × (w ≡ turned v log (Some c)) × answers v.origin (commands log) c out
       × PullsIfCan pulls v.origin (commands w.seen) x kept y more
   Takes v x kept c (Busy back) w y more = IsBusy v back.word w × (back.cmd ≡ c) × (y ≡ x) × (more ≡ kept)
   Takes v x kept c (OwnLimit reason) w y more = (length v.mine ≡ OWN_LIMIT) × (w ≡ v) × (y ≡ x) × (more ≡ kept)
-  Takes v x kept c (NameTaken reason) w y more = Turns v None w × (y ≡ x) × (more ≡ kept)
+  Takes v x kept c NameTaken w y more = Turns v None w × (y ≡ x) × (more ≡ kept)
   Takes v x kept c NoMemory w y more = FallsShort v x w y × (more ≡ kept)
 
   -- The same after tries in vain. It isn't busy then; at its limit, or without memory at once, it tries nothing
-  abbrev pub TakesAtLast : {T B L N : Type 0} → View O C → X → List Msg → C → Taken T B L N → View O C → X → List Msg → Type 0
+  abbrev pub TakesAtLast : {T B L : Type 0} → View O C → X → List Msg → C → TurnEnd T B L → View O C → X → List Msg → Type 0
   TakesAtLast v x kept c (Done out) w y more = TurnsAtLast v (Some c) w × PullsIfCan pulls v.origin (commands w.seen) x kept y more
   TakesAtLast v x kept c (Busy back) w y more = ⊥
   TakesAtLast v x kept c (OwnLimit reason) w y more = ⊥
-  TakesAtLast v x kept c (NameTaken reason) w y more = TurnsAtLast v None w × (y ≡ x) × (more ≡ kept)
+  TakesAtLast v x kept c NameTaken w y more = TurnsAtLast v None w × (y ≡ x) × (more ≡ kept)
   TakesAtLast v x kept c NoMemory w y more = FallsShortAtLast v x w y × (more ≡ kept)
 
-module _ {U B L N : Type 0} where
+module _ {U B L : Type 0} where
   -- this holds where there is no entry, since one stands that is signed as the command is
-  abbrev pub IfKeptOut : Taken U B L N → Type 0 → Type 0
-  IfKeptOut (NameTaken reason) P = P
+  abbrev pub IfKeptOut : TurnEnd U B L → Type 0 → Type 0
+  IfKeptOut NameTaken P = P
   IfKeptOut other P = Unit {0}
 
   -- no entry was made, since the pass may make no more, or for being out of memory
-  abbrev pub IsLimited : Taken U B L N → Type 0
+  abbrev pub IsLimited : TurnEnd U B L → Type 0
   IsLimited (OwnLimit reason) = Unit {0}
   IsLimited NoMemory = Unit {0}
   IsLimited other = ⊥

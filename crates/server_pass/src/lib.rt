@@ -3,6 +3,6 @@
 #![tactic(auto)]
 
 pub mod pass;
-pub mod taken;
 pub mod told;
 mod turn;
+pub mod turn_end;

@@ -11,11 +11,11 @@ ghost use Rattle.server_pass.specs.Passes.{Grows, IsPass};
 ghost use Rattle.server_pass.specs.Catches.{IsFresh, LooksAtMost, Caught, Handed};
 ghost use Rattle.server_pass.specs.Meetings.{Met, IsHeardRightly};
 
-use crate::taken::{Reread, Tried, Waited};
 use crate::told::Told;
 use crate::turn::{join, read, take, try_read, try_take};
+use crate::turn_end::{Tried, Waited};
 use ps_base::msg::Msg;
-use ps_histlock::{HistLock, Pass};
+use ps_histlock::{HistLock, Pass, Unread};
 use std::alloc::{AllocError, Global};
 use std::mem;
 use std::sync::Wait;
@@ -206,7 +206,7 @@ impl<U: Drop, K: Told<Out = U>, N, I> PlacePass<Pass<K>, K::Cursor, N, I> {
     }
 
     /// One turn without a command, whose messages are kept. Waits for nobody.
-    pub fn try_read(&mut self, lock: &HistLock<K>) -> Reread
+    pub fn try_read(&mut self, lock: &HistLock<K>) -> Result<(), Unread>
         requires { self.old.pass.0 ≡ lock.now.0 }
         ensures lock { self.new.pass.0 ≡ self.old.pass.0 }
         ensures does { Reads K.pulls self.old.pass.1 self.old.cursor (self.old.kept.items ++ self.old.fresh.items) result

@@ -7,9 +7,9 @@ ghost use Rattle.ps_histlock.specs.Views.{IsAtRest};
 ghost use Rattle.ps_histlock.specs.declared.lock.TheConstants.{OWN_LIMIT};
 ghost use Rattle.server_pass.specs.Turns.{Takes, TakesAtLast, Reads, ReadsAtLast, IsLimited, IfKeptOut};
 
-use crate::taken::{Back, Reread, Taken, Tried, Waited};
+use crate::turn_end::{Back, Tried, TurnEnd, Waited};
 use ps_base::msg::Msg;
-use ps_histlock::{HistLock, Kept, Pass, TurnOf};
+use ps_histlock::{HistLock, Kept, Pass, TurnOf, Unread};
 use std::alloc::AllocError;
 use std::mem;
 use std::sync::Wait;
@@ -46,29 +46,20 @@ pub(crate) fn try_take<U: Drop, K: Kept<Msg = Msg, Out = U>>(
     ensures own { OwnSigns K.signer pass.old.1 pass.old.1.known → OwnSigns K.signer pass.new.1 pass.new.1.known }
 {
     if join(kept, fresh).is_err() {
-        return Taken::NoMemory;
+        return TurnEnd::NoMemory;
     }
-    match lock.try_turn(pass, cursor, Some(cmd)) {
-        TurnOf::Done { out, msgs } => match out {
-            None => unreachable!(),
-            Some(out) => {
-                *fresh = msgs;
-                Taken::Done { out }
-            }
+    match lock.try_enter(pass, cursor, cmd) {
+        TurnOf::Done { out, msgs } => {
+            *fresh = msgs;
+            TurnEnd::Done { out }
+        }
+        TurnOf::Late { out } => TurnEnd::Done { out },
+        TurnOf::Busy { word, cmd } => TurnEnd::Busy {
+            back: Back { word, cmd },
         },
-        TurnOf::Late { out } => match out {
-            None => unreachable!(),
-            Some(out) => Taken::Done { out },
-        },
-        TurnOf::Busy { word, cmd } => match cmd {
-            None => unreachable!(),
-            Some(cmd) => Taken::Busy {
-                back: Back { word, cmd },
-            },
-        },
-        TurnOf::OwnLimit { cmd: _ } => Taken::OwnLimit { reason: () },
-        TurnOf::Taken { cmd: _ } => Taken::NameTaken { reason: () },
-        TurnOf::NoMemory => Taken::NoMemory,
+        TurnOf::OwnLimit { cmd: _ } => TurnEnd::OwnLimit { reason: () },
+        TurnOf::Taken { cmd: _ } => TurnEnd::NameTaken,
+        TurnOf::NoMemory => TurnEnd::NoMemory,
     }
 }
 
@@ -92,18 +83,17 @@ pub(crate) fn take<R: Wait, U: Drop, K: Kept<Msg = Msg, Out = U>>(
     ensures own { OwnSigns K.signer pass.old.1 pass.old.1.known → OwnSigns K.signer pass.new.1 pass.new.1.known }
 {
     if join(kept, fresh).is_err() {
-        return Taken::NoMemory;
+        return TurnEnd::NoMemory;
     }
-    match lock.turn(rt, pass, cursor, Some(cmd)) {
+    match lock.enter(rt, pass, cursor, cmd) {
         TurnOf::Done { out: _, msgs } => {
             *fresh = msgs;
-            Taken::Done { out: () }
+            TurnEnd::Done { out: () }
         }
-        TurnOf::Late { out: _ } => Taken::Done { out: () },
-        TurnOf::Busy { word: _, cmd: _ } => unreachable!(),
-        TurnOf::OwnLimit { cmd: _ } => Taken::NoMemory,
-        TurnOf::Taken { cmd: _ } => Taken::NameTaken { reason: () },
-        TurnOf::NoMemory => Taken::NoMemory,
+        TurnOf::Late { out: _ } => TurnEnd::Done { out: () },
+        TurnOf::OwnLimit { cmd: _ } => TurnEnd::NoMemory,
+        TurnOf::Taken { cmd: _ } => TurnEnd::NameTaken,
+        TurnOf::NoMemory => TurnEnd::NoMemory,
     }
 }
 
@@ -114,7 +104,7 @@ pub(crate) fn try_read<U: Drop, K: Kept<Msg = Msg, Out = U>>(
     cursor: &mut K::Cursor,
     kept: &mut Vec<Msg>,
     fresh: &mut Vec<Msg>,
-) -> Reread
+) -> Result<(), Unread>
     requires { pass.old.0 ≡ lock.now.0 }
     ensures lock { pass.new.0 ≡ pass.old.0 }
     ensures does { Reads K.pulls pass.old.1 cursor.old (kept.old.items ++ fresh.old.items) result
@@ -123,19 +113,10 @@ pub(crate) fn try_read<U: Drop, K: Kept<Msg = Msg, Out = U>>(
     ensures own { OwnSigns K.signer pass.old.1 pass.old.1.known → OwnSigns K.signer pass.new.1 pass.new.1.known }
 {
     if join(kept, fresh).is_err() {
-        return Taken::NoMemory;
+        return Err(Unread::NoMemory);
     }
-    match lock.try_turn(pass, cursor, None) {
-        TurnOf::Done { out: _, msgs } => {
-            *fresh = msgs;
-            Taken::Done { out: () }
-        }
-        TurnOf::Late { out: _ } => Taken::NoMemory,
-        TurnOf::Busy { word, cmd: _ } => Taken::Busy { back: word },
-        TurnOf::OwnLimit { cmd: _ } => unreachable!(),
-        TurnOf::Taken { cmd: _ } => unreachable!(),
-        TurnOf::NoMemory => Taken::NoMemory,
-    }
+    *fresh = lock.try_read(pass, cursor)?;
+    Ok(())
 }
 
 /// The same after waiting for the turn. `AllocError` if out of memory for the messages.
@@ -155,15 +136,6 @@ pub(crate) fn read<R: Wait, U: Drop, K: Kept<Msg = Msg, Out = U>>(
     ensures own { OwnSigns K.signer pass.old.1 pass.old.1.known → OwnSigns K.signer pass.new.1 pass.new.1.known }
 {
     join(kept, fresh)?;
-    match lock.turn(rt, pass, cursor, None) {
-        TurnOf::Done { out: _, msgs } => {
-            *fresh = msgs;
-            Ok(())
-        }
-        TurnOf::Late { out: _ } => Err(AllocError),
-        TurnOf::Busy { word: _, cmd: _ } => unreachable!(),
-        TurnOf::OwnLimit { cmd: _ } => unreachable!(),
-        TurnOf::Taken { cmd: _ } => unreachable!(),
-        TurnOf::NoMemory => Err(AllocError),
-    }
+    *fresh = lock.read(rt, pass, cursor)?;
+    Ok(())
 }

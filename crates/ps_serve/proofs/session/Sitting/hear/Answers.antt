@@ -1,16 +1,15 @@
-use Rattle.std.proofs.Common.{subst, refl}
+use Rattle.std.proofs.Common.{subst}
 use Rattle.ps_session.specs.Sessions.{Record}
 use Rattle.ps_serve.specs.Obeys.{Obeys}
 use Rattle.ps_serve.proofs.OrderLemmas.{taken_needs}
-use Rattle.ps_serve.proofs.Stopped.{short_at_once}
-use Rattle.ps_serve.proofs.Hearing.{heard_by, stopped_by}
+use Rattle.ps_serve.proofs.Hearing.{heard_by, stopped_by, refused_by}
 use Rattle.ps_serve.proofs.session.Sitting.hear.Goals as goal
 
 pub obey-requires-clause-badge : goal.obey-requires-clause-badge
 obey-requires-clause-badge g c = taken_needs c.args.self.now.session c.args.bytes.now c.in-Ok.order c.args.self.now.passes c.in-Ok.ensures.order c.requires.badge
 
-pub returns-in-Err-NoMemory-clause-stopped : goal.returns-in-Err-NoMemory-clause-stopped
-returns-in-Err-NoMemory-clause-stopped g c = λ conn open_at acts ss s. short_at_once c.args.hub.now conn open_at acts ss c.args.self.now.session c.args.self.now.passes s c.args.bytes.now _ _ refl c.requires.of
+pub returns-in-Err-clause-stopped : goal.returns-in-Err-clause-stopped
+returns-in-Err-clause-stopped g c = refused_by c.args.hub.now c.args.self.now.session c.args.self.now.passes c.args.bytes.now _ c.in-Err.fault c.in-Err.ensures.fault c.requires.of
 
 pub returns-in-Ok-clause-heard : goal.returns-in-Ok-clause-heard
 returns-in-Ok-clause-heard g c = heard_by c.args.hub.now c.args.self.now.session c.args.self.now.passes c.args.bytes.now _ _ c.now-moment.result c.in-Ok.order c.obey.new.self.session c.obey.new.self.passes c.obey.result
