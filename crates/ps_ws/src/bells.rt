@@ -3,8 +3,9 @@
 use mio::Waker;
 use std::alloc::{AllocError, Global};
 use std::collections::BTreeMap;
-use std::sync::atomic::{AtomicBool, Ordering};
+use std::sync::atomic::{AtomicBool, AtomicU64, Ordering};
 use std::sync::{Arc, Mutex, Wait};
+use std::thread;
 
 /// What ends the wait of one link: its waker, and whether it has rung since the link last answered.
 pub(crate) struct Bell {
@@ -32,11 +33,14 @@ impl Bell {
     }
 
     /// Ends the wait that its link is in, or begins next, unless it did so since the link last answered: a wake is a call of the host.
-    fn ring(&self) {
-        if !self.has_rung.swap(true, Ordering::SeqCst) {
-            // Where the host refuses it, the link answers as its wait is over.
-            let _ = self.waker.wake();
+    /// Says whether it did so now.
+    fn ring(&self) -> bool {
+        if self.has_rung.swap(true, Ordering::SeqCst) {
+            return false;
         }
+        // Where the host refuses it, the link answers as its wait is over.
+        let _ = self.waker.wake();
+        true
     }
 
     /// Whether it has rung since it was last made ready.
@@ -97,11 +101,74 @@ fn ready_bells(
     Ok(ready)
 }
 
+// How many links the one that rings wakes before it lets them run: more than processors that they run on.
+const AT_ONCE: u64 = 8;
+
+// Bells to ring, for several links: each takes some, until none are left.
+struct Round {
+    bells: Vec<Arc<Bell>>,
+    // How many were taken.
+    taken: AtomicU64,
+}
+
+impl Drop for Round {
+    fn drop(self) {
+        let Round { bells: _, taken: _ } = self;
+    }
+}
+
+impl Round {
+    // Wakes one more link. `false`: none is left.
+    fn ring_one(&self) -> bool {
+        for _ in 0..self.bells.len() {
+            let at = self.taken.fetch_add(1, Ordering::SeqCst);
+            match self.bells.get(at as usize) {
+                None => return false,
+                Some(bell) => {
+                    if bell.ring() {
+                        return true;
+                    }
+                }
+            }
+        }
+        false
+    }
+
+    // Wakes some more links. `false`: none are left.
+    fn ring_some(&self) -> bool {
+        for _ in 0..AT_ONCE {
+            if !self.ring_one() {
+                return false;
+            }
+        }
+        true
+    }
+
+    // Wakes those that are left, and lets them run meanwhile.
+    fn ring(&self) {
+        for _ in 0..self.bells.len() {
+            thread::yield_now();
+            if !self.ring_some() {
+                return;
+            }
+        }
+    }
+}
+
+// A round of the bells of a place that are ready to ring, but for that of a link.
+fn round_of(alloc: Global, attending: &Attending, but: u64) -> Result<Arc<Round>, AllocError> {
+    let round = Round {
+        bells: ready_bells(alloc, attending, but)?,
+        taken: AtomicU64::new(0),
+    };
+    Ok(Arc::new(alloc, round)?)
+}
+
 // Rings the bells of a place, but for that of a link.
 fn ring_all(attending: &Attending, but: u64) {
     for (number, bell) in attending.iter() {
         if *number != but {
-            bell.ring();
+            let _ = bell.ring();
         }
     }
 }
@@ -112,6 +179,9 @@ pub(crate) struct Bells {
     // Whether the door and all its links are to end.
     are_over: AtomicBool,
     places: Mutex<Places>,
+    // Whether there is a round that woken links may help with, and which.
+    has_round: AtomicBool,
+    round: Mutex<Option<Arc<Round>>>,
 }
 
 impl Drop for Bells {
@@ -120,6 +190,8 @@ impl Drop for Bells {
             alloc: _,
             are_over: _,
             places: _,
+            has_round: _,
+            round: _,
         } = self;
     }
 }
@@ -136,6 +208,8 @@ impl Bells {
                 rooms: BTreeMap::new(alloc),
                 door: None,
             }),
+            has_round: AtomicBool::new(false),
+            round: Mutex::new(None),
         }
     }
 
@@ -199,16 +273,61 @@ impl Bells {
         let Some(attending) = places.at(place) else {
             return;
         };
-        let ready = match ready_bells(self.alloc, attending, but) {
-            Ok(ready) => ready,
+        let round = match round_of(self.alloc, attending, but) {
+            Ok(round) => round,
             Err(_) => {
                 ring_all(attending, but);
                 return;
             }
         };
         drop(places);
-        for bell in ready.as_slice() {
-            bell.ring();
+        self.ring_round(rt, &round);
+    }
+
+    // Rings the bells of a round, with those that it woke.
+    fn ring_round<R: Wait>(&self, rt: &R, round: &Arc<Round>) {
+        if !round.ring_some() {
+            return;
+        }
+        let is_shared = self.share(rt, round);
+        round.ring();
+        if is_shared {
+            self.has_round.store(false, Ordering::SeqCst);
+            *self.round.lock(rt) = None;
+        }
+    }
+
+    // Lets woken links help with a round. Of two rounds at once it is the later: the links that the earlier woke are awake.
+    fn share<R: Wait>(&self, rt: &R, round: &Arc<Round>) -> bool {
+        let Ok(round) = round.clone() else {
+            return false;
+        };
+        *self.round.lock(rt) = Some(round);
+        self.has_round.store(true, Ordering::SeqCst);
+        true
+    }
+
+    // The round that woken links may help with.
+    fn shared_round<R: Wait>(&self, rt: &R) -> Option<Arc<Round>> {
+        match &*self.round.lock(rt) {
+            None => None,
+            Some(round) => {
+                let round: Result<_, _> = round.clone();
+                round.ok()
+            }
+        }
+    }
+
+    /// Wakes one more link, where somebody wakes many.
+    pub(crate) fn help<R: Wait>(&self, rt: &R) {
+        if !self.has_round.load(Ordering::SeqCst) {
+            return;
+        }
+        let Some(round) = self.shared_round(rt) else {
+            return;
+        };
+        if !round.ring_one() {
+            self.has_round.store(false, Ordering::SeqCst);
         }
     }
 
@@ -227,7 +346,7 @@ impl Bells {
         self.are_over.store(true, Ordering::SeqCst);
         self.ring(rt, None, 0);
         if let Some(bell) = &self.places.lock(rt).door {
-            bell.ring();
+            let _ = bell.ring();
         }
     }
 }

@@ -19,7 +19,7 @@ use std::time::Duration;
 use std::{io, rt, thread};
 
 // How long a door that may be stopped waits for a client before it looks again, in milliseconds.
-const IDLE: u64 = 5_000;
+const IDLE: u64 = 10_000;
 
 // How long it waits where there is no descriptor or no memory for a client, in milliseconds.
 const PAUSE: u64 = 100;

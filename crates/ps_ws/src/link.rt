@@ -33,7 +33,7 @@ pub enum Ending {
 ///   malformed or of HTTP/1.0, has a body, or where Host, Upgrade, Connection or the key are missing, wrong or there twice.
 /// - A text message and a binary message are each a Text of its bytes, whole, of at most
 ///   [`MESSAGE_LIMIT`] bytes.
-/// - Quiet comes where nothing has come within 5 seconds, soon after another link of its door rang at a place that this one attends,
+/// - Quiet comes where nothing has come within 10 seconds, soon after another link of its door rang at a place that this one attends,
 ///   and at each ping and pong. A ping is answered. Where memory was refused for its bell, Quiet comes after 50 milliseconds.
 /// - End comes where both sides have said that they close, and from then on; and where its door was stopped: what was to be sent has
 ///   left, with a Close frame of the code 1001. One that is in its handshake then has failed.

@@ -30,7 +30,7 @@ pub(crate) const PARTING: u64 = 1_000;
 const POLL: u64 = 50;
 
 // How long a link waits for its client, or its bell, at most, in milliseconds.
-const IDLE: u64 = 5_000;
+const IDLE: u64 = 10_000;
 
 // How many messages of a client are taken, at most, before what is to be sent leaves.
 const READ_AHEAD: u32 = 16;
@@ -436,6 +436,8 @@ impl<R: rt::Clock + Wait + Copy> Wire<R> {
         if let Some(next) = self.read_in_turn()? {
             return Ok(next);
         }
+        // Whoever woke this link may have others to wake. As it rests now, they run at once, where all that they need is at hand.
+        self.bells.help(&self.host);
         self.rest()?;
         match self.read_in_turn()? {
             Some(next) => Ok(next),
@@ -634,7 +636,7 @@ impl<R: rt::Clock + Wait + Copy> Wire<R> {
         }
     }
 
-    // Tells a client that broke the protocol why its connection ends, in a Close frame, and ends it.
+    // Tells the client why its connection ends, in a Close frame, and ends it.
     fn close(&mut self, code: CloseCode, reason: &'static str) {
         if self.write_out(None).is_err() {
             return;
