@@ -78,10 +78,12 @@ user_row groups u = record { key = u.id; value = user_text groups u }
 -- ---- the rest: the nonce and the seed aren't told but for whether they are the defaults
 
 abbrev pub nonce_word : List ℕ → List ℕ
-nonce_word nonce = if bytes_eq nonce (codes "0") then codes "the default: give each server its own" else codes "its own"
+nonce_word nonce = if bytes_eq nonce (codes "0") then codes
+    "the default: without the key, `always` draws one; otherwise give each server its own" else codes "its own"
 
 abbrev pub seed_word : ℕ → List ℕ
-seed_word seed = if seed == 0 then codes "the default: its draws can be foretold" else codes "its own"
+seed_word seed = if seed == 0 then codes "the default: without the key, `always` draws one; otherwise its draws can be foretold" else
+    codes "its own"
 
 unfoldable pub setup_rows : Settings → List Row
 setup_rows s =

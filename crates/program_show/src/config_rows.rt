@@ -217,7 +217,7 @@ fn nonce_word(nonce: &str) -> &'static str
     ensures { result.now ≡ nonce_word nonce.now }
 {
     if nonce == "0" {
-        "the default: give each server its own"
+        "the default: without the key, `always` draws one; otherwise give each server its own"
     } else {
         "its own"
     }
@@ -227,7 +227,7 @@ fn seed_word(seed: u64) -> &'static str
     ensures { result.now ≡ seed_word seed }
 {
     if seed == 0 {
-        "the default: its draws can be foretold"
+        "the default: without the key, `always` draws one; otherwise its draws can be foretold"
     } else {
         "its own"
     }
