@@ -19,7 +19,8 @@ pub record AreCoursesAlike (hidden : Hidden) (front : ℕ → ℕ) (a b : Course
 
 -- a step from alike battles leads to alike battles, and tells the same
 abbrev pub KeepsAlike : (Course → Course) → Type 0
-KeepsAlike step = (hidden : Hidden) (front : ℕ → ℕ) (a b : Course) → AreCoursesAlike hidden front a b → AreCoursesAlike hidden front (step a) (step b)
+KeepsAlike step = (hidden : Hidden) (front : ℕ → ℕ) (a b : Course) → AreCoursesAlike hidden front a b
+    → AreCoursesAlike hidden front (step a) (step b)
 
 -- whether the active member of a side has the slots of another one, which it took with its form
 abbrev pub has_copied : Battle → ℕ → Bool
@@ -32,7 +33,8 @@ pub record HasForms (formed : ℕ → ℕ → Bool) (front : ℕ → ℕ) (c : C
 
 -- the same of a step whose events may show slots, where none of those is hidden
 abbrev pub KeepsAlikeUnshown : (Course → Course) → Type 0
-KeepsAlikeUnshown step = (hidden : Hidden) (front : ℕ → ℕ) (formed : ℕ → ℕ → Bool) (a b : Course) → ShowsNoHidden hidden front formed (step a).told → HasForms formed front a →
+KeepsAlikeUnshown step = (hidden : Hidden) (front : ℕ → ℕ) (formed : ℕ → ℕ → Bool) (a b : Course)
+    → ShowsNoHidden hidden front formed (step a).told → HasForms formed front a →
     AreCoursesAlike hidden front a b → AreCoursesAlike hidden front (step a) (step b)
 
 -- ---- what is told
@@ -50,7 +52,8 @@ NamesBoth user foe old new = (P : Who → Type 0) → P user → P foe → All (
 abbrev pub active_who : Battle → ℕ → Who
 active_who b s = record { side = side_name s; member = active_index (side_of b s) }
 
--- a step of a battle only adds events, which name the two active members alone, and these stay active. Who takes another's form has its slots
+-- a step of a battle only adds events, which name the two active members alone, and these stay active. Who takes another's form has
+-- its slots
 pub record TellsOfActive (a b : Course) : Type 1 where
   pub index : (s : ℕ) → s < 2 → active_index (side_of b.battle s) ≡ active_index (side_of a.battle s)
   pub grows : Grows a.told b.told

@@ -50,7 +50,8 @@ is_who s k who = side_number who.side == s && who.member == k
 abbrev pub has_move : ℕ → List ℕ → Bool
 has_move mv moves = list_any (λ m. m == mv) moves
 
--- an event of the member names the move: that it uses it, prepares it, called or went on with it, or that something of it begins or does something
+-- an event of the member names the move: that it uses it, prepares it, called or went on with it, or that something of it begins or
+-- does something
 abbrev pub names : ℕ → ℕ → ℕ → Event → Bool
 names s k mv (events.Move who used target still from) = is_who s k who && has_move mv (used ∷ option_to_list from)
 names s k mv (events.VolStart who effect of) = is_who s k who && has_move mv (option_to_list of)
@@ -60,7 +61,8 @@ names s k mv other = false
 
 -- Mimic of the other side's member copied the move
 abbrev pub is_mimicked : ℕ → ℕ → Event → Bool
-is_mimicked s mv (events.VolStart who effect of) = side_number who.side == 1 - s && effect == numbers.effect_mimic && has_move mv (option_to_list of)
+is_mimicked s mv (events.VolStart who effect of) = side_number who.side == 1 - s && effect == numbers.effect_mimic
+    && has_move mv (option_to_list of)
 is_mimicked s mv other = false
 
 -- Transform copied the moves of the member
@@ -84,6 +86,8 @@ abbrev pub shows_one : ℕ → ℕ → Bool → ℕ → Bool → List Event → 
 shows_one s k active mv formed [] = false
 shows_one s k active mv formed (e ∷ es) = shows s k active mv formed e || shows_one s k active mv (formed || takes_form s k e) es
 
--- no event shows a hidden slot, where `front` are the places of the active members, and `formed` says which members had another's form before
+-- no event shows a hidden slot, where `front` are the places of the active members, and `formed` says which members had another's
+-- form before
 abbrev pub ShowsNoHidden : Hidden → (ℕ → ℕ) → (ℕ → ℕ → Bool) → List Event → Type 0
-ShowsNoHidden hidden front formed told = (s k j : ℕ) → hidden.slot s k j ≡ true → shows_one s k (front s == k) (hidden.move s k j) (formed s k) told ≡ false
+ShowsNoHidden hidden front formed told = (s k j : ℕ) → hidden.slot s k j ≡ true
+    → shows_one s k (front s == k) (hidden.move s k j) (formed s k) told ≡ false

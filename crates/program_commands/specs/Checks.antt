@@ -22,7 +22,10 @@ use Rattle.rules_config.specs.declared.settings.Settings.{Settings}
 use Rattle.ps_valid.specs.declared.legal.Legal.{Legal}
 use Rattle.ps_valid.specs.TeamRows.{legal_in}
 use Rattle.program_commands.specs.declared.status.Status.{Status}
-use Rattle.program_commands.specs.declared.status.Status.TheVariants.{Done, Usage, FileMissing, FileFault, FileLong, BadDex, BadConfig, BadScript, ScriptLong, ReadFault, WriteFault, BadTeam, NoMemory, DoorFault, UnknownFormat, BadPack, NoTour, KeepFault, KeepFull, BadExport, NoExport}
+use Rattle.program_commands.specs.declared.status.Status.TheVariants.{Done, Usage, FileMissing, FileFault, FileLong, BadDex}
+use Rattle.program_commands.specs.declared.status.Status.TheVariants.{BadConfig, BadScript, ScriptLong, ReadFault, WriteFault}
+use Rattle.program_commands.specs.declared.status.Status.TheVariants.{BadTeam, NoMemory, DoorFault, UnknownFormat, BadPack, NoTour}
+use Rattle.program_commands.specs.declared.status.Status.TheVariants.{KeepFault, KeepFull, BadExport, NoExport}
 use Rattle.program_commands.specs.Words.{Checked}
 use Rattle.program_commands.specs.Steps.{IsFaultOf, within, from_file, dex_in, config_in}
 use Rattle.program_commands.specs.Setups.{Then, IsSettled}
@@ -64,7 +67,8 @@ pub record IsBroken (dex : Tables) (rules : RuleTable) (text : List ℕ) (set : 
 
 -- the bytes are no text, which is reported at 0, or the text isn't packed, and this is its fault
 abbrev pub IsUnpacked : List ℕ → ℕ → PackKind → Type 0
-IsUnpacked text at kind = ((IsUtf8 text → ⊥) × (at ≡ 0) × (kind ≡ pack_kinds.Text)) ⊎ (IsUtf8 text × Refuses (chars text) (pack_faults.Fault at kind))
+IsUnpacked text at kind = ((IsUtf8 text → ⊥) × (at ≡ 0) × (kind ≡ pack_kinds.Text))
+    ⊎ (IsUtf8 text × Refuses (chars text) (pack_faults.Fault at kind))
 
 -- ---- How a check may end, where the files are known. A file that is there may still fail.
 
@@ -102,7 +106,8 @@ FormatEnds lookup words dex settings status = Then (rules_in settings words.form
 
 -- from the configuration on
 abbrev pub ConfigEnds : (List ℕ → Option (List ℕ)) → Checked → Tables → Status → Type 0
-ConfigEnds lookup words dex status = IsFaultOf words.config status ⊎ Then (config_in lookup dex words.config) (FormatEnds lookup words dex) status
+ConfigEnds lookup words dex status = IsFaultOf words.config status
+    ⊎ Then (config_in lookup dex words.config) (FormatEnds lookup words dex) status
 
 -- from the dex on, which is all
 abbrev pub CheckEnds : (List ℕ → Option (List ℕ)) → Checked → Status → Type 0
@@ -171,5 +176,6 @@ abbrev pub HasLegal : Option (List ℕ → Option (List ℕ)) → Checked → Ty
 HasLegal contents words = IsSomeAnd contents (λ lookup. CheckEnds lookup words Done)
 
 -- a legal team, with no fault of the files or the sink, settles a check
-pub record SettlesCheck (contents : Option (List ℕ → Option (List ℕ))) (file_fault write_fault : Type 0) (words : Checked) (status : Status) : Type 0 where
+pub record SettlesCheck (contents : Option (List ℕ → Option (List ℕ))) (file_fault write_fault : Type 0) (words : Checked)
+    (status : Status) : Type 0 where
   pub settled : HasLegal contents words → (file_fault → ⊥) → (write_fault → ⊥) → IsSettled status

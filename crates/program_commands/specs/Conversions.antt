@@ -13,7 +13,10 @@ use Rattle.ps_packed.specs.Canon.{canon}
 use Rattle.ps_export.specs.Export.{IsExport, IsRefused}
 use Rattle.ps_export.specs.Written.{export_text, first_unwritable}
 use Rattle.program_commands.specs.declared.status.Status.{Status}
-use Rattle.program_commands.specs.declared.status.Status.TheVariants.{Done, Usage, FileMissing, FileFault, FileLong, BadDex, BadConfig, BadScript, ScriptLong, ReadFault, WriteFault, BadTeam, NoMemory, DoorFault, UnknownFormat, BadPack, NoTour, KeepFault, KeepFull, BadExport, NoExport}
+use Rattle.program_commands.specs.declared.status.Status.TheVariants.{Done, Usage, FileMissing, FileFault, FileLong, BadDex}
+use Rattle.program_commands.specs.declared.status.Status.TheVariants.{BadConfig, BadScript, ScriptLong, ReadFault, WriteFault}
+use Rattle.program_commands.specs.declared.status.Status.TheVariants.{BadTeam, NoMemory, DoorFault, UnknownFormat, BadPack, NoTour}
+use Rattle.program_commands.specs.declared.status.Status.TheVariants.{KeepFault, KeepFull, BadExport, NoExport}
 use Rattle.program_commands.specs.Setups.{IsSettled}
 use Rattle.program_commands.specs.Checks.{most_team, IsUnpacked}
 
@@ -35,7 +38,8 @@ pub record MakesExport (bytes made : List ℕ) : Type 0 where
 
 -- why a team has no export text: this is its first set that can't be written, or, for 0, its text would be over the limit
 abbrev pub IsWhyNone : List Set → ℕ → Type 0
-IsWhyNone team set = (first_unwritable 1 team ≡ Some set) ⊎ ((set ≡ 0) × (first_unwritable 1 team ≡ None) × (8192 < length (export_text team)))
+IsWhyNone team set = (first_unwritable 1 team ≡ Some set)
+    ⊎ ((set ≡ 0) × (first_unwritable 1 team ≡ None) × (8192 < length (export_text team)))
 
 -- they are a packed team, which has no export text
 pub record HasNoExport (bytes : List ℕ) (set : ℕ) : Type 0 where
@@ -75,12 +79,15 @@ abbrev pub OfFile : Option (List ℕ → Option (List ℕ)) → List ℕ → (Li
 OfFile contents name says = (bytes : List ℕ) × IfSome contents (IsFile name most_team bytes) × says bytes
 
 -- The statuses, and what has shown each. That of a file names the file, and its count rose.
-abbrev pub ConversionCause : Option (List ℕ → Option (List ℕ)) → List ℕ → (List ℕ → Status → Type 0) → FileCounts → FileCounts → Status → Type 0
+abbrev pub ConversionCause : Option (List ℕ → Option (List ℕ)) → List ℕ → (List ℕ → Status → Type 0) → FileCounts → FileCounts
+    → Status → Type 0
 ConversionCause contents name stops old new Done = Unit {0}
 ConversionCause contents name stops old new (Usage word) = ⊥
-ConversionCause contents name stops old new (FileMissing n) = (n ≡ name) × IfSome contents (λ lookup. lookup name ≡ None) × Rose old.missing new.missing
+ConversionCause contents name stops old new (FileMissing n) = (n ≡ name) × IfSome contents (λ lookup. lookup name ≡ None)
+    × Rose old.missing new.missing
 ConversionCause contents name stops old new (FileFault n) = (n ≡ name) × Rose old.faults new.faults
-ConversionCause contents name stops old new (FileLong n) = (n ≡ name) × IfSome contents (λ lookup. IsSomeAnd (lookup name) (λ bytes. most_team < length bytes)) × Rose old.long new.long
+ConversionCause contents name stops old new (FileLong n) = (n ≡ name)
+    × IfSome contents (λ lookup. IsSomeAnd (lookup name) (λ bytes. most_team < length bytes)) × Rose old.long new.long
 ConversionCause contents name stops old new (BadDex path kind) = ⊥
 ConversionCause contents name stops old new (BadConfig path kind) = ⊥
 ConversionCause contents name stops old new (BadScript line kind) = ⊥
@@ -119,7 +126,8 @@ pub record WritesFrontOfMade (makes : List ℕ → Type 0) (old new : Option (Li
   pub front : AppendsFront old new made
 
 -- all of what is made of the file at Done, a front of it at WriteFault, and else nothing
-abbrev pub WritesConversion : Option (List ℕ → Option (List ℕ)) → List ℕ → (List ℕ → List ℕ → Type 0) → Option (List ℕ) → Option (List ℕ) → Status → Type 0
+abbrev pub WritesConversion : Option (List ℕ → Option (List ℕ)) → List ℕ → (List ℕ → List ℕ → Type 0) → Option (List ℕ)
+    → Option (List ℕ) → Status → Type 0
 WritesConversion contents name makes old new Done = OfFile contents name (λ bytes. WritesMade (makes bytes) old new)
 WritesConversion contents name makes old new WriteFault = OfFile contents name (λ bytes. WritesFrontOfMade (makes bytes) old new)
 WritesConversion contents name makes old new (Usage word) = Keeps old new
@@ -154,10 +162,12 @@ WritesPacked contents name old new = OfFile contents name (λ bytes. WritesMade 
 
 -- the files are known, and something is made of the one of this name
 abbrev pub IsMakable : Option (List ℕ → Option (List ℕ)) → List ℕ → (List ℕ → List ℕ → Type 0) → Type 0
-IsMakable contents name makes = IsSomeAnd contents (λ lookup. (bytes : List ℕ) × (made : List ℕ) × IsFile name most_team bytes lookup × makes bytes made)
+IsMakable contents name makes = IsSomeAnd contents
+    (λ lookup. (bytes : List ℕ) × (made : List ℕ) × IsFile name most_team bytes lookup × makes bytes made)
 
 -- that, with no fault of the files or the sink, settles a conversion
-pub record SettlesConversion (contents : Option (List ℕ → Option (List ℕ))) (makes : List ℕ → List ℕ → Type 0) (file_fault write_fault : Type 0) (name : List ℕ) (status : Status) : Type 0 where
+pub record SettlesConversion (contents : Option (List ℕ → Option (List ℕ))) (makes : List ℕ → List ℕ → Type 0)
+    (file_fault write_fault : Type 0) (name : List ℕ) (status : Status) : Type 0 where
   pub settled : IsMakable contents name makes → (file_fault → ⊥) → (write_fault → ⊥) → IsSettled status
 
 -- ---- for the code alone

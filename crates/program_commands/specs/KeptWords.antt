@@ -1,5 +1,6 @@
 -- The words of a command that keeps notes, or reads them.
-use Rattle.std.specs.Prelude.{ℕ, ◌+◌, Bool, false, is_none, List, [], ◌∷◌, map, string_bytes, codes, Option, Some, None, Result, Ok, Err, if◌then◌else◌}
+use Rattle.std.specs.Prelude.{ℕ, ◌+◌, Bool, false, is_none, List, [], ◌∷◌, map, string_bytes, codes, Option, Some, None, Result, Ok}
+use Rattle.std.specs.Prelude.{Err, if◌then◌else◌}
 use Rattle.std.specs.Option.{option_copied}
 use Rattle.std.specs.Str.{bytes_eq}
 use Rattle.program_commands.specs.declared.kept_words.ArchiveWords.{ArchiveWords}

@@ -8,7 +8,10 @@ use Rattle.ps_outside.specs.declared.files.FileEnd.TheVariants as file_ends
 use Rattle.ps_dex.specs.declared.item.Tables.{Tables}
 use Rattle.rules_config.specs.declared.settings.Settings.{Settings}
 use Rattle.program_commands.specs.declared.status.Status.{Status}
-use Rattle.program_commands.specs.declared.status.Status.TheVariants.{Done, Usage, FileMissing, FileFault, FileLong, BadDex, BadConfig, BadScript, ScriptLong, ReadFault, WriteFault, BadTeam, NoMemory, DoorFault, UnknownFormat, BadPack, NoTour, KeepFault, KeepFull, BadExport, NoExport}
+use Rattle.program_commands.specs.declared.status.Status.TheVariants.{Done, Usage, FileMissing, FileFault, FileLong, BadDex}
+use Rattle.program_commands.specs.declared.status.Status.TheVariants.{BadConfig, BadScript, ScriptLong, ReadFault, WriteFault}
+use Rattle.program_commands.specs.declared.status.Status.TheVariants.{BadTeam, NoMemory, DoorFault, UnknownFormat, BadPack, NoTour}
+use Rattle.program_commands.specs.declared.status.Status.TheVariants.{KeepFault, KeepFull, BadExport, NoExport}
 use Rattle.program_commands.specs.Words.{Options, words_in, serve_words_in}
 use Rattle.program_commands.specs.Steps.{IsFaultOf, dex_in, config_in}
 
@@ -53,7 +56,8 @@ usage_reported (NoExport set) = None
 -- ---- what a command stands on
 
 -- A step has this value: where it names no file, whatever files there are, and else where they are told.
-abbrev pub Stands : {A : Type 0} → Option (List ℕ → Option (List ℕ)) → Option (List ℕ) → ((List ℕ → Option (List ℕ)) → Result A Status) → A → Type 0
+abbrev pub Stands : {A : Type 0} → Option (List ℕ → Option (List ℕ)) → Option (List ℕ)
+    → ((List ℕ → Option (List ℕ)) → Result A Status) → A → Type 0
 Stands contents None step x = (lookup : List ℕ → Option (List ℕ)) → step lookup ≡ Ok x
 Stands contents (Some name) step x = IfSome contents (λ lookup. step lookup ≡ Ok x)
 
@@ -79,7 +83,8 @@ pub record StopsAtConfig (options : Options) (lookup : List ℕ → Option (List
   pub stop : IsStopOf options.config (config_in lookup dex options.config) status
 
 abbrev pub Stops : Option (List ℕ → Option (List ℕ)) → Options → Status → Type 0
-Stops contents options status = IfSome contents (λ lookup. IsStopOf options.dex (dex_in lookup options.dex) status ⊎ StopsAtConfig options lookup status)
+Stops contents options status = IfSome contents
+    (λ lookup. IsStopOf options.dex (dex_in lookup options.dex) status ⊎ StopsAtConfig options lookup status)
 
 -- the words name the file
 abbrev pub IsOption : Options → List ℕ → Type 0
@@ -123,7 +128,8 @@ IsSettled (BadExport line) = ⊥
 IsSettled (NoExport set) = ⊥
 
 -- a step has this value, where it names no file, or the files are known
-abbrev pub IsKnown : {A : Type 0} → Option (List ℕ → Option (List ℕ)) → Option (List ℕ) → ((List ℕ → Option (List ℕ)) → Result A Status) → A → Type 0
+abbrev pub IsKnown : {A : Type 0} → Option (List ℕ → Option (List ℕ)) → Option (List ℕ)
+    → ((List ℕ → Option (List ℕ)) → Result A Status) → A → Type 0
 IsKnown contents None step x = (lookup : List ℕ → Option (List ℕ)) → step lookup ≡ Ok x
 IsKnown contents (Some name) step x = IsSomeAnd contents (λ lookup. step lookup ≡ Ok x)
 
@@ -141,14 +147,17 @@ abbrev pub Gave : {A : Type 0} → Option (List ℕ → Option (List ℕ)) → (
 Gave contents step x = IfSome contents (λ lookup. step lookup ≡ Ok x)
 
 -- a step ended a command: it ran out of memory, its file failed, or it gives the status
-abbrev pub Ended : {A : Type 0} → Option (List ℕ → Option (List ℕ)) → Option (List ℕ) → ((List ℕ → Option (List ℕ)) → Result A Status) → Status → Type 0
+abbrev pub Ended : {A : Type 0} → Option (List ℕ → Option (List ℕ)) → Option (List ℕ) → ((List ℕ → Option (List ℕ)) → Result A Status)
+    → Status → Type 0
 Ended contents named step status = (status ≡ NoMemory) ⊎ IfSome contents (λ lookup. IsFaultOf named status ⊎ (step lookup ≡ Err status))
 
 -- why a file of a name wasn't read
 abbrev pub NoFile : List ℕ → ℕ → Option (List ℕ → Option (List ℕ)) → FileCounts → FileCounts → Status → Type 0
-NoFile name limit contents old new (FileMissing n) = (n ≡ name) × IfSome contents (λ lookup. lookup name ≡ None) × Rose old.missing new.missing
+NoFile name limit contents old new (FileMissing n) = (n ≡ name) × IfSome contents (λ lookup. lookup name ≡ None)
+    × Rose old.missing new.missing
 NoFile name limit contents old new (FileFault n) = (n ≡ name) × Rose old.faults new.faults
-NoFile name limit contents old new (FileLong n) = (n ≡ name) × IfSome contents (λ lookup. IsSomeAnd (lookup name) (λ bytes. limit < length bytes)) × Rose old.long new.long
+NoFile name limit contents old new (FileLong n) = (n ≡ name)
+    × IfSome contents (λ lookup. IsSomeAnd (lookup name) (λ bytes. limit < length bytes)) × Rose old.long new.long
 NoFile name limit contents old new NoMemory = Unit {0}
 NoFile name limit contents old new Done = ⊥
 NoFile name limit contents old new (Usage word) = ⊥

@@ -1,5 +1,6 @@
 -- The words of a command.
-use Rattle.std.specs.Prelude.{ℕ, ◌+◌, ◌^◌, Bool, false, not, ◌&&◌, nat_le, nat_lt, ◌≤◌, List, [], ◌∷◌, codes, Option, Some, None, Result, Ok, Err, ◌==◌, if◌then◌else◌}
+use Rattle.std.specs.Prelude.{ℕ, ◌+◌, ◌^◌, Bool, false, not, ◌&&◌, nat_le, nat_lt, ◌≤◌, List, [], ◌∷◌, codes, Option, Some, None}
+use Rattle.std.specs.Prelude.{Result, Ok, Err, ◌==◌, if◌then◌else◌}
 use Rattle.std.specs.Option.{option_copied}
 use Rattle.std.specs.Str.{bytes_eq}
 use Rattle.std.specs.Str.Parse.{digits_value}
@@ -97,7 +98,8 @@ config_first at (name ∷ words) = if is_name name then with_dex (Some name) (la
 
 abbrev pub options_in : ℕ → List (List ℕ) → Result Options ℕ
 options_in at [] = Ok (record { dex = None; config = None })
-options_in at (word ∷ words) = if bytes_eq word (codes "--dex") then dex_first (at + 1) words else (if bytes_eq word (codes "--config") then config_first (at + 1) words else Err at)
+options_in at (word ∷ words) = if bytes_eq word (codes "--dex") then dex_first (at + 1) words else
+    (if bytes_eq word (codes "--config") then config_first (at + 1) words else Err at)
 
 -- ---- replay
 
@@ -184,7 +186,8 @@ users_in word = within_users (number_in word)
 
 -- the seed, a number of 64 bits, as its one decimal text
 unfoldable pub seed_in : List ℕ → Option ℕ
-seed_in word = if bytes_eq word (decimal (digits_value 10 word)) && nat_lt (digits_value 10 word) (2 ^ 64) then Some (digits_value 10 word) else None
+seed_in word = if bytes_eq word (decimal (digits_value 10 word))
+    && nat_lt (digits_value 10 word) (2 ^ 64) then Some (digits_value 10 word) else None
 
 abbrev pub tours : ℕ → ℕ → Result Options ℕ → Result Asked ℕ
 tours users seed (Ok options) = Ok (Tours (record { users = users; seed = seed; options = options }))

@@ -7,7 +7,8 @@ ghost use Rattle.ps_packed.specs.Packed.{IsTeam};
 ghost use Rattle.ps_valid.specs.TeamRows.{legal_in};
 ghost use Rattle.program_commands.specs.Words.{checked_of};
 ghost use Rattle.program_commands.specs.Setups.{EndsIfKnown, Gave, Ended, StepCause};
-ghost use Rattle.program_commands.specs.Checks.{text_in, rules_in, TextEnds, TeamEnds, FormatEnds, ConfigEnds, CheckEnds, IsNamed, CheckCause, WritesLegal, SettlesCheck};
+ghost use Rattle.program_commands.specs.Checks.{text_in, rules_in, TextEnds, TeamEnds, FormatEnds, ConfigEnds, CheckEnds, IsNamed};
+ghost use Rattle.program_commands.specs.Checks.{CheckCause, WritesLegal, SettlesCheck};
 ghost use Rattle.program_commands.specs.Ends.{FormatCause, IsOfText, Unpacks, RulesEnd};
 
 use crate::config::config_or_standard;
@@ -231,7 +232,8 @@ pub fn check<F: Files, K: Sink>(
     ensures cause { CheckCause (IsNamed (checked_of words.entry)) (F.counts files.old) (F.counts files.new) result }
     ensures wrote { WritesLegal (K.written out.old) (K.written out.new) result }
     ensures write_fault { result ≡ Status.WriteFault → Rose (K.faults out.old) (K.faults out.new) }
-    ensures settles { SettlesCheck (F.contents files.old) (Rose (F.counts files.old).faults (F.counts files.new).faults) (Rose (K.faults out.old) (K.faults out.new)) (checked_of words.entry) result }
+    ensures settles { SettlesCheck (F.contents files.old) (Rose (F.counts files.old).faults (F.counts files.new).faults)
+        (Rose (K.faults out.old) (K.faults out.new)) (checked_of words.entry) result }
 {
     check_dex(alloc, words, files, out)
 }

@@ -51,11 +51,13 @@ pub fn config_or_standard<F: Files>(
 ) -> Result<Config, Status>
     ensures same { F.contents files.new ≡ F.contents files.old }
     ensures value { IfOk result (Gave (F.contents files.old) (λ lookup. config_in lookup dex.now (option_copied named.entry))) }
-    ensures stands { IfOk result (Stands (F.contents files.old) (option_copied named.entry) (λ lookup. config_in lookup dex.now (option_copied named.entry))) }
+    ensures stands { IfOk result (Stands (F.contents files.old) (option_copied named.entry)
+        (λ lookup. config_in lookup dex.now (option_copied named.entry))) }
     ensures few { IfOk result (λ c. length c.rooms ≤ 16) }
     ensures plain { IfOk result HasPlainFormats }
     ensures counts { IfOk result (λ _. F.counts files.new ≡ F.counts files.old) }
-    ensures ended { IfErr result (Ended (F.contents files.old) (option_copied named.entry) (λ lookup. config_in lookup dex.now (option_copied named.entry))) }
+    ensures ended { IfErr result (Ended (F.contents files.old) (option_copied named.entry)
+        (λ lookup. config_in lookup dex.now (option_copied named.entry))) }
     ensures alone { IfErr result (λ s. option_copied named.entry ≡ None → s ≡ Status.NoMemory) }
     ensures cause { IfErr result (StepCause (option_copied named.entry) (F.counts files.old) (F.counts files.new)) }
 {

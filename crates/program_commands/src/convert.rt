@@ -2,7 +2,9 @@
 ghost use Rattle.std.specs.Prelude.{◌≡◌, ◌++◌, ◌∷◌, [], IfOk, IfErr};
 ghost use Rattle.ps_outside.specs.Causes.{Rose};
 ghost use Rattle.ps_packed.specs.Canon.{canon};
-ghost use Rattle.program_commands.specs.Conversions.{HasExport, MakesExport, MakesPacked, StopsExport, StopsImport, ExportCause, ImportCause, WritesConversion, SettlesConversion, IsExportOf, StopsTeam, Stops, BytesCause, WritesOfBytes, WritesText};
+ghost use Rattle.program_commands.specs.Conversions.{HasExport, MakesExport, MakesPacked, StopsExport, StopsImport, ExportCause};
+ghost use Rattle.program_commands.specs.Conversions.{ImportCause, WritesConversion, SettlesConversion, IsExportOf, StopsTeam, Stops};
+ghost use Rattle.program_commands.specs.Conversions.{BytesCause, WritesOfBytes, WritesText};
 
 use crate::check::{MOST_TEAM, team_of, without_newline};
 use crate::file::read_file;
@@ -138,7 +140,8 @@ pub fn export<F: Files, K: Sink>(alloc: Global, name: &str, files: &mut F, out: 
     ensures cause { ExportCause (F.contents files.old) name.now (F.counts files.old) (F.counts files.new) result }
     ensures wrote { WritesConversion (F.contents files.old) name.now MakesExport (K.written out.old) (K.written out.new) result }
     ensures write_fault { result ≡ Status.WriteFault → Rose (K.faults out.old) (K.faults out.new) }
-    ensures settles { SettlesConversion (F.contents files.old) HasExport (Rose (F.counts files.old).faults (F.counts files.new).faults) (Rose (K.faults out.old) (K.faults out.new)) name.now result }
+    ensures settles { SettlesConversion (F.contents files.old) HasExport
+        (Rose (F.counts files.old).faults (F.counts files.new).faults) (Rose (K.faults out.old) (K.faults out.new)) name.now result }
 {
     export_file(alloc, name, files, out)
 }
@@ -149,7 +152,8 @@ pub fn import<F: Files, K: Sink>(alloc: Global, name: &str, files: &mut F, out: 
     ensures cause { ImportCause (F.contents files.old) name.now (F.counts files.old) (F.counts files.new) result }
     ensures wrote { WritesConversion (F.contents files.old) name.now MakesPacked (K.written out.old) (K.written out.new) result }
     ensures write_fault { result ≡ Status.WriteFault → Rose (K.faults out.old) (K.faults out.new) }
-    ensures settles { SettlesConversion (F.contents files.old) MakesPacked (Rose (F.counts files.old).faults (F.counts files.new).faults) (Rose (K.faults out.old) (K.faults out.new)) name.now result }
+    ensures settles { SettlesConversion (F.contents files.old) MakesPacked
+        (Rose (F.counts files.old).faults (F.counts files.new).faults) (Rose (K.faults out.old) (K.faults out.new)) name.now result }
 {
     import_file(alloc, name, files, out)
 }

@@ -43,10 +43,12 @@ pub fn dex_or_none<F: Files>(
 ) -> Result<Dex, Status>
     ensures same { F.contents files.new ≡ F.contents files.old }
     ensures value { IfOk result (Gave (F.contents files.old) (λ lookup. dex_in lookup (option_copied named.entry))) }
-    ensures stands { IfOk result (Stands (F.contents files.old) (option_copied named.entry) (λ lookup. dex_in lookup (option_copied named.entry))) }
+    ensures stands { IfOk result (Stands (F.contents files.old) (option_copied named.entry)
+        (λ lookup. dex_in lookup (option_copied named.entry))) }
     ensures plain { IfOk result HasPlainNames }
     ensures counts { IfOk result (λ _. F.counts files.new ≡ F.counts files.old) }
-    ensures ended { IfErr result (Ended (F.contents files.old) (option_copied named.entry) (λ lookup. dex_in lookup (option_copied named.entry))) }
+    ensures ended { IfErr result (Ended (F.contents files.old) (option_copied named.entry)
+        (λ lookup. dex_in lookup (option_copied named.entry))) }
     ensures alone { IfErr result (λ s. option_copied named.entry ≡ None → s ≡ Status.NoMemory) }
     ensures cause { IfErr result (StepCause (option_copied named.entry) (F.counts files.old) (F.counts files.new)) }
 {

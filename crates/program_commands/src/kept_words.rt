@@ -1,6 +1,7 @@
 //! The words of a command that keeps notes, or reads them.
 ghost use Rattle.std.specs.Prelude.{◌≡◌, ◌<◌, ◌≤◌, ◌+◌, IfOk, Ok, Err, map, string_bytes, MatchResult};
-ghost use Rattle.program_commands.specs.KeptWords.{may_stand, with_name, name_at, option_at, archive_by, archive_if, archive_in, keep_in, standings_in, kept_words_in, keep_of, asked_kept_of, named_of, place_of};
+ghost use Rattle.program_commands.specs.KeptWords.{may_stand, with_name, name_at, option_at, archive_by, archive_if, archive_in};
+ghost use Rattle.program_commands.specs.KeptWords.{keep_in, standings_in, kept_words_in, keep_of, asked_kept_of, named_of, place_of};
 
 use crate::words::{OptionWords, is_name, last_name};
 

@@ -1,7 +1,10 @@
 //! The words of a command.
 ghost use Rattle.std.specs.Prelude.{◌≡◌, ◌<◌, ◌≤◌, IfOk, IfSome, Ok, Err, map, string_bytes, MatchResult};
 ghost use Rattle.std.specs.Option.{option_copied};
-ghost use Rattle.program_commands.specs.Words.{is_name, last_name, last_option, dex_first, config_first, options_in, replay_in, steps_in, drill_in, checks, team_in, check_in, export_in, import_in, users_in, seed_in, tours_with, seeded_in, tour_in, words_in, count_in, counted_in, serve_in, serve_words_in, options_of, asked_of, serves_of, HasFewSteps, AreUsers, IsCount};
+ghost use Rattle.program_commands.specs.Words.{is_name, last_name, last_option, dex_first, config_first, options_in, replay_in};
+ghost use Rattle.program_commands.specs.Words.{steps_in, drill_in, checks, team_in, check_in, export_in, import_in, users_in};
+ghost use Rattle.program_commands.specs.Words.{seed_in, tours_with, seeded_in, tour_in, words_in, count_in, counted_in, serve_in};
+ghost use Rattle.program_commands.specs.Words.{serve_words_in, options_of, asked_of, serves_of, HasFewSteps, AreUsers, IsCount};
 
 use itoa::Buffer;
 use ps_base::decimal::read_u32;
@@ -98,7 +101,8 @@ pub fn is_name(word: &str) -> bool
 // A name and nothing more.
 pub(crate) fn last_name(at: u32, words: &[String]) -> Result<&str, u32>
     requires { at < 100 }
-    ensures { MatchResult result (λ name. last_name at (map string_bytes words.now) ≡ Ok name.now) (λ n. last_name at (map string_bytes words.now) ≡ Err n) }
+    ensures { MatchResult result (λ name. last_name at (map string_bytes words.now) ≡ Ok name.now)
+        (λ n. last_name at (map string_bytes words.now) ≡ Err n) }
 {
     match words {
         [] => Err(at),
@@ -122,7 +126,8 @@ pub(crate) fn last_name(at: u32, words: &[String]) -> Result<&str, u32>
 // An option and its name, or nothing.
 fn last_option<'a>(option: &str, at: u32, words: &'a [String]) -> Result<Option<&'a str>, u32>
     requires { at < 99 }
-    ensures { MatchResult result (λ o. last_option option.now at (map string_bytes words.now) ≡ Ok (option_copied o)) (λ n. last_option option.now at (map string_bytes words.now) ≡ Err n) }
+    ensures { MatchResult result (λ o. last_option option.now at (map string_bytes words.now) ≡ Ok (option_copied o))
+        (λ n. last_option option.now at (map string_bytes words.now) ≡ Err n) }
 {
     match words {
         [] => Ok(None),
@@ -141,7 +146,8 @@ fn last_option<'a>(option: &str, at: u32, words: &'a [String]) -> Result<Option<
 // Behind `--dex`, where the words begin at an index.
 fn dex_first(at: u32, words: &[String]) -> Result<OptionWords<'_>, u32>
     requires { at < 98 }
-    ensures { MatchResult result (λ o. dex_first at (map string_bytes words.now) ≡ Ok (options_of o)) (λ n. dex_first at (map string_bytes words.now) ≡ Err n) }
+    ensures { MatchResult result (λ o. dex_first at (map string_bytes words.now) ≡ Ok (options_of o))
+        (λ n. dex_first at (map string_bytes words.now) ≡ Err n) }
 {
     match words {
         [] => Err(at),
@@ -164,7 +170,8 @@ fn dex_first(at: u32, words: &[String]) -> Result<OptionWords<'_>, u32>
 // Behind `--config`, where the words begin at an index.
 fn config_first(at: u32, words: &[String]) -> Result<OptionWords<'_>, u32>
     requires { at < 98 }
-    ensures { MatchResult result (λ o. config_first at (map string_bytes words.now) ≡ Ok (options_of o)) (λ n. config_first at (map string_bytes words.now) ≡ Err n) }
+    ensures { MatchResult result (λ o. config_first at (map string_bytes words.now) ≡ Ok (options_of o))
+        (λ n. config_first at (map string_bytes words.now) ≡ Err n) }
 {
     match words {
         [] => Err(at),
@@ -188,7 +195,8 @@ fn config_first(at: u32, words: &[String]) -> Result<OptionWords<'_>, u32>
 /// `at`, below 97; the error is the index of the first that can't stand, or of the one that is missing.
 pub fn options_in(at: u32, words: &[String]) -> Result<OptionWords<'_>, u32>
     requires { at < 97 }
-    ensures { MatchResult result (λ o. options_in at (map string_bytes words.now) ≡ Ok (options_of o)) (λ n. options_in at (map string_bytes words.now) ≡ Err n) }
+    ensures { MatchResult result (λ o. options_in at (map string_bytes words.now) ≡ Ok (options_of o))
+        (λ n. options_in at (map string_bytes words.now) ≡ Err n) }
 {
     match words {
         [] => Ok(OptionWords {
@@ -208,7 +216,8 @@ pub fn options_in(at: u32, words: &[String]) -> Result<OptionWords<'_>, u32>
 }
 
 fn replay_in(words: &[String]) -> Result<Command<'_>, u32>
-    ensures read { MatchResult result (λ c. replay_in (map string_bytes words.now) ≡ Ok (asked_of c)) (λ n. replay_in (map string_bytes words.now) ≡ Err n) }
+    ensures read { MatchResult result (λ c. replay_in (map string_bytes words.now) ≡ Ok (asked_of c))
+        (λ n. replay_in (map string_bytes words.now) ≡ Err n) }
     ensures few { IfOk result HasFewSteps }
 {
     match options_in(1, words) {
@@ -234,7 +243,8 @@ fn steps_in(word: &str) -> Option<u32>
 }
 
 fn drill_in(words: &[String]) -> Result<Command<'_>, u32>
-    ensures read { MatchResult result (λ c. drill_in (map string_bytes words.now) ≡ Ok (asked_of c)) (λ n. drill_in (map string_bytes words.now) ≡ Err n) }
+    ensures read { MatchResult result (λ c. drill_in (map string_bytes words.now) ≡ Ok (asked_of c))
+        (λ n. drill_in (map string_bytes words.now) ≡ Err n) }
     ensures few { IfOk result HasFewSteps }
 {
     match words {
@@ -250,7 +260,8 @@ fn drill_in(words: &[String]) -> Result<Command<'_>, u32>
 }
 
 fn checks<'a>(format: &'a str, team: &'a str, words: &'a [String]) -> Result<Command<'a>, u32>
-    ensures read { MatchResult result (λ c. checks format.now team.now (options_in 3 (map string_bytes words.now)) ≡ Ok (asked_of c)) (λ n. checks format.now team.now (options_in 3 (map string_bytes words.now)) ≡ Err n) }
+    ensures read { MatchResult result (λ c. checks format.now team.now (options_in 3 (map string_bytes words.now)) ≡ Ok (asked_of c))
+        (λ n. checks format.now team.now (options_in 3 (map string_bytes words.now)) ≡ Err n) }
     ensures few { IfOk result HasFewSteps }
 {
     match options_in(3, words) {
@@ -265,7 +276,8 @@ fn checks<'a>(format: &'a str, team: &'a str, words: &'a [String]) -> Result<Com
 }
 
 fn team_in<'a>(format: &'a str, words: &'a [String]) -> Result<Command<'a>, u32>
-    ensures read { MatchResult result (λ c. team_in format.now (map string_bytes words.now) ≡ Ok (asked_of c)) (λ n. team_in format.now (map string_bytes words.now) ≡ Err n) }
+    ensures read { MatchResult result (λ c. team_in format.now (map string_bytes words.now) ≡ Ok (asked_of c))
+        (λ n. team_in format.now (map string_bytes words.now) ≡ Err n) }
     ensures few { IfOk result HasFewSteps }
 {
     match words {
@@ -281,7 +293,8 @@ fn team_in<'a>(format: &'a str, words: &'a [String]) -> Result<Command<'a>, u32>
 }
 
 fn check_in(words: &[String]) -> Result<Command<'_>, u32>
-    ensures read { MatchResult result (λ c. check_in (map string_bytes words.now) ≡ Ok (asked_of c)) (λ n. check_in (map string_bytes words.now) ≡ Err n) }
+    ensures read { MatchResult result (λ c. check_in (map string_bytes words.now) ≡ Ok (asked_of c))
+        (λ n. check_in (map string_bytes words.now) ≡ Err n) }
     ensures few { IfOk result HasFewSteps }
 {
     match words {
@@ -297,7 +310,8 @@ fn check_in(words: &[String]) -> Result<Command<'_>, u32>
 }
 
 fn export_in(words: &[String]) -> Result<Command<'_>, u32>
-    ensures read { MatchResult result (λ c. export_in (map string_bytes words.now) ≡ Ok (asked_of c)) (λ n. export_in (map string_bytes words.now) ≡ Err n) }
+    ensures read { MatchResult result (λ c. export_in (map string_bytes words.now) ≡ Ok (asked_of c))
+        (λ n. export_in (map string_bytes words.now) ≡ Err n) }
     ensures few { IfOk result HasFewSteps }
 {
     match last_name(1, words) {
@@ -307,7 +321,8 @@ fn export_in(words: &[String]) -> Result<Command<'_>, u32>
 }
 
 fn import_in(words: &[String]) -> Result<Command<'_>, u32>
-    ensures read { MatchResult result (λ c. import_in (map string_bytes words.now) ≡ Ok (asked_of c)) (λ n. import_in (map string_bytes words.now) ≡ Err n) }
+    ensures read { MatchResult result (λ c. import_in (map string_bytes words.now) ≡ Ok (asked_of c))
+        (λ n. import_in (map string_bytes words.now) ≡ Err n) }
     ensures few { IfOk result HasFewSteps }
 {
     match last_name(1, words) {
@@ -351,7 +366,8 @@ fn seed_in(word: &str) -> Option<u64>
 
 fn tours_with(users: u8, seed: Option<u64>, words: &[String]) -> Result<Command<'_>, u32>
     requires { AreUsers users }
-    ensures read { MatchResult result (λ c. tours_with users seed (map string_bytes words.now) ≡ Ok (asked_of c)) (λ n. tours_with users seed (map string_bytes words.now) ≡ Err n) }
+    ensures read { MatchResult result (λ c. tours_with users seed (map string_bytes words.now) ≡ Ok (asked_of c))
+        (λ n. tours_with users seed (map string_bytes words.now) ≡ Err n) }
     ensures few { IfOk result HasFewSteps }
 {
     match seed {
@@ -369,7 +385,8 @@ fn tours_with(users: u8, seed: Option<u64>, words: &[String]) -> Result<Command<
 
 fn seeded_in(users: u8, words: &[String]) -> Result<Command<'_>, u32>
     requires { AreUsers users }
-    ensures read { MatchResult result (λ c. seeded_in users (map string_bytes words.now) ≡ Ok (asked_of c)) (λ n. seeded_in users (map string_bytes words.now) ≡ Err n) }
+    ensures read { MatchResult result (λ c. seeded_in users (map string_bytes words.now) ≡ Ok (asked_of c))
+        (λ n. seeded_in users (map string_bytes words.now) ≡ Err n) }
     ensures few { IfOk result HasFewSteps }
 {
     match words {
@@ -379,7 +396,8 @@ fn seeded_in(users: u8, words: &[String]) -> Result<Command<'_>, u32>
 }
 
 fn tour_in(words: &[String]) -> Result<Command<'_>, u32>
-    ensures read { MatchResult result (λ c. tour_in (map string_bytes words.now) ≡ Ok (asked_of c)) (λ n. tour_in (map string_bytes words.now) ≡ Err n) }
+    ensures read { MatchResult result (λ c. tour_in (map string_bytes words.now) ≡ Ok (asked_of c))
+        (λ n. tour_in (map string_bytes words.now) ≡ Err n) }
     ensures few { IfOk result HasFewSteps }
 {
     match words {
@@ -397,7 +415,8 @@ fn tour_in(words: &[String]) -> Result<Command<'_>, u32>
 /// word that isn't empty and doesn't begin with `-`. The error is the index of the first word that can't stand, counted from 0,
 /// or how many there are where one is missing.
 pub fn read_words(words: &[String]) -> Result<Command<'_>, u32>
-    ensures read { MatchResult result (λ c. words_in (map string_bytes words.now) ≡ Ok (asked_of c)) (λ n. words_in (map string_bytes words.now) ≡ Err n) }
+    ensures read { MatchResult result (λ c. words_in (map string_bytes words.now) ≡ Ok (asked_of c))
+        (λ n. words_in (map string_bytes words.now) ≡ Err n) }
     ensures few { IfOk result HasFewSteps }
 {
     match words {
@@ -443,7 +462,8 @@ fn count_in(word: &str) -> Option<u32>
 }
 
 fn counted_in<'a>(address: &'a str, words: &'a [String]) -> Result<ServeWords<'a>, u32>
-    ensures read { MatchResult result (λ w. counted_in address.now (map string_bytes words.now) ≡ Ok (serves_of w)) (λ n. counted_in address.now (map string_bytes words.now) ≡ Err n) }
+    ensures read { MatchResult result (λ w. counted_in address.now (map string_bytes words.now) ≡ Ok (serves_of w))
+        (λ n. counted_in address.now (map string_bytes words.now) ≡ Err n) }
     ensures few { IfOk result (λ w. IsCount w.count) }
 {
     match words {
@@ -463,7 +483,8 @@ fn counted_in<'a>(address: &'a str, words: &'a [String]) -> Result<ServeWords<'a
 }
 
 fn serve_in(words: &[String]) -> Result<ServeWords<'_>, u32>
-    ensures read { MatchResult result (λ w. serve_in (map string_bytes words.now) ≡ Ok (serves_of w)) (λ n. serve_in (map string_bytes words.now) ≡ Err n) }
+    ensures read { MatchResult result (λ w. serve_in (map string_bytes words.now) ≡ Ok (serves_of w))
+        (λ n. serve_in (map string_bytes words.now) ≡ Err n) }
     ensures few { IfOk result (λ w. IsCount w.count) }
 {
     match words {
@@ -483,7 +504,8 @@ fn serve_in(words: &[String]) -> Result<ServeWords<'_>, u32>
 /// begin with `-`. The error is the index of the first word that can't stand, counted from 0, or how many there are where one
 /// is missing.
 pub fn read_serve_words(words: &[String]) -> Result<ServeWords<'_>, u32>
-    ensures read { MatchResult result (λ w. serve_words_in (map string_bytes words.now) ≡ Ok (serves_of w)) (λ n. serve_words_in (map string_bytes words.now) ≡ Err n) }
+    ensures read { MatchResult result (λ w. serve_words_in (map string_bytes words.now) ≡ Ok (serves_of w))
+        (λ n. serve_words_in (map string_bytes words.now) ≡ Err n) }
     ensures few { IfOk result (λ w. IsCount w.count) }
 {
     match words {

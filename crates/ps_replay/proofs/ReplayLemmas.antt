@@ -88,6 +88,7 @@ step_ends o m named status same kept option stops stepped settled =
       cause = step_cause m.contents o m.left named m.counts m.counts_after status option stops stepped;
       input = keeps_input m.left m.left_after status same;
       whole = λ done. absurd (apart Done (λ wrong. wrong) done);
+      replayed = λ done. absurd (apart Done (λ wrong. wrong) done);
       transcript = λ done. absurd (apart Done (λ wrong. wrong) done);
       one_entry = λ done. absurd (apart Done (λ wrong. wrong) done);
       histories = λ done. absurd (apart Done (λ wrong. wrong) done);
@@ -168,14 +169,15 @@ part_of P Q None part p = tt
 part_of P Q (Some bytes) part p = part bytes p
 
 pub input_ends : (o : Options) (m : Met) (config : Settings) (dex : Tables) (status : Status) → IsSetUp m.contents o config dex → IsOfInput status → (status ≡ Done → IsAtEnd m.left_after) → (status ≡ Done → IfSome m.left (IsReplayed config dex m.written m.written_after)) → WritesOfInput config dex m.left m.written m.written_after status → ReadsFew m.left m.left_after → InputCause config.groups m.left status → (status ≡ ReadFault → InputFailed m) → (status ≡ WriteFault → OutputFailed m) → SettlesInput config.groups m.left (InputFailed m) (OutputFailed m) status → IsReplay o m status
-input_ends o m config dex status s of ended replayed wrote few caused read_failed write_failed settled =
+input_ends o m config dex status s of ended played wrote few caused read_failed write_failed settled =
     let R = IsReplayed config dex m.written m.written_after in
-    let whole_of = λ (Q : List ℕ → Type 0) (part : (bytes : List ℕ) → R bytes → Q bytes) (done : status ≡ Done). part_of R Q m.left part (replayed done) in
+    let whole_of = λ (Q : List ℕ → Type 0) (part : (bytes : List ℕ) → R bytes → Q bytes) (done : status ≡ Done). part_of R Q m.left part (played done) in
     record {
       usage = no_usage IsOfInput status (λ word wrong. wrong) of;
       cause = input_cause m.contents o m.left config dex m.counts m.counts_after status s of caused;
       input = input_keeps m.left m.left_after status of;
       whole = ended;
+      replayed = λ done. (config, dex, s, played done);
       transcript = λ done. (config, dex, s, whole_of (IsTranscript config dex m.written m.written_after) (λ bytes r. r.transcript) done);
       one_entry = λ done. (config, dex, s, whole_of (HasOneEntryEachText config dex) (λ bytes r. r.one_entry) done);
       histories = λ done. (config, dex, s, whole_of (HasHistories config dex) (λ bytes r. r.histories) done);

@@ -14,11 +14,15 @@ use Rattle.replay_state.specs.Setup.{setup_of}
 use Rattle.replay_state.specs.Notes.{notes}
 use Rattle.replay_state.specs.Transcript.{output}
 use Rattle.program_commands.specs.declared.status.Status.{Status}
-use Rattle.program_commands.specs.declared.status.Status.TheVariants.{Done, Usage, FileMissing, FileFault, FileLong, BadDex, BadConfig, BadScript, ScriptLong, ReadFault, WriteFault, BadTeam, NoMemory, DoorFault, UnknownFormat, BadPack, NoTour, KeepFault, KeepFull, BadExport, NoExport}
+use Rattle.program_commands.specs.declared.status.Status.TheVariants.{Done, Usage, FileMissing, FileFault, FileLong, BadDex}
+use Rattle.program_commands.specs.declared.status.Status.TheVariants.{BadConfig, BadScript, ScriptLong, ReadFault, WriteFault}
+use Rattle.program_commands.specs.declared.status.Status.TheVariants.{BadTeam, NoMemory, DoorFault, UnknownFormat, BadPack, NoTour}
+use Rattle.program_commands.specs.declared.status.Status.TheVariants.{KeepFault, KeepFull, BadExport, NoExport}
 use Rattle.program_commands.specs.Words.{Options}
 use Rattle.program_commands.specs.Setups.{HasSetup, IsGood, IsSettled}
 use Rattle.ps_replay.specs.Outcomes.{symbols_of, IsTranscript, IsBadScript, ReplayCause, IsReadied}
-use Rattle.ps_replay.specs.Dealings.{Dealings, MetWithKeeper, FileFailed, ReadFailed, WriteFailed, KeeperFailed, KeeperWasFull, IsQuiet, IsUntouched, most_notes, IsFullAlone}
+use Rattle.ps_replay.specs.Dealings.{Dealings, MetWithKeeper, FileFailed, ReadFailed, WriteFailed, KeeperFailed, KeeperWasFull}
+use Rattle.ps_replay.specs.Dealings.{IsQuiet, IsUntouched, most_notes, IsFullAlone}
 
 -- ---- the notes of the script that the input has, behind those that are kept
 

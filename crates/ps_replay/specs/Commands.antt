@@ -1,6 +1,6 @@
 -- All that a run has shown, over what was asked: for the code alone. `run` states each fact in its own words; here they are one goal
 -- for each command.
-use Rattle.std.specs.Prelude.{◌≡◌, ℕ, List, Option, None, Result, IfSome}
+use Rattle.std.specs.Prelude.{◌≡◌, ℕ, List, Option, None, Result}
 use Rattle.std.specs.Io.KnownBytes.{Appends, IsAtEnd}
 use Rattle.ps_outside.specs.Causes.{Rose}
 use Rattle.ps_outside.specs.Files.{FileCounts}
@@ -10,8 +10,10 @@ use Rattle.program_commands.specs.declared.status.Status.TheVariants.{Done, Read
 use Rattle.program_commands.specs.Words.{Asked, Options, IfReplay, IfDrill, IfCheck, IfExport, IfImport, IfTour}
 use Rattle.program_commands.specs.Setups.{usage_in, usage_reported, HasSetup, EndsIfKnown}
 use Rattle.program_commands.specs.Checks.{legal_line, CheckEnds, IsNamed, CheckCause, SettlesCheck}
-use Rattle.program_commands.specs.Conversions.{HasExport, MakesPacked, ExportCause, ImportCause, WritesExport, WritesPacked, SettlesConversion}
-use Rattle.ps_replay.specs.Outcomes.{KeepsInput, IsTranscript, HasOneEntryEachText, HasHistories, LosesNothing, HasEqualWorlds, WritesPrefix, ReplayCause, Settles}
+use Rattle.program_commands.specs.Conversions.{HasExport, MakesPacked, ExportCause, ImportCause, WritesExport, WritesPacked}
+use Rattle.program_commands.specs.Conversions.{SettlesConversion}
+use Rattle.ps_replay.specs.Outcomes.{KeepsInput, IsTranscript, HasOneEntryEachText, HasHistories, LosesNothing, HasEqualWorlds}
+use Rattle.ps_replay.specs.Outcomes.{IsReplayed, Plays, WritesPrefix, ReplayCause, Settles}
 use Rattle.ps_replay.specs.Drills.{DrillEnds, DrillCause, WritesSummary, SettlesDrill}
 use Rattle.ps_replay.specs.Tours.{IsTour, TourEnds, TourCause, SettlesTour}
 use Rattle.ps_replay.specs.Writes.{Writes}
@@ -46,11 +48,12 @@ pub record IsReplay (o : Options) (m : Met) (status : Status) : Type 0 where
   pub cause : ReplayCause m.contents o m.left m.counts m.counts_after status
   pub input : KeepsInput m.left m.left_after status
   pub whole : status ≡ Done → IsAtEnd m.left_after
-  pub transcript : status ≡ Done → HasSetup m.contents o (λ config dex. IfSome m.left (IsTranscript config dex m.written m.written_after))
-  pub one_entry : status ≡ Done → HasSetup m.contents o (λ config dex. IfSome m.left (HasOneEntryEachText config dex))
-  pub histories : status ≡ Done → HasSetup m.contents o (λ config dex. IfSome m.left (HasHistories config dex))
-  pub hall : status ≡ Done → HasSetup m.contents o (λ config dex. IfSome m.left (LosesNothing config dex))
-  pub two_worlds : status ≡ Done → HasSetup m.contents o (λ config dex. IfSome m.left (HasEqualWorlds config dex))
+  pub replayed : Plays m.contents m.left status o (λ config dex. IsReplayed config dex m.written m.written_after)
+  pub transcript : Plays m.contents m.left status o (λ config dex. IsTranscript config dex m.written m.written_after)
+  pub one_entry : Plays m.contents m.left status o (λ config dex. HasOneEntryEachText config dex)
+  pub histories : Plays m.contents m.left status o (λ config dex. HasHistories config dex)
+  pub hall : Plays m.contents m.left status o (λ config dex. LosesNothing config dex)
+  pub two_worlds : Plays m.contents m.left status o (λ config dex. HasEqualWorlds config dex)
   pub prefix : WritesPrefix m.contents o m.left m.written m.written_after status
   pub bounded : ReadsFew m.left m.left_after
   pub read_fault : status ≡ ReadFault → InputFailed m
@@ -63,12 +66,12 @@ pub record IsRun (asked : Result Asked ℕ) (m : Met) (status : Status) : Type 0
   pub cause : IfReplay asked (λ o. ReplayCause m.contents o m.left m.counts m.counts_after status)
   pub input : KeepsInput m.left m.left_after status
   pub whole : IfReplay asked (λ _. status ≡ Done → IsAtEnd m.left_after)
-  pub transcript : IfReplay asked (λ o.
-      status ≡ Done → HasSetup m.contents o (λ config dex. IfSome m.left (IsTranscript config dex m.written m.written_after)))
-  pub one_entry : IfReplay asked (λ o. status ≡ Done → HasSetup m.contents o (λ config dex. IfSome m.left (HasOneEntryEachText config dex)))
-  pub histories : IfReplay asked (λ o. status ≡ Done → HasSetup m.contents o (λ config dex. IfSome m.left (HasHistories config dex)))
-  pub hall : IfReplay asked (λ o. status ≡ Done → HasSetup m.contents o (λ config dex. IfSome m.left (LosesNothing config dex)))
-  pub two_worlds : IfReplay asked (λ o. status ≡ Done → HasSetup m.contents o (λ config dex. IfSome m.left (HasEqualWorlds config dex)))
+  pub replayed : IfReplay asked (λ o. Plays m.contents m.left status o (λ config dex. IsReplayed config dex m.written m.written_after))
+  pub transcript : IfReplay asked (λ o. Plays m.contents m.left status o (λ config dex. IsTranscript config dex m.written m.written_after))
+  pub one_entry : IfReplay asked (λ o. Plays m.contents m.left status o (λ config dex. HasOneEntryEachText config dex))
+  pub histories : IfReplay asked (λ o. Plays m.contents m.left status o (λ config dex. HasHistories config dex))
+  pub hall : IfReplay asked (λ o. Plays m.contents m.left status o (λ config dex. LosesNothing config dex))
+  pub two_worlds : IfReplay asked (λ o. Plays m.contents m.left status o (λ config dex. HasEqualWorlds config dex))
   pub check_ends : IfCheck asked (λ words. EndsIfKnown m.contents (λ lookup. CheckEnds lookup words) status)
   pub check_cause : IfCheck asked (λ words. CheckCause (IsNamed words) m.counts m.counts_after status)
   pub check_untouched : IfCheck asked (λ _. m.left_after ≡ m.left)

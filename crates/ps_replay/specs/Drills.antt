@@ -19,7 +19,10 @@ use Rattle.replay_state.specs.Transcript.{output}
 use Rattle.replay_drill.specs.Drills.{drill_text}
 use Rattle.replay_drill.specs.Messages.{messages_in}
 use Rattle.program_commands.specs.declared.status.Status.{Status}
-use Rattle.program_commands.specs.declared.status.Status.TheVariants.{Done, Usage, FileMissing, FileFault, FileLong, BadDex, BadConfig, BadScript, ScriptLong, ReadFault, WriteFault, BadTeam, NoMemory, DoorFault, UnknownFormat, BadPack, NoTour, KeepFault, KeepFull, BadExport, NoExport}
+use Rattle.program_commands.specs.declared.status.Status.TheVariants.{Done, Usage, FileMissing, FileFault, FileLong, BadDex}
+use Rattle.program_commands.specs.declared.status.Status.TheVariants.{BadConfig, BadScript, ScriptLong, ReadFault, WriteFault}
+use Rattle.program_commands.specs.declared.status.Status.TheVariants.{BadTeam, NoMemory, DoorFault, UnknownFormat, BadPack, NoTour}
+use Rattle.program_commands.specs.declared.status.Status.TheVariants.{KeepFault, KeepFull, BadExport, NoExport}
 use Rattle.program_commands.specs.Words.{Options, Drilled}
 use Rattle.program_commands.specs.Steps.{IsFaultOf, dex_in, config_in}
 use Rattle.program_commands.specs.Setups.{HasSetup, IsOption, AreGood, IsSettled, Then}
@@ -47,7 +50,8 @@ summary_lines all made refusals messages bytes digest =
 -- Of a script's text and its transcript: the lines of the script, the entries that they make and those of them that are refused,
 -- the messages of the transcript, and the bytes and the digest of the script with the transcript behind it.
 abbrev pub summary_of : List ℕ → Setup → List Item → List ℕ
-summary_of text s items = summary_lines (length (lines text)) (length (entries s items)) (refused s items) (messages_in (output s items)) (length (text ++ output s items)) (sha256 (text ++ output s items))
+summary_of text s items = summary_lines (length (lines text)) (length (entries s items)) (refused s items)
+    (messages_in (output s items)) (length (text ++ output s items)) (sha256 (text ++ output s items))
 
 -- what a drill of so many steps tells: the one script that its text is, is run
 pub record IsSummary (config : Settings) (dex : Tables) (steps : ℕ) (summary : List ℕ) : Type 0 where
@@ -73,7 +77,8 @@ pub record WritesFrontOfSummary (config : Settings) (dex : Tables) (steps : ℕ)
 -- its first byte is written.
 abbrev pub WritesDrill : Option (List ℕ → Option (List ℕ)) → Drilled → Option (List ℕ) → Option (List ℕ) → Status → Type 0
 WritesDrill contents words old new Done = Unit {0}
-WritesDrill contents words old new WriteFault = HasSetup contents words.options (λ config dex. WritesFrontOfSummary config dex words.steps old new)
+WritesDrill contents words old new WriteFault = HasSetup contents words.options
+    (λ config dex. WritesFrontOfSummary config dex words.steps old new)
 WritesDrill contents words old new (Usage word) = Keeps old new
 WritesDrill contents words old new (FileMissing name) = Keeps old new
 WritesDrill contents words old new (FileFault name) = Keeps old new
@@ -156,7 +161,8 @@ DrillCause options old new (BadExport line) = ⊥
 DrillCause options old new (NoExport set) = ⊥
 
 -- good files, with no fault of the files or the sink, settle a drill
-pub record SettlesDrill (contents : Option (List ℕ → Option (List ℕ))) (file_fault write_fault : Type 0) (options : Options) (status : Status) : Type 0 where
+pub record SettlesDrill (contents : Option (List ℕ → Option (List ℕ))) (file_fault write_fault : Type 0) (options : Options)
+    (status : Status) : Type 0 where
   pub settled : AreGood contents options → (file_fault → ⊥) → (write_fault → ⊥) → IsSettled status
 
 -- ---- for the code alone: a status that the words and the files have no part in, and what was written at it

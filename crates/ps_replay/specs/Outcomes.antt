@@ -20,8 +20,11 @@ use Rattle.replay_state.specs.OneEntry.{HasOneEntryEach, AreHistories}
 use Rattle.replay_state.specs.TwoWorlds.{HasEqualBlocks}
 use Rattle.replay_state.specs.WholeHall.{HasWholeHall}
 use Rattle.program_commands.specs.declared.status.Status.{Status}
-use Rattle.program_commands.specs.declared.status.Status.TheVariants.{Done, Usage, FileMissing, FileFault, FileLong, BadDex, BadConfig, BadScript, ScriptLong, ReadFault, WriteFault, BadTeam, NoMemory, DoorFault, UnknownFormat, BadPack, NoTour, KeepFault, KeepFull, BadExport, NoExport}
-use Rattle.program_commands.specs.Words.{Options}
+use Rattle.program_commands.specs.declared.status.Status.TheVariants.{Done, Usage, FileMissing, FileFault, FileLong, BadDex}
+use Rattle.program_commands.specs.declared.status.Status.TheVariants.{BadConfig, BadScript, ScriptLong, ReadFault, WriteFault}
+use Rattle.program_commands.specs.declared.status.Status.TheVariants.{BadTeam, NoMemory, DoorFault, UnknownFormat, BadPack, NoTour}
+use Rattle.program_commands.specs.declared.status.Status.TheVariants.{KeepFault, KeepFull, BadExport, NoExport}
+use Rattle.program_commands.specs.Words.{Options, IfReplay, words_in}
 use Rattle.program_commands.specs.Setups.{HasSetup, IsGood, Stops, IsOption, IsSettled, AreGood}
 
 -- ---- the input
@@ -74,15 +77,18 @@ pub record IsTranscript (config : Settings) (dex : Tables) (old new : Option (Li
   pub items : List Item
   pub script : IsScript (symbols_of config.groups) bytes items
   pub wrote : Appends old new (output (setup_of config dex items) items)
-  pub blocks : (conn : ℕ) (place : Place) → block conn place (messages (setup_of config dex items) items) ≡ world_view conn place (world_of (setup_of config dex items) items)
+  pub blocks : (conn : ℕ) (place : Place) → block conn place (messages (setup_of config dex items) items)
+      ≡ world_view conn place (world_of (setup_of config dex items) items)
 
 -- each text of the script is one entry
 abbrev pub HasOneEntryEachText : Settings → Tables → List ℕ → Type 0
-HasOneEntryEachText config dex bytes = (items : List Item) → IsScript (symbols_of config.groups) bytes items → HasOneEntryEach (setup_of config dex items) items
+HasOneEntryEachText config dex bytes = (items : List Item) → IsScript (symbols_of config.groups) bytes items
+    → HasOneEntryEach (setup_of config dex items) items
 
 -- and these entries, in order, are the history of each place
 abbrev pub HasHistories : Settings → Tables → List ℕ → Type 0
-HasHistories config dex bytes = (items : List Item) → IsScript (symbols_of config.groups) bytes items → AreHistories (setup_of config dex items) items
+HasHistories config dex bytes = (items : List Item) → IsScript (symbols_of config.groups) bytes items
+    → AreHistories (setup_of config dex items) items
 
 -- in the hall each match started its battle, and each won report of a rated battle counts
 abbrev pub LosesNothing : Settings → Tables → List ℕ → Type 0
@@ -100,6 +106,15 @@ pub record IsReplayed (config : Settings) (dex : Tables) (old new : Option (List
   pub hall : LosesNothing config dex bytes
   pub two_worlds : HasEqualWorlds config dex bytes
 
+-- of the dex and the configuration that a replay with these options ran under, and of its input, if it is known, this holds at Done
+abbrev pub Plays : Option (List ℕ → Option (List ℕ)) → Option (List ℕ) → Status → Options → (Settings → Tables → List ℕ → Type 0) → Type 0
+Plays contents left status options Says = status ≡ Done → HasSetup contents options (λ config dex. IfSome left (Says config dex))
+
+-- the same of these words, if they ask for a replay
+abbrev pub AtDoneOfReplay : List (List ℕ) → Option (List ℕ → Option (List ℕ)) → Option (List ℕ) → Status
+    → (Settings → Tables → List ℕ → Type 0) → Type 0
+AtDoneOfReplay words contents left status Says = IfReplay (words_in words) (λ options. Plays contents left status options Says)
+
 -- a front of the transcript
 pub record WritesFront (config : Settings) (dex : Tables) (old new : Option (List ℕ)) (bytes : List ℕ) : Type 0 where
   pub within : long_of bytes ≡ None
@@ -112,7 +127,8 @@ pub record WritesFront (config : Settings) (dex : Tables) (old new : Option (Lis
 abbrev pub FrontOf : Settings → Tables → Option (List ℕ) → Option (List ℕ) → Option (List ℕ) → Type 0
 FrontOf config dex left old new = IfSome left (WritesFront config dex old new)
 
-abbrev pub WritesPrefix : Option (List ℕ → Option (List ℕ)) → Options → Option (List ℕ) → Option (List ℕ) → Option (List ℕ) → Status → Type 0
+abbrev pub WritesPrefix : Option (List ℕ → Option (List ℕ)) → Options → Option (List ℕ) → Option (List ℕ) → Option (List ℕ) → Status
+    → Type 0
 WritesPrefix contents o left old new Done = Unit {0}
 WritesPrefix contents o left old new (Usage word) = Keeps old new
 WritesPrefix contents o left old new (FileMissing name) = Keeps old new
@@ -141,12 +157,14 @@ WritesPrefix contents o left old new (NoExport set) = Keeps old new
 abbrev pub ReplayCause : Option (List ℕ → Option (List ℕ)) → Options → Option (List ℕ) → FileCounts → FileCounts → Status → Type 0
 ReplayCause contents o left old new Done = HasSetup contents o IsGood
 ReplayCause contents o left old new (Usage word) = ⊥
-ReplayCause contents o left old new (FileMissing name) = Stops contents o (FileMissing name) × IsOption o name × Rose old.missing new.missing
+ReplayCause contents o left old new (FileMissing name) = Stops contents o (FileMissing name) × IsOption o name
+    × Rose old.missing new.missing
 ReplayCause contents o left old new (FileFault name) = Stops contents o (FileFault name) × IsOption o name × Rose old.faults new.faults
 ReplayCause contents o left old new (FileLong name) = Stops contents o (FileLong name) × IsOption o name × Rose old.long new.long
 ReplayCause contents o left old new (BadDex path kind) = Stops contents o (BadDex path kind)
 ReplayCause contents o left old new (BadConfig path kind) = Stops contents o (BadConfig path kind)
-ReplayCause contents o left old new (BadScript line kind) = HasSetup contents o (λ config dex. IfSome left (IsBadScript config.groups line kind))
+ReplayCause contents o left old new (BadScript line kind) = HasSetup contents o
+    (λ config dex. IfSome left (IsBadScript config.groups line kind))
 ReplayCause contents o left old new (ScriptLong count) = HasSetup contents o IsGood × IfSome left (λ bytes. long_of bytes ≡ Some count)
 ReplayCause contents o left old new ReadFault = HasSetup contents o IsGood
 ReplayCause contents o left old new WriteFault = HasSetup contents o IsGood
@@ -170,7 +188,8 @@ pub record IsReadied (contents : Option (List ℕ → Option (List ℕ))) (optio
 
 -- that, with no fault of the files, the source or the sink, settles a run
 abbrev pub Settles : Option (List ℕ → Option (List ℕ)) → Options → Option (List ℕ) → Type 0 → Type 0 → Type 0 → Status → Type 0
-Settles contents options left file_fault read_fault write_fault status = IsReadied contents options left → (file_fault → ⊥) → (read_fault → ⊥) → (write_fault → ⊥) → IsSettled status
+Settles contents options left file_fault read_fault write_fault status = IsReadied contents options left → (file_fault → ⊥)
+    → (read_fault → ⊥) → (write_fault → ⊥) → IsSettled status
 
 -- ---- for the code alone
 
@@ -231,4 +250,5 @@ WritesOfInput config dex left old new other = Keeps old new
 
 -- completeness, from the input on
 abbrev pub SettlesInput : List Group → Option (List ℕ) → Type 0 → Type 0 → Status → Type 0
-SettlesInput groups left read_fault write_fault status = IsSomeAnd left (IsReadable groups) → (read_fault → ⊥) → (write_fault → ⊥) → IsSettled status
+SettlesInput groups left read_fault write_fault status = IsSomeAnd left (IsReadable groups) → (read_fault → ⊥) → (write_fault → ⊥)
+    → IsSettled status

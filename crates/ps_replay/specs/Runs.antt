@@ -18,4 +18,6 @@ pub record SummarizesRun (tally : Tally) (s : Desk) (items : List Item) (run : R
 
 -- this is its summary, for a script of so many lines, whatever text it was that was tallied, with which transcript
 pub record HasRun (run : Run) (all : ℕ) (summary : List ℕ) : Type 0 where
-  pub summary_is : (script transcript : List ℕ) → Tallies run.tally (script ++ transcript) → Counts run.counter transcript → summary ≡ summary_lines all run.counts.entries run.counts.refused (messages_in transcript) (length (script ++ transcript)) (sha256 (script ++ transcript))
+  pub summary_is : (script transcript : List ℕ) → Tallies run.tally (script ++ transcript) → Counts run.counter transcript
+      → summary ≡ summary_lines all run.counts.entries run.counts.refused (messages_in transcript) (length (script ++ transcript))
+      (sha256 (script ++ transcript))

@@ -10,9 +10,13 @@ use Rattle.ps_keep.specs.declared.standings.Place.{Place}
 use Rattle.ps_keep.specs.Results.{results_in}
 use Rattle.ps_keep.specs.Standings.{AreStandings, place_text}
 use Rattle.program_commands.specs.declared.status.Status.{Status}
-use Rattle.program_commands.specs.declared.status.Status.TheVariants.{Done, Usage, FileMissing, FileFault, FileLong, BadDex, BadConfig, BadScript, ScriptLong, ReadFault, WriteFault, BadTeam, NoMemory, DoorFault, UnknownFormat, BadPack, NoTour, KeepFault, KeepFull, BadExport, NoExport}
+use Rattle.program_commands.specs.declared.status.Status.TheVariants.{Done, Usage, FileMissing, FileFault, FileLong, BadDex}
+use Rattle.program_commands.specs.declared.status.Status.TheVariants.{BadConfig, BadScript, ScriptLong, ReadFault, WriteFault}
+use Rattle.program_commands.specs.declared.status.Status.TheVariants.{BadTeam, NoMemory, DoorFault, UnknownFormat, BadPack, NoTour}
+use Rattle.program_commands.specs.declared.status.Status.TheVariants.{KeepFault, KeepFull, BadExport, NoExport}
 use Rattle.program_commands.specs.Setups.{IsSettled}
-use Rattle.ps_replay.specs.Dealings.{Dealings, MetWithKeeper, WriteFailed, KeeperFailed, KeeperWasFull, IsUntouched, most_notes, IsFullAlone}
+use Rattle.ps_replay.specs.Dealings.{Dealings, MetWithKeeper, WriteFailed, KeeperFailed, KeeperWasFull, IsUntouched, most_notes}
+use Rattle.ps_replay.specs.Dealings.{IsFullAlone}
 
 abbrev pub place_line : Place → List ℕ
 place_line p = place_text p ++ 10 ∷ []

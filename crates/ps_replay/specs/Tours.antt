@@ -19,7 +19,10 @@ use Rattle.replay_tour.specs.Entrants.{entering}
 use Rattle.replay_tour.specs.Tours.{Tour, begun, next_line, past}
 use Rattle.replay_tour.specs.Results.{result_text, IsDecidedTour}
 use Rattle.program_commands.specs.declared.status.Status.{Status}
-use Rattle.program_commands.specs.declared.status.Status.TheVariants.{Done, Usage, FileMissing, FileFault, FileLong, BadDex, BadConfig, BadScript, ScriptLong, ReadFault, WriteFault, BadTeam, NoMemory, DoorFault, UnknownFormat, BadPack, NoTour, KeepFault, KeepFull, BadExport, NoExport}
+use Rattle.program_commands.specs.declared.status.Status.TheVariants.{Done, Usage, FileMissing, FileFault, FileLong, BadDex}
+use Rattle.program_commands.specs.declared.status.Status.TheVariants.{BadConfig, BadScript, ScriptLong, ReadFault, WriteFault}
+use Rattle.program_commands.specs.declared.status.Status.TheVariants.{BadTeam, NoMemory, DoorFault, UnknownFormat, BadPack, NoTour}
+use Rattle.program_commands.specs.declared.status.Status.TheVariants.{KeepFault, KeepFull, BadExport, NoExport}
 use Rattle.program_commands.specs.Words.{Options, Toured}
 use Rattle.program_commands.specs.Steps.{IsFaultOf, dex_in, config_in}
 use Rattle.program_commands.specs.Setups.{HasSetup, IsOption, AreGood, IsSettled, Then}
@@ -185,13 +188,15 @@ pub record HasGoodField (contents : Option (List ℕ → Option (List ℕ))) (op
   pub field : HasField files.config files.dex fight
 
 -- that, with no fault of the files or the sink, settles a tournament
-pub record SettlesTour (contents : Option (List ℕ → Option (List ℕ))) (file_fault write_fault : Type 0) (options : Options) (status : Status) : Type 0 where
+pub record SettlesTour (contents : Option (List ℕ → Option (List ℕ))) (file_fault write_fault : Type 0) (options : Options)
+    (status : Status) : Type 0 where
   pub settled : HasGoodField contents options → (file_fault → ⊥) → (write_fault → ⊥) → IsSettled status
 
 -- ---- for the code alone
 
 -- From a state on these lines were played, and then those of the tournament, which is over.
-pub record PlaysLines (items : List Item) (most : ℕ) (format : List ℕ) (before after : Tour) (d : Desk) (old new : Option (List ℕ)) : Type 0 where
+pub record PlaysLines (items : List Item) (most : ℕ) (format : List ℕ) (before after : Tour) (d : Desk)
+    (old new : Option (List ℕ)) : Type 0 where
   pub wrote : (r : Run) → d ≡ desk_of r → Appends old new (text_from d (items ++ lines_from most format before (run_past r items)))
   pub after_is : (r : Run) → d ≡ desk_of r
       → after ≡ played before (run_past r items) (lines_from most format before (run_past r items))

@@ -10,7 +10,8 @@ use Rattle.ps_replay.specs.Drills.{WritesDrill}
 use Rattle.ps_replay.specs.Tours.{WritesTour}
 
 -- at a status other than Done; of a check, an export or an import, at Done too
-abbrev pub Writes : Result Asked ℕ → Option (List ℕ → Option (List ℕ)) → Option (List ℕ) → Option (List ℕ) → Option (List ℕ) → Status → Type 0
+abbrev pub Writes : Result Asked ℕ → Option (List ℕ → Option (List ℕ)) → Option (List ℕ) → Option (List ℕ) → Option (List ℕ) → Status
+    → Type 0
 Writes (Ok (Replays options)) contents left old new status = WritesPrefix contents options left old new status
 Writes (Ok (Drills words)) contents left old new status = WritesDrill contents words old new status
 Writes (Ok (Checks words)) contents left old new status = WritesLegal old new status

@@ -13,7 +13,8 @@ ghost use Rattle.program_commands.specs.Words.{options_of, drilled_of};
 ghost use Rattle.program_commands.specs.Steps.{dex_in};
 ghost use Rattle.program_commands.specs.Setups.{HasSetup, Stands, EndsIfKnown};
 ghost use Rattle.ps_replay.specs.Outcomes.{symbols_of};
-ghost use Rattle.ps_replay.specs.Drills.{summary_of, IsSummary, WritesSummary, WritesDrill, DrillEnds, ConfigEnds, DrillCause, SettlesDrill, IsOfRun, WritesRun};
+ghost use Rattle.ps_replay.specs.Drills.{summary_of, IsSummary, WritesSummary, WritesDrill, DrillEnds, ConfigEnds, DrillCause};
+ghost use Rattle.ps_replay.specs.Drills.{SettlesDrill, IsOfRun, WritesRun};
 ghost use Rattle.ps_replay.specs.Runs.{SummarizesRun, HasRun};
 
 use crate::replay::table_of;
@@ -65,8 +66,10 @@ fn run_item(
     ensures state { OnOk result (table.new ≡ item_after table.old item.now) }
     ensures ledger { OnOk result (pending.new.ledger ≡ item_ledger table.old item.now pending.old.ledger) }
     ensures empty { OnOk result (string_bytes pending.new.text ≡ []) }
-    ensures tally { OnOk result ((text : List ℕ) → tallies.Tallies tally.old text → tallies.Tallies tally.new (text ++ item_text table.old item.now)) }
-    ensures counter { OnOk result ((text : List ℕ) → tallies.Counts counter.old text → tallies.Counts counter.new (text ++ item_text table.old item.now)) }
+    ensures tally { OnOk result ((text : List ℕ) → tallies.Tallies tally.old text
+        → tallies.Tallies tally.new (text ++ item_text table.old item.now)) }
+    ensures counter { OnOk result ((text : List ℕ) → tallies.Counts counter.old text
+        → tallies.Counts counter.new (text ++ item_text table.old item.now)) }
 {
     table.play(alloc, item, pending)?;
     tally.take(pending.text.as_bytes());
@@ -144,7 +147,8 @@ fn run_items(
     items: &[Line<'_>],
 ) -> Result<String, AllocError>
     requires { IsScript (symbols_of (arc_value config.now).groups) script.now items.now }
-    ensures { IfOk result (λ t. string_bytes t ≡ summary_of script.now (setup_of (arc_value config.now) (arc_value dex.now) items.now) items.now) }
+    ensures { IfOk result (λ t. string_bytes t
+        ≡ summary_of script.now (setup_of (arc_value config.now) (arc_value dex.now) items.now) items.now) }
 {
     let table = table_of(alloc, config, dex, items)?;
     let mut tally = Tally::new();
@@ -209,15 +213,19 @@ fn drill_config<F: Files, K: Sink>(
     files: &mut F,
     out: &mut K,
 ) -> Status
-    requires stands { Stands (F.contents files.old) (options_of words.options).dex (λ lookup. dex_in lookup (options_of words.options).dex) (arc_value dex.now) }
+    requires stands { Stands (F.contents files.old) (options_of words.options).dex
+        (λ lookup. dex_in lookup (options_of words.options).dex) (arc_value dex.now) }
     requires names { HasPlainNames (arc_value dex.now) }
     requires few { words.steps ≤ 4000 }
-    ensures ends { EndsIfKnown (F.contents files.old) (λ lookup. ConfigEnds lookup (drilled_of words.entry).options (arc_value dex.now)) result }
+    ensures ends { EndsIfKnown (F.contents files.old)
+        (λ lookup. ConfigEnds lookup (drilled_of words.entry).options (arc_value dex.now)) result }
     ensures cause { DrillCause (drilled_of words.entry).options (F.counts files.old) (F.counts files.new) result }
-    ensures summary { result ≡ Status.Done → HasSetup (F.contents files.old) (drilled_of words.entry).options (λ config dex. WritesSummary config dex (drilled_of words.entry).steps (K.written out.old) (K.written out.new)) }
+    ensures summary { result ≡ Status.Done → HasSetup (F.contents files.old) (drilled_of words.entry).options
+        (λ config dex. WritesSummary config dex (drilled_of words.entry).steps (K.written out.old) (K.written out.new)) }
     ensures wrote { WritesDrill (F.contents files.old) (drilled_of words.entry) (K.written out.old) (K.written out.new) result }
     ensures write_fault { result ≡ Status.WriteFault → Rose (K.faults out.old) (K.faults out.new) }
-    ensures settles { SettlesDrill (F.contents files.old) (Rose (F.counts files.old).faults (F.counts files.new).faults) (Rose (K.faults out.old) (K.faults out.new)) (drilled_of words.entry).options result }
+    ensures settles { SettlesDrill (F.contents files.old) (Rose (F.counts files.old).faults (F.counts files.new).faults)
+        (Rose (K.faults out.old) (K.faults out.new)) (drilled_of words.entry).options result }
 {
     match shared_config(alloc, files, dex, words.options.config) {
         Err(status) => status,
@@ -238,10 +246,12 @@ pub fn drill<F: Files, K: Sink>(
     requires { words.steps ≤ 4000 }
     ensures ends { EndsIfKnown (F.contents files.old) (λ lookup. DrillEnds lookup (drilled_of words.entry).options) result }
     ensures cause { DrillCause (drilled_of words.entry).options (F.counts files.old) (F.counts files.new) result }
-    ensures summary { result ≡ Status.Done → HasSetup (F.contents files.old) (drilled_of words.entry).options (λ config dex. WritesSummary config dex (drilled_of words.entry).steps (K.written out.old) (K.written out.new)) }
+    ensures summary { result ≡ Status.Done → HasSetup (F.contents files.old) (drilled_of words.entry).options
+        (λ config dex. WritesSummary config dex (drilled_of words.entry).steps (K.written out.old) (K.written out.new)) }
     ensures wrote { WritesDrill (F.contents files.old) (drilled_of words.entry) (K.written out.old) (K.written out.new) result }
     ensures write_fault { result ≡ Status.WriteFault → Rose (K.faults out.old) (K.faults out.new) }
-    ensures settles { SettlesDrill (F.contents files.old) (Rose (F.counts files.old).faults (F.counts files.new).faults) (Rose (K.faults out.old) (K.faults out.new)) (drilled_of words.entry).options result }
+    ensures settles { SettlesDrill (F.contents files.old) (Rose (F.counts files.old).faults (F.counts files.new).faults)
+        (Rose (K.faults out.old) (K.faults out.new)) (drilled_of words.entry).options result }
 {
     match shared_dex(alloc, files, words.options.dex) {
         Err(status) => status,

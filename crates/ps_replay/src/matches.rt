@@ -206,7 +206,8 @@ pub(crate) fn play_all<K: Sink>(
     tour: &mut Tour,
     out: &mut K,
 ) -> Result<(), ReplayEnd>
-    ensures ok { OnOk result (PlaysLines (entering (arc_value config.now) fight.now.team users) most_lines fight.now.format tour.old tour.new
+    ensures ok { OnOk result (PlaysLines (entering (arc_value config.now) fight.now.team users) most_lines fight.now.format tour.old
+        tour.new
         (fresh (setup_of (arc_value config.now) (arc_value dex.now) [])) (K.written out.old) (K.written out.new)) }
     ensures err { OnErr result (PlaysFront (entering (arc_value config.now) fight.now.team users) most_lines fight.now.format tour.old
         (fresh (setup_of (arc_value config.now) (arc_value dex.now) [])) (K.written out.old) (K.written out.new)) }

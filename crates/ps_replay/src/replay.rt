@@ -71,8 +71,10 @@ pub(crate) fn replay_item<K: Sink>(
     out: &mut K,
 ) -> Result<Option<Ending>, ReplayEnd>
     ensures state { OnOk result (table.new ≡ item_after table.old item.now) }
-    ensures wrote { OnOk result (MovesFront (K.written out.old) (K.written out.new) (string_bytes pending.old.text ++ item_text table.old item.now) (string_bytes pending.new.text)) }
-    ensures err { OnErr result (AppendsFront (K.written out.old) (K.written out.new) (string_bytes pending.old.text ++ item_text table.old item.now)) }
+    ensures wrote { OnOk result (MovesFront (K.written out.old) (K.written out.new)
+        (string_bytes pending.old.text ++ item_text table.old item.now) (string_bytes pending.new.text)) }
+    ensures err { OnErr result (AppendsFront (K.written out.old) (K.written out.new)
+        (string_bytes pending.old.text ++ item_text table.old item.now)) }
     ensures later { K.faults out.old ≤ K.faults out.new }
     ensures fault { result ≡ Err ReplayEnd.WriteFault → Rose (K.faults out.old) (K.faults out.new) }
     ensures ended { IfOk result (λ end. end ≡ end_at (state_in table.old) item.now) }
@@ -150,8 +152,10 @@ pub fn replay<K: Sink>(
     items: &[Line<'_>],
     out: &mut K,
 ) -> Result<(), ReplayEnd>
-    ensures wrote { OnOk result (Appends (K.written out.old) (K.written out.new) (output (setup_of (arc_value config.now) (arc_value dex.now) items.now) items.now)) }
-    ensures err { OnErr result (AppendsFront (K.written out.old) (K.written out.new) (output (setup_of (arc_value config.now) (arc_value dex.now) items.now) items.now)) }
+    ensures wrote { OnOk result (Appends (K.written out.old) (K.written out.new)
+        (output (setup_of (arc_value config.now) (arc_value dex.now) items.now) items.now)) }
+    ensures err { OnErr result (AppendsFront (K.written out.old) (K.written out.new)
+        (output (setup_of (arc_value config.now) (arc_value dex.now) items.now) items.now)) }
     ensures later { K.faults out.old ≤ K.faults out.new }
     ensures fault { result ≡ Err ReplayEnd.WriteFault → Rose (K.faults out.old) (K.faults out.new) }
 {

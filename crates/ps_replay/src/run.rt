@@ -10,8 +10,11 @@ ghost use Rattle.program_commands.specs.Words.{words_in, options_of, IfReplay, I
 ghost use Rattle.program_commands.specs.Steps.{dex_in};
 ghost use Rattle.program_commands.specs.Setups.{usage_of, usage_reported, HasSetup, Stands, EndsIfKnown};
 ghost use Rattle.program_commands.specs.Checks.{legal_line, CheckEnds, IsNamed, CheckCause, SettlesCheck};
-ghost use Rattle.program_commands.specs.Conversions.{HasExport, MakesPacked, ExportCause, ImportCause, WritesExport, WritesPacked, SettlesConversion};
-ghost use Rattle.ps_replay.specs.Outcomes.{symbols_of, IsOfInput, KeepsInput, IsTranscript, HasOneEntryEachText, HasHistories, LosesNothing, HasEqualWorlds, IsReplayed, WritesOfInput, ReplayCause, InputCause, Settles, SettlesInput};
+ghost use Rattle.program_commands.specs.Conversions.{HasExport, MakesPacked, ExportCause, ImportCause, WritesExport, WritesPacked};
+ghost use Rattle.program_commands.specs.Conversions.{SettlesConversion};
+ghost use Rattle.ps_replay.specs.Outcomes.{symbols_of, IsOfInput, KeepsInput, IsTranscript, HasOneEntryEachText, HasHistories};
+ghost use Rattle.ps_replay.specs.Outcomes.{LosesNothing, HasEqualWorlds, IsReplayed, WritesOfInput, ReplayCause, InputCause, Settles};
+ghost use Rattle.ps_replay.specs.Outcomes.{SettlesInput, AtDoneOfReplay};
 ghost use Rattle.ps_replay.specs.Drills.{DrillEnds, DrillCause, WritesSummary, SettlesDrill};
 ghost use Rattle.ps_replay.specs.Tours.{IsTour, TourEnds, TourCause, SettlesTour};
 ghost use Rattle.ps_replay.specs.Writes.{Writes};
@@ -52,7 +55,8 @@ fn run_items<K: Sink>(
     ensures of { IsOfInput result }
     ensures replayed { result ≡ Status.Done → IsReplayed (arc_value config.now) (arc_value dex.now) (K.written out.old) (K.written out.new)
         bytes.now }
-    ensures prefix { WritesOfInput (arc_value config.now) (arc_value dex.now) (Some bytes.now) (K.written out.old) (K.written out.new) result }
+    ensures prefix { WritesOfInput (arc_value config.now) (arc_value dex.now) (Some bytes.now) (K.written out.old) (K.written out.new)
+        result }
     ensures cause { InputCause (arc_value config.now).groups (Some bytes.now) result }
     ensures read_fault { result ≡ Status.ReadFault → ⊥ }
     ensures write_fault { result ≡ Status.WriteFault → Rose (K.faults out.old) (K.faults out.new) }
@@ -77,7 +81,8 @@ fn run_bytes<K: Sink>(
     ensures of { IsOfInput result }
     ensures replayed { result ≡ Status.Done → IsReplayed (arc_value config.now) (arc_value dex.now) (K.written out.old) (K.written out.new)
         bytes.now }
-    ensures prefix { WritesOfInput (arc_value config.now) (arc_value dex.now) (Some bytes.now) (K.written out.old) (K.written out.new) result }
+    ensures prefix { WritesOfInput (arc_value config.now) (arc_value dex.now) (Some bytes.now) (K.written out.old) (K.written out.new)
+        result }
     ensures cause { InputCause (arc_value config.now).groups (Some bytes.now) result }
     ensures read_fault { result ≡ Status.ReadFault → ⊥ }
     ensures write_fault { result ≡ Status.WriteFault → Rose (K.faults out.old) (K.faults out.new) }
@@ -106,12 +111,14 @@ fn run_input<S: Source, K: Sink>(
     ensures whole { result ≡ Status.Done → IsAtEnd (S.left input.new) }
     ensures replayed { result ≡ Status.Done → IfSome (S.left input.old)
         (IsReplayed (arc_value config.now) (arc_value dex.now) (K.written out.old) (K.written out.new)) }
-    ensures prefix { WritesOfInput (arc_value config.now) (arc_value dex.now) (S.left input.old) (K.written out.old) (K.written out.new) result }
+    ensures prefix { WritesOfInput (arc_value config.now) (arc_value dex.now) (S.left input.old) (K.written out.old)
+        (K.written out.new) result }
     ensures bounded { ReadsFew (S.left input.old) (S.left input.new) }
     ensures cause { InputCause (arc_value config.now).groups (S.left input.old) result }
     ensures read_fault { result ≡ Status.ReadFault → Rose (S.faults input.old) (S.faults input.new) }
     ensures write_fault { result ≡ Status.WriteFault → Rose (K.faults out.old) (K.faults out.new) }
-    ensures settles { SettlesInput (arc_value config.now).groups (S.left input.old) (Rose (S.faults input.old) (S.faults input.new)) (Rose (K.faults out.old) (K.faults out.new)) result }
+    ensures settles { SettlesInput (arc_value config.now).groups (S.left input.old) (Rose (S.faults input.old) (S.faults input.new))
+        (Rose (K.faults out.old) (K.faults out.new)) result }
 {
     match read_input(alloc, input) {
         Err(InputEnd::ReadFault) => Status::ReadFault,
@@ -130,7 +137,8 @@ fn run_config<F: Files, S: Source, K: Sink>(
     input: &mut S,
     out: &mut K,
 ) -> Status
-    requires { Stands (F.contents files.old) (options_of options).dex (λ lookup. dex_in lookup (options_of options).dex) (arc_value dex.now) }
+    requires { Stands (F.contents files.old) (options_of options).dex (λ lookup. dex_in lookup (options_of options).dex)
+        (arc_value dex.now) }
     ensures { IsReplay (options_of options.entry) (record {
       contents = F.contents files.old;
       counts = F.counts files.old;
@@ -232,31 +240,45 @@ pub fn run<F: Files, S: Source, K: Sink>(
 
     // A replay ends with a status that has its cause: the dex file and the configuration are read and found good before the
     // input is read.
-    ensures cause { IfReplay (words_in (map string_bytes words.now)) (λ o. ReplayCause (F.contents files.old) o (S.left input.old) (F.counts files.old) (F.counts files.new) result) }
+    ensures cause { IfReplay (words_in (map string_bytes words.now))
+        (λ o. ReplayCause (F.contents files.old) o (S.left input.old) (F.counts files.old) (F.counts files.new) result) }
     ensures input { KeepsInput (S.left input.old) (S.left input.new) result }
 
-    // At Done of a replay the input was read to its end, and the whole transcript of its one script was written.
+    // At Done of a replay the input was read to its end. One dex and one configuration, those of the files that are named or the standard
+    // ones, and one script, that of the input, are those of which all of this holds.
     ensures whole { IfReplay (words_in (map string_bytes words.now)) (λ _. result ≡ Status.Done → IsAtEnd (S.left input.new)) }
-    ensures transcript { IfReplay (words_in (map string_bytes words.now)) (λ o. result ≡ Status.Done → HasSetup (F.contents files.old) o (λ config dex. IfSome (S.left input.old) (IsTranscript config dex (K.written out.old) (K.written out.new)))) }
+    ensures replayed { AtDoneOfReplay (map string_bytes words.now) (F.contents files.old) (S.left input.old) result
+        (λ config dex. IsReplayed config dex (K.written out.old) (K.written out.new)) }
+
+    // The whole transcript of the script was written.
+    ensures transcript { AtDoneOfReplay (map string_bytes words.now) (F.contents files.old) (S.left input.old) result
+        (λ config dex. IsTranscript config dex (K.written out.old) (K.written out.new)) }
 
     // Each of the script's texts is one entry, and the entries are the histories of their places.
-    ensures one_entry { IfReplay (words_in (map string_bytes words.now)) (λ o. result ≡ Status.Done → HasSetup (F.contents files.old) o (λ config dex. IfSome (S.left input.old) (HasOneEntryEachText config dex))) }
-    ensures histories { IfReplay (words_in (map string_bytes words.now)) (λ o. result ≡ Status.Done → HasSetup (F.contents files.old) o (λ config dex. IfSome (S.left input.old) (HasHistories config dex))) }
+    ensures one_entry { AtDoneOfReplay (map string_bytes words.now) (F.contents files.old) (S.left input.old) result
+        (λ config dex. HasOneEntryEachText config dex) }
+    ensures histories { AtDoneOfReplay (map string_bytes words.now) (F.contents files.old) (S.left input.old) result
+        (λ config dex. HasHistories config dex) }
 
     // In its hall each match started its battle, and the ladder of each format is made of all won reports of rated battles.
-    ensures hall { IfReplay (words_in (map string_bytes words.now)) (λ o. result ≡ Status.Done → HasSetup (F.contents files.old) o (λ config dex. IfSome (S.left input.old) (LosesNothing config dex))) }
+    ensures hall { AtDoneOfReplay (map string_bytes words.now) (F.contents files.old) (S.left input.old) result
+        (λ config dex. LosesNothing config dex) }
 
     // A connection's block from the hall or a room is the same for every script whose world there is the same to it.
-    ensures two_worlds { IfReplay (words_in (map string_bytes words.now)) (λ o. result ≡ Status.Done → HasSetup (F.contents files.old) o (λ config dex. IfSome (S.left input.old) (HasEqualWorlds config dex))) }
+    ensures two_worlds { AtDoneOfReplay (map string_bytes words.now) (F.contents files.old) (S.left input.old) result
+        (λ config dex. HasEqualWorlds config dex) }
 
     // A check ends as the first of its steps that ends in a status, and at Done the team of the known files is legal. The input
     // isn't touched.
-    ensures check_ends { IfCheck (words_in (map string_bytes words.now)) (λ asked. EndsIfKnown (F.contents files.old) (λ lookup. CheckEnds lookup asked) result) }
-    ensures check_cause { IfCheck (words_in (map string_bytes words.now)) (λ asked. CheckCause (IsNamed asked) (F.counts files.old) (F.counts files.new) result) }
+    ensures check_ends { IfCheck (words_in (map string_bytes words.now))
+        (λ asked. EndsIfKnown (F.contents files.old) (λ lookup. CheckEnds lookup asked) result) }
+    ensures check_cause { IfCheck (words_in (map string_bytes words.now))
+        (λ asked. CheckCause (IsNamed asked) (F.counts files.old) (F.counts files.new) result) }
     ensures check_untouched { IfCheck (words_in (map string_bytes words.now)) (λ _. S.left input.new ≡ S.left input.old) }
 
     // At Done of a check `legal` and a newline were written.
-    ensures check_summary { IfCheck (words_in (map string_bytes words.now)) (λ _. result ≡ Status.Done → Appends (K.written out.old) (K.written out.new) legal_line) }
+    ensures check_summary { IfCheck (words_in (map string_bytes words.now))
+        (λ _. result ≡ Status.Done → Appends (K.written out.old) (K.written out.new) legal_line) }
 
     // An export ends with a status that has its cause, and at Done the export text of the file's packed team was written.
     ensures export_cause { IfExport (words_in (map string_bytes words.now)) (λ name.
@@ -274,12 +296,16 @@ pub fn run<F: Files, S: Source, K: Sink>(
 
     // A drill ends as the first of the dex and the configuration that ends in a status, and else in Done, unless the sink or
     // memory fails: its text is a script whatever they say. The input isn't touched.
-    ensures drill_ends { IfDrill (words_in (map string_bytes words.now)) (λ asked. EndsIfKnown (F.contents files.old) (λ lookup. DrillEnds lookup asked.options) result) }
-    ensures drill_cause { IfDrill (words_in (map string_bytes words.now)) (λ asked. DrillCause asked.options (F.counts files.old) (F.counts files.new) result) }
+    ensures drill_ends { IfDrill (words_in (map string_bytes words.now))
+        (λ asked. EndsIfKnown (F.contents files.old) (λ lookup. DrillEnds lookup asked.options) result) }
+    ensures drill_cause { IfDrill (words_in (map string_bytes words.now))
+        (λ asked. DrillCause asked.options (F.counts files.old) (F.counts files.new) result) }
     ensures drill_untouched { IfDrill (words_in (map string_bytes words.now)) (λ _. S.left input.new ≡ S.left input.old) }
 
     // At Done of a drill its summary was written: the numbers and the digest of its script and of the transcript of that script.
-    ensures drill_summary { IfDrill (words_in (map string_bytes words.now)) (λ asked. result ≡ Status.Done → HasSetup (F.contents files.old) asked.options (λ config dex. WritesSummary config dex asked.steps (K.written out.old) (K.written out.new))) }
+    ensures drill_summary { IfDrill (words_in (map string_bytes words.now))
+        (λ asked. result ≡ Status.Done → HasSetup (F.contents files.old) asked.options
+        (λ config dex. WritesSummary config dex asked.steps (K.written out.old) (K.written out.new))) }
 
     // A tournament ends as the first of the dex and the configuration that ends in a status, or in NoTour exactly where there is no
     // species, no format, or no team that is legal in the first one, and else in Done, unless the sink or memory fails. The input
@@ -297,21 +323,28 @@ pub fn run<F: Files, S: Source, K: Sink>(
 
     // At every other status nothing was written, but for a front of the output at WriteFault, and at NoMemory of a replay and of a
     // tournament.
-    ensures prefix { Writes (words_in (map string_bytes words.now)) (F.contents files.old) (S.left input.old) (K.written out.old) (K.written out.new) result }
+    ensures prefix { Writes (words_in (map string_bytes words.now)) (F.contents files.old) (S.left input.old) (K.written out.old)
+        (K.written out.new) result }
     ensures bounded { ReadsFew (S.left input.old) (S.left input.new) }
 
     // Without a cause of another status a run settles.
     ensures read_fault { result ≡ Status.ReadFault → Rose (S.faults input.old) (S.faults input.new) }
     ensures write_fault { result ≡ Status.WriteFault → Rose (K.faults out.old) (K.faults out.new) }
-    ensures complete { IfReplay (words_in (map string_bytes words.now)) (λ o. Settles (F.contents files.old) o (S.left input.old) (Rose (F.counts files.old).faults (F.counts files.new).faults) (Rose (S.faults input.old) (S.faults input.new)) (Rose (K.faults out.old) (K.faults out.new)) result) }
-    ensures complete_check { IfCheck (words_in (map string_bytes words.now)) (λ asked. SettlesCheck (F.contents files.old) (Rose (F.counts files.old).faults (F.counts files.new).faults) (Rose (K.faults out.old) (K.faults out.new)) asked result) }
+    ensures complete { IfReplay (words_in (map string_bytes words.now))
+        (λ o. Settles (F.contents files.old) o (S.left input.old) (Rose (F.counts files.old).faults (F.counts files.new).faults)
+        (Rose (S.faults input.old) (S.faults input.new)) (Rose (K.faults out.old) (K.faults out.new)) result) }
+    ensures complete_check { IfCheck (words_in (map string_bytes words.now))
+        (λ asked. SettlesCheck (F.contents files.old) (Rose (F.counts files.old).faults (F.counts files.new).faults)
+        (Rose (K.faults out.old) (K.faults out.new)) asked result) }
     ensures complete_export { IfExport (words_in (map string_bytes words.now)) (λ name.
         SettlesConversion (F.contents files.old) HasExport (Rose (F.counts files.old).faults (F.counts files.new).faults)
         (Rose (K.faults out.old) (K.faults out.new)) name result) }
     ensures complete_import { IfImport (words_in (map string_bytes words.now)) (λ name.
         SettlesConversion (F.contents files.old) MakesPacked (Rose (F.counts files.old).faults (F.counts files.new).faults)
         (Rose (K.faults out.old) (K.faults out.new)) name result) }
-    ensures complete_drill { IfDrill (words_in (map string_bytes words.now)) (λ asked. SettlesDrill (F.contents files.old) (Rose (F.counts files.old).faults (F.counts files.new).faults) (Rose (K.faults out.old) (K.faults out.new)) asked.options result) }
+    ensures complete_drill { IfDrill (words_in (map string_bytes words.now))
+        (λ asked. SettlesDrill (F.contents files.old) (Rose (F.counts files.old).faults (F.counts files.new).faults)
+        (Rose (K.faults out.old) (K.faults out.new)) asked.options result) }
     ensures complete_tour { IfTour (words_in (map string_bytes words.now)) (λ asked.
         SettlesTour (F.contents files.old) (Rose (F.counts files.old).faults (F.counts files.new).faults)
         (Rose (K.faults out.old) (K.faults out.new)) asked.options result) }

@@ -45,7 +45,8 @@ pub(crate) fn summary_text(
     figures: Figures,
     digest: &[u8],
 ) -> Result<String, AllocError>
-    ensures { IfOk result (λ t. string_bytes t ≡ summary_lines figures.lines figures.counts.entries figures.counts.refused figures.messages figures.bytes digest.now) }
+    ensures { IfOk result (λ t. string_bytes t
+        ≡ summary_lines figures.lines figures.counts.entries figures.counts.refused figures.messages figures.bytes digest.now) }
 {
     let mut out = String::new(alloc);
     push_lines(&mut out, figures.lines)?;

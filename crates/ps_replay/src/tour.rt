@@ -95,9 +95,11 @@ fn tour_config<F: Files, K: Sink>(
     files: &mut F,
     out: &mut K,
 ) -> Status
-    requires stands { Stands (F.contents files.old) (options_of words.options).dex (λ lookup. dex_in lookup (options_of words.options).dex) (arc_value dex.now) }
+    requires stands { Stands (F.contents files.old) (options_of words.options).dex
+        (λ lookup. dex_in lookup (options_of words.options).dex) (arc_value dex.now) }
     requires users { AreUsers words.users }
-    ensures ends { EndsIfKnown (F.contents files.old) (λ lookup. SettingsEnd lookup (toured_of words.entry).options (arc_value dex.now)) result }
+    ensures ends { EndsIfKnown (F.contents files.old)
+        (λ lookup. SettingsEnd lookup (toured_of words.entry).options (arc_value dex.now)) result }
     ensures cause { TourCause (toured_of words.entry).options (F.counts files.old) (F.counts files.new) result }
     ensures played { result ≡ Status.Done → HasSetup (F.contents files.old) (toured_of words.entry).options
         (IsTour (toured_of words.entry) (K.written out.old) (K.written out.new)) }

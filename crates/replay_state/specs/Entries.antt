@@ -1,5 +1,6 @@
 -- What the lines of a script bring about, each decided by the lines before it.
-use Rattle.std.specs.Prelude.{◌≡◌, ℕ, suc, ◌-◌, Bool, List, [], ◌∷◌, ◌++◌, map, slice_get, slice_set, Option, Some, None, Result, Ok, Err, if◌then◌else◌}
+use Rattle.std.specs.Prelude.{◌≡◌, ℕ, suc, ◌-◌, Bool, List, [], ◌∷◌, ◌++◌, map, slice_get, slice_set, Option, Some, None, Result, Ok}
+use Rattle.std.specs.Prelude.{Err, if◌then◌else◌}
 use Rattle.std.specs.FinMap.{get}
 use Rattle.std.specs.List.{filter_map}
 use Rattle.ps_base.specs.declared.badge.Badge.{Badge}
@@ -178,7 +179,8 @@ sent s conn text = if is_open conn s.now then sent_by s conn text (session_of co
 
 -- and neither does its end
 abbrev pub closed : State → ℕ → Line
-closed s conn = if is_open conn s.now then record { happenings = map Entry (quits s.moment s.now conn); sessions = s.sessions } else idle s.sessions
+closed s conn = if is_open conn s.now then record { happenings = map Entry (quits s.moment s.now conn); sessions = s.sessions } else
+    idle s.sessions
 
 abbrev pub opening : ℕ → ℕ → Happening
 opening moment conn = Entry (hall_entry moment conn hall_commands.Open)
@@ -248,7 +250,11 @@ abbrev pub line_in : Run → Item → Line
 line_in r i = line_at (state_of r) i
 
 abbrev pub run_after : Run → Item → Run
-run_after r i = record { moment = moment_after r.moment i; world = worlds_after r.world (entries_in (line_in r i).happenings); sessions = (line_in r i).sessions }
+run_after r i = record {
+  moment = moment_after r.moment i;
+  world = worlds_after r.world (entries_in (line_in r i).happenings);
+  sessions = (line_in r i).sessions;
+}
 
 abbrev pub run_past : Run → List Item → Run
 run_past r [] = r

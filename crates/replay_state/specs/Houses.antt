@@ -58,13 +58,17 @@ seen_rooms_after rooms place e = option_map_or (λ k. slice_set rooms place (kep
 -- a battle that this hall starts has its room from then on
 abbrev pub begin : HallRecord → Option Start → House → House
 begin h None k = k
-begin h (Some start) k = record k { battles = k.battles ++ kept_opened (opening_in h start) ∷ []; numbers = with_number k.numbers (opening_in h start) }
+begin h (Some start) k = record k {
+  battles = k.battles ++ kept_opened (opening_in h start) ∷ [];
+  numbers = with_number k.numbers (opening_in h start);
+}
 
 abbrev pub house_hall : House → HallEntry → House
 house_hall k e = record k { hall = halls.after k.hall e }
 
 abbrev pub house_room : House → ℕ → Entry → House
-house_room k number e = if nat_lt number first_battle then record k { chats = seen_rooms_after k.chats number e } else record k { battles = seen_rooms_after k.battles (number - first_battle) e }
+house_room k number e = if nat_lt number first_battle then record k { chats = seen_rooms_after k.chats number e } else record k
+    { battles = seen_rooms_after k.battles (number - first_battle) e }
 
 abbrev pub house_after : House → Placed → House
 house_after k (Hall e) = begin k.hall (started_by k.hall e) (house_hall k e)
@@ -143,7 +147,12 @@ notice_hearers ns = map told_conn ns
 
 -- before the first entry
 abbrev pub house_opening : Setup → House
-house_opening s = record { hall = opened_hall s; chats = map kept_opened (chat_openings s); battles = []; numbers = numbers_from empty (chat_openings s) }
+house_opening s = record {
+  hall = opened_hall s;
+  chats = map kept_opened (chat_openings s);
+  battles = [];
+  numbers = numbers_from empty (chat_openings s);
+}
 
 -- ---- of a world
 

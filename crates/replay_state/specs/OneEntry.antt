@@ -27,7 +27,8 @@ use Rattle.replay_state.specs.declared.place.Happening.TheVariants as happening
 use Rattle.replay_state.specs.Setup.{Setup}
 use Rattle.replay_state.specs.Worlds.{story_at}
 use Rattle.replay_state.specs.Nows.{Now, now_of, record_at}
-use Rattle.replay_state.specs.Entries.{Run, run_opening, run_after, run_past, entries, happenings, happenings_from, world_of, ended, reports, is_open, text_entry, session_of}
+use Rattle.replay_state.specs.Entries.{Run, run_opening, run_after, run_past, entries, happenings, happenings_from, world_of, ended}
+use Rattle.replay_state.specs.Entries.{reports, is_open, text_entry, session_of}
 
 -- ---- the answer that an entry gets
 
@@ -61,20 +62,28 @@ is_end_of conn (happening.Ended other) = other == conn
 -- isn't there
 pub data IsAtLimit (n : Now) (text : List ℕ) (s : Session) : Type 0 where
   at_place : (place : Option (List ℕ)) → taken s text ≡ Err (Limit place) → IsAtLimit n text s
-  at_hall : (id : List ℕ) (cmd : Command) → taken s text ≡ Ok (orders.Room id cmd) → get n.numbers id ≡ None → is_full None (after_take (taken s text) s) ≡ true → IsAtLimit n text s
+  at_hall : (id : List ℕ) (cmd : Command) → taken s text ≡ Ok (orders.Room id cmd) → get n.numbers id ≡ None
+      → is_full None (after_take (taken s text) s) ≡ true → IsAtLimit n text s
 
 -- What a text brings about that stands behind the lines `before` of a script, with the lines `later` behind it. `r` is what the
 -- lines before it leave, and `session` what is known of the connection there.
-pub record IsText (s : Setup) (items before : List Item) (conn : ℕ) (text : List ℕ) (later : List Item) (r : Run) (session : Session) : Type 0 where
+pub record IsText (s : Setup) (items before : List Item) (conn : ℕ) (text : List ℕ) (later : List Item) (r : Run)
+    (session : Session) : Type 0 where
   -- below the limit exactly one entry, and the report of the battle that it ended; it gets its answer in its place,
-  pub entry : is_open conn (now_of r.world) ≡ true → (p : Placed) → text_entry r.moment (now_of r.world) conn text session ≡ Some p → happenings s items ≡ happenings_from (run_opening s) before ++ (happening.Entry p ∷ reports r.moment (now_of r.world) conn p ++ happenings_from (run_after r (Send conn text)) later)
-  pub answer : is_open conn (now_of r.world) ≡ true → (p : Placed) → text_entry r.moment (now_of r.world) conn text session ≡ Some p → IsPlacedAnswered (now_of r.world) p
+  pub entry : is_open conn (now_of r.world) ≡ true → (p : Placed) → text_entry r.moment (now_of r.world) conn text session ≡ Some p
+      → happenings s items ≡ happenings_from (run_opening s) before
+      ++ (happening.Entry p ∷ reports r.moment (now_of r.world) conn p ++ happenings_from (run_after r (Send conn text)) later)
+  pub answer : is_open conn (now_of r.world) ≡ true → (p : Placed) → text_entry r.moment (now_of r.world) conn text session ≡ Some p
+      → IsPlacedAnswered (now_of r.world) p
   -- at the limit the session's end alone,
-  pub limit : is_open conn (now_of r.world) ≡ true → text_entry r.moment (now_of r.world) conn text session ≡ None → happenings s items ≡ happenings_from (run_opening s) before ++ (ended r.moment (now_of r.world) conn ++ happenings_from (run_after r (Send conn text)) later)
+  pub limit : is_open conn (now_of r.world) ≡ true → text_entry r.moment (now_of r.world) conn text session ≡ None
+      → happenings s items ≡ happenings_from (run_opening s) before
+      ++ (ended r.moment (now_of r.world) conn ++ happenings_from (run_after r (Send conn text)) later)
   -- which is where its place takes no more,
   pub full : text_entry r.moment (now_of r.world) conn text session ≡ None → IsAtLimit (now_of r.world) text session
   -- after it nothing,
-  pub past : is_open conn (now_of r.world) ≡ false → happenings s items ≡ happenings_from (run_opening s) before ++ happenings_from (run_after r (Send conn text)) later
+  pub past : is_open conn (now_of r.world) ≡ false
+      → happenings s items ≡ happenings_from (run_opening s) before ++ happenings_from (run_after r (Send conn text)) later
   -- and a connection that sends a text isn't open only where its session was ended before, at its limit
   pub over : is_open conn (now_of r.world) ≡ false → list_any (is_end_of conn) (happenings_from (run_opening s) before) ≡ true
 
@@ -85,7 +94,8 @@ pub record IsTextOf (s : Setup) (items before : List Item) (conn : ℕ) (text : 
   pub text_is : IsText s items before conn text later r session
 
 abbrev pub HasOneEntryEach : Setup → List Item → Type 0
-HasOneEntryEach s items = (before : List Item) (conn : ℕ) (text : List ℕ) (later : List Item) → items ≡ before ++ Send conn text ∷ later → IsTextOf s items before conn text later (run_past (run_opening s) before)
+HasOneEntryEach s items = (before : List Item) (conn : ℕ) (text : List ℕ) (later : List Item)
+    → items ≡ before ++ Send conn text ∷ later → IsTextOf s items before conn text later (run_past (run_opening s) before)
 
 -- ---- entries stand in the histories of their places
 
@@ -100,4 +110,5 @@ room_entry_of number (Room other e) = if other == number then Some e else None
 -- the history of each place in the world of a script is its entries there, in order
 pub record AreHistories (s : Setup) (items : List Item) : Type 0 where
   pub hall : (world_of s items).hall ≡ filter_map hall_entry_of (entries s items)
-  pub room : (number : ℕ) (story : Story) → story_at number (world_of s items) ≡ Some story → story.history ≡ filter_map (room_entry_of number) (entries s items)
+  pub room : (number : ℕ) (story : Story) → story_at number (world_of s items) ≡ Some story
+      → story.history ≡ filter_map (room_entry_of number) (entries s items)

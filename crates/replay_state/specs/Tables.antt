@@ -1,4 +1,5 @@
--- What a replay prints, counts and notes line by line, by the state that its code keeps in the place of histories. No statement of the top call
+-- What a replay prints, counts and notes line by line, by the state that its code keeps in the place of histories. No statement of
+-- the top call
 -- rests on this file.
 use Rattle.std.specs.Prelude.{ℕ, ◌&&◌, Bool, List, [], ◌∷◌, ◌++◌, length, codes, nat_lt, nat_le, if◌then◌else◌}
 use Rattle.replay_script.specs.declared.item.Item.{Item}

@@ -32,4 +32,6 @@ AreSameAt (in_room number) conn one two = AreSameIn number conn one two
 -- each connection's block from each place is its view over the world there of every other script under the same files, where
 -- that world is the same to it
 abbrev pub HasEqualBlocks : Settings → Tables → List Item → Type 0
-HasEqualBlocks config dex items = (others : List Item) (conn : ℕ) (place : Place) → AreSameAt place conn (world_of (setup_of config dex items) items) (world_of (setup_of config dex others) others) → block conn place (messages (setup_of config dex items) items) ≡ world_view conn place (world_of (setup_of config dex others) others)
+HasEqualBlocks config dex items = (others : List Item) (conn : ℕ) (place : Place)
+    → AreSameAt place conn (world_of (setup_of config dex items) items) (world_of (setup_of config dex others) others)
+    → block conn place (messages (setup_of config dex items) items) ≡ world_view conn place (world_of (setup_of config dex others) others)

@@ -52,7 +52,13 @@ no_story o = story o []
 
 -- before the first entry
 abbrev pub world_opening : Setup → World
-world_opening s = record { setup = s; hall = []; chats = map no_story (chat_openings s); battles = []; numbers = numbers_from empty (chat_openings s) }
+world_opening s = record {
+  setup = s;
+  hall = [];
+  chats = map no_story (chat_openings s);
+  battles = [];
+  numbers = numbers_from empty (chat_openings s);
+}
 
 -- the hall after its history
 abbrev pub hall_in : World → HallRecord
@@ -81,7 +87,10 @@ opening_in h start = battle_opening h.config h.dex start
 -- a battle that starts has its room from then on
 abbrev pub with_battle : HallRecord → Option Start → World → World
 with_battle h None w = w
-with_battle h (Some start) w = record w { battles = w.battles ++ no_story (opening_in h start) ∷ []; numbers = with_number w.numbers (opening_in h start) }
+with_battle h (Some start) w = record w {
+  battles = w.battles ++ no_story (opening_in h start) ∷ [];
+  numbers = with_number w.numbers (opening_in h start);
+}
 
 -- the battle that an entry of the hall starts
 abbrev pub started_by : HallRecord → HallEntry → Option Start
@@ -91,7 +100,8 @@ abbrev pub with_hall : World → HallEntry → World
 with_hall w e = record w { hall = w.hall ++ e ∷ [] }
 
 abbrev pub with_room : World → ℕ → Entry → World
-with_room w number e = if nat_lt number first_battle then record w { chats = stories_after w.chats number e } else record w { battles = stories_after w.battles (number - first_battle) e }
+with_room w number e = if nat_lt number first_battle then record w { chats = stories_after w.chats number e } else record w
+    { battles = stories_after w.battles (number - first_battle) e }
 
 -- the world after an entry
 abbrev pub world_after : World → Placed → World

@@ -6,7 +6,8 @@ ghost use Rattle.std.specs.Ordering.{nat_cmp};
 ghost use Rattle.std.specs.Option.{option_copied};
 ghost use Rattle.ps_room.specs.Logs.{conn_of, record_in};
 ghost use Rattle.ps_room.specs.Records.{presents_of};
-ghost use Rattle.replay_state.specs.Houses.{one_of, own_conn, room_hearers, text_for_all, common_of, common_text, told_conn, notice_hearers};
+ghost use Rattle.replay_state.specs.Houses.{one_of, own_conn, room_hearers, text_for_all, common_of, common_text, told_conn};
+ghost use Rattle.replay_state.specs.Houses.{notice_hearers};
 
 use crate::short_room::ShortRoom;
 use ps_base::text::Text;

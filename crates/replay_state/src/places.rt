@@ -112,9 +112,11 @@ fn push_chat(
     no: u32,
     room: &ChatRoom,
 ) -> Result<(), AllocError>
-    ensures chats { OnOk result (chats.new.items ≡ chats.old.items ++ kept_opened (chat_opening (arc_value config.now) (arc_value dex.now) no room.now) ∷ []) }
+    ensures chats { OnOk result (chats.new.items ≡ chats.old.items
+        ++ kept_opened (chat_opening (arc_value config.now) (arc_value dex.now) no room.now) ∷ []) }
     ensures count { OnOk result (length chats.new.items ≡ length chats.old.items + 1) }
-    ensures numbers { OnOk result (numbers.new ≡ with_number numbers.old (chat_opening (arc_value config.now) (arc_value dex.now) no room.now)) }
+    ensures numbers { OnOk result (numbers.new
+        ≡ with_number numbers.old (chat_opening (arc_value config.now) (arc_value dex.now) no room.now)) }
 {
     chats.push(open_chat(alloc, config, dex, no, room)?)?;
     numbers.insert(alloc, room.id.as_str(), no)?;
@@ -132,9 +134,11 @@ fn open_chats(
     rooms: &[ChatRoom],
 ) -> Result<(), AllocError>
     requires { no + length rooms.now ≤ 16 }
-    ensures chats { OnOk result (chats.new.items ≡ chats.old.items ++ map kept_opened (chats_from (arc_value config.now) (arc_value dex.now) no rooms.now)) }
+    ensures chats { OnOk result (chats.new.items ≡ chats.old.items
+        ++ map kept_opened (chats_from (arc_value config.now) (arc_value dex.now) no rooms.now)) }
     ensures count { OnOk result (length chats.new.items ≡ length chats.old.items + length rooms.now) }
-    ensures numbers { OnOk result (numbers.new ≡ numbers_from numbers.old (chats_from (arc_value config.now) (arc_value dex.now) no rooms.now)) }
+    ensures numbers { OnOk result (numbers.new
+        ≡ numbers_from numbers.old (chats_from (arc_value config.now) (arc_value dex.now) no rooms.now)) }
 {
     match rooms {
         [] => Ok(()),
@@ -156,7 +160,8 @@ fn begin(
 ) -> Result<(), AllocError>
     requires few { length battles.old.items ≤ most_battles }
     requires fit { IsFit start (arc_value config) (arc_value dex) }
-    ensures battles { OnOk result (battles.new.items ≡ battles.old.items ++ kept_opened (battle_opening (arc_value config) (arc_value dex) start) ∷ []) }
+    ensures battles { OnOk result (battles.new.items ≡ battles.old.items
+        ++ kept_opened (battle_opening (arc_value config) (arc_value dex) start) ∷ []) }
     ensures count { length battles.new.items ≤ most_battles }
     ensures numbers { OnOk result (numbers.new ≡ with_number numbers.old (battle_opening (arc_value config) (arc_value dex) start)) }
 {
@@ -390,7 +395,8 @@ impl Places {
         out: &mut Transcript,
     ) -> Result<Option<Badge>, AllocError>
         ensures state { OnOk result (self.new ≡ house_after self.old (placed.Hall entry.now)) }
-        ensures text { OnOk result (string_bytes out.new.text ≡ string_bytes out.old.text ++ entry_text conns self.old (placed.Hall entry.now)) }
+        ensures text { OnOk result (string_bytes out.new.text ≡ string_bytes out.old.text
+            ++ entry_text conns self.old (placed.Hall entry.now)) }
         ensures ledger { OnOk result (out.new.ledger ≡ entry_ledger self.old (placed.Hall entry.now) out.old.ledger) }
         ensures badge { IfOk result (λ b. b ≡ (halls.out_of self.old.hall entry.now).badge) }
     {
@@ -454,7 +460,8 @@ impl Places {
         out: &mut Transcript,
     ) -> Result<Option<Ending>, AllocError>
         ensures state { OnOk result (self.new ≡ house_after self.old (placed.Room no entry.now)) }
-        ensures text { OnOk result (string_bytes out.new.text ≡ string_bytes out.old.text ++ entry_text conns self.old (placed.Room no entry.now)) }
+        ensures text { OnOk result (string_bytes out.new.text ≡ string_bytes out.old.text
+            ++ entry_text conns self.old (placed.Room no entry.now)) }
         ensures ledger { OnOk result (out.new.ledger ≡ entry_ledger self.old (placed.Room no entry.now) out.old.ledger) }
         ensures ended { IfOk result (λ o. o ≡ ending_at (record_at no (now_in self.old)) entry.now) }
     {

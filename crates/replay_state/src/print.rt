@@ -143,7 +143,8 @@ fn push_shown_rest(
     role: Role,
     lines: &[Stored],
 ) -> Result<(), AllocError>
-    ensures { OnOk result (string_bytes out.new ≡ string_bytes out.old ++ flat_map (further_behind digits.now) (shown_lines conn role lines.now)) }
+    ensures { OnOk result (string_bytes out.new ≡ string_bytes out.old
+        ++ flat_map (further_behind digits.now) (shown_lines conn role lines.now)) }
 {
     match lines {
         [] => Ok(()),
@@ -165,7 +166,8 @@ pub fn push_shown(
     role: Role,
     lines: &[Stored],
 ) -> Result<(), AllocError>
-    ensures { OnOk result (string_bytes out.new ≡ string_bytes out.old ++ printed conn (with_id (Some id.now) (shown_lines conn role lines.now))) }
+    ensures { OnOk result (string_bytes out.new ≡ string_bytes out.old
+        ++ printed conn (with_id (Some id.now) (shown_lines conn role lines.now))) }
 {
     match lines {
         [] => Ok(()),

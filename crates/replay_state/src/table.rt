@@ -1,5 +1,6 @@
 //! A replay's state.
-ghost use Rattle.std.specs.Prelude.{◌≡◌, ◌++◌, ◌∷◌, [], ◌-◌, ◌≤◌, IfOk, IfErr, OnOk, OnErr, map, string_bytes, length, is_some, true, Some, Ok};
+ghost use Rattle.std.specs.Prelude.{◌≡◌, ◌++◌, ◌∷◌, [], ◌-◌, ◌≤◌, IfOk, IfErr, OnOk, OnErr, map, string_bytes, length, is_some, true};
+ghost use Rattle.std.specs.Prelude.{Some, Ok};
 ghost use Rattle.std.specs.Arc.{arc_value};
 ghost use Rattle.ps_hall.specs.Halls as halls;
 ghost use Rattle.std.specs.FinMap as maps;
@@ -8,7 +9,10 @@ ghost use Rattle.replay_script.specs.Cleans.{IsClean};
 ghost use Rattle.replay_state.specs.declared.place.Happening.TheVariants as happening;
 ghost use Rattle.replay_state.specs.Houses.{now_in};
 ghost use Rattle.ps_session.specs.Sessions.{begun, counted, without_badge};
-ghost use Rattle.replay_state.specs.Entries.{quits, ended, badged, report_of, entry_happenings, entry_in_room, entry_in_hall, numbered_entry, text_entry, text_session, order_entry, entry_out, badge_past, session_lent, session_past, lent_to_room, sent_by, session_of, opening, end_by, end_sent, IsCounted};
+ghost use Rattle.replay_state.specs.Entries.{quits, ended, badged, report_of, entry_happenings, entry_in_room, entry_in_hall};
+ghost use Rattle.replay_state.specs.Entries.{numbered_entry, text_entry, text_session, order_entry, entry_out, badge_past};
+ghost use Rattle.replay_state.specs.Entries.{session_lent, session_past, lent_to_room, sent_by, session_of, opening, end_by};
+ghost use Rattle.replay_state.specs.Entries.{end_sent, IsCounted};
 ghost use Rattle.replay_state.specs.Tables.{happenings_text, happenings_after, happenings_ledger};
 
 use crate::place::{EntryOut, Placed, badge_past, hall_entry, let_go};
@@ -79,7 +83,8 @@ fn push_placed(
     out: &mut Transcript,
 ) -> Result<(), AllocError>
     ensures state { OnOk result (places.new ≡ happenings_after places.old (happening.Entry entry.now ∷ [])) }
-    ensures text { OnOk result (string_bytes out.new.text ≡ string_bytes out.old.text ++ happenings_text count places.old (happening.Entry entry.now ∷ [])) }
+    ensures text { OnOk result (string_bytes out.new.text ≡ string_bytes out.old.text
+        ++ happenings_text count places.old (happening.Entry entry.now ∷ [])) }
     ensures ledger { OnOk result (out.new.ledger ≡ happenings_ledger places.old (happening.Entry entry.now ∷ []) out.old.ledger) }
 {
     match entry {
@@ -102,7 +107,8 @@ fn push_all(
     out: &mut Transcript,
 ) -> Result<(), AllocError>
     ensures state { OnOk result (places.new ≡ happenings_after places.old (map happening.Entry entries.now)) }
-    ensures text { OnOk result (string_bytes out.new.text ≡ string_bytes out.old.text ++ happenings_text count places.old (map happening.Entry entries.now)) }
+    ensures text { OnOk result (string_bytes out.new.text ≡ string_bytes out.old.text
+        ++ happenings_text count places.old (map happening.Entry entries.now)) }
     ensures ledger { OnOk result (out.new.ledger ≡ happenings_ledger places.old (map happening.Entry entries.now) out.old.ledger) }
 {
     match entries {
@@ -124,8 +130,10 @@ fn push_quits(
     out: &mut Transcript,
 ) -> Result<(), AllocError>
     ensures state { OnOk result (places.new ≡ happenings_after places.old (map happening.Entry (quits moment (now_in places.old) conn))) }
-    ensures text { OnOk result (string_bytes out.new.text ≡ string_bytes out.old.text ++ happenings_text count places.old (map happening.Entry (quits moment (now_in places.old) conn))) }
-    ensures ledger { OnOk result (out.new.ledger ≡ happenings_ledger places.old (map happening.Entry (quits moment (now_in places.old) conn)) out.old.ledger) }
+    ensures text { OnOk result (string_bytes out.new.text ≡ string_bytes out.old.text
+        ++ happenings_text count places.old (map happening.Entry (quits moment (now_in places.old) conn))) }
+    ensures ledger { OnOk result (out.new.ledger
+        ≡ happenings_ledger places.old (map happening.Entry (quits moment (now_in places.old) conn)) out.old.ledger) }
 {
     let quits = places.quits(alloc, moment, conn)?;
     push_all(alloc, places, count, &quits, out)
@@ -142,7 +150,8 @@ fn push_ended(
     out: &mut Transcript,
 ) -> Result<(), AllocError>
     ensures state { OnOk result (places.new ≡ happenings_after places.old (ended moment (now_in places.old) conn)) }
-    ensures text { OnOk result (string_bytes out.new.text ≡ string_bytes out.old.text ++ happenings_text count places.old (ended moment (now_in places.old) conn)) }
+    ensures text { OnOk result (string_bytes out.new.text ≡ string_bytes out.old.text
+        ++ happenings_text count places.old (ended moment (now_in places.old) conn)) }
     ensures ledger { OnOk result (out.new.ledger ≡ happenings_ledger places.old (ended moment (now_in places.old) conn) out.old.ledger) }
 {
     push_quits(alloc, places, moment, count, conn, out)?;
@@ -173,7 +182,8 @@ fn push_report(
     out: &mut Transcript,
 ) -> Result<(), AllocError>
     ensures state { OnOk result (places.new ≡ happenings_after places.old (report_of moment conn end)) }
-    ensures text { OnOk result (string_bytes out.new.text ≡ string_bytes out.old.text ++ happenings_text count places.old (report_of moment conn end)) }
+    ensures text { OnOk result (string_bytes out.new.text ≡ string_bytes out.old.text
+        ++ happenings_text count places.old (report_of moment conn end)) }
     ensures ledger { OnOk result (out.new.ledger ≡ happenings_ledger places.old (report_of moment conn end) out.old.ledger) }
 {
     match end {
@@ -201,9 +211,12 @@ fn push_entry(
     placed: &Placed,
     out: &mut Transcript,
 ) -> Result<EntryOut, AllocError>
-    ensures state { OnOk result (places.new ≡ happenings_after places.old (entry_happenings moment (now_in places.old) conn (Some placed.now))) }
-    ensures text { OnOk result (string_bytes out.new.text ≡ string_bytes out.old.text ++ happenings_text count places.old (entry_happenings moment (now_in places.old) conn (Some placed.now))) }
-    ensures ledger { OnOk result (out.new.ledger ≡ happenings_ledger places.old (entry_happenings moment (now_in places.old) conn (Some placed.now)) out.old.ledger) }
+    ensures state { OnOk result (places.new ≡ happenings_after places.old
+        (entry_happenings moment (now_in places.old) conn (Some placed.now))) }
+    ensures text { OnOk result (string_bytes out.new.text ≡ string_bytes out.old.text
+        ++ happenings_text count places.old (entry_happenings moment (now_in places.old) conn (Some placed.now))) }
+    ensures ledger { OnOk result (out.new.ledger
+        ≡ happenings_ledger places.old (entry_happenings moment (now_in places.old) conn (Some placed.now)) out.old.ledger) }
     ensures out { IfOk result (λ made. made ≡ entry_out (now_in places.old) placed.now) }
 {
     match placed {
@@ -233,8 +246,10 @@ fn push_lent(
 ) -> Result<Option<Ending>, AllocError>
     ensures state { OnOk result (places.new ≡ happenings_after places.old (entry_happenings moment (now_in places.old) conn placed)) }
     ensures session { OnOk result (session.new ≡ session_past (now_in places.old) placed session.old) }
-    ensures text { OnOk result (string_bytes out.new.text ≡ string_bytes out.old.text ++ happenings_text count places.old (entry_happenings moment (now_in places.old) conn placed)) }
-    ensures ledger { OnOk result (out.new.ledger ≡ happenings_ledger places.old (entry_happenings moment (now_in places.old) conn placed) out.old.ledger) }
+    ensures text { OnOk result (string_bytes out.new.text ≡ string_bytes out.old.text
+        ++ happenings_text count places.old (entry_happenings moment (now_in places.old) conn placed)) }
+    ensures ledger { OnOk result (out.new.ledger
+        ≡ happenings_ledger places.old (entry_happenings moment (now_in places.old) conn placed) out.old.ledger) }
     ensures ended { IfOk result (λ end. end ≡ end_by (now_in places.old) placed) }
 {
     match placed {
@@ -386,11 +401,17 @@ fn push_text(
     out: &mut Transcript,
 ) -> Result<Option<Ending>, AllocError>
     requires { is_clean ≡ true → IsClean text.now }
-    ensures state { OnOk result (places.new ≡ happenings_after places.old (entry_happenings moment (now_in places.old) conn (text_entry moment (now_in places.old) conn text.now session.old))) }
+    ensures state { OnOk result (places.new ≡ happenings_after places.old
+        (entry_happenings moment (now_in places.old) conn (text_entry moment (now_in places.old) conn text.now session.old))) }
     ensures session { OnOk result (session.new ≡ text_session moment (now_in places.old) conn text.now session.old) }
-    ensures text { OnOk result (string_bytes out.new.text ≡ string_bytes out.old.text ++ happenings_text count places.old (entry_happenings moment (now_in places.old) conn (text_entry moment (now_in places.old) conn text.now session.old))) }
-    ensures ledger { OnOk result (out.new.ledger ≡ happenings_ledger places.old (entry_happenings moment (now_in places.old) conn (text_entry moment (now_in places.old) conn text.now session.old)) out.old.ledger) }
-    ensures ended { IfOk result (λ end. end ≡ end_by (now_in places.old) (text_entry moment (now_in places.old) conn text.now session.old)) }
+    ensures text { OnOk result (string_bytes out.new.text ≡ string_bytes out.old.text
+        ++ happenings_text count places.old (entry_happenings moment (now_in places.old) conn
+        (text_entry moment (now_in places.old) conn text.now session.old))) }
+    ensures ledger { OnOk result (out.new.ledger
+        ≡ happenings_ledger places.old (entry_happenings moment (now_in places.old) conn
+        (text_entry moment (now_in places.old) conn text.now session.old)) out.old.ledger) }
+    ensures ended { IfOk result (λ end. end ≡ end_by (now_in places.old)
+        (text_entry moment (now_in places.old) conn text.now session.old)) }
 {
     match take_sent(alloc, session, text, is_clean) {
         Err(TakeFault::NoMemory) => Err(AllocError),
@@ -427,11 +448,20 @@ fn push_sent(
 ) -> Result<Option<Ending>, AllocError>
     requires count { count ≡ length sessions.old }
     requires clean { is_clean ≡ true → IsClean text.now }
-    ensures state { OnOk result (places.new ≡ happenings_after places.old (sent_by (record { moment = moment; now = now_in places.old; sessions = sessions.old }) conn text.now (session_of conn sessions.old)).happenings) }
-    ensures sessions { OnOk result (sessions.new ≡ (sent_by (record { moment = moment; now = now_in places.old; sessions = sessions.old }) conn text.now (session_of conn sessions.old)).sessions) }
-    ensures text { OnOk result (string_bytes out.new.text ≡ string_bytes out.old.text ++ happenings_text count places.old (sent_by (record { moment = moment; now = now_in places.old; sessions = sessions.old }) conn text.now (session_of conn sessions.old)).happenings) }
-    ensures ledger { OnOk result (out.new.ledger ≡ happenings_ledger places.old (sent_by (record { moment = moment; now = now_in places.old; sessions = sessions.old }) conn text.now (session_of conn sessions.old)).happenings out.old.ledger) }
-    ensures ended { IfOk result (λ end. end ≡ end_sent (record { moment = moment; now = now_in places.old; sessions = sessions.old }) conn text.now (session_of conn sessions.old)) }
+    ensures state { OnOk result (places.new ≡ happenings_after places.old
+        (sent_by (record { moment = moment; now = now_in places.old; sessions = sessions.old }) conn text.now
+        (session_of conn sessions.old)).happenings) }
+    ensures sessions { OnOk result (sessions.new
+        ≡ (sent_by (record { moment = moment; now = now_in places.old; sessions = sessions.old }) conn text.now
+        (session_of conn sessions.old)).sessions) }
+    ensures text { OnOk result (string_bytes out.new.text ≡ string_bytes out.old.text
+        ++ happenings_text count places.old (sent_by (record { moment = moment; now = now_in places.old; sessions = sessions.old })
+        conn text.now (session_of conn sessions.old)).happenings) }
+    ensures ledger { OnOk result (out.new.ledger
+        ≡ happenings_ledger places.old (sent_by (record { moment = moment; now = now_in places.old; sessions = sessions.old }) conn
+        text.now (session_of conn sessions.old)).happenings out.old.ledger) }
+    ensures ended { IfOk result (λ end. end ≡ end_sent (record { moment = moment; now = now_in places.old; sessions = sessions.old })
+        conn text.now (session_of conn sessions.old)) }
 {
     let place = index_of_conn(conn);
     if place >= sessions.len() {
@@ -463,7 +493,8 @@ fn push_opened(
     ensures state { OnOk result (places.new ≡ happenings_after places.old (opening moment conn ∷ [])) }
     ensures sessions { OnOk result (sessions.new.items ≡ sessions.old.items ++ begun conn ∷ []) }
     ensures few { length sessions.new.items ≤ 65536 }
-    ensures text { OnOk result (string_bytes out.new.text ≡ string_bytes out.old.text ++ happenings_text (length sessions.new.items) places.old (opening moment conn ∷ [])) }
+    ensures text { OnOk result (string_bytes out.new.text ≡ string_bytes out.old.text
+        ++ happenings_text (length sessions.new.items) places.old (opening moment conn ∷ [])) }
     ensures ledger { OnOk result (out.new.ledger ≡ happenings_ledger places.old (opening moment conn ∷ []) out.old.ledger) }
 {
     if sessions.len() >= MOST_SESSIONS {
@@ -557,7 +588,8 @@ impl Table {
     ) -> Result<Option<Ending>, AllocError>
         requires { is_clean ≡ true → IsClean text.now }
         ensures state { OnOk result (self.new ≡ item_after self.old (items.Send conn text.now)) }
-        ensures text { OnOk result (string_bytes out.new.text ≡ string_bytes out.old.text ++ item_text self.old (items.Send conn text.now)) }
+        ensures text { OnOk result (string_bytes out.new.text ≡ string_bytes out.old.text
+            ++ item_text self.old (items.Send conn text.now)) }
         ensures ledger { OnOk result (out.new.ledger ≡ item_ledger self.old (items.Send conn text.now) out.old.ledger) }
         ensures ended { IfOk result (λ end. end ≡ end_at (state_in self.old) (items.Send conn text.now)) }
     {

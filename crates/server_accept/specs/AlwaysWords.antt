@@ -1,5 +1,6 @@
 -- The words of a server that stays up.
-use Rattle.std.specs.Prelude.{ℕ, ◌+◌, ◌-◌, Bool, true, false, ◌&&◌, nat_le, List, [], ◌∷◌, codes, Option, Some, None, Result, Ok, Err, ◌==◌, if◌then◌else◌}
+use Rattle.std.specs.Prelude.{ℕ, ◌+◌, ◌-◌, Bool, true, false, ◌&&◌, nat_le, List, [], ◌∷◌, codes, Option, Some, None, Result, Ok, Err}
+use Rattle.std.specs.Prelude.{◌==◌, if◌then◌else◌}
 use Rattle.std.specs.Option.{option_copied, is_some, unwrap_or}
 use Rattle.std.specs.Str.{bytes_eq}
 use Rattle.ps_base.specs.Numbers.{number_in}
@@ -37,7 +38,18 @@ pub record Reading : Type 0 where
   pub wants : Wants
 
 abbrev pub nothing_said : Reading
-nothing_said = record { further = record { at_once = None; ping = None; rate = None; stops_at_end = false; logs = false; dex = None; config = None }; wants = AnOption }
+nothing_said = record {
+  further = record {
+    at_once = None;
+    ping = None;
+    rate = None;
+    stops_at_end = false;
+    logs = false;
+    dex = None;
+    config = None;
+  };
+  wants = AnOption;
+}
 
 -- ---- values
 
@@ -125,7 +137,8 @@ go_on at (Some reading) rest = rest reading
 -- no more words than so many can stand
 abbrev pub further_in : ℕ → ℕ → Reading → List (List ℕ) → Result Further ℕ
 further_in most at reading [] = end_of at reading.wants reading.further
-further_in most at reading (word ∷ words) = if most == 0 then Err at else go_on at (word_in reading.wants reading.further word) (λ next. further_in (most - 1) (at + 1) next words)
+further_in most at reading (word ∷ words) = if most == 0 then Err at else go_on at (word_in reading.wants reading.further word)
+    (λ next. further_in (most - 1) (at + 1) next words)
 
 -- five options with a value and two without, each once
 abbrev pub most_further : ℕ
@@ -133,12 +146,21 @@ most_further = 12
 
 abbrev pub stays_with : List ℕ → Result Further ℕ → Result Stays ℕ
 stays_with address (Err at) = Err at
-stays_with address (Ok said) = Ok (record { address = address; at_once = unwrap_or said.at_once 1024; ping = unwrap_or said.ping 30; rate = unwrap_or said.rate 5; stops_at_end = said.stops_at_end; logs = said.logs; options = record { dex = said.dex; config = said.config } })
+stays_with address (Ok said) = Ok (record {
+  address = address;
+  at_once = unwrap_or said.at_once 1024;
+  ping = unwrap_or said.ping 30;
+  rate = unwrap_or said.rate 5;
+  stops_at_end = said.stops_at_end;
+  logs = said.logs;
+  options = record { dex = said.dex; config = said.config };
+})
 
 -- behind the address
 abbrev pub always_in : List ℕ → List (List ℕ) → Result Stays ℕ
 always_in address [] = Err 2
-always_in address (word ∷ words) = if bytes_eq word (codes "always") then stays_with address (further_in most_further 3 nothing_said words) else Err 2
+always_in address (word ∷ words) = if bytes_eq word (codes "always") then stays_with address
+    (further_in most_further 3 nothing_said words) else Err 2
 
 -- behind `serve`
 abbrev pub stay_in : List (List ℕ) → Result Stays ℕ
@@ -158,13 +180,29 @@ IfStays (Err at) holds = Unit {0}
 -- ---- for the code: what was read, as contracts see it
 
 abbrev pub further_of : FurtherWords → Further
-further_of f = record { at_once = f.at_once; ping = f.ping; rate = f.rate; stops_at_end = f.stops_at_end; logs = f.logs; dex = option_copied f.dex; config = option_copied f.config }
+further_of f = record {
+  at_once = f.at_once;
+  ping = f.ping;
+  rate = f.rate;
+  stops_at_end = f.stops_at_end;
+  logs = f.logs;
+  dex = option_copied f.dex;
+  config = option_copied f.config;
+}
 
 abbrev pub reading_of : WordReading → Reading
 reading_of r = record { further = further_of r.further; wants = r.wants }
 
 abbrev pub stays_of : AlwaysWords → Stays
-stays_of w = record { address = w.address.now; at_once = w.at_once; ping = w.ping; rate = w.rate; stops_at_end = w.stops_at_end; logs = w.logs; options = options_of w.options }
+stays_of w = record {
+  address = w.address.now;
+  at_once = w.at_once;
+  ping = w.ping;
+  rate = w.rate;
+  stops_at_end = w.stops_at_end;
+  logs = w.logs;
+  options = options_of w.options;
+}
 
 abbrev pub option_reading : Option WordReading → Option Reading
 option_reading None = None

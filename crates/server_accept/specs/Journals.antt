@@ -11,11 +11,13 @@ use Rattle.program_commands.specs.Setups.{HasSetup}
 -- The ends of sessions of one hub, by the numbers of their connections: at the first place lies that of connection 1, at the next that
 -- of connection 2, and so on, and no place is empty.
 abbrev pub AreSessions : Hub → List (Option Closed) → Type 0
-AreSessions hub ends = (place : ℕ) → place < length ends → (closed : Closed) × (slice_get ends place ≡ Some (Some closed)) × IsSession hub (place + 1) closed
+AreSessions hub ends = (place : ℕ) → place < length ends → (closed : Closed) × (slice_get ends place ≡ Some (Some closed))
+    × IsSession hub (place + 1) closed
 
 -- none, where no session was begun, or those of a hub under the dex and the configuration of these files
 abbrev pub AreServed : Option (List ℕ → Option (List ℕ)) → Options → List (Option Closed) → Type 0
-AreServed contents options ends = (ends ≡ []) ⊎ HasSetup contents options (λ config dex. (hub : Hub) × (hub.config ≡ config) × (hub.dex ≡ dex) × AreSessions hub ends)
+AreServed contents options ends = (ends ≡ [])
+    ⊎ HasSetup contents options (λ config dex. (hub : Hub) × (hub.config ≡ config) × (hub.dex ≡ dex) × AreSessions hub ends)
 
 -- ---- for the code alone
 

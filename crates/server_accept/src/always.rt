@@ -277,7 +277,8 @@ fn hub_over<F: Files>(
     ensures hub { IfOk result (IsFreshHub (F.contents files.old) (options_of options.entry) fresh.now) }
     ensures of { IfErr result IsOfFiles }
     ensures cause { IfErr result (ServeCause (F.contents files.old) (options_of options.entry) (F.counts files.old) (F.counts files.new)) }
-    ensures complete { IfErr result (SettlesFiles (F.contents files.old) (options_of options.entry) (Rose (F.counts files.old).faults (F.counts files.new).faults)) }
+    ensures complete { IfErr result (SettlesFiles (F.contents files.old) (options_of options.entry)
+        (Rose (F.counts files.old).faults (F.counts files.new).faults)) }
 {
     let config = match config_or_standard(alloc, files, &dex, options.config) {
         Err(status) => return Err(status),
@@ -305,7 +306,8 @@ pub fn always_hub<F: Files>(
     ensures cause { IfErr result (ServeCause (F.contents files.old) (options_of options.entry) (F.counts files.old) (F.counts files.new)) }
 
     // Good files, known and without faults of the outside, are refused for want of memory alone.
-    ensures complete { IfErr result (SettlesFiles (F.contents files.old) (options_of options.entry) (Rose (F.counts files.old).faults (F.counts files.new).faults)) }
+    ensures complete { IfErr result (SettlesFiles (F.contents files.old) (options_of options.entry)
+        (Rose (F.counts files.old).faults (F.counts files.new).faults)) }
 {
     match dex_or_none(alloc, files, options.dex) {
         Err(status) => Err(status),
@@ -336,7 +338,8 @@ where
     ensures door_fault { result ≡ Status.DoorFault → Rose (D.faults door.old) (D.faults door.new) }
     ensures shut { result ≡ Status.Done → D.is_shut door.new ≡ true }
     ensures untouched { KeepsDoor (D.faults door.old) (D.faults door.new) (D.given door.old) (D.given door.new) result }
-    ensures complete { SettlesServe (F.contents files.old) (options_of words.entry.options) (Rose (F.counts files.old).faults (F.counts files.new).faults) (Rose (D.faults door.old) (D.faults door.new)) result }
+    ensures complete { SettlesServe (F.contents files.old) (options_of words.entry.options)
+        (Rose (F.counts files.old).faults (F.counts files.new).faults) (Rose (D.faults door.old) (D.faults door.new)) result }
 {
     match always_hub(alloc, words.options, fresh, files) {
         Err(status) => status,
@@ -345,7 +348,8 @@ where
 }
 
 /// Serves connections for as long as its door lets it: reads the dex file and the configuration, if the words name them, makes the hub
-/// of them and of the fresh nonce and seed (`always_hub`), lets the door listen at the address of the words, and gives each link that it hands out a session of its own (`serve_session`) over one hub, in
+/// of them and of the fresh nonce and seed (`always_hub`), lets the door listen at the address of the words, and gives each link that
+/// it hands out a session of its own (`serve_session`) over one hub, in
 /// a thread where the spawner gives leave. So many run at once as the words say; a further link is asked for when one of them has
 /// ended. Where the host gives no thread, it tries again every 100 milliseconds; if no session runs, this one runs here. Where memory is
 /// refused for a session, its client is cut off, and its number isn't had again.
@@ -380,13 +384,16 @@ where
 
     // It ends with a status that has its cause: the dex file and the configuration are read and found good before the door is
     // asked. At Done nobody is let in any more.
-    ensures cause { IfStays (stay_words_in (map string_bytes words.now)) (λ asked. ServeCause (F.contents files.old) asked.options (F.counts files.old) (F.counts files.new) result) }
+    ensures cause { IfStays (stay_words_in (map string_bytes words.now))
+        (λ asked. ServeCause (F.contents files.old) asked.options (F.counts files.old) (F.counts files.new) result) }
     ensures door_fault { result ≡ Status.DoorFault → Rose (D.faults door.old) (D.faults door.new) }
     ensures shut { result ≡ Status.Done → D.is_shut door.new ≡ true }
     ensures untouched { KeepsDoor (D.faults door.old) (D.faults door.new) (D.given door.old) (D.given door.new) result }
 
     // Faultless words and good files, known and without faults of the outside, end in Done or NoMemory.
-    ensures complete { IfStays (stay_words_in (map string_bytes words.now)) (λ asked. SettlesServe (F.contents files.old) asked.options (Rose (F.counts files.old).faults (F.counts files.new).faults) (Rose (D.faults door.old) (D.faults door.new)) result) }
+    ensures complete { IfStays (stay_words_in (map string_bytes words.now))
+        (λ asked. SettlesServe (F.contents files.old) asked.options (Rose (F.counts files.old).faults (F.counts files.new).faults)
+        (Rose (D.faults door.old) (D.faults door.new)) result) }
 {
     match read_always_words(words) {
         Err(word) => Status::Usage { word },

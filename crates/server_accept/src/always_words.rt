@@ -1,7 +1,9 @@
 //! The words of a server that stays up.
 ghost use Rattle.std.specs.Prelude.{◌≡◌, ◌+◌, ◌<◌, Some, Ok, Err, map, string_bytes, MatchResult};
 ghost use Rattle.ps_base.specs.Numbers.{number_in};
-ghost use Rattle.server_accept.specs.AlwaysWords.{within, asks, option_in, with_at_once, with_ping, with_rate, with_dex, with_config, name_in, word_in, end_of, further_in, always_in, nothing_said, stay_in, stay_words_in, further_of, reading_of, stays_of, option_reading};
+ghost use Rattle.server_accept.specs.AlwaysWords.{within, asks, option_in, with_at_once, with_ping, with_rate, with_dex, with_config};
+ghost use Rattle.server_accept.specs.AlwaysWords.{name_in, word_in, end_of, further_in, always_in, nothing_said, stay_in};
+ghost use Rattle.server_accept.specs.AlwaysWords.{stay_words_in, further_of, reading_of, stays_of, option_reading};
 
 use program_commands::words::{OptionWords, is_name};
 use ps_base::decimal::read_u32;
@@ -224,7 +226,8 @@ fn word_in<'a>(reading: WordReading<'a>, word: &'a str) -> Option<WordReading<'a
 
 // Behind the last word none is missing.
 fn end_of(at: u32, reading: WordReading<'_>) -> Result<FurtherWords<'_>, u32>
-    ensures { MatchResult result (λ f. end_of at reading.entry.wants (further_of reading.entry.further) ≡ Ok (further_of f)) (λ n. end_of at reading.entry.wants (further_of reading.entry.further) ≡ Err n) }
+    ensures { MatchResult result (λ f. end_of at reading.entry.wants (further_of reading.entry.further) ≡ Ok (further_of f))
+        (λ n. end_of at reading.entry.wants (further_of reading.entry.further) ≡ Err n) }
 {
     match reading.wants {
         Wants::AnOption => Ok(reading.further),
@@ -240,7 +243,8 @@ fn further_in<'a>(
     words: &'a [String],
 ) -> Result<FurtherWords<'a>, u32>
     requires { at + most < 100 }
-    ensures { MatchResult result (λ f. further_in most at (reading_of reading.entry) (map string_bytes words.now) ≡ Ok (further_of f)) (λ n. further_in most at (reading_of reading.entry) (map string_bytes words.now) ≡ Err n) }
+    ensures { MatchResult result (λ f. further_in most at (reading_of reading.entry) (map string_bytes words.now) ≡ Ok (further_of f))
+        (λ n. further_in most at (reading_of reading.entry) (map string_bytes words.now) ≡ Err n) }
 {
     match words {
         [] => end_of(at, reading),
@@ -258,7 +262,8 @@ fn further_in<'a>(
 
 // Behind the address.
 fn always_in<'a>(address: &'a str, words: &'a [String]) -> Result<AlwaysWords<'a>, u32>
-    ensures { MatchResult result (λ w. always_in address.now (map string_bytes words.now) ≡ Ok (stays_of w)) (λ n. always_in address.now (map string_bytes words.now) ≡ Err n) }
+    ensures { MatchResult result (λ w. always_in address.now (map string_bytes words.now) ≡ Ok (stays_of w))
+        (λ n. always_in address.now (map string_bytes words.now) ≡ Err n) }
 {
     match words {
         [] => Err(2),
@@ -304,7 +309,8 @@ fn nothing_said<'a>() -> WordReading<'a>
 }
 
 fn stay_in(words: &[String]) -> Result<AlwaysWords<'_>, u32>
-    ensures { MatchResult result (λ w. stay_in (map string_bytes words.now) ≡ Ok (stays_of w)) (λ n. stay_in (map string_bytes words.now) ≡ Err n) }
+    ensures { MatchResult result (λ w. stay_in (map string_bytes words.now) ≡ Ok (stays_of w))
+        (λ n. stay_in (map string_bytes words.now) ≡ Err n) }
 {
     match words {
         [] => Err(1),
@@ -324,7 +330,8 @@ fn stay_in(words: &[String]) -> Result<AlwaysWords<'_>, u32>
 /// and doesn't begin with `-`. The error is the index of the first word that can't stand, counted from 0, or how many there are
 /// where one is missing.
 pub fn read_always_words(words: &[String]) -> Result<AlwaysWords<'_>, u32>
-    ensures { MatchResult result (λ w. stay_words_in (map string_bytes words.now) ≡ Ok (stays_of w)) (λ n. stay_words_in (map string_bytes words.now) ≡ Err n) }
+    ensures { MatchResult result (λ w. stay_words_in (map string_bytes words.now) ≡ Ok (stays_of w))
+        (λ n. stay_words_in (map string_bytes words.now) ≡ Err n) }
 {
     match words {
         [] => Err(0),

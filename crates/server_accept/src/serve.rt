@@ -354,16 +354,19 @@ where
     C: Clock + Send + Drop + 'static,
     P: Spawner,
     requires few { words.count ≤ 1024 }
-    requires stands { Stands (F.contents files.old) (options_of words.options).dex (λ lookup. dex_in lookup (options_of words.options).dex) dex }
+    requires stands { Stands (F.contents files.old) (options_of words.options).dex
+        (λ lookup. dex_in lookup (options_of words.options).dex) dex }
     ensures usage { usage_reported result.status ≡ None }
-    ensures cause { ServeCause (F.contents files.old) (options_of words.entry.options) (F.counts files.old) (F.counts files.new) result.status }
+    ensures cause { ServeCause (F.contents files.old) (options_of words.entry.options) (F.counts files.old) (F.counts files.new)
+        result.status }
     ensures door_fault { result.status ≡ Status.DoorFault → Rose (D.faults door.old) (D.faults door.new) }
     ensures untouched { KeepsDoor (D.faults door.old) (D.faults door.new) (D.given door.old) (D.given door.new) result.status }
     ensures given { result.status ≡ Status.Done → D.given door.new ≡ given_by words.entry.count (D.given door.old) }
     ensures shut { result.status ≡ Status.Done → D.is_shut door.new ≡ true }
     ensures sessions { AreServed (F.contents files.old) (options_of words.entry.options) result.sessions.items }
     ensures all { result.status ≡ Status.Done → length result.sessions.items ≡ words.entry.count }
-    ensures complete { SettlesServe (F.contents files.old) (options_of words.entry.options) (Rose (F.counts files.old).faults (F.counts files.new).faults) (Rose (D.faults door.old) (D.faults door.new)) result.status }
+    ensures complete { SettlesServe (F.contents files.old) (options_of words.entry.options)
+        (Rose (F.counts files.old).faults (F.counts files.new).faults) (Rose (D.faults door.old) (D.faults door.new)) result.status }
 {
     let config = match config_or_standard(alloc, files, &dex, words.options.config) {
         Err(status) => {
@@ -402,14 +405,16 @@ where
     P: Spawner,
     requires { words.count ≤ 1024 }
     ensures usage { usage_reported result.status ≡ None }
-    ensures cause { ServeCause (F.contents files.old) (options_of words.entry.options) (F.counts files.old) (F.counts files.new) result.status }
+    ensures cause { ServeCause (F.contents files.old) (options_of words.entry.options) (F.counts files.old) (F.counts files.new)
+        result.status }
     ensures door_fault { result.status ≡ Status.DoorFault → Rose (D.faults door.old) (D.faults door.new) }
     ensures untouched { KeepsDoor (D.faults door.old) (D.faults door.new) (D.given door.old) (D.given door.new) result.status }
     ensures given { result.status ≡ Status.Done → D.given door.new ≡ given_by words.entry.count (D.given door.old) }
     ensures shut { result.status ≡ Status.Done → D.is_shut door.new ≡ true }
     ensures sessions { AreServed (F.contents files.old) (options_of words.entry.options) result.sessions.items }
     ensures all { result.status ≡ Status.Done → length result.sessions.items ≡ words.entry.count }
-    ensures complete { SettlesServe (F.contents files.old) (options_of words.entry.options) (Rose (F.counts files.old).faults (F.counts files.new).faults) (Rose (D.faults door.old) (D.faults door.new)) result.status }
+    ensures complete { SettlesServe (F.contents files.old) (options_of words.entry.options)
+        (Rose (F.counts files.old).faults (F.counts files.new).faults) (Rose (D.faults door.old) (D.faults door.new)) result.status }
 {
     match dex_or_none(alloc, files, words.options.dex) {
         Err(status) => Finished {
@@ -452,22 +457,28 @@ where
 
     // It ends with a status that has its cause: the dex file and the configuration are read and found good before the door is
     // asked.
-    ensures cause { IfServe (serve_words_in (map string_bytes words.now)) (λ asked. ServeCause (F.contents files.old) asked.options (F.counts files.old) (F.counts files.new) result.status) }
+    ensures cause { IfServe (serve_words_in (map string_bytes words.now))
+        (λ asked. ServeCause (F.contents files.old) asked.options (F.counts files.old) (F.counts files.new) result.status) }
     ensures door_fault { result.status ≡ Status.DoorFault → Rose (D.faults door.old) (D.faults door.new) }
     ensures untouched { KeepsDoor (D.faults door.old) (D.faults door.new) (D.given door.old) (D.given door.new) result.status }
 
     // What lies at each place of the sessions is an end that a session of that connection may have had. All are of one hub, under
     // the dex and the configuration of the files.
-    ensures sessions { IfServe (serve_words_in (map string_bytes words.now)) (λ asked. AreServed (F.contents files.old) asked.options result.sessions.items) }
+    ensures sessions { IfServe (serve_words_in (map string_bytes words.now))
+        (λ asked. AreServed (F.contents files.old) asked.options result.sessions.items) }
     ensures unserved { IsSome (usage_reported result.status) → result.sessions.items ≡ [] }
 
     // At Done there is one for each connection from 1 to COUNT, the door has handed out as many links, and it lets nobody in any more.
-    ensures all { IfServe (serve_words_in (map string_bytes words.now)) (λ asked. result.status ≡ Status.Done → length result.sessions.items ≡ asked.count) }
-    ensures given { IfServe (serve_words_in (map string_bytes words.now)) (λ asked. result.status ≡ Status.Done → D.given door.new ≡ given_by asked.count (D.given door.old)) }
+    ensures all { IfServe (serve_words_in (map string_bytes words.now))
+        (λ asked. result.status ≡ Status.Done → length result.sessions.items ≡ asked.count) }
+    ensures given { IfServe (serve_words_in (map string_bytes words.now))
+        (λ asked. result.status ≡ Status.Done → D.given door.new ≡ given_by asked.count (D.given door.old)) }
     ensures shut { result.status ≡ Status.Done → D.is_shut door.new ≡ true }
 
     // Faultless words and good files, known and without faults of the outside, end in Done or NoMemory.
-    ensures complete { IfServe (serve_words_in (map string_bytes words.now)) (λ asked. SettlesServe (F.contents files.old) asked.options (Rose (F.counts files.old).faults (F.counts files.new).faults) (Rose (D.faults door.old) (D.faults door.new)) result.status) }
+    ensures complete { IfServe (serve_words_in (map string_bytes words.now))
+        (λ asked. SettlesServe (F.contents files.old) asked.options (Rose (F.counts files.old).faults (F.counts files.new).faults)
+        (Rose (D.faults door.old) (D.faults door.new)) result.status) }
 {
     match read_serve_words(words) {
         Err(word) => Finished {

@@ -1,5 +1,6 @@
 -- What is pulled of the hall is what is shown: a law of its place, which stands here since the implementation of `Told` cites it.
-use Rattle.std.proofs.Common.{◌≡◌, ℕ, ◌+◌, ◌-◌, ◌≤◌, List, [], ◌∷◌, ◌++◌, map, length, take, drop, Option, None, refl, sym, ap, ◌∙◌, subst, inl, inr, append_assoc, arith}
+use Rattle.std.proofs.Common.{◌≡◌, ℕ, ◌+◌, ◌-◌, ◌≤◌, List, [], ◌∷◌, ◌++◌, map, length, take, drop, Option, None, refl, sym, ap, ◌∙◌}
+use Rattle.std.proofs.Common.{subst, inl, inr, append_assoc, arith}
 use Rattle.std.proofs.lemmas.List.{append-nil, length-append, length-take-le, take_at, take-take, take-append-drop}
 use Rattle.ps_base.specs.declared.msg.Msg.{Msg}
 use Rattle.ps_base.specs.Messages.{sent, msg_lines}
@@ -11,23 +12,31 @@ use Rattle.ps_hall.proofs.PullLemmas.{pulls_view}
 use Rattle.server_pass.specs.Tellings.{IsLawful}
 use Rattle.server_places.specs.declared.cursor.HallCursor.{HallCursor}
 use Rattle.server_places.specs.declared.site.Root.{Root}
-use Rattle.server_places.specs.Halls.{hall_opened, hall_seen, HallReads, HallPiece, HallPulls, hall_bounded, HallPullsUpTo, HallShows, HallStandsAt, HallGoesOn, HallPullsGoOn}
+use Rattle.server_places.specs.Halls.{hall_opened, hall_seen, HallReads, HallPiece, HallPulls, hall_bounded, HallPullsUpTo, HallShows}
+use Rattle.server_places.specs.Halls.{HallStandsAt, HallGoesOn, HallPullsGoOn}
 use Rattle.server_places.specs.Tellings.{hall_telling}
 
-view_more : (conn : ℕ) (h : Record) (before later : List HallEntry) → view conn h (before ++ later) ≡ view conn h before ++ view conn (run_record h before) later
+view_more : (conn : ℕ) (h : Record) (before later : List HallEntry)
+    → view conn h (before ++ later) ≡ view conn h before ++ view conn (run_record h before) later
 view_more conn h [] later = refl
-view_more conn h (e ∷ es) later = ap (λ (ms : List (List (List ℕ))). sent (message conn h e) ++ ms) (view_more conn (after h e) es later) ∙ sym (append_assoc (sent (message conn h e)) (view conn (after h e) es) (view conn (run_record (after h e) es) later))
+view_more conn h (e ∷ es) later = ap (λ (ms : List (List (List ℕ))). sent (message conn h e) ++ ms)
+    (view_more conn (after h e) es later) ∙ sym
+    (append_assoc (sent (message conn h e)) (view conn (after h e) es) (view conn (run_record (after h e) es) later))
 
 -- who reads all of it
-hall_reads_on : (conn : ℕ) (r : Root) (before later : List HallEntry) (until : Option ℕ) (x y : HallCursor) (ms : List (List (List ℕ))) (msgs : List Msg)
+hall_reads_on : (conn : ℕ) (r : Root) (before later : List HallEntry) (until : Option ℕ) (x y : HallCursor)
+    (ms : List (List (List ℕ))) (msgs : List Msg)
     → HallStandsAt conn r before x → HallShows conn r before ms → HallReads r (before ++ later) (hall_bounded until x) msgs y
     → HallShows conn r (before ++ later) (ms ++ map msg_lines msgs) × HallStandsAt conn r (before ++ later) (hall_bounded None y)
 hall_reads_on conn r before later until x y ms msgs at shows p =
     let past = pulls_view conn (hall_opened r) before later in (
       ap (λ (xs : List (List (List ℕ))). xs ++ map msg_lines msgs) shows
-          ∙ ap (λ (xs : List (List (List ℕ))). view conn (hall_opened r) before ++ xs) (p.messages ∙ ap (λ (c : HallCursor). pulled_past c.hall (hall_seen r (before ++ later))) at ∙ past.messages)
+          ∙ ap (λ (xs : List (List (List ℕ))). view conn (hall_opened r) before ++ xs)
+          (p.messages ∙ ap (λ (c : HallCursor). pulled_past c.hall (hall_seen r (before ++ later))) at ∙ past.messages)
           ∙ sym (view_more conn (hall_opened r) before later),
-      ap (hall_bounded None) p.cursor ∙ ap (λ (c : HallCursor). record { hall = cursor_past c.hall (hall_seen r (before ++ later)); passed = length (before ++ later); until = None }) at ∙ ap (λ (c : Cursor). record { hall = c; passed = length (before ++ later); until = None }) past.end,
+      ap (hall_bounded None) p.cursor ∙ ap (λ (c : HallCursor). record
+          { hall = cursor_past c.hall (hall_seen r (before ++ later)); passed = length (before ++ later); until = None }) at
+          ∙ ap (λ (c : Cursor). record { hall = c; passed = length (before ++ later); until = None }) past.end,
     )
 
 -- ---- pieces
@@ -42,13 +51,20 @@ hall_until r es x y msgs (inl stays) = ap (λ (c : HallCursor). c.until) stays.2
 hall_until r es x y msgs (inr p) = ap (λ (c : HallCursor). c.until) p.reads.cursor
 
 -- what is pulled with no bound, where there is none
-pub hall_pulls_free : (r : Root) (es : List HallEntry) (x y : HallCursor) (msgs : List Msg) → hall_bounded None x ≡ x → HallPulls r es x msgs y → HallPullsUpTo r es x msgs y
+pub hall_pulls_free : (r : Root) (es : List HallEntry) (x y : HallCursor) (msgs : List Msg) → hall_bounded None x ≡ x
+    → HallPulls r es x msgs y → HallPullsUpTo r es x msgs y
 hall_pulls_free r es x y msgs free p =
-    let none : y.until ≡ None = hall_until r es x y msgs p ∙ sym (ap (λ (c : HallCursor). c.until) free) in
-    (None, y, subst (λ (c : HallCursor). HallPulls r es c msgs y) (sym free) p, λ i. record { hall = y.hall; passed = y.passed; until = none i })
+    let none : y.until ≡ None = hall_until r es x y msgs p ∙ sym (ap (λ (c : HallCursor). c.until) free) in (
+      None,
+      y,
+      subst (λ (c : HallCursor). HallPulls r es c msgs y) (sym free) p,
+      λ i.
+          record { hall = y.hall; passed = y.passed; until = none i },
+    )
 
 hall_goes_nowhere : (conn : ℕ) (r : Root) (before later : List HallEntry) (x y : HallCursor) (ms : List (List (List ℕ))) (msgs : List Msg)
-    → HallStandsAt conn r before x → HallShows conn r before ms → msgs ≡ [] → y ≡ x → HallGoesOn conn r before later (ms ++ map msg_lines msgs) y
+    → HallStandsAt conn r before x → HallShows conn r before ms → msgs ≡ [] → y ≡ x
+    → HallGoesOn conn r before later (ms ++ map msg_lines msgs) y
 hall_goes_nowhere conn r before later x y ms msgs at shows none same =
     let passed : y.passed ≡ length before = ap (λ (c : HallCursor). c.passed) (same ∙ at) in
     let here : take y.passed (before ++ later) ≡ before = take_at before later y.passed (sym passed) in
@@ -60,8 +76,10 @@ hall_goes_nowhere conn r before later x y ms msgs at shows none same =
       stands = subst (λ (l : List HallEntry). HallStandsAt conn r l y) (sym here) (same ∙ at);
     }
 
-hall_goes_far : (conn : ℕ) (r : Root) (before later : List HallEntry) (until : Option ℕ) (x y z : HallCursor) (ms : List (List (List ℕ))) (msgs : List Msg)
-    → HallStandsAt conn r before x → HallShows conn r before ms → HallPiece r (before ++ later) (hall_bounded until x) msgs z → y ≡ hall_bounded None z → HallGoesOn conn r before later (ms ++ map msg_lines msgs) y
+hall_goes_far : (conn : ℕ) (r : Root) (before later : List HallEntry) (until : Option ℕ) (x y z : HallCursor)
+    (ms : List (List (List ℕ))) (msgs : List Msg)
+    → HallStandsAt conn r before x → HallShows conn r before ms → HallPiece r (before ++ later) (hall_bounded until x) msgs z
+    → y ≡ hall_bounded None z → HallGoesOn conn r before later (ms ++ map msg_lines msgs) y
 hall_goes_far conn r before later until x y z ms msgs at shows p is =
     let all : List HallEntry = before ++ later in
     let n : ℕ = p.count in
@@ -71,30 +89,38 @@ hall_goes_far conn r before later until x y z ms msgs at shows p is =
     let front : List HallEntry = take n all in
     let size : length front ≡ n = length-take-le n all within in
     let begins : take (length before) front ≡ before = take-take (length before) n all on ∙ take_at before later (length before) refl in
-    let parts : before ++ drop (length before) front ≡ front = ap (λ (l : List HallEntry). l ++ drop (length before) front) (sym begins) ∙ take-append-drop (length before) front in
-    let there : HallShows conn r (before ++ drop (length before) front) (ms ++ map msg_lines msgs) × HallStandsAt conn r (before ++ drop (length before) front) (hall_bounded None z) =
-    hall_reads_on conn r before (drop (length before) front) until x z ms msgs at shows (subst (λ (l : List HallEntry). HallReads r l (hall_bounded until x) msgs z) (sym parts) p.reads) in
+    let parts : before ++ drop (length before) front
+    ≡ front = ap (λ (l : List HallEntry). l ++ drop (length before) front) (sym begins) ∙ take-append-drop (length before) front in
+    let there : HallShows conn r (before ++ drop (length before) front) (ms ++ map msg_lines msgs)
+    × HallStandsAt conn r (before ++ drop (length before) front) (hall_bounded None z) =
+    hall_reads_on conn r before (drop (length before) front) until x z ms msgs at shows
+    (subst (λ (l : List HallEntry). HallReads r l (hall_bounded until x) msgs z) (sym parts) p.reads) in
     let here : y.passed ≡ n = ap (λ (c : HallCursor). c.passed) is ∙ ap (λ (c : HallCursor). c.passed) p.reads.cursor ∙ size in
     let same : before ++ drop (length before) front ≡ take y.passed all = parts ∙ ap (λ (m : ℕ). take m all) (sym here) in
     record {
       on = omega (arith, here);
       within = omega (arith, here);
       shows = subst (λ (l : List HallEntry). HallShows conn r l (ms ++ map msg_lines msgs)) same there.0;
-      stands = subst (λ (l : List HallEntry). HallStandsAt conn r l y) same (subst (λ (c : HallCursor). HallStandsAt conn r (before ++ drop (length before) front) c) (sym is) there.1);
+      stands = subst (λ (l : List HallEntry). HallStandsAt conn r l y) same
+          (subst (λ (c : HallCursor). HallStandsAt conn r (before ++ drop (length before) front) c) (sym is) there.1);
     }
 
-hall_goes_by : (conn : ℕ) (r : Root) (before later : List HallEntry) (until : Option ℕ) (x y z : HallCursor) (ms : List (List (List ℕ))) (msgs : List Msg)
-    → HallStandsAt conn r before x → HallShows conn r before ms → HallPulls r (before ++ later) (hall_bounded until x) msgs z → y ≡ hall_bounded None z → HallGoesOn conn r before later (ms ++ map msg_lines msgs) y
+hall_goes_by : (conn : ℕ) (r : Root) (before later : List HallEntry) (until : Option ℕ) (x y z : HallCursor)
+    (ms : List (List (List ℕ))) (msgs : List Msg)
+    → HallStandsAt conn r before x → HallShows conn r before ms → HallPulls r (before ++ later) (hall_bounded until x) msgs z
+    → y ≡ hall_bounded None z → HallGoesOn conn r before later (ms ++ map msg_lines msgs) y
 hall_goes_by conn r before later until x y z ms msgs at shows (inl stays) is =
     hall_goes_nowhere conn r before later x y ms msgs at shows stays.1 (is ∙ ap (hall_bounded None) stays.2 ∙ hall_free conn r before x at)
-hall_goes_by conn r before later until x y z ms msgs at shows (inr p) is = hall_goes_far conn r before later until x y z ms msgs at shows p is
+hall_goes_by conn r before later until x y z ms msgs at shows (inr p) is = hall_goes_far conn r before later until x y z ms msgs at
+    shows p is
 
 pub hall_goes_on : HallPullsGoOn
 hall_goes_on conn r before later x y ms msgs at shows p = hall_goes_by conn r before later p.0 x y p.1 ms msgs at shows p.2 p.3
 
 pub hall_tells : IsLawful HallPulls hall_telling
 hall_tells = record {
-  goes_on = λ conn r before later x y ms msgs at shows p. let on = hall_goes_on conn r before later x y ms msgs at shows p in (on.on, on.within, on.shows, on.stands);
+  goes_on = λ conn r before later x y ms msgs at shows p.
+      let on = hall_goes_on conn r before later x y ms msgs at shows p in (on.on, on.within, on.shows, on.stands);
   free = hall_free;
   unset = hall_pulls_free;
   last = λ first second x. refl;

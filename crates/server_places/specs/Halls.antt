@@ -77,7 +77,8 @@ hall_bounded until x = record x { until = until }
 
 -- what is pulled with a bound that is set for this alone
 abbrev pub HallPullsUpTo : Root → List HallEntry → HallCursor → List Msg → HallCursor → Type 0
-HallPullsUpTo r es x msgs y = (until : Option ℕ) × (z : HallCursor) × HallPulls r es (hall_bounded until x) msgs z × (y ≡ hall_bounded None z)
+HallPullsUpTo r es x msgs y = (until : Option ℕ) × (z : HallCursor) × HallPulls r es (hall_bounded until x) msgs z
+    × (y ≡ hall_bounded None z)
 
 -- the cursor of a connection behind so many entries
 abbrev pub hall_cursor : ℕ → ℕ → HallCursor

@@ -120,7 +120,8 @@ Shows conn site cmds ms = (told : Option Story) × Tells site cmds told × (ms �
 
 -- the cursor stands behind these commands: it is new, or that of who was told all that they tell
 abbrev pub StandsAt : ℕ → Site → List RoomCmd → RoomCursor → Type 0
-StandsAt conn site cmds x = ((cmds ≡ []) × (x ≡ cursor_of conn None 0)) ⊎ ((told : Option Story) × Tells site cmds told × (x ≡ cursor_of conn told (length cmds)))
+StandsAt conn site cmds x = ((cmds ≡ []) × (x ≡ cursor_of conn None 0))
+    ⊎ ((told : Option Story) × Tells site cmds told × (x ≡ cursor_of conn told (length cmds)))
 
 -- Who has passed the commands `before`, where `later` came since, was sent with what is pulled all that it is sent over those that the
 -- cursor has passed then, and the cursor stands behind them.
@@ -145,7 +146,8 @@ in_box (Some b) = Some b.value
 -- what a Begin makes of a place, but for the count: nothing of one that has a room
 abbrev pub BeginsBy : Option Seen → Place → Start → Place → Type 0
 BeginsBy (Some s) old start new = new ≡ old
-BeginsBy None old start new = (Opens old.site start × (new ≡ record old { room = Some (seen_opened (battle_at old.site start)) })) ⊎ ((Opens old.site start → ⊥) × (new ≡ old))
+BeginsBy None old start new = (Opens old.site start × (new ≡ record old { room = Some (seen_opened (battle_at old.site start)) }))
+    ⊎ ((Opens old.site start → ⊥) × (new ≡ old))
 
 abbrev pub Begins : Place → Start → Place → Type 0
 Begins old start new = BeginsBy old.room old start new
@@ -164,4 +166,9 @@ pub record ReadsRoom (r : Seen) (count plain : ℕ) (x : RoomCursor) (msgs : Lis
   pub few : left ≤ count - plain
   pub fewer : left ≤ count - x.passed
   pub messages : map msg_lines msgs ≡ read_past x.room (take (length r.log - left) r.log)
-  pub cursor : y ≡ record { room = cursor_past x.room (take (length r.log - left) r.log); id = Some r.id; passed = count - left; until = x.until }
+  pub cursor : y ≡ record {
+    room = cursor_past x.room (take (length r.log - left) r.log);
+    id = Some r.id;
+    passed = count - left;
+    until = x.until;
+  }

@@ -20,7 +20,8 @@ use Rattle.server_places.specs.declared.command.RoomCmd.TheVariants.{Begin, Play
 
 -- the opening of the chat room at a place, if the place is a chat room's
 abbrev pub chat_at : Site → Option Opening
-chat_at site = if nat_lt site.number first_battle then option_map (chat_opening site.config site.dex site.number) (slice_get site.config.rooms site.number) else None
+chat_at site = if nat_lt site.number first_battle then option_map (chat_opening site.config site.dex site.number)
+    (slice_get site.config.rooms site.number) else None
 
 -- the opening of a battle
 abbrev pub battle_at : Site → Start → Opening
@@ -75,7 +76,8 @@ plays cmds = filter_map play_of cmds
 abbrev pub BattleTells : Site → List RoomCmd → Option Story → Type 0
 BattleTells site [] t = t ≡ None
 BattleTells site (Play e ∷ cmds) t = BattleTells site cmds t
-BattleTells site (Begin start ∷ cmds) t = (Opens site start × (t ≡ Some (story (battle_at site start) (plays cmds)))) ⊎ ((Opens site start → ⊥) × BattleTells site cmds t)
+BattleTells site (Begin start ∷ cmds) t = (Opens site start × (t ≡ Some (story (battle_at site start) (plays cmds))))
+    ⊎ ((Opens site start → ⊥) × BattleTells site cmds t)
 
 abbrev pub TellsBy : Option Opening → Site → List RoomCmd → Option Story → Type 0
 TellsBy (Some chat) site cmds t = t ≡ Some (story chat (plays cmds))
@@ -91,7 +93,8 @@ OneStory = (site : Site) (cmds : List RoomCmd) (one two : Option Story) → Tell
 
 -- more commands go on with it: the entries among them follow its own
 abbrev pub StoriesGoOn : Type 0
-StoriesGoOn = (site : Site) (before later : List RoomCmd) (s : Story) → Tells site before (Some s) → Tells site (before ++ later) (Some (story s.opening (s.history ++ plays later)))
+StoriesGoOn = (site : Site) (before later : List RoomCmd) (s : Story) → Tells site before (Some s)
+    → Tells site (before ++ later) (Some (story s.opening (s.history ++ plays later)))
 
 -- ---- what a connection is sent
 

@@ -67,7 +67,12 @@ impl Model for RoomPlace {
 
     ghost coded = { Prim.hlevel (codes, by_id_code coded_ℕ, by_id_code coded_unit) };
 
-    ghost view = { λ p. record { site = record { number = p.number; config = arc_value p.config; dex = arc_value p.dex }; room = in_box p.room; count = p.count; plain = p.plain } };
+    ghost view = { λ p. record {
+      site = record { number = p.number; config = arc_value p.config; dex = arc_value p.dex };
+      room = in_box p.room;
+      count = p.count;
+      plain = p.plain;
+    } };
 }
 
 // Applies an entry to a room.
@@ -95,7 +100,8 @@ impl RoomPlace {
         number: u32,
         chat: &ChatRoom,
     ) -> Result<RoomPlace, AllocError>
-        requires { chat_at (record { number = number; config = arc_value config; dex = arc_value dex }) ≡ Some (chat_opening (arc_value config) (arc_value dex) number chat.now) }
+        requires { chat_at (record { number = number; config = arc_value config; dex = arc_value dex })
+            ≡ Some (chat_opening (arc_value config) (arc_value dex) number chat.now) }
         ensures site { IfOk result (λ p. p.site ≡ record { number = number; config = arc_value config; dex = arc_value dex }) }
         ensures stands { IfOk result (λ p. Stands [] p) }
     {
