@@ -23,11 +23,15 @@ struct client {
 
 static struct client clients[MOST];
 
-/* Microseconds. */
-static double now(void) {
-    struct timespec t;
-    clock_gettime(CLOCK_MONOTONIC, &t);
+static double microseconds(struct timespec t) {
     return t.tv_sec * 1e6 + t.tv_nsec / 1e3;
+}
+
+/* The time of a clock of the host, in microseconds. */
+static double time_of(clockid_t clock) {
+    struct timespec t;
+    clock_gettime(clock, &t);
+    return microseconds(t);
 }
 
 static void fail(const char *what) {

@@ -92,8 +92,8 @@ int main(int words_count, char **words) {
     take_all_descriptors();
     for (int i = 0; i < count; i++) enter(i, port, 1, words_count > 4);
     forget(count, poll);
-    double begun = now();
+    double begun = time_of(CLOCK_MONOTONIC);
     talk(poll, count, texts);
-    printf("said %d, heard %.0f, in %.4f s\n", count * texts, (double)count * count * texts, (now() - begun) / 1e6);
+    printf("said %d, heard %.0f, in %.4f s\n", count * texts, (double)count * count * texts, (time_of(CLOCK_MONOTONIC) - begun) / 1e6);
     return 0;
 }
