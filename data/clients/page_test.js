@@ -96,11 +96,17 @@ async function startBrowser() {
   const words = ["--headless=new", "--no-sandbox", "--disable-gpu", "--disable-dev-shm-usage", "--no-first-run",
     "--host-resolver-rules=MAP page.test 127.0.0.1", "--remote-debugging-port=0", `--user-data-dir=${profile}`];
   const browser = spawn("chromium", words, { stdio: ["ignore", "ignore", "pipe"] });
-  const ended = new Promise((done) => browser.on("exit", done));
+  let fault;
+  browser.on("error", (error) => { fault = error; });
+  const ended = new Promise((done) => browser.on("exit", done).on("error", done));
   atEnd.push(() => setTimeout(() => browser.kill("SIGKILL"), 5000) && ended);
+  atEnd.push(() => fs.rmSync(profile, { recursive: true, force: true, maxRetries: 10, retryDelay: 200 }));
   let said = "";
   browser.stderr.on("data", (bytes) => { said += bytes; });
-  const [, url] = await until("Chromium starts", () => /DevTools listening on (ws:\S+)/.exec(said), 60);
+  const [, url] = await until("Chromium starts", () => {
+    if (fault) throw fault;
+    return /DevTools listening on (ws:\S+)/.exec(said);
+  }, 60);
   const socket = new WebSocket(url, { perMessageDeflate: false, maxPayload: 1 << 28 });
   await new Promise((done, failed) => socket.on("open", done).on("error", failed));
   const [calls, hears] = [new Map(), new Map()];
@@ -117,7 +123,6 @@ async function startBrowser() {
     socket.send(JSON.stringify({ id: last, method, params, sessionId }));
   });
   atEnd.unshift(() => call("Browser.close"));
-  atEnd.push(() => fs.rmSync(profile, { recursive: true, force: true, maxRetries: 10, retryDelay: 200 }));
   return { call, hears };
 }
 
