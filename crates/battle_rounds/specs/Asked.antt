@@ -10,5 +10,6 @@ use Rattle.battle_rounds.specs.declared.bout.Bout.{Bout}
 
 -- the request of a side, 0 or 1, for the round that is open
 unfoldable pub request_line : Bout → Tables → Names → ℕ → List ℕ
-request_line b dex names s =
-    codes "|request|" ++ request b.battle.phase dex (player_of names (side_name s)) (nicks_of names (side_name s)) s (side_of b.battle s) b.round
+request_line bout dex names side =
+    codes "|request|" ++ request bout.battle.phase dex (player_of names (side_name side)) (nicks_of names (side_name side)) side
+    (side_of bout.battle side) bout.round

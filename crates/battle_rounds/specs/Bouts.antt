@@ -10,21 +10,21 @@ use Rattle.battle_rounds.specs.declared.bout.Bout.{Bout}
 
 -- the choice of a side that waits
 abbrev pub waiting : Bout → ℕ → Option Choice
-waiting b zero = b.first
-waiting b (suc s) = b.second
+waiting bout zero = bout.first
+waiting bout (suc side) = bout.second
 
 abbrev pub with_waiting : ℕ → Option Choice → Bout → Bout
-with_waiting zero choice b = record b { first = choice }
-with_waiting (suc s) choice b = record b { second = choice }
+with_waiting zero choice bout = record bout { first = choice }
+with_waiting (suc side) choice bout = record bout { second = choice }
 
 -- a choice may wait where its side is asked and it is legal
-pub record CanWait (b : Battle) (s : ℕ) (choice : Choice) : Type 0 where
-  pub asked : is_asked b.phase s ≡ true
-  pub legal : legal b s choice ≡ None
+pub record CanWait (battle : Battle) (side : ℕ) (choice : Choice) : Type 0 where
+  pub asked : is_asked battle.phase side ≡ true
+  pub legal : legal battle side choice ≡ None
 
 -- the battle is one, its moves are those of the figures, and what waits may
-pub record IsBout (facts : Figures) (b : Bout) : Type 0 where
-  pub valid : IsValid b.battle
-  pub fair : AreFairFor facts b.battle
-  pub first : IfSome b.first (CanWait b.battle 0)
-  pub second : IfSome b.second (CanWait b.battle 1)
+pub record IsBout (facts : Figures) (bout : Bout) : Type 0 where
+  pub valid : IsValid bout.battle
+  pub fair : AreFairFor facts bout.battle
+  pub first : IfSome bout.first (CanWait bout.battle 0)
+  pub second : IfSome bout.second (CanWait bout.battle 1)

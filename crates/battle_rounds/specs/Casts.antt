@@ -28,15 +28,15 @@ side_with_id names id = if plays names P1 id then Some 0 else (if plays names P2
 
 abbrev pub player_or_spectator : Option ℕ → ℕ → Role
 player_or_spectator None rank = Spectator rank
-player_or_spectator (Some s) rank = Player (side_name s) rank
+player_or_spectator (Some side) rank = Player (side_name side) rank
 
 -- what a member with this id and this rank is to the battle
 abbrev pub role_with : Names → List ℕ → ℕ → Role
 role_with names id rank = player_or_spectator (side_with_id names id) rank
 
 abbrev pub event_text : Cast → Role → Event → Option (List ℕ)
-event_text c role event = line_of event role c.names c.dex
+event_text cast role event = line_of event role cast.names cast.dex
 
 -- the lines of events that a role is shown
 abbrev pub event_texts : Cast → Role → List Event → List (List ℕ)
-event_texts c role events = filter_map (event_text c role) events
+event_texts cast role events = filter_map (event_text cast role) events

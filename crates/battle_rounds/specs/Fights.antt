@@ -40,77 +40,81 @@ is_of_battle other = false
 
 -- why a command of the player of a side is refused
 abbrev pub refusal_of_side : Tables → Bout → ℕ → Command → Option Why
-refusal_of_side dex b s (Choose choice rqid) = refusal_of_choose b s dex choice rqid
-refusal_of_side dex b s Undo = refusal_of_undo b s
-refusal_of_side dex b s Forfeit = refusal_of_forfeit b
-refusal_of_side dex b s other = None
+refusal_of_side dex bout side (Choose choice rqid) = refusal_of_choose bout side dex choice rqid
+refusal_of_side dex bout side Undo = refusal_of_undo bout side
+refusal_of_side dex bout side Forfeit = refusal_of_forfeit bout
+refusal_of_side dex bout side other = None
 
 -- why the battle refuses a command of a member, by the side that the member plays
 abbrev pub refusal_in : Tables → Bout → Option ℕ → Command → Option Why
-refusal_in dex b None cmd = if is_of_battle cmd then Some NotPlayer else None
-refusal_in dex b (Some s) cmd = refusal_of_side dex b s cmd
+refusal_in dex bout None cmd = if is_of_battle cmd then Some NotPlayer else None
+refusal_in dex bout (Some side) cmd = refusal_of_side dex bout side cmd
 
 -- ---- what they do
 
 -- nothing
 abbrev pub still : Bout → Outcome
-still b = record { bout = b; told = [] }
+still bout = record { bout = bout; told = [] }
 
 abbrev pub chose_by : Tables → Bout → ℕ → Result Choice Why → Outcome
-chose_by dex b s (Ok choice) = chose (figures_of dex) s choice b
-chose_by dex b s (Err why) = still b
+chose_by dex bout side (Ok choice) = chose (figures_of dex) side choice bout
+chose_by dex bout side (Err why) = still bout
 
 abbrev pub outcome_of_side : Tables → Bout → ℕ → Command → Outcome
-outcome_of_side dex b s (Choose choice rqid) = chose_by dex b s (chosen b s dex choice rqid)
-outcome_of_side dex b s Undo = undone s b
-outcome_of_side dex b s Forfeit = gave_up s b
-outcome_of_side dex b s other = still b
+outcome_of_side dex bout side (Choose choice rqid) = chose_by dex bout side (chosen bout side dex choice rqid)
+outcome_of_side dex bout side Undo = undone side bout
+outcome_of_side dex bout side Forfeit = gave_up side bout
+outcome_of_side dex bout side other = still bout
 
 -- what a command that is allowed makes of the battle
 abbrev pub outcome_in : Tables → Bout → Option ℕ → Command → Outcome
-outcome_in dex b None cmd = still b
-outcome_in dex b (Some s) cmd = outcome_of_side dex b s cmd
+outcome_in dex bout None cmd = still bout
+outcome_in dex bout (Some side) cmd = outcome_of_side dex bout side cmd
 
 -- ---- for the code: what a command comes to, worked out once
 
 -- what it makes of the battle
 abbrev pub outcome_of : Tables → Bout → Decision → Outcome
-outcome_of dex b decisions.Nothing = still b
-outcome_of dex b (decisions.Choose s choice) = chose (figures_of dex) s choice b
-outcome_of dex b (decisions.Undo s) = undone s b
-outcome_of dex b (decisions.Forfeit s) = gave_up s b
+outcome_of dex bout decisions.Nothing = still bout
+outcome_of dex bout (decisions.Choose side choice) = chose (figures_of dex) side choice bout
+outcome_of dex bout (decisions.Undo side) = undone side bout
+outcome_of dex bout (decisions.Forfeit side) = gave_up side bout
 
 -- whether it can be done to the battle
 abbrev pub CanDecide : Bout → Decision → Type 0
-CanDecide b decisions.Nothing = Unit {0}
-CanDecide b (decisions.Choose s choice) = (s < 2) × CanWait b.battle s choice
-CanDecide b (decisions.Undo s) = Unit {0}
-CanDecide b (decisions.Forfeit s) = (s < 2) × (is_over b.battle.phase ≡ false)
+CanDecide bout decisions.Nothing = Unit {0}
+CanDecide bout (decisions.Choose side choice) = (side < 2) × CanWait bout.battle side choice
+CanDecide bout (decisions.Undo side) = Unit {0}
+CanDecide bout (decisions.Forfeit side) = (side < 2) × (is_over bout.battle.phase ≡ false)
 
 -- the battle after it, where there is another one than before
 abbrev pub bout_or : Bout → Option Bout → Bout
-bout_or b None = b
-bout_or b (Some after) = after
+bout_or bout None = bout
+bout_or bout (Some after) = after
 
 -- ---- requests
 
 -- the request of a side, which it alone sees, and which isn't logged
 abbrev pub request_of : Cast → Bout → Side → ChatLine (List ℕ)
-request_of c b side = record { audience = audiences.Side side; logged = false; text = request_line b c.dex c.names (side_number side) }
+request_of cast bout side = record {
+  audience = audiences.Side side;
+  logged = false;
+  text = request_line bout cast.dex cast.names (side_number side);
+}
 
 abbrev pub request_at : Cast → Bout → Event → Option (ChatLine (List ℕ))
-request_at c b (events.Request side) = Some (request_of c b side)
-request_at c b other = None
+request_at cast bout (events.Request side) = Some (request_of cast bout side)
+request_at cast bout other = None
 
 -- the requests that events tell of, for a battle as it stands after them
 abbrev pub requests : Cast → Bout → List Event → List (ChatLine (List ℕ))
-requests c b told = filter_map (request_at c b) told
+requests cast bout told = filter_map (request_at cast bout) told
 
 abbrev pub request_unless : Bool → Fight → ℕ → Option (List ℕ)
-request_unless true f s = None
-request_unless false f s = Some (request_line f.bout f.cast.dex f.cast.names s)
+request_unless true fight side = None
+request_unless false fight side = Some (request_line fight.bout fight.cast.dex fight.cast.names side)
 
 -- the request that a player is given who joins: that of the open round, and none after the battle's end
 abbrev pub open_request : Fight → Option ℕ → Option (List ℕ)
-open_request f None = None
-open_request f (Some s) = request_unless (is_over f.bout.battle.phase) f s
+open_request fight None = None
+open_request fight (Some side) = request_unless (is_over fight.bout.battle.phase) fight side

@@ -38,27 +38,27 @@ is_stale round (Some number) = not (number == round)
 
 -- the choice of what is asked for; a text that asks for nothing is no choice
 abbrev pub choice_in : Battle → ℕ → Tables → Option Want → Result Choice Why
-choice_in b s dex None = Err whys.BadChoice
-choice_in b s dex (Some want) = with_why (resolved b.phase s (side_of b s) dex want)
+choice_in battle side dex None = Err whys.BadChoice
+choice_in battle side dex (Some want) = with_why (resolved battle.phase side (side_of battle side) dex want)
 
 -- The choice that a text of a side stands for, or why it is refused. It looks at the phase, the round, the dex and the own
 -- side with its waiting choice.
 unfoldable pub chosen : Bout → ℕ → Tables → List ℕ → Option ℕ → Result Choice Why
-chosen b s dex text number =
-    if not (is_asked b.battle.phase s) then Err whys.NotYourTurn
-    else if is_some (waiting b s) then Err whys.AlreadyChosen
-    else if is_stale b.round number then Err whys.StaleRequest
-    else choice_in b.battle s dex (want_in text)
+chosen bout side dex text number =
+    if not (is_asked bout.battle.phase side) then Err whys.NotYourTurn
+    else if is_some (waiting bout side) then Err whys.AlreadyChosen
+    else if is_stale bout.round number then Err whys.StaleRequest
+    else choice_in bout.battle side dex (want_in text)
 
 abbrev pub refused : Result Choice Why → Option Why
 refused (Ok choice) = None
 refused (Err why) = Some why
 
 abbrev pub refusal_of_choose : Bout → ℕ → Tables → List ℕ → Option ℕ → Option Why
-refusal_of_choose b s dex text number = refused (chosen b s dex text number)
+refusal_of_choose bout side dex text number = refused (chosen bout side dex text number)
 
 abbrev pub refusal_of_undo : Bout → ℕ → Option Why
-refusal_of_undo b s = if is_some (waiting b s) then None else Some whys.NothingChosen
+refusal_of_undo bout side = if is_some (waiting bout side) then None else Some whys.NothingChosen
 
 abbrev pub refusal_of_forfeit : Bout → Option Why
-refusal_of_forfeit b = if is_over b.battle.phase then Some whys.NotYourTurn else None
+refusal_of_forfeit bout = if is_over bout.battle.phase then Some whys.NotYourTurn else None

@@ -24,11 +24,11 @@ pub record Outcome : Type 0 where
   pub told : List Event
 
 abbrev pub outcome : Bout → ArrayVec Event → Outcome
-outcome b events = record { bout = b; told = events.items }
+outcome bout events = record { bout = bout; told = events.items }
 
 -- a round is open, and nothing waits
 abbrev pub in_round : ℕ → Course → Outcome
-in_round round c = record { bout = record { battle = c.battle; round = round; first = None; second = None }; told = c.told }
+in_round round course = record { bout = record { battle = course.battle; round = round; first = None; second = None }; told = course.told }
 
 -- the opening: the first round is open
 unfoldable pub opened : List BattleTeam → ℕ → ℕ → Outcome
@@ -40,7 +40,7 @@ next_round round = min (round + 1) (2 ^ 32 - 1)
 
 -- a side has chosen, or isn't asked
 abbrev pub is_ready : Bout → ℕ → Bool
-is_ready b s = not (is_asked b.battle.phase s) || is_some (waiting b s)
+is_ready bout side = not (is_asked bout.battle.phase side) || is_some (waiting bout side)
 
 abbrev pub choice_or_pass : Option Choice → Choice
 choice_or_pass (Some choice) = choice
@@ -48,27 +48,28 @@ choice_or_pass None = choices.Pass
 
 -- what waits is committed, and the next round opens
 unfoldable pub committed : Figures → Bout → Outcome
-committed facts b = in_round (next_round b.round) (turn facts (choice_or_pass b.first) (choice_or_pass b.second) (untold b.battle))
+committed facts bout = in_round (next_round bout.round)
+    (turn facts (choice_or_pass bout.first) (choice_or_pass bout.second) (untold bout.battle))
 
 -- the round is completed where both sides are ready; else the choice waits, and nothing is told
 unfoldable pub completed : Figures → Bout → Outcome
-completed facts b = if is_ready b 0 && is_ready b 1 then committed facts b else record { bout = b; told = [] }
+completed facts bout = if is_ready bout 0 && is_ready bout 1 then committed facts bout else record { bout = bout; told = [] }
 
 -- a side chooses
 abbrev pub chose : Figures → ℕ → Choice → Bout → Outcome
-chose facts s choice b = completed facts (with_waiting s (Some choice) b)
+chose facts side choice bout = completed facts (with_waiting side (Some choice) bout)
 
 -- a side takes its choice back, and is asked again
 abbrev pub undone : ℕ → Bout → Outcome
-undone s b = record { bout = with_waiting s None b; told = events.Request (side_name s) ∷ [] }
+undone side bout = record { bout = with_waiting side None bout; told = events.Request (side_name side) ∷ [] }
 
 -- a side gives up: the other one wins, and nothing waits
 unfoldable pub gave_up : ℕ → Bout → Outcome
-gave_up s b = in_round b.round (give_up s (untold b.battle))
+gave_up side bout = in_round bout.round (give_up side (untold bout.battle))
 
 -- who won, or nobody at a tie; None where the battle goes on
 abbrev pub result_of : Phase → Option (Option ℕ)
-result_of (phases.Won s) = Some (Some s)
+result_of (phases.Won winner) = Some (Some winner)
 result_of phases.Tied = Some None
 result_of other = None
 

@@ -2,7 +2,8 @@
 ghost use Rattle.std.specs.Prelude.{◌≡◌, ◌<◌, Some, None, IfOk, IfErr, IfSome};
 ghost use Rattle.ps_mon.specs.Valid.{IsSound};
 ghost use Rattle.battle_rounds.specs.Refusals.{chosen, refusal_of_choose};
-ghost use Rattle.battle_rounds.specs.Fights.{is_of_battle, refusal_of_side, refusal_in, chose_by, outcome_of_side, outcome_in, outcome_of, CanDecide};
+ghost use Rattle.battle_rounds.specs.Fights.{is_of_battle, refusal_of_side, refusal_in, chose_by, outcome_of_side, outcome_in};
+ghost use Rattle.battle_rounds.specs.Fights.{outcome_of, CanDecide};
 
 use crate::bout::Bout;
 use crate::refusal::{choice_of, refusal_of_forfeit, refusal_of_undo};
@@ -55,7 +56,8 @@ fn decide_choice(
     requires side { side < 2 }
     ensures refused { IfErr result (λ why. refusal_of_choose bout.now side dex.now choice.now rqid ≡ Some why) }
     ensures allowed { IfOk result (λ d. refusal_of_choose bout.now side dex.now choice.now rqid ≡ None) }
-    ensures outcome { IfOk result (λ d. outcome_of dex.now bout.now d ≡ chose_by dex.now bout.now side (chosen bout.now side dex.now choice.now rqid)) }
+    ensures outcome { IfOk result (λ d. outcome_of dex.now bout.now d
+        ≡ chose_by dex.now bout.now side (chosen bout.now side dex.now choice.now rqid)) }
     ensures can { IfOk result (CanDecide bout.now) }
 {
     match choice_of(bout, dex, side, choice, rqid) {

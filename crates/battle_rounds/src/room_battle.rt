@@ -188,7 +188,8 @@ impl RoomBattle {
         requires { IfSome side (λ s. s < 2) }
         ensures refused { IfErr result (λ why. refusal_in self.now.cast.dex self.now.bout side cmd.now ≡ Some why) }
         ensures allowed { IfOk result (λ d. refusal_in self.now.cast.dex self.now.bout side cmd.now ≡ None) }
-        ensures outcome { IfOk result (λ d. outcome_of self.now.cast.dex self.now.bout d ≡ outcome_in self.now.cast.dex self.now.bout side cmd.now) }
+        ensures outcome { IfOk result (λ d. outcome_of self.now.cast.dex self.now.bout d
+            ≡ outcome_in self.now.cast.dex self.now.bout side cmd.now) }
         ensures can { IfOk result (CanDecide self.now.bout) }
     {
         decide(&self.bout, self.cast.dex(), side, cmd)
@@ -215,7 +216,8 @@ impl RoomBattle {
     ) -> Result<Option<BoutBox>, AllocError>
         requires can { CanDecide self.now.bout decision }
         requires empty { out.old.items ≡ [] }
-        ensures after { IfOk result (λ next. outcome (bout_or self.now.bout next) out.new ≡ outcome_of self.now.cast.dex self.now.bout decision) }
+        ensures after { IfOk result (λ next. outcome (bout_or self.now.bout next) out.new
+            ≡ outcome_of self.now.cast.dex self.now.bout decision) }
         ensures bout { IfOk result (λ next. IfSome next (IsBout (figures_of self.now.cast.dex))) }
     {
         if decision == Decision::Nothing {

@@ -7,7 +7,8 @@ ghost use Rattle.ps_mon.specs.Moves.{move_count};
 ghost use Rattle.ps_mon.specs.Teams.{IsFresh, IsTeamKnown};
 ghost use Rattle.ps_mon.specs.Valid.{is_over};
 ghost use Rattle.battle_rounds.specs.Bouts.{IsBout, CanWait, waiting};
-ghost use Rattle.battle_rounds.specs.Rounds.{outcome, opened, is_ready, choice_or_pass, committed, completed, chose, undone, gave_up, result_of, ended};
+ghost use Rattle.battle_rounds.specs.Rounds.{outcome, opened, is_ready, choice_or_pass, committed, completed, chose, undone, gave_up};
+ghost use Rattle.battle_rounds.specs.Rounds.{result_of, ended};
 
 use crate::bout::{Bout, set_waiting, waiting};
 use ps_battle::{commit, forfeit, open as open_battle};

@@ -12,30 +12,31 @@ use Rattle.battle_secrecy.specs.Alike.{AreAlike}
 use Rattle.battle_secrecy.specs.Showing.{ShowsNoHidden, takes_form, whos}
 
 -- alike battles after the same events, with active members at these places
-pub record AreCoursesAlike (hidden : Hidden) (front : ℕ → ℕ) (a b : Course) : Type 0 where
-  pub battle : AreAlike hidden a.battle b.battle
-  pub indices : (s : ℕ) → s < 2 → active_index (side_of a.battle s) ≡ front s
-  pub told : a.told ≡ b.told
+pub record AreCoursesAlike (hidden : Hidden) (front : ℕ → ℕ) (one two : Course) : Type 0 where
+  pub battle : AreAlike hidden one.battle two.battle
+  pub indices : (side : ℕ) → side < 2 → active_index (side_of one.battle side) ≡ front side
+  pub told : one.told ≡ two.told
 
 -- a step from alike battles leads to alike battles, and tells the same
 abbrev pub KeepsAlike : (Course → Course) → Type 0
-KeepsAlike step = (hidden : Hidden) (front : ℕ → ℕ) (a b : Course) → AreCoursesAlike hidden front a b
-    → AreCoursesAlike hidden front (step a) (step b)
+KeepsAlike step = (hidden : Hidden) (front : ℕ → ℕ) (one two : Course) → AreCoursesAlike hidden front one two
+    → AreCoursesAlike hidden front (step one) (step two)
 
 -- whether the active member of a side has the slots of another one, which it took with its form
 abbrev pub has_copied : Battle → ℕ → Bool
-has_copied b s = is_some (side_of b s).vol.slots.copied
+has_copied battle side = is_some (side_of battle side).vol.slots.copied
 
 -- each active member that had another's form before, as `formed` says, or is told to take one, has the slots of it
-pub record HasForms (formed : ℕ → ℕ → Bool) (front : ℕ → ℕ) (c : Course) : Type 0 where
-  pub two : length c.battle.sides ≡ 2
-  pub copied : (s : ℕ) → s < 2 → (formed s (front s) || list_any (takes_form s (front s)) c.told) ≡ true → has_copied c.battle s ≡ true
+pub record HasForms (formed : ℕ → ℕ → Bool) (front : ℕ → ℕ) (course : Course) : Type 0 where
+  pub two : length course.battle.sides ≡ 2
+  pub copied : (side : ℕ) → side < 2 → (formed side (front side) || list_any (takes_form side (front side)) course.told) ≡ true
+      → has_copied course.battle side ≡ true
 
 -- the same of a step whose events may show slots, where none of those is hidden
 abbrev pub KeepsAlikeUnshown : (Course → Course) → Type 0
-KeepsAlikeUnshown step = (hidden : Hidden) (front : ℕ → ℕ) (formed : ℕ → ℕ → Bool) (a b : Course)
-    → ShowsNoHidden hidden front formed (step a).told → HasForms formed front a →
-    AreCoursesAlike hidden front a b → AreCoursesAlike hidden front (step a) (step b)
+KeepsAlikeUnshown step = (hidden : Hidden) (front : ℕ → ℕ) (formed : ℕ → ℕ → Bool) (one two : Course)
+    → ShowsNoHidden hidden front formed (step one).told → HasForms formed front one →
+    AreCoursesAlike hidden front one two → AreCoursesAlike hidden front (step one) (step two)
 
 -- ---- what is told
 
@@ -46,16 +47,17 @@ pub record Grows (old new : List Event) : Type 0 where
 
 -- whatever holds of two members holds of all that the new events name
 abbrev pub NamesBoth : Who → Who → List Event → List Event → Type 1
-NamesBoth user foe old new = (P : Who → Type 0) → P user → P foe → All (λ e. All P (whos e)) old → All (λ e. All P (whos e)) new
+NamesBoth user foe old new = (P : Who → Type 0) → P user → P foe → All (λ event. All P (whos event)) old
+    → All (λ event. All P (whos event)) new
 
 -- the active member of a side
 abbrev pub active_who : Battle → ℕ → Who
-active_who b s = record { side = side_name s; member = active_index (side_of b s) }
+active_who battle side = record { side = side_name side; member = active_index (side_of battle side) }
 
 -- a step of a battle only adds events, which name the two active members alone, and these stay active. Who takes another's form has
 -- its slots
-pub record TellsOfActive (a b : Course) : Type 1 where
-  pub index : (s : ℕ) → s < 2 → active_index (side_of b.battle s) ≡ active_index (side_of a.battle s)
-  pub grows : Grows a.told b.told
-  pub names : NamesBoth (active_who a.battle 0) (active_who a.battle 1) a.told b.told
-  pub forms : (formed : ℕ → ℕ → Bool) (front : ℕ → ℕ) → HasForms formed front a → HasForms formed front b
+pub record TellsOfActive (before after : Course) : Type 1 where
+  pub index : (side : ℕ) → side < 2 → active_index (side_of after.battle side) ≡ active_index (side_of before.battle side)
+  pub grows : Grows before.told after.told
+  pub names : NamesBoth (active_who before.battle 0) (active_who before.battle 1) before.told after.told
+  pub forms : (formed : ℕ → ℕ → Bool) (front : ℕ → ℕ) → HasForms formed front before → HasForms formed front after

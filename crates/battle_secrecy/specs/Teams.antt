@@ -8,32 +8,33 @@ use Rattle.battle_secrecy.specs.Places.{Hidden}
 use Rattle.battle_secrecy.specs.Alike.{AreMembersAlike}
 
 -- a team has 1 to 6 members
-pub record IsSized (t : BattleTeam) : Type 0 where
-  pub count : 1 ≤ t.count
-  pub count_high : t.count ≤ 6
-  pub long : t.count ≤ length t.members
+pub record IsSized (team : BattleTeam) : Type 0 where
+  pub count : 1 ≤ team.count
+  pub count_high : team.count ≤ 6
+  pub long : team.count ≤ length team.members
 
 abbrev pub teammate : BattleTeam → ℕ → Member
-teammate t k = slice_index_or t.members k no_member
+teammate team member = slice_index_or team.members member no_member
 
 -- what Team Preview shows of a member is equal
-pub record AreKindsSame (m n : Member) : Type 0 where
-  pub species : m.species ≡ n.species
-  pub level : m.level ≡ n.level
+pub record AreKindsSame (one two : Member) : Type 0 where
+  pub species : one.species ≡ two.species
+  pub level : one.level ≡ two.level
 
 -- The first member, which is active at the opening, isn't hidden; or what Team Preview shows of all members is equal. What stands past
 -- the members is equal.
-pub record AreTeamsAlike (preview : Bool) (member : ℕ → Bool) (slot : ℕ → ℕ → Bool) (move : ℕ → ℕ → ℕ) (a b : BattleTeam) : Type 0 where
-  pub first : IsSized a
-  pub second : IsSized b
-  pub count : a.count ≡ b.count
+pub record AreTeamsAlike (preview : Bool) (member : ℕ → Bool) (slot : ℕ → ℕ → Bool) (move : ℕ → ℕ → ℕ) (one two : BattleTeam) : Type 0 where
+  pub first : IsSized one
+  pub second : IsSized two
+  pub count : one.count ≡ two.count
   pub active : preview ≡ false → member 0 ≡ false
-  pub kinds : preview ≡ true → (k : ℕ) → k < a.count → AreKindsSame (teammate a k) (teammate b k)
-  pub members : (k : ℕ) → k < a.count → AreMembersAlike (member k) (slot k) (move k) (teammate a k) (teammate b k)
-  pub long : length a.members ≡ length b.members
-  pub rest : (k : ℕ) → a.count ≤ k → teammate a k ≡ teammate b k
+  pub kinds : preview ≡ true → (index : ℕ) → index < one.count → AreKindsSame (teammate one index) (teammate two index)
+  pub members : (index : ℕ) → index < one.count
+      → AreMembersAlike (member index) (slot index) (move index) (teammate one index) (teammate two index)
+  pub long : length one.members ≡ length two.members
+  pub rest : (index : ℕ) → one.count ≤ index → teammate one index ≡ teammate two index
 
 -- the teams of both sides
 abbrev pub AreBothTeamsAlike : Bool → Hidden → List BattleTeam → List BattleTeam → Type 0
-AreBothTeamsAlike preview hidden a b = (s : ℕ) → s < 2 →
-    AreTeamsAlike preview (hidden.member s) (hidden.slot s) (hidden.move s) (team_of a s) (team_of b s)
+AreBothTeamsAlike preview hidden one two = (side : ℕ) → side < 2 →
+    AreTeamsAlike preview (hidden.member side) (hidden.slot side) (hidden.move side) (team_of one side) (team_of two side)

@@ -5,26 +5,27 @@ use Rattle.json.specs.Token.{Token, begin_object, end_object, begin_array, end_a
 use Rattle.json.specs.Print.{print}
 use Rattle.file_help.specs.declared.page.Row.{Row}
 use Rattle.file_help.specs.declared.page.Section.{Section}
+use Rattle.ps_base.specs.Characters as characters
 
 -- the texts with a comma and a space between them, and a word for none
 abbrev pub listed : List (List ℕ) → List ℕ
 listed [] = codes "none"
-listed (text ∷ texts) = text ++ flat_map (λ t. codes ", " ++ t) texts
+listed (text ∷ texts) = text ++ flat_map (λ next. codes ", " ++ next) texts
 
 -- ---- as text
 
 -- `  KEY: VALUE` and a newline
 abbrev pub row_text : Row → List ℕ
-row_text row = codes "  " ++ row.key ++ codes ": " ++ row.value ++ 10 ∷ []
+row_text row = codes "  " ++ row.key ++ codes ": " ++ row.value ++ characters.newline ∷ []
 
 -- the rows, and a line that says so where there is none
 abbrev pub rows_text : List Row → List ℕ
-rows_text [] = codes "  none" ++ 10 ∷ []
+rows_text [] = codes "  none" ++ characters.newline ∷ []
 rows_text (row ∷ rows) = flat_map row_text (row ∷ rows)
 
 -- the heading, the rows, and an empty line
 abbrev pub section_text : Section → List ℕ
-section_text section = section.title ++ 10 ∷ [] ++ rows_text section.rows ++ 10 ∷ []
+section_text section = section.title ++ characters.newline ∷ [] ++ rows_text section.rows ++ characters.newline ∷ []
 
 abbrev pub text_page : List Section → List ℕ
 text_page sections = flat_map section_text sections
@@ -42,7 +43,7 @@ page_tokens sections = begin_object ∷ [] ++ (flat_map section_tokens sections 
 
 -- and a newline
 abbrev pub json_page : List Section → List ℕ
-json_page sections = print (page_tokens sections) ++ 10 ∷ []
+json_page sections = print (page_tokens sections) ++ characters.newline ∷ []
 
 abbrev pub page_of : Bool → List Section → List ℕ
 page_of as_json sections = if as_json then json_page sections else text_page sections

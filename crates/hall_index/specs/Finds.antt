@@ -5,13 +5,13 @@ use Rattle.hall_index.specs.Numbered.{item_at}
 
 abbrev pub first_number : List ℕ → Option ℕ
 first_number [] = None
-first_number (n ∷ ns) = Some n
+first_number (number ∷ numbers) = Some number
 
 module _ {T : Type 0} where
   -- no two items stand at one number
   abbrev pub AreApart : List (ℕ × T) → Type 0
   AreApart [] = Unit {0}
-  AreApart (e ∷ es) = (item_at e.0 es ≡ None) × AreApart es
+  AreApart (entry ∷ entries) = (item_at entry.0 entries ≡ None) × AreApart entries
 
   -- whether an item is there, of which a test holds
   abbrev pub holds_if : (T → Bool) → Option T → Bool
@@ -20,12 +20,13 @@ module _ {T : Type 0} where
 
   -- whether a test holds of the item at one of these numbers
   abbrev pub any_at : (T → Bool) → List (ℕ × T) → List ℕ → Bool
-  any_at test es ns = list_any (λ n. holds_if test (item_at n es)) ns
+  any_at test entries numbers = list_any (λ number. holds_if test (item_at number entries)) numbers
 
   -- of these numbers, the first at which a test holds of the item
   abbrev pub first_at : (T → Bool) → List (ℕ × T) → List ℕ → Option ℕ
-  first_at test es [] = None
-  first_at test es (n ∷ ns) = if holds_if test (item_at n es) then Some n else first_at test es ns
+  first_at test entries [] = None
+  first_at test entries (number ∷ numbers) =
+      if holds_if test (item_at number entries) then Some number else first_at test entries numbers
 
   -- the items without the first of which a test holds
   abbrev pub without_first : (T → Bool) → List T → List T

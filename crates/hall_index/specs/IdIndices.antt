@@ -20,7 +20,7 @@ with_number index id number = insert index id (numbers_at index id ++ number ∷
 -- an id has these numbers
 abbrev pub put_numbers : ById (List ℕ) → List ℕ → List ℕ → ById (List ℕ)
 put_numbers index id [] = remove index id
-put_numbers index id (n ∷ ns) = insert index id (n ∷ ns)
+put_numbers index id (number ∷ numbers) = insert index id (number ∷ numbers)
 
 -- a number less at an id
 abbrev pub without_number : ById (List ℕ) → List ℕ → ℕ → ById (List ℕ)
@@ -34,5 +34,5 @@ entry_at es number = option_map (λ item. (number, item)) (item_at number es)
 -- next number is in it nowhere.
 pub record IsIndexed {T : Type 0} (test : List ℕ → T → Bool) (next : ℕ) (es : List (ℕ × T)) (index : ById (List ℕ))
     : Type 0 where
-  pub found : (id : List ℕ) → filter_map (entry_at es) (numbers_at index id) ≡ filter (λ e. test id e.1) es
+  pub found : (id : List ℕ) → filter_map (entry_at es) (numbers_at index id) ≡ filter (λ entry. test id entry.1) es
   pub below : (id : List ℕ) → AreLess next (numbers_at index id)

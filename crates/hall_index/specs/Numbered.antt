@@ -15,7 +15,7 @@ item_at number es = lookup (is_number number) es
 
 -- the items that are left when the one with a number is taken out
 abbrev pub without : {T : Type 0} → ℕ → List (ℕ × T) → List (ℕ × T)
-without number es = filter (λ e. not (is_number number e.0)) es
+without number es = filter (λ entry. not (is_number number entry.0)) es
 
 -- the numbers but for one
 abbrev pub but : ℕ → List ℕ → List ℕ
@@ -23,7 +23,7 @@ but number ns = filter (λ other. not (is_number number other)) ns
 
 -- the items alone
 abbrev pub items_of : {T : Type 0} → List (ℕ × T) → List T
-items_of es = map (λ e. e.1) es
+items_of es = map (λ entry. entry.1) es
 
 -- the items with these numbers, of those that are there
 abbrev pub items_at : {T : Type 0} → List ℕ → List (ℕ × T) → List T
@@ -32,8 +32,8 @@ items_at ns es = filter_map (λ number. item_at number es) ns
 -- all numbers are below this one
 abbrev pub AreBelow : {T : Type 0} → ℕ → List (ℕ × T) → Type 0
 AreBelow number [] = Unit {0}
-AreBelow number (e ∷ es) = (e.0 < number) × AreBelow number es
+AreBelow number (entry ∷ entries) = (entry.0 < number) × AreBelow number entries
 
 abbrev pub AreLess : ℕ → List ℕ → Type 0
 AreLess number [] = Unit {0}
-AreLess number (n ∷ ns) = (n < number) × AreLess number ns
+AreLess number (other ∷ others) = (other < number) × AreLess number others

@@ -15,16 +15,16 @@ begun front = record { front = front; tokens = [] }
 
 -- more tokens behind the others
 unfoldable pub with_tokens : List Token → Line → Line
-with_tokens more l = record { front = l.front; tokens = l.tokens ++ more }
+with_tokens more line = record { front = line.front; tokens = line.tokens ++ more }
 
 -- a value behind the tokens
 abbrev pub with_value : Data → Line → Line
-with_value value l = with_tokens (json_tokens (outline value)) l
+with_value value line = with_tokens (json_tokens (outline value)) line
 
 -- the items of an array behind them, and the bracket that closes it
 abbrev pub with_items : Items → Line → Line
-with_items items l = with_tokens (items_tokens (items_outline items)) l
+with_items items line = with_tokens (items_tokens (items_outline items)) line
 
 -- the members of an object behind them, and the bracket that closes it
 abbrev pub with_members : Members → Line → Line
-with_members members l = with_tokens (members_tokens (members_outline members)) l
+with_members members line = with_tokens (members_tokens (members_outline members)) line

@@ -136,7 +136,8 @@ impl JsonLine {
     /// whose tokens were written.
     pub fn into_string(self) -> String
         ensures bytes { string_bytes result ≡ self.front ++ print self.tokens }
-        ensures text { (front : List ℕ) (value : Data) → self ≡ with_value value (begun front) → string_bytes result ≡ front ++ compact_text value }
+        ensures text { (front : List ℕ) (value : Data) → self ≡ with_value value (begun front)
+            → string_bytes result ≡ front ++ compact_text value }
     {
         match String::from_utf8(self.writer.into_inner()) {
             Ok(line) => line,

@@ -29,13 +29,14 @@ use Rattle.program_commands.specs.declared.status.Status.TheVariants.{KeepFault,
 use Rattle.program_commands.specs.Words.{Checked}
 use Rattle.program_commands.specs.Steps.{IsFaultOf, within, from_file, dex_in, config_in}
 use Rattle.program_commands.specs.Setups.{Then, IsSettled}
+use Rattle.ps_base.specs.Characters as characters
 
 abbrev pub most_team : ℕ
 most_team = 8192
 
 -- the text of a team: one newline at the file's end is dropped
 abbrev pub text_of : List ℕ → Result (List ℕ) Status
-text_of bytes = Ok (strip_last 10 bytes)
+text_of bytes = Ok (strip_last characters.newline bytes)
 
 abbrev pub text_in : (List ℕ → Option (List ℕ)) → List ℕ → Result (List ℕ) Status
 text_in lookup name = from_file text_of (within most_team name (lookup name))

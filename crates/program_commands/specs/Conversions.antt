@@ -19,14 +19,15 @@ use Rattle.program_commands.specs.declared.status.Status.TheVariants.{BadTeam, N
 use Rattle.program_commands.specs.declared.status.Status.TheVariants.{KeepFault, KeepFull, BadExport, NoExport}
 use Rattle.program_commands.specs.Setups.{IsSettled}
 use Rattle.program_commands.specs.Checks.{most_team, IsUnpacked}
+use Rattle.ps_base.specs.Characters as characters
 
 -- ---- what `export` makes of the bytes of a packed team's file, of which one newline at the end is dropped
 
 -- they are a packed team, all of whose sets can be written, and this is its export text, within the limit
 pub record HasExport (bytes made : List ℕ) : Type 0 where
-  pub utf8 : IsUtf8 (strip_last 10 bytes)
+  pub utf8 : IsUtf8 (strip_last characters.newline bytes)
   pub team : List Set
-  pub packed : IsTeam (chars (strip_last 10 bytes)) team
+  pub packed : IsTeam (chars (strip_last characters.newline bytes)) team
   pub writable : first_unwritable 1 team ≡ None
   pub made_is : made ≡ export_text team
   pub short : length made ≤ 8192
@@ -43,14 +44,14 @@ IsWhyNone team set = (first_unwritable 1 team ≡ Some set)
 
 -- they are a packed team, which has no export text
 pub record HasNoExport (bytes : List ℕ) (set : ℕ) : Type 0 where
-  pub utf8 : IsUtf8 (strip_last 10 bytes)
+  pub utf8 : IsUtf8 (strip_last characters.newline bytes)
   pub team : List Set
-  pub packed : IsTeam (chars (strip_last 10 bytes)) team
+  pub packed : IsTeam (chars (strip_last characters.newline bytes)) team
   pub why : IsWhyNone team set
 
 -- the faults of such bytes
 abbrev pub StopsExport : List ℕ → Status → Type 0
-StopsExport bytes (BadPack at kind) = IsUnpacked (strip_last 10 bytes) at kind
+StopsExport bytes (BadPack at kind) = IsUnpacked (strip_last characters.newline bytes) at kind
 StopsExport bytes (NoExport set) = HasNoExport bytes set
 StopsExport bytes other = ⊥
 
@@ -61,7 +62,7 @@ pub record MakesPacked (bytes made : List ℕ) : Type 0 where
   pub utf8 : IsUtf8 bytes
   pub team : List Set
   pub read : IsExport bytes team
-  pub made_is : made ≡ canon team ++ 10 ∷ []
+  pub made_is : made ≡ canon team ++ characters.newline ∷ []
 
 -- the bytes are no text, which is reported at 0, or no export text, and this is the first line that can't stand
 abbrev pub IsNoExportText : List ℕ → ℕ → Type 0
@@ -83,10 +84,10 @@ abbrev pub ConversionCause : Option (List ℕ → Option (List ℕ)) → List �
     → Status → Type 0
 ConversionCause contents name stops old new Done = Unit {0}
 ConversionCause contents name stops old new (Usage word) = ⊥
-ConversionCause contents name stops old new (FileMissing n) = (n ≡ name) × IfSome contents (λ lookup. lookup name ≡ None)
+ConversionCause contents name stops old new (FileMissing reported) = (reported ≡ name) × IfSome contents (λ lookup. lookup name ≡ None)
     × Rose old.missing new.missing
-ConversionCause contents name stops old new (FileFault n) = (n ≡ name) × Rose old.faults new.faults
-ConversionCause contents name stops old new (FileLong n) = (n ≡ name)
+ConversionCause contents name stops old new (FileFault reported) = (reported ≡ name) × Rose old.faults new.faults
+ConversionCause contents name stops old new (FileLong reported) = (reported ≡ name)
     × IfSome contents (λ lookup. IsSomeAnd (lookup name) (λ bytes. most_team < length bytes)) × Rose old.long new.long
 ConversionCause contents name stops old new (BadDex path kind) = ⊥
 ConversionCause contents name stops old new (BadConfig path kind) = ⊥
@@ -131,9 +132,9 @@ abbrev pub WritesConversion : Option (List ℕ → Option (List ℕ)) → List �
 WritesConversion contents name makes old new Done = OfFile contents name (λ bytes. WritesMade (makes bytes) old new)
 WritesConversion contents name makes old new WriteFault = OfFile contents name (λ bytes. WritesFrontOfMade (makes bytes) old new)
 WritesConversion contents name makes old new (Usage word) = Keeps old new
-WritesConversion contents name makes old new (FileMissing n) = Keeps old new
-WritesConversion contents name makes old new (FileFault n) = Keeps old new
-WritesConversion contents name makes old new (FileLong n) = Keeps old new
+WritesConversion contents name makes old new (FileMissing reported) = Keeps old new
+WritesConversion contents name makes old new (FileFault reported) = Keeps old new
+WritesConversion contents name makes old new (FileLong reported) = Keeps old new
 WritesConversion contents name makes old new (BadDex path kind) = Keeps old new
 WritesConversion contents name makes old new (BadConfig path kind) = Keeps old new
 WritesConversion contents name makes old new (BadScript line kind) = Keeps old new

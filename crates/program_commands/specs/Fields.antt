@@ -13,7 +13,7 @@ use Rattle.program_commands.specs.Checks.{IsLegal}
 -- the rules of the first format
 abbrev pub first_rules : List Format → Option RuleTable
 first_rules [] = None
-first_rules (f ∷ fs) = Some f.table
+first_rules (format ∷ formats) = Some format.table
 
 -- there is a species and a format, and this is the drill's team, which is legal in the first format
 pub record HasField (config : Settings) (dex : Tables) (fight : Fight) : Type 0 where

@@ -43,17 +43,17 @@ pub record Named : Type 0 where
 
 -- an option that isn't there yet
 abbrev pub may_stand : Named → List ℕ → Bool
-may_stand n option =
-    if bytes_eq option (codes "--dex") then is_none n.dex
-    else (if bytes_eq option (codes "--config") then is_none n.config
-    else (if bytes_eq option (codes "--keep") then is_none n.keep
+may_stand named option =
+    if bytes_eq option (codes "--dex") then is_none named.dex
+    else (if bytes_eq option (codes "--config") then is_none named.config
+    else (if bytes_eq option (codes "--keep") then is_none named.keep
     else false))
 
 abbrev pub with_name : Named → List ℕ → List ℕ → Named
-with_name n option name =
-    if bytes_eq option (codes "--dex") then record n { dex = Some name }
-    else (if bytes_eq option (codes "--config") then record n { config = Some name }
-    else record n { keep = Some name })
+with_name named option name =
+    if bytes_eq option (codes "--dex") then record named { dex = Some name }
+    else (if bytes_eq option (codes "--config") then record named { config = Some name }
+    else record named { keep = Some name })
 
 -- how far they were read: the index of the next word, what they have named, and the words from there on
 pub record Place : Type 0 where
@@ -63,30 +63,31 @@ pub record Place : Type 0 where
 
 -- behind an option: its name
 abbrev pub name_at : ℕ → Named → List ℕ → List (List ℕ) → Result Place ℕ
-name_at at n option [] = Err at
-name_at at n option (name ∷ words) = if is_name name then Ok (record { at = at + 1; named = with_name n option name; words = words }) else
+name_at at named option [] = Err at
+name_at at named option (name ∷ words) = if is_name name then Ok
+    (record { at = at + 1; named = with_name named option name; words = words }) else
     Err at
 
 -- the next option, if there are more words
 abbrev pub option_at : ℕ → Named → List (List ℕ) → Result Place ℕ
-option_at at n [] = Ok (record { at = at; named = n; words = [] })
-option_at at n (option ∷ words) = if may_stand n option then name_at (at + 1) n option words else Err at
+option_at at named [] = Ok (record { at = at; named = named; words = [] })
+option_at at named (option ∷ words) = if may_stand named option then name_at (at + 1) named option words else Err at
 
 abbrev pub next_option : Result Place ℕ → Result Place ℕ
-next_option (Ok p) = option_at p.at p.named p.words
+next_option (Ok place) = option_at place.at place.named place.words
 next_option (Err at) = Err at
 
 -- all three were read, and the one that has to be there is
 abbrev pub archive_by : ℕ → Named → Option (List ℕ) → Result AskedKept ℕ
-archive_by at n None = Err at
-archive_by at n (Some keep) = Ok (Archives (record { options = record { dex = n.dex; config = n.config }; keep = keep }))
+archive_by at named None = Err at
+archive_by at named (Some keep) = Ok (Archives (record { options = record { dex = named.dex; config = named.config }; keep = keep }))
 
 abbrev pub archive_if : ℕ → Named → List (List ℕ) → Result AskedKept ℕ
-archive_if at n [] = archive_by at n n.keep
-archive_if at n (word ∷ words) = Err at
+archive_if at named [] = archive_by at named named.keep
+archive_if at named (word ∷ words) = Err at
 
 abbrev pub archive_of : Result Place ℕ → Result AskedKept ℕ
-archive_of (Ok p) = archive_if p.at p.named p.words
+archive_of (Ok place) = archive_if place.at place.named place.words
 archive_of (Err at) = Err at
 
 abbrev pub no_names : Named
@@ -137,17 +138,17 @@ IfStandings (Err at) holds = Unit {0}
 -- ---- for the code: what was read, as contracts see it
 
 abbrev pub archived_of : ArchiveWords → Archived
-archived_of w = record { options = options_of w.options; keep = w.keep.now }
+archived_of words = record { options = options_of words.options; keep = words.keep.now }
 
 abbrev pub stood_of : StandingsWords → Stood
-stood_of w = record { format = w.format.now; keep = w.keep.now }
+stood_of words = record { format = words.format.now; keep = words.keep.now }
 
 abbrev pub asked_kept_of : KeptCommand → AskedKept
 asked_kept_of (commands.Archive words) = Archives (archived_of words)
 asked_kept_of (commands.Standings words) = Stands (stood_of words)
 
 abbrev pub named_of : Names → Named
-named_of n = record { dex = option_copied n.dex; config = option_copied n.config; keep = option_copied n.keep }
+named_of names = record { dex = option_copied names.dex; config = option_copied names.config; keep = option_copied names.keep }
 
 abbrev pub place_of : Reading → Place
-place_of r = record { at = r.at; named = named_of r.names; words = map string_bytes r.words.now }
+place_of reading = record { at = reading.at; named = named_of reading.names; words = map string_bytes reading.words.now }

@@ -58,8 +58,8 @@ usage_reported (NoExport set) = None
 -- A step has this value: where it names no file, whatever files there are, and else where they are told.
 abbrev pub Stands : {A : Type 0} → Option (List ℕ → Option (List ℕ)) → Option (List ℕ)
     → ((List ℕ → Option (List ℕ)) → Result A Status) → A → Type 0
-Stands contents None step x = (lookup : List ℕ → Option (List ℕ)) → step lookup ≡ Ok x
-Stands contents (Some name) step x = IfSome contents (λ lookup. step lookup ≡ Ok x)
+Stands contents None step value = (lookup : List ℕ → Option (List ℕ)) → step lookup ≡ Ok value
+Stands contents (Some name) step value = IfSome contents (λ lookup. step lookup ≡ Ok value)
 
 -- this dex, and this configuration over it
 pub record IsSetUp (contents : Option (List ℕ → Option (List ℕ))) (options : Options) (config : Settings) (dex : Tables) : Type 0 where
@@ -94,7 +94,7 @@ IsOption options name = (options.dex ≡ Some name) ⊎ (options.config ≡ Some
 
 -- a step that ends in a status ends the command, and else what follows on its value does
 abbrev pub Then : {A : Type 0} → Result A Status → (A → Status → Type 0) → Status → Type 0
-Then (Ok x) next status = next x status
+Then (Ok value) next status = next value status
 Then (Err ended) next status = status ≡ ended
 
 -- it ends so, if the files are known; out of memory may end it anywhere
@@ -130,8 +130,8 @@ IsSettled (NoExport set) = ⊥
 -- a step has this value, where it names no file, or the files are known
 abbrev pub IsKnown : {A : Type 0} → Option (List ℕ → Option (List ℕ)) → Option (List ℕ)
     → ((List ℕ → Option (List ℕ)) → Result A Status) → A → Type 0
-IsKnown contents None step x = (lookup : List ℕ → Option (List ℕ)) → step lookup ≡ Ok x
-IsKnown contents (Some name) step x = IsSomeAnd contents (λ lookup. step lookup ≡ Ok x)
+IsKnown contents None step value = (lookup : List ℕ → Option (List ℕ)) → step lookup ≡ Ok value
+IsKnown contents (Some name) step value = IsSomeAnd contents (λ lookup. step lookup ≡ Ok value)
 
 -- the words' files are known and good
 pub record AreGood (contents : Option (List ℕ → Option (List ℕ))) (options : Options) : Type 0 where
@@ -144,7 +144,7 @@ pub record AreGood (contents : Option (List ℕ → Option (List ℕ))) (options
 
 -- a step gave this value, where the files are known
 abbrev pub Gave : {A : Type 0} → Option (List ℕ → Option (List ℕ)) → ((List ℕ → Option (List ℕ)) → Result A Status) → A → Type 0
-Gave contents step x = IfSome contents (λ lookup. step lookup ≡ Ok x)
+Gave contents step value = IfSome contents (λ lookup. step lookup ≡ Ok value)
 
 -- a step ended a command: it ran out of memory, its file failed, or it gives the status
 abbrev pub Ended : {A : Type 0} → Option (List ℕ → Option (List ℕ)) → Option (List ℕ) → ((List ℕ → Option (List ℕ)) → Result A Status)
@@ -153,10 +153,10 @@ Ended contents named step status = (status ≡ NoMemory) ⊎ IfSome contents (λ
 
 -- why a file of a name wasn't read
 abbrev pub NoFile : List ℕ → ℕ → Option (List ℕ → Option (List ℕ)) → FileCounts → FileCounts → Status → Type 0
-NoFile name limit contents old new (FileMissing n) = (n ≡ name) × IfSome contents (λ lookup. lookup name ≡ None)
+NoFile name limit contents old new (FileMissing reported) = (reported ≡ name) × IfSome contents (λ lookup. lookup name ≡ None)
     × Rose old.missing new.missing
-NoFile name limit contents old new (FileFault n) = (n ≡ name) × Rose old.faults new.faults
-NoFile name limit contents old new (FileLong n) = (n ≡ name)
+NoFile name limit contents old new (FileFault reported) = (reported ≡ name) × Rose old.faults new.faults
+NoFile name limit contents old new (FileLong reported) = (reported ≡ name)
     × IfSome contents (λ lookup. IsSomeAnd (lookup name) (λ bytes. limit < length bytes)) × Rose old.long new.long
 NoFile name limit contents old new NoMemory = Unit {0}
 NoFile name limit contents old new Done = ⊥

@@ -13,6 +13,7 @@ use Rattle.program_commands.specs.declared.words.ServeWords.{ServeWords}
 use Rattle.program_commands.specs.declared.words.TourWords.{TourWords}
 use Rattle.program_commands.specs.declared.words.Command.{Command}
 use Rattle.program_commands.specs.declared.words.Command.TheVariants as commands
+use Rattle.ps_base.specs.Characters as characters
 
 -- the files that options name
 pub record Options : Type 0 where
@@ -55,7 +56,7 @@ pub data Asked : Type 0 where
 -- a word that names something: it isn't empty and doesn't begin with `-`
 abbrev pub is_name : List ℕ → Bool
 is_name [] = false
-is_name (b ∷ bytes) = not (b == 45)
+is_name (byte ∷ bytes) = not (byte == characters.hyphen)
 
 -- Everywhere here the answer `Err` is the index of the first word that can't stand, counted from 0, or how many words there are
 -- where one is missing. The words are those from the index `at` on.
@@ -118,7 +119,7 @@ most_steps = 4000
 
 abbrev pub within_steps : Option ℕ → Option ℕ
 within_steps None = None
-within_steps (Some n) = if nat_le 1 n && nat_le n most_steps then Some n else None
+within_steps (Some steps) = if nat_le 1 steps && nat_le steps most_steps then Some steps else None
 
 -- the number of steps, 1 to 4,000, as its one decimal text
 abbrev pub steps_in : List ℕ → Option ℕ
@@ -178,7 +179,7 @@ most_users = 16
 
 abbrev pub within_users : Option ℕ → Option ℕ
 within_users None = None
-within_users (Some n) = if nat_le 2 n && nat_le n most_users then Some n else None
+within_users (Some users) = if nat_le 2 users && nat_le users most_users then Some users else None
 
 -- the number of users, 2 to 16, as its one decimal text
 abbrev pub users_in : List ℕ → Option ℕ
@@ -217,7 +218,7 @@ most_count = 1024
 
 abbrev pub within_count : Option ℕ → Option ℕ
 within_count None = None
-within_count (Some n) = if nat_le 1 n && nat_le n most_count then Some n else None
+within_count (Some count) = if nat_le 1 count && nat_le count most_count then Some count else None
 
 -- the number of connections, 1 to 1,024, as its one decimal text
 abbrev pub count_in : List ℕ → Option ℕ
@@ -319,19 +320,24 @@ IfTour (Err at) holds = Unit {0}
 -- ---- for the code: what was read, as contracts see it
 
 abbrev pub options_of : OptionWords → Options
-options_of o = record { dex = option_copied o.dex; config = option_copied o.config }
+options_of words = record { dex = option_copied words.dex; config = option_copied words.config }
 
 abbrev pub drilled_of : DrillWords → Drilled
-drilled_of w = record { steps = w.steps; options = options_of w.options }
+drilled_of words = record { steps = words.steps; options = options_of words.options }
 
 abbrev pub toured_of : TourWords → Toured
-toured_of w = record { users = w.users; seed = w.seed; options = options_of w.options }
+toured_of words = record { users = words.users; seed = words.seed; options = options_of words.options }
 
 abbrev pub checked_of : CheckWords → Checked
-checked_of w = record { format = w.format.now; team = w.team.now; dex = option_copied w.dex; config = option_copied w.config }
+checked_of words = record {
+  format = words.format.now;
+  team = words.team.now;
+  dex = option_copied words.dex;
+  config = option_copied words.config;
+}
 
 abbrev pub serves_of : ServeWords → Serves
-serves_of w = record { address = w.address.now; count = w.count; options = options_of w.options }
+serves_of words = record { address = words.address.now; count = words.count; options = options_of words.options }
 
 abbrev pub asked_of : Command → Asked
 asked_of (commands.Replay options) = Replays (options_of options)
@@ -342,7 +348,7 @@ asked_of (commands.Import name) = Imports name.now
 asked_of (commands.Tour words) = Tours (toured_of words)
 
 abbrev pub AreUsers : ℕ → Type 0
-AreUsers n = (2 ≤ n) × (n ≤ most_users)
+AreUsers users = (2 ≤ users) × (users ≤ most_users)
 
 -- a drill has at most 4,000 steps, and a tournament 2 to 16 users
 abbrev pub HasFewSteps : Command → Type 0
@@ -355,4 +361,4 @@ HasFewSteps (commands.Tour words) = AreUsers words.users
 
 -- a server takes 1 to 1,024 connections
 abbrev pub IsCount : ℕ → Type 0
-IsCount n = (1 ≤ n) × (n ≤ most_count)
+IsCount count = (1 ≤ count) × (count ≤ most_count)

@@ -44,4 +44,4 @@ IfUsage (Err at) holds = holds at
 -- ---- for the code: what was read, as contracts see it
 
 abbrev pub show_of : ShowWords → Asked
-show_of w = record { format = option_copied w.format; as_json = w.as_json; options = options_of w.options }
+show_of words = record { format = option_copied words.format; as_json = words.as_json; options = options_of words.options }

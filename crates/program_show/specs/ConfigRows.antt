@@ -49,31 +49,31 @@ inherit_text (Some symbol) = codes ", inherits " ++ symbol_text symbol
 
 -- the id, the name in parentheses, what it inherits, and the permissions
 unfoldable pub group_text : List Group → ℕ → Group → List ℕ
-group_text groups rank g =
-    g.id ++ codes " (" ++ g.name ++ codes ")" ++ inherit_text g.inherit ++ codes "; " ++ listed (permissions groups rank)
+group_text groups rank group =
+    group.id ++ codes " (" ++ group.name ++ codes ")" ++ inherit_text group.inherit ++ codes "; " ++ listed (permissions groups rank)
 
 abbrev pub group_row : List Group → ℕ → Group → Row
-group_row groups rank g = record { key = symbol_text g.symbol; value = group_text groups rank g }
+group_row groups rank group = record { key = symbol_text group.symbol; value = group_text groups rank group }
 
 -- a row for each of the groups from a rank on, the highest first
 abbrev pub group_rows : List Group → ℕ → List Group → List Row
 group_rows groups rank [] = []
-group_rows groups rank (g ∷ lower) = group_row groups rank g ∷ group_rows groups (rank + 1) lower
+group_rows groups rank (group ∷ lower) = group_row groups rank group ∷ group_rows groups (rank + 1) lower
 
 -- ---- rooms and names
 
 abbrev pub room_row : ChatRoom → Row
-room_row r = record { key = r.id; value = r.title }
+room_row room = record { key = room.id; value = room.title }
 
 abbrev pub secret_word : List ℕ → List ℕ
 secret_word [] = codes ", empty secret: anybody can take the name"
 secret_word (byte ∷ secret) = codes ", has a secret"
 
 unfoldable pub user_text : List Group → Registered → List ℕ
-user_text groups u = codes "group " ++ symbol_text (symbol_of u.rank groups) ++ secret_word u.secret
+user_text groups user = codes "group " ++ symbol_text (symbol_of user.rank groups) ++ secret_word user.secret
 
 abbrev pub user_row : List Group → Registered → Row
-user_row groups u = record { key = u.id; value = user_text groups u }
+user_row groups user = record { key = user.id; value = user_text groups user }
 
 -- ---- the rest: the nonce and the seed aren't told but for whether they are the defaults
 
@@ -86,9 +86,9 @@ seed_word seed = if seed == 0 then codes "the default: without the key, `always`
     codes "its own"
 
 unfoldable pub setup_rows : Settings → List Row
-setup_rows s =
-    record { key = codes "staff"; value = symbol_text (symbol_of s.staff s.groups) }
-    ∷ record { key = codes "nonce"; value = nonce_word s.nonce }
-    ∷ record { key = codes "seed"; value = seed_word s.seed }
-    ∷ record { key = codes "seeds"; value = decimal (length s.seeds) }
+setup_rows settings =
+    record { key = codes "staff"; value = symbol_text (symbol_of settings.staff settings.groups) }
+    ∷ record { key = codes "nonce"; value = nonce_word settings.nonce }
+    ∷ record { key = codes "seed"; value = seed_word settings.seed }
+    ∷ record { key = codes "seeds"; value = decimal (length settings.seeds) }
     ∷ []

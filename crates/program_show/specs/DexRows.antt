@@ -21,11 +21,11 @@ abbrev pub category : Bool → List ℕ
 category special = if special then codes "special" else codes "physical"
 
 abbrev pub type_row : TypeItem → Row
-type_row t = record { key = t.name; value = category t.special }
+type_row item = record { key = item.name; value = category item.special }
 
 abbrev pub name_of_type : Option TypeItem → List ℕ
 name_of_type None = []
-name_of_type (Some t) = t.name
+name_of_type (Some item) = item.name
 
 unfoldable pub type_name : List TypeItem → ℕ → List ℕ
 type_name types number = name_of_type (slice_get types number)
@@ -34,11 +34,11 @@ type_name types number = name_of_type (slice_get types number)
 
 -- the defending type and the factor in tenths, where it isn't 10
 unfoldable pub factor_text : ℕ → TypeItem → List (List ℕ)
-factor_text tenths t = if tenths == 10 then [] else (t.name ++ codes " " ++ decimal tenths) ∷ []
+factor_text tenths defending = if tenths == 10 then [] else (defending.name ++ codes " " ++ decimal tenths) ∷ []
 
 abbrev pub factor_on : ℕ → Option TypeItem → List (List ℕ)
 factor_on tenths None = []
-factor_on tenths (Some t) = factor_text tenths t
+factor_on tenths (Some defending) = factor_text tenths defending
 
 -- of the first so many defending types
 abbrev pub factors_to : List TypeItem → List FactorItem → ℕ → ℕ → List (List ℕ)
@@ -48,7 +48,7 @@ factors_to types factors attack (suc defend) =
 
 abbrev pub factor_row : List TypeItem → List FactorItem → ℕ → Option TypeItem → List Row
 factor_row types factors attack None = []
-factor_row types factors attack (Some t) = record { key = t.name; value = listed (factors_to types factors attack 32) } ∷ []
+factor_row types factors attack (Some attacking) = record { key = attacking.name; value = listed (factors_to types factors attack 32) } ∷ []
 
 -- a row for each of the first so many types: what it does to which others, but for 10 tenths
 abbrev pub factor_rows : List TypeItem → List FactorItem → ℕ → List Row
@@ -131,20 +131,21 @@ manner_text priority high effect = priority_word priority ++ high_word high ++ c
 
 -- the type, the numbers, and the kind of the effect
 unfoldable pub numbers_text : List TypeItem → MoveData → List ℕ
-numbers_text types m =
-    typed_text types m.kind m.special ++ codes "; " ++ strength_text m.power m.accuracy m.pp ++ manner_text m.priority m.high m.effect
+numbers_text types numbers =
+    typed_text types numbers.kind numbers.special ++ codes "; " ++ strength_text numbers.power numbers.accuracy numbers.pp
+    ++ manner_text numbers.priority numbers.high numbers.effect
 
 abbrev pub move_row : List TypeItem → MoveItem → Row
-move_row types m = record { key = m.name; value = numbers_text types m.numbers }
+move_row types move = record { key = move.name; value = numbers_text types move.numbers }
 
 -- ---- moves, by what they do
 
 abbrev pub is_of_kind : List ℕ → MoveItem → Bool
-is_of_kind word m = bytes_eq (kind_word m.numbers.effect) word
+is_of_kind word move = bytes_eq (kind_word move.numbers.effect) word
 
 -- the names of the moves of a kind
 abbrev pub moves_of_kind : List MoveItem → List ℕ → List (List ℕ)
-moves_of_kind moves word = map (λ m. m.name) (filter (is_of_kind word) moves)
+moves_of_kind moves word = map (λ move. move.name) (filter (is_of_kind word) moves)
 
 abbrev pub kind_row : List MoveItem → List ℕ → Row
 kind_row moves word = record { key = word; value = listed (moves_of_kind moves word) }
@@ -157,26 +158,26 @@ own_types types = if slice_index types 0 == slice_index types 1 then take 1 type
 
 -- the types, the base stats HP, Attack, Defense, Special and Speed, and the moves that it learns
 unfoldable pub species_text : List TypeItem → List MoveItem → SpeciesItem → List ℕ
-species_text types moves s =
-    listed (map (type_name types) (own_types s.types)) ++ codes "; " ++ listed (map decimal s.stats)
-    ++ codes "; learns " ++ listed (map (λ n. name_of_move n moves) s.learns)
+species_text types moves species =
+    listed (map (type_name types) (own_types species.types)) ++ codes "; " ++ listed (map decimal species.stats)
+    ++ codes "; learns " ++ listed (map (λ number. name_of_move number moves) species.learns)
 
 abbrev pub species_row : List TypeItem → List MoveItem → SpeciesItem → Row
-species_row types moves s = record { key = s.name; value = species_text types moves s }
+species_row types moves species = record { key = species.name; value = species_text types moves species }
 
 -- ---- what an id stands for
 
 abbrev pub name_of_species : Option SpeciesItem → List ℕ
 name_of_species None = []
-name_of_species (Some s) = s.name
+name_of_species (Some species) = species.name
 
 abbrev pub species_part : List SpeciesItem → Option ℕ → List (List ℕ)
 species_part species None = []
-species_part species (Some n) = (codes "species " ++ name_of_species (slice_get species n)) ∷ []
+species_part species (Some number) = (codes "species " ++ name_of_species (slice_get species number)) ∷ []
 
 abbrev pub move_part : List MoveItem → Option ℕ → List (List ℕ)
 move_part moves None = []
-move_part moves (Some n) = (codes "move " ++ name_of_move n moves) ∷ []
+move_part moves (Some number) = (codes "move " ++ name_of_move number moves) ∷ []
 
 -- a species, a move, or both
 abbrev pub parts_text : Tables → Option ℕ → Option ℕ → List ℕ
@@ -186,19 +187,19 @@ parts_text dex species mv = listed (species_part dex.species species ++ move_par
 
 abbrev pub is_species_id : List ℕ → Option SpeciesItem → Bool
 is_species_id id None = false
-is_species_id id (Some s) = bytes_eq s.id id
+is_species_id id (Some species) = bytes_eq species.id id
 
 abbrev pub is_move_id : List ℕ → Option MoveItem → Bool
 is_move_id id None = false
-is_move_id id (Some m) = bytes_eq m.id id
+is_move_id id (Some move) = bytes_eq move.id id
 
 abbrev pub has_species_id : List ℕ → List SpeciesItem → Option ℕ → Bool
 has_species_id id species None = false
-has_species_id id species (Some n) = is_species_id id (slice_get species n)
+has_species_id id species (Some number) = is_species_id id (slice_get species number)
 
 abbrev pub has_move_id : List ℕ → List MoveItem → Option ℕ → Bool
 has_move_id id moves None = false
-has_move_id id moves (Some n) = is_move_id id (slice_get moves n)
+has_move_id id moves (Some number) = is_move_id id (slice_get moves number)
 
 -- the species or the move that the id stands for has it itself
 abbrev pub is_own : List ℕ → Tables → Bool
@@ -206,7 +207,8 @@ is_own id dex = has_species_id id dex.species (species_of id dex) || has_move_id
 
 -- what an alias stands for; one with the id of a species or a move is never used
 abbrev pub alias_text : Tables → AliasItem → List ℕ
-alias_text dex a = if is_own a.id dex then codes "never used: a species or a move has this id" else parts_text dex a.species a.mv
+alias_text dex alias = if is_own alias.id dex then codes "never used: a species or a move has this id" else parts_text dex
+    alias.species alias.mv
 
 abbrev pub alias_row : Tables → AliasItem → Row
-alias_row dex a = record { key = a.id; value = alias_text dex a }
+alias_row dex alias = record { key = alias.id; value = alias_text dex alias }

@@ -23,7 +23,8 @@ IsTrial dex rules text (Unpacked at kind) = IsUnpacked text at kind
 
 -- as `check` tells it
 unfoldable pub broken_text : Verdict → List ℕ
-broken_text v = codes "BadTeam set=" ++ decimal v.set ++ codes " rule=" ++ team_rule_name v.rule ++ codes " subject=" ++ v.subject
+broken_text verdict = codes "BadTeam set=" ++ decimal verdict.set ++ codes " rule=" ++ team_rule_name verdict.rule
+    ++ codes " subject=" ++ verdict.subject
 
 unfoldable pub unpacked_text : ℕ → PackKind → List ℕ
 unpacked_text at kind = codes "BadPack at=" ++ decimal at ++ codes " kind=" ++ pack_kind_name kind

@@ -20,7 +20,7 @@ use Rattle.program_show.specs.DexRows.{parts_text}
 -- ---- clauses
 
 abbrev pub clause_part : ℕ → Clause → List (List ℕ)
-clause_part on c = if has_clause on (bit_of c) then name_of c ∷ [] else []
+clause_part on clause = if has_clause on (bit_of clause) then name_of clause ∷ [] else []
 
 -- the names of the clauses that are on
 unfoldable pub clause_names : ℕ → List (List ℕ)
@@ -40,22 +40,22 @@ abbrev pub range_text : ℕ → ℕ → List ℕ
 range_text least greatest = decimal least ++ codes " to " ++ decimal greatest
 
 abbrev pub yes_or_no : Bool → List ℕ
-yes_or_no b = if b then codes "yes" else codes "no"
+yes_or_no answer = if answer then codes "yes" else codes "no"
 
 unfoldable pub table_rows : Tables → RuleTable → List Row
-table_rows dex t =
-    record { key = codes "clauses"; value = listed (clause_names t.clauses) }
-    ∷ record { key = codes "bans"; value = listed (map (ban_text dex) t.bans) }
-    ∷ record { key = codes "members"; value = range_text t.min t.max }
-    ∷ record { key = codes "levels"; value = range_text (slice_index t.levels 0) (slice_index t.levels 1) }
-    ∷ record { key = codes "rated"; value = yes_or_no t.rated }
+table_rows dex table =
+    record { key = codes "clauses"; value = listed (clause_names table.clauses) }
+    ∷ record { key = codes "bans"; value = listed (map (ban_text dex) table.bans) }
+    ∷ record { key = codes "members"; value = range_text table.min table.max }
+    ∷ record { key = codes "levels"; value = range_text (slice_index table.levels 0) (slice_index table.levels 1) }
+    ∷ record { key = codes "rated"; value = yes_or_no table.rated }
     ∷ []
 
 abbrev pub format_rows : Tables → Format → List Row
-format_rows dex f = record { key = codes "name"; value = f.name } ∷ table_rows dex f.table
+format_rows dex format = record { key = codes "name"; value = format.name } ∷ table_rows dex format.table
 
 abbrev pub format_section : Tables → Format → Section
-format_section dex f = record { title = codes "Format " ++ f.id; rows = format_rows dex f }
+format_section dex format = record { title = codes "Format " ++ format.id; rows = format_rows dex format }
 
 -- ---- what may stand in a format
 
@@ -67,23 +67,23 @@ banned_moves dex bans = filter_map (λ id. move_of id dex) bans
 
 -- the names of the moves with these numbers that no ban names
 abbrev pub left_moves : List MoveItem → List ℕ → List ℕ → List (List ℕ)
-left_moves moves banned numbers = map (λ n. name_of_move n moves) (filter (λ n. not (has_number n banned)) numbers)
+left_moves moves banned numbers = map (λ number. name_of_move number moves) (filter (λ number. not (has_number number banned)) numbers)
 
 abbrev pub left_row : List MoveItem → List ℕ → SpeciesItem → Row
-left_row moves banned s = record { key = s.name; value = listed (left_moves moves banned s.learns) }
+left_row moves banned species = record { key = species.name; value = listed (left_moves moves banned species.learns) }
 
 -- a row for a species that no ban names
 abbrev pub left_part : List MoveItem → List ℕ → List ℕ → ℕ → SpeciesItem → List Row
-left_part moves banned_s banned_m index s = if has_number index banned_s then [] else left_row moves banned_m s ∷ []
+left_part moves banned_s banned_m index species = if has_number index banned_s then [] else left_row moves banned_m species ∷ []
 
 -- a row for each species from an index on that no ban names, with its moves that no ban names
 abbrev pub left_rows : List MoveItem → List ℕ → List ℕ → ℕ → List SpeciesItem → List Row
 left_rows moves banned_s banned_m index [] = []
-left_rows moves banned_s banned_m index (s ∷ species) =
-    left_part moves banned_s banned_m index s ++ left_rows moves banned_s banned_m (index + 1) species
+left_rows moves banned_s banned_m index (item ∷ species) =
+    left_part moves banned_s banned_m index item ++ left_rows moves banned_s banned_m (index + 1) species
 
 abbrev pub left_section : Tables → Format → Section
-left_section dex f = record {
-  title = codes "May stand in " ++ f.id;
-  rows = left_rows dex.moves (banned_species dex f.table.bans) (banned_moves dex f.table.bans) 0 dex.species;
+left_section dex format = record {
+  title = codes "May stand in " ++ format.id;
+  rows = left_rows dex.moves (banned_species dex format.table.bans) (banned_moves dex format.table.bans) 0 dex.species;
 }

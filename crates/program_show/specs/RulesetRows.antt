@@ -16,7 +16,7 @@ use Rattle.program_show.specs.FormatRows.{clause_names}
 
 -- the id of a rule, behind `!` where it repeals a clause
 abbrev pub rule_text : Rule → List ℕ
-rule_text r = if r.repeals then codes "!" ++ r.id else r.id
+rule_text rule = if rule.repeals then codes "!" ++ rule.id else rule.id
 
 -- the clauses that a ruleset comes to, or the first fault of its walk, which is never out of memory
 abbrev pub outcome_text : Result RuleTable RuleFault → List ℕ
@@ -35,7 +35,8 @@ set_end said id None None = outcome_text (resolved said id)
 
 -- the rules as they stand in the list, and what they come to
 unfoldable pub set_text : Said → Ruleset → List ℕ
-set_text said s = listed (map rule_text s.rules) ++ codes "; " ++ set_end said s.id (clause_of s.id) (format_of s.id said.formats)
+set_text said rule_set = listed (map rule_text rule_set.rules) ++ codes "; "
+    ++ set_end said rule_set.id (clause_of rule_set.id) (format_of rule_set.id said.formats)
 
 abbrev pub set_row : Said → Ruleset → Row
-set_row said s = record { key = s.id; value = set_text said s }
+set_row said rule_set = record { key = rule_set.id; value = set_text said rule_set }

@@ -19,16 +19,16 @@ abbrev pub count_row : List ℕ → ℕ → Row
 count_row key count = record { key = key; value = decimal count }
 
 unfoldable pub count_rows : Tables → Settings → List Row
-count_rows dex s =
+count_rows dex settings =
     count_row (codes "types") (length dex.types)
     ∷ count_row (codes "moves") (length dex.moves)
     ∷ count_row (codes "species") (length dex.species)
     ∷ count_row (codes "aliases") (length dex.aliases)
-    ∷ count_row (codes "groups") (length s.groups)
-    ∷ count_row (codes "rooms") (length s.rooms)
-    ∷ count_row (codes "registered names") (length s.users)
-    ∷ count_row (codes "rulesets") (length s.formats.rulesets)
-    ∷ count_row (codes "formats") (length s.formats.formats)
+    ∷ count_row (codes "groups") (length settings.groups)
+    ∷ count_row (codes "rooms") (length settings.rooms)
+    ∷ count_row (codes "registered names") (length settings.users)
+    ∷ count_row (codes "rulesets") (length settings.formats.rulesets)
+    ∷ count_row (codes "formats") (length settings.formats.formats)
     ∷ []
 
 -- ---- the dex, and the configuration
@@ -55,11 +55,11 @@ species_sections dex =
     ∷ []
 
 abbrev pub config_sections : Settings → List Section
-config_sections s =
-    section (codes "Groups") (group_rows s.groups 0 s.groups)
-    ∷ section (codes "Rooms") (map room_row s.rooms)
-    ∷ section (codes "Registered names") (map (user_row s.groups) s.users)
-    ∷ section (codes "Setup") (setup_rows s)
+config_sections settings =
+    section (codes "Groups") (group_rows settings.groups 0 settings.groups)
+    ∷ section (codes "Rooms") (map room_row settings.rooms)
+    ∷ section (codes "Registered names") (map (user_row settings.groups) settings.users)
+    ∷ section (codes "Setup") (setup_rows settings)
     ∷ []
 
 abbrev pub rule_sections : Tables → Said → List Section
@@ -69,17 +69,17 @@ rule_sections dex said = section (codes "Rulesets") (map (set_row said) said.rul
 
 -- without a format: both files, and these rows on the battle of a drill
 unfoldable pub whole : Tables → Settings → List Row → List Section
-whole dex s drill =
-    section (codes "Counts") (count_rows dex s) ∷ [] ++ type_sections dex ++ move_sections dex ++ species_sections dex
-    ++ config_sections s ++ rule_sections dex s.formats ++ section (codes "A drill would play") drill ∷ []
+whole dex settings drill =
+    section (codes "Counts") (count_rows dex settings) ∷ [] ++ type_sections dex ++ move_sections dex ++ species_sections dex
+    ++ config_sections settings ++ rule_sections dex settings.formats ++ section (codes "A drill would play") drill ∷ []
 
 -- these sections are told of both files
 abbrev pub IsWhole : Tables → Settings → List Section → Type 0
-IsWhole dex s sections = (drill : List Row) × IsDrill dex s drill × (sections ≡ whole dex s drill)
+IsWhole dex settings sections = (drill : List Row) × IsDrill dex settings drill × (sections ≡ whole dex settings drill)
 
 -- with one: that format, and what may stand in it
 abbrev pub of_format : Tables → Format → List Section
-of_format dex f = format_section dex f ∷ left_section dex f ∷ []
+of_format dex format = format_section dex format ∷ left_section dex format ∷ []
 
 -- the same configuration, in which each secret that isn't empty is a star
 abbrev pub starred : List ℕ → List ℕ
@@ -87,18 +87,18 @@ starred [] = []
 starred (byte ∷ secret) = codes "*"
 
 abbrev pub hidden : Registered → Registered
-hidden u = record { id = u.id; secret = starred u.secret; rank = u.rank }
+hidden user = record { id = user.id; secret = starred user.secret; rank = user.rank }
 
 abbrev pub without_secrets : Settings → Settings
-without_secrets s = record {
-  groups = s.groups;
-  staff = s.staff;
-  rooms = s.rooms;
-  users = map hidden s.users;
-  formats = s.formats;
-  nonce = s.nonce;
-  seed = s.seed;
-  seeds = s.seeds;
-  gives_nonce = s.gives_nonce;
-  gives_seed = s.gives_seed;
+without_secrets settings = record {
+  groups = settings.groups;
+  staff = settings.staff;
+  rooms = settings.rooms;
+  users = map hidden settings.users;
+  formats = settings.formats;
+  nonce = settings.nonce;
+  seed = settings.seed;
+  seeds = settings.seeds;
+  gives_nonce = settings.gives_nonce;
+  gives_seed = settings.gives_seed;
 }

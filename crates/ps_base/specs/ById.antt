@@ -12,8 +12,8 @@ ById X = FinMap (slice_cmp nat_cmp) X
 
 -- its code, by which a proof tells two of them apart
 abbrev pub by_id_code : {X : Type 0} → Coded X → Coded (ById X)
-by_id_code x = code (coded_list coded_ℕ) x
+by_id_code coded = code (coded_list coded_ℕ) coded
 
 -- the map of a tree's entries
 abbrev pub by_id : {Y X : Type 0} → List (String Y × X) → ById X
-by_id es = from_entries (each (λ e. (string_bytes e.0, e.1)) es)
+by_id es = from_entries (each (λ entry. (string_bytes entry.0, entry.1)) es)

@@ -2,6 +2,7 @@
 use Rattle.std.specs.Prelude.{ℕ, List, [], ◌∷◌, ◌++◌, codes, map, Option, None, Some}
 use Rattle.std.specs.List.{flat_map}
 use Rattle.ps_base.specs.declared.msg.Msg.{Msg}
+use Rattle.ps_base.specs.Characters as characters
 
 -- a message, where it has lines
 abbrev pub sent : List (List ℕ) → List (List (List ℕ))
@@ -9,13 +10,13 @@ sent [] = []
 sent (line ∷ lines) = (line ∷ lines) ∷ []
 
 abbrev pub msg_lines : Msg → List (List ℕ)
-msg_lines m = m.lines
+msg_lines msg = msg.lines
 
 -- ---- the texts that a connection is sent
 
 -- lines, each behind a newline
 abbrev pub behind : List (List ℕ) → List ℕ
-behind lines = flat_map (λ line. 10 ∷ line) lines
+behind lines = flat_map (λ line. characters.newline ∷ line) lines
 
 -- lines, parted by newlines
 abbrev pub joined : List (List ℕ) → List ℕ

@@ -1,16 +1,18 @@
 -- The name that a text is, or its first fault.
-use Rattle.std.specs.Prelude.{◌≡◌, ℕ, ◌==◌, Bool, ◌||◌, List, [], ◌∷◌, length, reverse, Option, Some, None, Result, Ok, Err, nat_lt, if◌then◌else◌}
+use Rattle.std.specs.Prelude.{◌≡◌, ℕ, ◌==◌, Bool, ◌||◌, List, [], ◌∷◌, length, reverse, Option, Some, None, Result, Ok, Err, nat_lt}
+use Rattle.std.specs.Prelude.{if◌then◌else◌}
 use Rattle.std.specs.List.{position}
 use Rattle.std.specs.Str.{chars}
 use Rattle.ps_base.specs.Ids.{id_of}
 use Rattle.ps_base.specs.Numbers.{counted}
 use Rattle.ps_base.specs.declared.name.NameFault.{NameFault}
 use Rattle.ps_base.specs.declared.name.NameFault.TheVariants.{BadChar, Long, Empty, NoMemory}
+use Rattle.ps_base.specs.Characters as characters
 
 -- without the spaces at its front
 abbrev pub after_spaces : List ℕ → List ℕ
 after_spaces [] = []
-after_spaces (b ∷ bytes) = if b == 32 then after_spaces bytes else b ∷ bytes
+after_spaces (byte ∷ bytes) = if byte == characters.space then after_spaces bytes else byte ∷ bytes
 
 -- without the spaces at its end
 abbrev pub trim_end_spaces : List ℕ → List ℕ
@@ -22,12 +24,12 @@ between_spaces bytes = trim_end_spaces (after_spaces bytes)
 
 -- a character that can't stand in a name: outside U+0020 to U+007E, the bar and the comma
 abbrev pub is_bad : ℕ → Bool
-is_bad c = nat_lt c 32 || (nat_lt 126 c || (c == 124 || c == 44))
+is_bad char = nat_lt char characters.space || (nat_lt characters.tilde char || (char == characters.bar || char == characters.comma))
 
 -- the text itself, where its id isn't empty
 abbrev pub with_id : List ℕ → List ℕ → Result (List ℕ) NameFault
 with_id text [] = Err Empty
-with_id text (b ∷ bytes) = Ok text
+with_id text (byte ∷ bytes) = Ok text
 
 -- a text of so many characters, none of which is bad
 abbrev pub fitting : ℕ → List ℕ → Result (List ℕ) NameFault

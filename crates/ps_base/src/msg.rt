@@ -77,7 +77,8 @@ impl Msg {
 
     /// How many bytes its text has, if memory could hold them.
     pub fn text_bytes(&self, room: Option<&str>) -> usize
-        ensures { length (text_of (option_copied room.entry) self.now) + 1 < 2 ^ 64 → result ≡ length (text_of (option_copied room.entry) self.now) }
+        ensures { length (text_of (option_copied room.entry) self.now) + 1 < 2 ^ 64
+            → result ≡ length (text_of (option_copied room.entry) self.now) }
     {
         let bytes = bytes_behind(self.lines.as_slice());
         match room {

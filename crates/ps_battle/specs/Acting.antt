@@ -20,33 +20,33 @@ use Rattle.ps_multi.specs.Locking.{is_trap}
 -- the act ends, and why
 unfoldable pub cannot : ℕ → Play Bool
 cannot reason = do
-  d ← duel_now
-  tell (events.Cant (who_of d.user) reason)
+  duel ← duel_now
+  tell (events.Cant (who_of duel.user) reason)
   give false
 
 -- sleep: the counter falls by 1; at 0 it is cured; the act ends either way
 unfoldable pub sleep_on : Play Bool
 sleep_on = do
-  d ← duel_now
-  let left = d.user.counter - 1
-  change (λ d. record d { user = record d.user { counter = left } })
+  duel ← duel_now
+  let left = duel.user.counter - 1
+  change (λ duel. record duel { user = record duel.user { counter = left } })
   choose (left == 0)
       (do
-        change (λ d. record d { user = cured d.user })
-        tell (events.CureStatus (who_of d.user) (status_number Slp))
+        change (λ duel. record duel { user = cured duel.user })
+        tell (events.CureStatus (who_of duel.user) (status_number Slp))
         give false)
       (cannot numbers.reason_slp)
 
 unfoldable pub stays_awake : Play Bool
 stays_awake = do
-  d ← duel_now
-  choose (is_slp d.user.status) sleep_on (give true)
+  duel ← duel_now
+  choose (is_slp duel.user.status) sleep_on (give true)
 
 -- frozen
 unfoldable pub stays_thawed : Play Bool
 stays_thawed = do
-  d ← duel_now
-  choose (is_frz d.user.status) (cannot numbers.reason_frz) (give true)
+  duel ← duel_now
+  choose (is_frz duel.user.status) (cannot numbers.reason_frz) (give true)
 
 -- a member is trapped while its foe has the lock of a trap
 abbrev pub traps : Option Lock → Bool
@@ -56,22 +56,22 @@ traps (Some lock) = is_trap lock.kind
 -- trapped by the foe's lock
 unfoldable pub stays_free : Play Bool
 stays_free = do
-  d ← duel_now
-  choose (traps d.foe.vol.lock) (cannot numbers.reason_partially_trapped) (give true)
+  duel ← duel_now
+  choose (traps duel.foe.vol.lock) (cannot numbers.reason_partially_trapped) (give true)
 
 -- flinching
 unfoldable pub stays_steady : Play Bool
 stays_steady = do
-  d ← duel_now
-  choose d.user.vol.flinch (cannot numbers.reason_flinch) (give true)
+  duel ← duel_now
+  choose duel.user.vol.flinch (cannot numbers.reason_flinch) (give true)
 
 -- recharging, which is over then
 unfoldable pub stays_fresh : Play Bool
 stays_fresh = do
-  d ← duel_now
-  choose d.user.vol.recharge
+  duel ← duel_now
+  choose duel.user.vol.recharge
       (do
-        change (λ d. record d { user = record d.user { vol = record d.user.vol { recharge = false } } })
+        change (λ duel. record duel { user = record duel.user { vol = record duel.user.vol { recharge = false } } })
         cannot numbers.reason_recharge)
       (give true)
 
@@ -83,14 +83,14 @@ one_act_later disabled = if disabled.turns - 1 == 0 then None else Some (record 
 abbrev pub wear_off : Option Disabled → Play (Unit {0})
 wear_off None = give tt
 wear_off (Some disabled) = do
-  d ← duel_now
-  change (λ d. record d { user = record d.user { vol = record d.user.vol { disabled = one_act_later disabled } } })
-  choose (disabled.turns - 1 == 0) (tell (events.VolEnd (who_of d.user) numbers.effect_disable)) (give tt)
+  duel ← duel_now
+  change (λ duel. record duel { user = record duel.user { vol = record duel.user.vol { disabled = one_act_later disabled } } })
+  choose (disabled.turns - 1 == 0) (tell (events.VolEnd (who_of duel.user) numbers.effect_disable)) (give tt)
 
 unfoldable pub disabled_wears_off : Play (Unit {0})
 disabled_wears_off = do
-  d ← duel_now
-  wear_off d.user.vol.disabled
+  duel ← duel_now
+  wear_off duel.user.vol.disabled
 
 -- whether the chosen slot is disabled; Struggle and long moves have no slot
 abbrev pub is_slot_disabled : Option Disabled → Option ℕ → Bool
@@ -101,20 +101,20 @@ is_slot_disabled disabled (Some slot) = is_disabled disabled slot
 unfoldable pub stays_enabled : Option ℕ → Play Bool
 stays_enabled slot = do
   disabled_wears_off
-  d ← duel_now
-  choose (is_slot_disabled d.user.vol.disabled slot) (cannot numbers.reason_disable) (give true)
+  duel ← duel_now
+  choose (is_slot_disabled duel.user.vol.disabled slot) (cannot numbers.reason_disable) (give true)
 
 abbrev pub without_lock : Fighter → Fighter
-without_lock f = record f { vol = record f.vol { lock = None } }
+without_lock fighter = record fighter { vol = record fighter.vol { lock = None } }
 
 -- a confused member's hit on itself: of power 40, from its staged Attack and Defense, without Brn or screens, with factors 10 and no bonus
 -- of its types, never critical, with the greatest roll
 unfoldable pub own_hit : Fighter → Hit
-own_hit f = record {
-  level = f.level;
+own_hit fighter = record {
+  level = fighter.level;
   power = 40;
-  attack = staged_of (slice_index (stats_now f) 0) f.vol.stages.atk;
-  defence = staged_of (slice_index (stats_now f) 1) f.vol.stages.def;
+  attack = staged_of (slice_index (stats_now fighter) 0) fighter.vol.stages.atk;
+  defence = staged_of (slice_index (stats_now fighter) 1) fighter.vol.stages.def;
   crit = false;
   stab = false;
   factors = 10 ∷ 10 ∷ [];
@@ -123,10 +123,10 @@ own_hit f = record {
 
 -- the member loses up to so much by its own hit, and its lock ends
 unfoldable pub hurt_itself : ℕ → Play Bool
-hurt_itself n = do
-  d ← duel_now
-  let user = record (without_lock d.user) { hp = d.user.hp - n }
-  change (λ d. record d { user = user })
+hurt_itself damage = do
+  duel ← duel_now
+  let user = record (without_lock duel.user) { hp = duel.user.hp - damage }
+  change (λ duel. record duel { user = user })
   tell (events.Damage (who_of user) (health_of user) numbers.from_confusion)
   choose (user.hp == 0) (tell (events.Faint (who_of user))) (give tt)
   give false
@@ -134,35 +134,35 @@ hurt_itself n = do
 -- a member that stays confused: in 128 of 256 cases it hits itself
 unfoldable pub act_confused : Play Bool
 act_confused = do
-  d ← duel_now
-  tell (events.Activate (who_of d.user) numbers.effect_confusion None)
-  n ← draw 256
-  choose (nat_lt n 128) (hurt_itself (damage_of (own_hit d.user))) (give true)
+  duel ← duel_now
+  tell (events.Activate (who_of duel.user) numbers.effect_confusion None)
+  drawn ← draw 256
+  choose (nat_lt drawn 128) (hurt_itself (damage_of (own_hit duel.user))) (give true)
 
 -- confused: the turns fall by 1; at 0 it ends
 unfoldable pub stays_clear : Play Bool
 stays_clear = do
-  d ← duel_now
-  choose (d.user.vol.confusion == 0) (give true)
+  duel ← duel_now
+  choose (duel.user.vol.confusion == 0) (give true)
       (do
-        let left = d.user.vol.confusion - 1
-        change (λ d. record d { user = record d.user { vol = record d.user.vol { confusion = left } } })
+        let left = duel.user.vol.confusion - 1
+        change (λ duel. record duel { user = record duel.user { vol = record duel.user.vol { confusion = left } } })
         choose (left == 0)
             (do
-              tell (events.VolEnd (who_of d.user) numbers.effect_confusion)
+              tell (events.VolEnd (who_of duel.user) numbers.effect_confusion)
               give true)
             act_confused)
 
 -- paralysed: in 63 of 256 cases it can't move, and its lock ends
 unfoldable pub stays_mobile : Play Bool
 stays_mobile = do
-  d ← duel_now
-  choose (is_paralysed d.user.status)
+  duel ← duel_now
+  choose (is_paralysed duel.user.status)
       (do
-        n ← draw 256
-        choose (nat_lt n 63)
+        drawn ← draw 256
+        choose (nat_lt drawn 63)
             (do
-              change (λ d. record d { user = without_lock d.user })
+              change (λ duel. record duel { user = without_lock duel.user })
               cannot numbers.reason_par)
             (give true))
       (give true)
@@ -170,9 +170,9 @@ stays_mobile = do
 -- one line after another, until one ends the act
 infixr 10 ◌and◌
 abbrev pub ◌and◌ : Play Bool → Play Bool → Play Bool
-p and q = do
-  goes_on ← p
-  choose goes_on q (give false)
+one and other = do
+  goes_on ← one
+  choose goes_on other (give false)
 
 -- whether a member acts, with the slot of its move
 unfoldable pub may_act : Option ℕ → Play Bool

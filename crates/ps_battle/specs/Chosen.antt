@@ -10,14 +10,14 @@ use Rattle.ps_mon.specs.Moves.{move_of, struggle_number}
 
 -- the choices that are acts; switches are done before
 abbrev pub is_act : Choice → Bool
-is_act (choices.Move n) = true
+is_act (choices.Move number) = true
 is_act choices.Struggle = true
 is_act choices.Continue = true
 is_act choice = false
 
 -- the move in a slot, which counts from 1
 unfoldable pub chosen_slot : SideState → ℕ → ℕ
-chosen_slot side n = (slot_now side (n - 1)).mv
+chosen_slot side number = (slot_now side (number - 1)).mv
 
 abbrev pub locked_move : Option Lock → Option ℕ
 locked_move None = None
@@ -25,7 +25,7 @@ locked_move (Some lock) = Some lock.mv
 
 -- the move that a choice uses: a Continue goes on with its lock's, and without one it recharges
 unfoldable pub chosen_move : SideState → Choice → Option ℕ
-chosen_move side (choices.Move n) = Some (chosen_slot side n)
+chosen_move side (choices.Move number) = Some (chosen_slot side number)
 chosen_move side choices.Struggle = Some struggle_number
 chosen_move side choices.Continue = locked_move side.vol.lock
 chosen_move side choice = None

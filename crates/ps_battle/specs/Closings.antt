@@ -12,7 +12,7 @@ use Rattle.ps_battle.specs.Acts.{is_down}
 
 -- the phase, and what is told of it
 unfoldable pub enter : Phase → List Event → Course → Course
-enter phase events c = record { battle = record c.battle { phase = phase }; told = c.told ++ events }
+enter phase events course = record { battle = record course.battle { phase = phase }; told = course.told ++ events }
 
 -- each commit that doesn't end the battle ends with a request for each side
 abbrev pub asks : List Event
@@ -20,19 +20,20 @@ asks = Request P1 ∷ Request P2 ∷ []
 
 -- Upkeep; the turn's number rises, and at 1,000 the battle is tied
 unfoldable pub next_turn : Course → Course
-next_turn c =
-    let turn = c.battle.turn + 1 in
-    let later : Course = record { battle = record c.battle { turn = turn }; told = c.told ++ Upkeep ∷ [] } in
+next_turn course =
+    let turn = course.battle.turn + 1 in
+    let later : Course = record { battle = record course.battle { turn = turn }; told = course.told ++ Upkeep ∷ [] } in
     if turn == 1000 then enter phases.Tied (Tie ∷ []) later
     else enter phases.Turn (Turn turn ∷ asks) later
 
 -- a side without a standing member loses, both tie; who has fainted is replaced; else the next turn comes
 unfoldable pub closed : Course → Course
-closed c =
-    let one = has_standing (side_of c.battle 0) in
-    let two = has_standing (side_of c.battle 1) in
-    if not one && not two then enter phases.Tied (Tie ∷ []) c
-    else if not one then enter (phases.Won 1) (Win P2 ∷ []) c
-    else if not two then enter (phases.Won 0) (Win P1 ∷ []) c
-    else if is_down c.battle 0 || is_down c.battle 1 then enter (phases.Replace (is_down c.battle 0) (is_down c.battle 1)) asks c
-    else next_turn c
+closed course =
+    let one = has_standing (side_of course.battle 0) in
+    let two = has_standing (side_of course.battle 1) in
+    if not one && not two then enter phases.Tied (Tie ∷ []) course
+    else if not one then enter (phases.Won 1) (Win P2 ∷ []) course
+    else if not two then enter (phases.Won 0) (Win P1 ∷ []) course
+    else if is_down course.battle 0 || is_down course.battle 1 then enter
+    (phases.Replace (is_down course.battle 0) (is_down course.battle 1)) asks course
+    else next_turn course

@@ -35,7 +35,8 @@ effect effects.Ohko facts mv slot user = played (ohko_row facts mv) user
 effect (effects.Status status chance) facts mv slot user = played (status_row status chance facts mv) user
 effect (effects.Confuse chance) facts mv slot user = played (confuse_row chance facts mv) user
 effect (effects.Flinch chance) facts mv slot user = played (flinch_row chance facts mv) user
-effect (effects.Boost who stat by chance) facts mv slot user = played (boost_row (record { who = who; stat = stat; by = by }) chance facts mv) user
+effect (effects.Boost who stat by chance) facts mv slot user = played
+    (boost_row (record { who = who; stat = stat; by = by }) chance facts mv) user
 effect effects.Drain facts mv slot user = played (drain_row facts mv) user
 effect effects.DreamEater facts mv slot user = played (dreameater_row facts mv) user
 effect (effects.Recoil by) facts mv slot user = played (recoil_row by facts mv) user
@@ -63,5 +64,5 @@ effect (effects.Copy sub) facts mv slot user = copied sub facts mv slot user
 
 -- the move that is used in the place of the move `mv`, of that kind: only Metronome and Mirror Move call one
 unfoldable pub call : Effect → Figures → ℕ → ℕ → Course → Option ℕ
-call (effects.Copy sub) facts mv user c = called sub facts mv user c
-call other facts mv user c = None
+call (effects.Copy sub) facts mv user course = called sub facts mv user course
+call other facts mv user course = None

@@ -22,7 +22,7 @@ abbrev pub no_team : BattleTeam
 no_team = record { members = []; count = 0 }
 
 abbrev pub team_of : List BattleTeam → ℕ → BattleTeam
-team_of teams s = slice_index_or teams s no_team
+team_of teams side = slice_index_or teams side no_team
 
 -- a clause is told where its bit is on
 unfoldable pub rule : ℕ → ℕ → ℕ → List Event → List Event
@@ -37,7 +37,8 @@ rules clauses told =
 -- the players, their teams and the game
 unfoldable pub heads : ℕ → ℕ → List Event → List Event
 heads one two told =
-    told ++ events.Player P1 ∷ events.Player P2 ∷ events.TeamSize P1 one ∷ events.TeamSize P2 two ∷ events.GameType ∷ events.Gen ∷ events.Tier ∷ []
+    told ++ events.Player P1 ∷ events.Player P2 ∷ events.TeamSize P1 one ∷ events.TeamSize P2 two ∷ events.GameType ∷ events.Gen
+    ∷ events.Tier ∷ []
 
 -- the bit of Team Preview
 abbrev pub preview_clause : ℕ
@@ -63,32 +64,33 @@ fresh_battle teams clauses seed = record {
 
 -- what both sides see of a member before it is sent out
 abbrev pub poke : Side → Member → Event
-poke side m = events.Poke side m.species m.level
+poke side member = events.Poke side member.species member.level
 
 abbrev pub pokes : Side → SideState → List Event
 pokes name side = map (poke name) (take side.count side.members)
 
 -- both teams, and a request for each side
 unfoldable pub previewed : Battle → List Event → List Event
-previewed b told = told ++ events.ClearPoke ∷ [] ++ pokes P1 (side_of b 0) ++ pokes P2 (side_of b 1) ++ events.TeamPreview ∷ asks
+previewed battle told = told ++ events.ClearPoke ∷ [] ++ pokes P1 (side_of battle 0) ++ pokes P2 (side_of battle 1)
+    ++ events.TeamPreview ∷ asks
 
 -- both sides send out their first members: Start, both switches, the first turn, and a request for each side
 unfoldable pub started : Battle → List Event → List Event
-started b told = told ++ events.Start ∷ switch_event 0 (side_of b 0) ∷ switch_event 1 (side_of b 1) ∷ events.Turn 1 ∷ asks
+started battle told = told ++ events.Start ∷ switch_event 0 (side_of battle 0) ∷ switch_event 1 (side_of battle 1) ∷ events.Turn 1 ∷ asks
 
 abbrev pub shown_in : Phase → Battle → List Event → List Event
-shown_in phases.Preview b told = previewed b told
-shown_in other b told = started b told
+shown_in phases.Preview battle told = previewed battle told
+shown_in other battle told = started battle told
 
 -- the opening rows, and then the teams or their first members
 unfoldable pub opening : Battle → List Event → List Event
-opening b told = shown_in b.phase b (rules b.clauses (heads (side_of b 0).count (side_of b 1).count told))
+opening battle told = shown_in battle.phase battle (rules battle.clauses (heads (side_of battle 0).count (side_of battle 1).count told))
 
 abbrev pub open_course : List BattleTeam → ℕ → ℕ → Course
 open_course teams clauses seed =
-    let b = fresh_battle teams clauses seed in
-    record { battle = b; told = opening b [] }
+    let battle = fresh_battle teams clauses seed in
+    record { battle = battle; told = opening battle [] }
 
 -- a side gives up, and the other one wins
 unfoldable pub give_up : ℕ → Course → Course
-give_up s c = enter (phases.Won (1 - s)) (events.Forfeit (side_name s) ∷ events.Win (side_name (1 - s)) ∷ []) c
+give_up side course = enter (phases.Won (1 - side)) (events.Forfeit (side_name side) ∷ events.Win (side_name (1 - side)) ∷ []) course

@@ -12,61 +12,61 @@ use Rattle.ps_battle.specs.Acting.{traps, without_lock}
 
 -- a sixteenth of the greatest health, rounded down, at least 1
 unfoldable pub base_loss : Fighter → ℕ
-base_loss f = max 1 (f.max / 16)
+base_loss fighter = max 1 (fighter.max / 16)
 
 -- bad poison: its count rises by 1 first, up to 15, and the loss is so many times the base
 unfoldable pub residual_of_bad_poison : Play (Unit {0})
 residual_of_bad_poison = do
-  d ← duel_now
-  let count = min 15 (d.user.vol.toxic + 1)
-  change (λ d. record d { user = record d.user { vol = record d.user.vol { toxic = count } } })
-  lose numbers.from_psn (base_loss d.user * count)
+  duel ← duel_now
+  let count = min 15 (duel.user.vol.toxic + 1)
+  change (λ duel. record duel { user = record duel.user { vol = record duel.user.vol { toxic = count } } })
+  lose numbers.from_psn (base_loss duel.user * count)
 
 -- Brn and Psn take the base, Tox more and more
 abbrev pub residual_of : Status → Play (Unit {0})
 residual_of Brn = do
-  d ← duel_now
-  lose numbers.from_brn (base_loss d.user)
+  duel ← duel_now
+  lose numbers.from_brn (base_loss duel.user)
 residual_of Psn = do
-  d ← duel_now
-  lose numbers.from_psn (base_loss d.user)
+  duel ← duel_now
+  lose numbers.from_psn (base_loss duel.user)
 residual_of Tox = residual_of_bad_poison
 residual_of other = give tt
 
 unfoldable pub residual_of_status : Play (Unit {0})
 residual_of_status = do
-  d ← duel_now
-  residual_of d.user.status
+  duel ← duel_now
+  residual_of duel.user.status
 
 -- the foe gains up to so much; Heal is told at full health too
 unfoldable pub foe_gains : ℕ → Play (Unit {0})
-foe_gains n = do
-  d ← duel_now
-  let foe = record d.foe { hp = min d.foe.max (d.foe.hp + n) }
-  change (λ d. record d { foe = foe })
+foe_gains amount = do
+  duel ← duel_now
+  let foe = record duel.foe { hp = min duel.foe.max (duel.foe.hp + amount) }
+  change (λ duel. record duel { foe = foe })
   tell (events.Heal (who_of foe) (health_of foe))
 
 -- a seeded member that stands loses the base, and the foe gains it, whatever the member had
 unfoldable pub feed_foe : Play (Unit {0})
 feed_foe = do
-  d ← duel_now
-  choose (d.user.vol.seeded && nat_lt 0 d.user.hp)
+  duel ← duel_now
+  choose (duel.user.vol.seeded && nat_lt 0 duel.user.hp)
       (do
-        lose numbers.from_leech_seed (base_loss d.user)
-        foe_gains (base_loss d.user))
+        lose numbers.from_leech_seed (base_loss duel.user)
+        foe_gains (base_loss duel.user))
       (give tt)
 
 -- a trap ends where its user has fainted
 unfoldable pub lets_go_down : Play (Unit {0})
 lets_go_down = do
-  d ← duel_now
-  choose (d.user.hp == 0 && traps d.user.vol.lock) (change (λ d. record d { user = without_lock d.user })) (give tt)
+  duel ← duel_now
+  choose (duel.user.hp == 0 && traps duel.user.vol.lock) (change (λ duel. record duel { user = without_lock duel.user })) (give tt)
 
 -- the residual of who acted, where both active members stand
 unfoldable pub residual : Play (Unit {0})
 residual = do
-  d ← duel_now
-  choose (nat_lt 0 d.user.hp && nat_lt 0 d.foe.hp)
+  duel ← duel_now
+  choose (nat_lt 0 duel.user.hp && nat_lt 0 duel.foe.hp)
       (do
         residual_of_status
         feed_foe

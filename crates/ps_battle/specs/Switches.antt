@@ -14,30 +14,30 @@ use Rattle.ps_mon.specs.Switching.{with_switch}
 use Rattle.ps_hits.specs.Courses.{Course}
 use Rattle.ps_hits.specs.Told.{who_of, health_of}
 
--- the active member of side s has come in
+-- the active member of a side has come in
 unfoldable pub switch_event : ℕ → SideState → Event
-switch_event s side =
-    let f = fighter_of s side in
-    events.Switch (who_of f) (active_of side).species f.level (health_of f)
+switch_event side_number side =
+    let fighter = fighter_of side_number side in
+    events.Switch (who_of fighter) (active_of side).species fighter.level (health_of fighter)
 
--- side s sends in the member at a position
+-- a side sends in the member at a position
 unfoldable pub sent_in : ℕ → ℕ → Course → Course
-sent_in s position c =
-    let b = with_switch c.battle s position in
-    record { battle = b; told = c.told ++ switch_event s (side_of b s) ∷ [] }
+sent_in side position course =
+    let battle = with_switch course.battle side position in
+    record { battle = battle; told = course.told ++ switch_event side (side_of battle side) ∷ [] }
 
 -- what a choice changes before the acts
 unfoldable pub switched : ℕ → Choice → Course → Course
-switched s (choices.Switch position) c = sent_in s position c
-switched s choice c = c
+switched side (choices.Switch position) course = sent_in side position course
+switched side choice course = course
 
 -- flinching and the damage taken are of one turn
 abbrev pub refreshed : Fighter → Fighter
-refreshed f = record f { vol = record f.vol { flinch = false; taken = None } }
+refreshed fighter = record fighter { vol = record fighter.vol { flinch = false; taken = None } }
 
 abbrev pub refreshed_duel : Duel → Duel
-refreshed_duel d = record d { user = refreshed d.user; foe = refreshed d.foe }
+refreshed_duel duel = record duel { user = refreshed duel.user; foe = refreshed duel.foe }
 
 -- the begin of a turn
 unfoldable pub begun : Battle → Battle
-begun b = with_duel b 0 (refreshed_duel (duel_of b 0))
+begun battle = with_duel battle 0 (refreshed_duel (duel_of battle 0))

@@ -21,55 +21,55 @@ use Rattle.ps_battle.specs.Openings.{started}
 
 -- by Speed whether P1 acts first, and the random source after: where both are as fast, a draw below 2 is 0
 unfoldable pub faster : Duel → ℕ → Bool × ℕ
-faster d x =
-    if nat_lt (speed_of d.foe) (speed_of d.user) then (true, x)
-    else if nat_lt (speed_of d.user) (speed_of d.foe) then (false, x)
-    else (drawn (after x) 2 == 0, after x)
+faster duel source =
+    if nat_lt (speed_of duel.foe) (speed_of duel.user) then (true, source)
+    else if nat_lt (speed_of duel.user) (speed_of duel.foe) then (false, source)
+    else (drawn (after source) 2 == 0, after source)
 
 -- the higher priority first, then by Speed
 unfoldable pub ordered : ℤ → ℤ → Duel → ℕ → Bool × ℕ
-ordered p q d x = if int_lt q p then (true, x) else if int_lt p q then (false, x) else faster d x
+ordered one two duel source = if int_lt two one then (true, source) else if int_lt one two then (false, source) else faster duel source
 
 -- whether P1 acts first; where one side alone acts there is no draw
 unfoldable pub first_of : Figures → Choice → Choice → Battle → Bool × ℕ
-first_of facts c1 c2 b =
-    if is_act c1 && is_act c2
-    then ordered (priority_of facts (side_of b 0) c1) (priority_of facts (side_of b 1) c2) (duel_of b 0) b.rng
-    else (true, b.rng)
+first_of facts one two battle =
+    if is_act one && is_act two
+    then ordered (priority_of facts (side_of battle 0) one) (priority_of facts (side_of battle 1) two) (duel_of battle 0) battle.rng
+    else (true, battle.rng)
 
 -- the acts of a turn in their order
 unfoldable pub acted : Figures → Choice → Choice → Course → Course
-acted facts c1 c2 c =
-    let first = first_of facts c1 c2 c.battle in
-    let from : Course = record c { battle = record c.battle { rng = first.1 } } in
-    if first.0 then two_acts facts 0 c1 1 c2 from else two_acts facts 1 c2 0 c1 from
+acted facts one two course =
+    let first = first_of facts one two course.battle in
+    let from : Course = record course { battle = record course.battle { rng = first.1 } } in
+    if first.0 then two_acts facts 0 one 1 two from else two_acts facts 1 two 0 one from
 
 -- both switches, P1's first
 unfoldable pub both_switched : Choice → Choice → Course → Course
-both_switched c1 c2 c = switched 1 c2 (switched 0 c1 c)
+both_switched one two course = switched 1 two (switched 0 one course)
 
 -- the order that a choice sets
 unfoldable pub placed : ℕ → Choice → Battle → Battle
-placed s (choices.Team numbers) b = with_order b s numbers
-placed s choice b = b
+placed side (choices.Team numbers) battle = with_order battle side numbers
+placed side choice battle = battle
 
 -- both orders, P1's first
 abbrev pub both_placed : Choice → Choice → Battle → Battle
-both_placed c1 c2 b = placed 1 c2 (placed 0 c1 b)
+both_placed one two battle = placed 1 two (placed 0 one battle)
 
 -- both orders are set, and the first members sent out
 unfoldable pub sent_out : Choice → Choice → Course → Course
-sent_out c1 c2 c =
-    let b = both_placed c1 c2 c.battle in
-    record { battle = record b { phase = phases.Turn }; told = started b c.told }
+sent_out one two course =
+    let battle = both_placed one two course.battle in
+    record { battle = record battle { phase = phases.Turn }; told = started battle course.told }
 
 -- a commit by its phase: orders; or switches, then acts, then what follows them; or replacements, and the next turn
 unfoldable pub turn_in : Phase → Figures → Choice → Choice → Course → Course
-turn_in phases.Preview facts c1 c2 c = sent_out c1 c2 c
-turn_in phases.Turn facts c1 c2 c =
-    closed (acted facts c1 c2 (both_switched c1 c2 (record c { battle = begun c.battle })))
-turn_in (phases.Replace p1 p2) facts c1 c2 c = next_turn (both_switched c1 c2 c)
-turn_in over facts c1 c2 c = c
+turn_in phases.Preview facts one two course = sent_out one two course
+turn_in phases.Turn facts one two course =
+    closed (acted facts one two (both_switched one two (record course { battle = begun course.battle })))
+turn_in (phases.Replace first second) facts one two course = next_turn (both_switched one two course)
+turn_in over facts one two course = course
 
 abbrev pub turn : Figures → Choice → Choice → Course → Course
-turn facts c1 c2 c = turn_in c.battle.phase facts c1 c2 c
+turn facts one two course = turn_in course.battle.phase facts one two course

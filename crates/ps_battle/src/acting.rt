@@ -5,7 +5,9 @@ ghost use Rattle.ps_mon.specs.Duels.{IsFit, IsFighter, IsDuelKnown};
 ghost use Rattle.ps_hits.specs.Scenes.{scene};
 ghost use Rattle.ps_mon.specs.Valid.{IsDisabled};
 ghost use Rattle.ps_calc.specs.Damage.{damage_of};
-ghost use Rattle.ps_battle.specs.Acting.{cannot, sleep_on, stays_awake, stays_thawed, traps, stays_free, stays_steady, stays_fresh, one_act_later, disabled_wears_off, is_slot_disabled, stays_enabled, own_hit, hurt_itself, act_confused, stays_clear, stays_mobile, may_act};
+ghost use Rattle.ps_battle.specs.Acting.{cannot, sleep_on, stays_awake, stays_thawed, traps, stays_free, stays_steady, stays_fresh};
+ghost use Rattle.ps_battle.specs.Acting.{one_act_later, disabled_wears_off, is_slot_disabled, stays_enabled, own_hit, hurt_itself};
+ghost use Rattle.ps_battle.specs.Acting.{act_confused, stays_clear, stays_mobile, may_act};
 
 use ps_calc::{Hit, damage, staged};
 use ps_event::event::{Event, Events};

@@ -13,7 +13,9 @@ ghost use Rattle.ps_hits.specs.Courses.{course, played};
 ghost use Rattle.ps_battle.specs.Acting.{may_act};
 ghost use Rattle.ps_battle.specs.Residual.{residual};
 ghost use Rattle.ps_mon.specs.Choices.{IsThere};
-ghost use Rattle.ps_battle.specs.Acts.{is_user, is_conversion, is_for_user, target_of, prepares, named_row, named, used_alone, call_of, calling, used, with_use_of, fresh_use, continued_use, fail_row, went_on, goes_on, tried, tried_again, act, is_down, has_faint, two_acts};
+ghost use Rattle.ps_battle.specs.Acts.{is_user, is_conversion, is_for_user, target_of, prepares, named_row, named, used_alone};
+ghost use Rattle.ps_battle.specs.Acts.{call_of, calling, used, with_use_of, fresh_use, continued_use, fail_row, went_on, goes_on};
+ghost use Rattle.ps_battle.specs.Acts.{tried, tried_again, act, is_down, has_faint, two_acts};
 
 use crate::acting::can_act;
 use crate::chosen::slot_move;

@@ -36,7 +36,8 @@ fn take_other(battle: &mut Battle, facts: Facts<'_>, user: u8, mv: u16, slot: u8
     requires user { user < 2 }
     requires other { IsOtherKind (move_of (figures facts) mv).effect }
     requires room { array_vec_len out.old + 20 ≤ 160 }
-    ensures effect { course battle.new out.new ≡ effect (move_of (figures facts.entry) mv).effect (figures facts.entry) mv slot user (course battle.old out.old) }
+    ensures effect { course battle.new out.new
+        ≡ effect (move_of (figures facts.entry) mv).effect (figures facts.entry) mv slot user (course battle.old out.old) }
     ensures value { call (move_of (figures facts.entry) mv).effect (figures facts.entry) mv user (course battle.old out.old) ≡ None }
     ensures sound { IsSound battle.new }
     ensures known { (moves : ℕ) → IsNamed moves mv → AreKnown moves battle.old → AreKnown moves battle.new }
@@ -97,7 +98,8 @@ pub(crate) fn take_effect(
     requires slot { slot < 4 }
     requires room { array_vec_len out.old + 20 ≤ 160 }
     ensures value { result ≡ call (move_of (figures facts.entry) mv).effect (figures facts.entry) mv user (course battle.old out.old) }
-    ensures effect { course battle.new out.new ≡ effect (move_of (figures facts.entry) mv).effect (figures facts.entry) mv slot user (course battle.old out.old) }
+    ensures effect { course battle.new out.new
+        ≡ effect (move_of (figures facts.entry) mv).effect (figures facts.entry) mv slot user (course battle.old out.old) }
     ensures sound { IsSound battle.new }
     ensures known { (moves : ℕ) → IsNamed moves mv → AreKnown moves battle.old → AreKnown moves battle.new }
     ensures kept { Keeps user battle.old battle.new }

@@ -7,7 +7,8 @@ ghost use Rattle.ps_mon.specs.Valid.{IsSide, IsSound, IsValid, is_over};
 ghost use Rattle.ps_mon.specs.Known.{AreKnown};
 ghost use Rattle.ps_hits.specs.Courses.{course};
 ghost use Rattle.ps_hits.specs.Told.{side_name};
-ghost use Rattle.ps_battle.specs.Openings.{team_of, rule, rules, heads, pokes, previewed, started, shown_in, first_phase, fresh_battle, opening, open_course, give_up};
+ghost use Rattle.ps_battle.specs.Openings.{team_of, rule, rules, heads, pokes, previewed, started, shown_in, first_phase};
+ghost use Rattle.ps_battle.specs.Openings.{fresh_battle, opening, open_course, give_up};
 
 use crate::closings::ask;
 use crate::switches::coming;
@@ -154,7 +155,8 @@ fn set_up(teams: &[BattleTeam; 2], clauses: u8, seed: u64) -> Battle
     requires second { IsFresh (team_of teams.now 1) }
     ensures value { result ≡ fresh_battle teams.now clauses seed }
     ensures valid { IsValid result }
-    ensures known { (moves : ℕ) → IsTeamKnown moves (team_of teams.now 0) → IsTeamKnown moves (team_of teams.now 1) → AreKnown moves result }
+    ensures known { (moves : ℕ) → IsTeamKnown moves (team_of teams.now 0) → IsTeamKnown moves (team_of teams.now 1)
+        → AreKnown moves result }
 {
     let [one, two] = teams;
     Battle {
@@ -175,7 +177,8 @@ pub fn open(teams: &[BattleTeam; 2], clauses: u8, seed: u64, out: &mut Events) -
     requires empty { out.old.items ≡ [] }
     ensures opening { course result out.new ≡ open_course teams.now clauses seed }
     ensures valid { IsValid result }
-    ensures known { (moves : ℕ) → IsTeamKnown moves (team_of teams.now 0) → IsTeamKnown moves (team_of teams.now 1) → AreKnown moves result }
+    ensures known { (moves : ℕ) → IsTeamKnown moves (team_of teams.now 0) → IsTeamKnown moves (team_of teams.now 1)
+        → AreKnown moves result }
     ensures room { array_vec_len out.new ≤ 31 }
 {
     let battle = set_up(teams, clauses, seed);

@@ -3,7 +3,8 @@ ghost use Rattle.std.specs.Prelude.{◌≡◌, ◌≤◌, ◌<◌, ◌+◌, ℕ}
 ghost use Rattle.arrayvec.specs.ArrayVec.{array_vec_len};
 ghost use Rattle.ps_mon.specs.Duels.{IsFit, IsFighter, IsDuelKnown};
 ghost use Rattle.ps_hits.specs.Scenes.{scene};
-ghost use Rattle.ps_battle.specs.Residual.{base_loss, residual_of_bad_poison, residual_of_status, foe_gains, feed_foe, lets_go_down, residual};
+ghost use Rattle.ps_battle.specs.Residual.{base_loss, residual_of_bad_poison, residual_of_status, foe_gains, feed_foe, lets_go_down};
+ghost use Rattle.ps_battle.specs.Residual.{residual};
 
 use crate::acting::holds;
 use ps_event::event::{Event, Events};

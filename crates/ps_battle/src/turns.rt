@@ -123,7 +123,8 @@ fn take_turn(battle: &mut Battle, facts: Facts<'_>, c1: Choice, c2: Choice, out:
     requires first { IsThere (side_of battle.old 0) c1 }
     requires second { IsThere (side_of battle.old 1) c2 }
     requires empty { out.old.items ≡ [] }
-    ensures after { course battle.new out.new ≡ closed (acted (figures facts.entry) c1 c2 (both_switched c1 c2 (course (begun battle.old) out.old))) }
+    ensures after { course battle.new out.new
+        ≡ closed (acted (figures facts.entry) c1 c2 (both_switched c1 c2 (course (begun battle.old) out.old))) }
     ensures valid { IsValid battle.new }
     ensures known { AreKnown (move_count (figures facts.entry)) battle.new }
     ensures room { array_vec_len out.new ≤ 84 }

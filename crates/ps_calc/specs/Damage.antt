@@ -20,15 +20,15 @@ base level power attack defence = min 997 ((2 * level / 5 + 2) * power * attack 
 
 -- half as much again where the move has a type of its user
 unfoldable pub with_stab : Bool → ℕ → ℕ
-with_stab stab d = if stab then d + d / 2 else d
+with_stab stab damage = if stab then damage + damage / 2 else damage
 
 -- by a factor in tenths: 5, 10 or 20
 unfoldable pub with_factor : ℕ → ℕ → ℕ
-with_factor factor d = d * factor / 10
+with_factor factor damage = damage * factor / 10
 
 -- from 217 to 255 parts of 255, where there is more than 1
 unfoldable pub rolled : ℕ → ℕ → ℕ
-rolled roll d = if nat_lt 1 d then d * roll / 255 else d
+rolled roll damage = if nat_lt 1 damage then damage * roll / 255 else damage
 
 -- the base damage of a hit
 unfoldable pub base_of : Hit → ℕ
@@ -36,8 +36,8 @@ base_of hit = base (level_of hit) hit.power (scaled (are_wide hit) hit.attack) (
 
 -- with the bonus of the user's types and then the target's two factors, one after the other, at least 1
 unfoldable pub typed : Hit → ℕ → ℕ
-typed hit d =
-    max 1 (with_factor (slice_index hit.factors 1) (with_factor (slice_index hit.factors 0) (with_stab hit.stab d)))
+typed hit damage =
+    max 1 (with_factor (slice_index hit.factors 1) (with_factor (slice_index hit.factors 0) (with_stab hit.stab damage)))
 
 -- the damage of a hit
 unfoldable pub damage_of : Hit → ℕ

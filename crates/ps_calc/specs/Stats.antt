@@ -7,7 +7,7 @@ dv_of iv = iv / 2
 
 -- 1 for an odd number, 0 for an even one
 unfoldable pub odd : ℕ → ℕ
-odd n = n % 2
+odd number = number % 2
 
 -- the DV of HP: 8, 4, 2 and 1 for the odd ones among the DVs of Attack, Defense, Speed and Special, in this order
 unfoldable pub hp_dv_of : List ℕ → ℕ

@@ -9,11 +9,11 @@ use Rattle.ps_chat.specs.declared.present.Present.{Present}
 -- the index, counted from 0, of the first item that passes a test
 abbrev pub index_of : {A : Type 0} → (A → Bool) → List A → Option ℕ
 index_of test [] = None
-index_of test (x ∷ xs) = if test x then Some 0 else option_map suc (index_of test xs)
+index_of test (item ∷ items) = if test item then Some 0 else option_map suc (index_of test items)
 
 -- the tree has the index of each connection's first member
 abbrev pub IsIndex : List Present → BTreeMap ℕ ℕ → Type 0
-IsIndex ps indices = (conn : ℕ) → get nat_cmp indices conn ≡ index_of (λ p. p.conn == conn) ps
+IsIndex ps indices = (conn : ℕ) → get nat_cmp indices conn ≡ index_of (λ present. present.conn == conn) ps
 
 -- an index after the item at another one was taken out
 abbrev pub shifted : ℕ → ℕ → ℕ

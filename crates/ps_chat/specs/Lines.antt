@@ -25,63 +25,64 @@ to_staff staff text = record { audience = Rank staff; logged = false; text = tex
 
 -- the symbol and the name of a member
 abbrev pub shown_name_of : Room → Present → List ℕ
-shown_name_of r p = shown_name r.groups p.rank p.badge.name
+shown_name_of chat present = shown_name chat.groups present.rank present.badge.name
 
 -- ---- the rows
 
 abbrev pub line_of_join : Room → Present → List Line
-line_of_join r joiner = passing (moved (codes "|j|") (shown_name_of r joiner))
+line_of_join chat joiner = passing (moved (codes "|j|") (shown_name_of chat joiner))
 
 abbrev pub line_of_leave : Room → Option Present → List Line
-line_of_leave r None = []
-line_of_leave r (Some me) = passing (moved (codes "|l|") (shown_name_of r me))
+line_of_leave chat None = []
+line_of_leave chat (Some me) = passing (moved (codes "|l|") (shown_name_of chat me))
 
 abbrev pub line_of_quit : Room → Option Present → List Line
-line_of_quit r me = line_of_leave r me
+line_of_quit chat me = line_of_leave chat me
 
 abbrev pub line_of_say : Room → ℕ → Option Present → List ℕ → List Line
-line_of_say r moment None text = []
-line_of_say r moment (Some me) text = logged (said moment (shown_name_of r me) text)
+line_of_say chat moment None text = []
+line_of_say chat moment (Some me) text = logged (said moment (shown_name_of chat me) text)
 
 abbrev pub line_of_announce : Room → Option Present → List ℕ → List Line
-line_of_announce r None text = []
-line_of_announce r (Some me) text = logged (noted (codes "Announcement") (shown_name_of r me) text)
+line_of_announce chat None text = []
+line_of_announce chat (Some me) text = logged (noted (codes "Announcement") (shown_name_of chat me) text)
 
 abbrev pub line_of_modnote : Room → Option Present → List ℕ → List Line
-line_of_modnote r None text = []
-line_of_modnote r (Some me) text = to_staff r.staff (noted (codes "Modnote") (shown_name_of r me) text)
+line_of_modnote chat None text = []
+line_of_modnote chat (Some me) text = to_staff chat.staff (noted (codes "Modnote") (shown_name_of chat me) text)
 
 -- a deed to a member, by its name
 abbrev pub line_to_member : Room → List ℕ → Option Present → Option Present → Option (List ℕ) → List Line
-line_to_member r word None target reason = []
-line_to_member r word (Some me) None reason = []
-line_to_member r word (Some me) (Some target) reason = logged (done_because word target.badge.name (shown_name_of r me) reason)
+line_to_member chat word None target reason = []
+line_to_member chat word (Some me) None reason = []
+line_to_member chat word (Some me) (Some target) reason = logged (done_because word target.badge.name (shown_name_of chat me) reason)
 
 -- a deed to an id
 abbrev pub line_to_id : Room → List ℕ → Option Present → List ℕ → Option (List ℕ) → List Line
-line_to_id r word None id reason = []
-line_to_id r word (Some me) id reason = logged (done_because word id (shown_name_of r me) reason)
+line_to_id chat word None id reason = []
+line_to_id chat word (Some me) id reason = logged (done_because word id (shown_name_of chat me) reason)
 
 abbrev pub line_of_warn : Room → Option Present → Option Present → Option (List ℕ) → List Line
-line_of_warn r me target reason = line_to_member r (codes "Warned") me target reason
+line_of_warn chat me target reason = line_to_member chat (codes "Warned") me target reason
 
 abbrev pub line_of_mute : Room → Option Present → Option Present → Option (List ℕ) → List Line
-line_of_mute r me target reason = line_to_member r (codes "Muted") me target reason
+line_of_mute chat me target reason = line_to_member chat (codes "Muted") me target reason
 
 abbrev pub line_of_unmute : Room → Option Present → Option Present → List Line
-line_of_unmute r me target = line_to_member r (codes "Unmuted") me target None
+line_of_unmute chat me target = line_to_member chat (codes "Unmuted") me target None
 
 abbrev pub line_of_ban : Room → Option Present → List ℕ → Option (List ℕ) → List Line
-line_of_ban r me id reason = line_to_id r (codes "Banned") me id reason
+line_of_ban chat me id reason = line_to_id chat (codes "Banned") me id reason
 
 abbrev pub line_of_unban : Room → Option Present → List ℕ → List Line
-line_of_unban r me id = line_to_id r (codes "Unbanned") me id None
+line_of_unban chat me id = line_to_id chat (codes "Unbanned") me id None
 
 abbrev pub line_of_promote : Room → Option Present → Option Present → ℕ → List Line
-line_of_promote r None target symbol = []
-line_of_promote r (Some me) None symbol = []
-line_of_promote r (Some me) (Some target) symbol = logged (done_to (codes "Promoted") (promoted target.badge.name symbol) (shown_name_of r me))
+line_of_promote chat None target symbol = []
+line_of_promote chat (Some me) None symbol = []
+line_of_promote chat (Some me) (Some target) symbol = logged
+    (done_to (codes "Promoted") (promoted target.badge.name symbol) (shown_name_of chat me))
 
 abbrev pub line_of_modchat : Room → Option Present → Option ℕ → List Line
-line_of_modchat r None symbol = []
-line_of_modchat r (Some me) symbol = logged (done_to (codes "Modchat") (level symbol) (shown_name_of r me))
+line_of_modchat chat None symbol = []
+line_of_modchat chat (Some me) symbol = logged (done_to (codes "Modchat") (level symbol) (shown_name_of chat me))

@@ -13,11 +13,11 @@ use Rattle.ps_chat.specs.declared.present.Present.{Present}
 
 -- the member of a connection
 abbrev pub member : ℕ → List Present → Option Present
-member conn ps = find (λ p. p.conn == conn) ps
+member conn ps = find (λ present. present.conn == conn) ps
 
 -- whether a member has an id
 abbrev pub has_id : List ℕ → Present → Bool
-has_id id p = bytes_eq (id_of p.badge.name) id
+has_id id present = bytes_eq (id_of present.badge.name) id
 
 -- the first member with an id
 abbrev pub user : List ℕ → List Present → Option Present

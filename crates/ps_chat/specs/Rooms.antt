@@ -10,25 +10,41 @@ use Rattle.ps_chat.specs.declared.room.Room.{Room}
 
 -- a member with its rank
 abbrev pub present : List Group → ById ℕ → Member → Present
-present groups ranks m = record { conn = m.conn; badge = m.badge; rank = rank_with groups ranks m.badge }
+present groups ranks member = record { conn = member.conn; badge = member.badge; rank = rank_with groups ranks member.badge }
 
 -- a member without it
 abbrev pub bare : Present → Member
-bare p = record { conn = p.conn; badge = p.badge }
+bare who = record { conn = who.conn; badge = who.badge }
 
 -- a member after its id was given a room rank
 abbrev pub ranked : List ℕ → ℕ → Present → Present
-ranked id rank p = if has_id id p then record p { rank = higher p.badge.rank rank } else p
+ranked id rank who = if has_id id who then record who { rank = higher who.badge.rank rank } else who
 
 -- the members of a record, each with its rank
 abbrev pub presents : Opening → Record → List Present
-presents o r = map (present o.groups r.ranks) r.members
+presents opening chat = map (present opening.groups chat.ranks) chat.members
 
 abbrev pub room_of : Opening → Record → Room
-room_of o r = record { title = o.title; battle = o.battle; groups = o.groups; staff = o.staff; members = presents o r; ranks = r.ranks; mutes = r.mutes; bans = r.bans; modchat = r.modchat }
+room_of opening chat = record {
+  title = opening.title;
+  battle = opening.battle;
+  groups = opening.groups;
+  staff = opening.staff;
+  members = presents opening chat;
+  ranks = chat.ranks;
+  mutes = chat.mutes;
+  bans = chat.bans;
+  modchat = chat.modchat;
+}
 
 abbrev pub opening_of : Room → Opening
-opening_of r = record { title = r.title; battle = r.battle; groups = r.groups; staff = r.staff }
+opening_of chat = record { title = chat.title; battle = chat.battle; groups = chat.groups; staff = chat.staff }
 
 abbrev pub record_of : Room → Record
-record_of r = record { members = map bare r.members; ranks = r.ranks; mutes = r.mutes; bans = r.bans; modchat = r.modchat }
+record_of chat = record {
+  members = map bare chat.members;
+  ranks = chat.ranks;
+  mutes = chat.mutes;
+  bans = chat.bans;
+  modchat = chat.modchat;
+}

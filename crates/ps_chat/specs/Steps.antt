@@ -16,8 +16,12 @@ pub record Seen : Type 0 where
 
 -- a new room
 abbrev pub opened : Opening → Seen
-opened o = record { opening = o; state = nobody; lines = [] }
+opened opening = record { opening = opening; state = nobody; lines = [] }
 
 -- a room after an entry that is applied
 abbrev pub after : Seen → ℕ → Badge → ℕ → Command → Seen
-after s conn badge moment cmd = record { opening = s.opening; state = record_after s.opening.groups s.state conn badge moment cmd; lines = lines s.opening s.state conn badge moment cmd }
+after seen conn badge moment cmd = record {
+  opening = seen.opening;
+  state = record_after seen.opening.groups seen.state conn badge moment cmd;
+  lines = lines seen.opening seen.state conn badge moment cmd;
+}

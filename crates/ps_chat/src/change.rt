@@ -3,7 +3,9 @@ ghost use Rattle.std.specs.Prelude.{◌≡◌, None, OnOk, OnErr};
 ghost use Rattle.ps_chat.specs.Lookups.{member};
 ghost use Rattle.ps_chat.specs.Told.{joiner};
 ghost use Rattle.ps_chat.specs.Changes.{level_of};
-ghost use Rattle.ps_chat.specs.RoomChanges.{room_after_join, room_after_leave, room_after_quit, room_after_mute, room_after_unmute, room_after_ban, room_after_unban, room_after_promote, room_after_modchat, room_after, JoinsNew};
+ghost use Rattle.ps_chat.specs.RoomChanges.{room_after_join, room_after_leave, room_after_quit, room_after_mute, room_after_unmute};
+ghost use Rattle.ps_chat.specs.RoomChanges.{room_after_ban, room_after_unban, room_after_promote, room_after_modchat, room_after};
+ghost use Rattle.ps_chat.specs.RoomChanges.{JoinsNew};
 
 use crate::present::Present;
 use crate::room::Room;

@@ -126,7 +126,8 @@ impl Chat {
         cmd: &Command,
     ) -> Result<(), AllocError>
         requires { verdict self.old.opening self.old.state conn badge.now moment cmd.now ≡ None }
-        ensures ok { OnOk result (self.new ≡ record self.old { state = record_after self.old.opening.groups self.old.state conn badge.now moment cmd.now }) }
+        ensures ok { OnOk result (self.new ≡ record self.old
+            { state = record_after self.old.opening.groups self.old.state conn badge.now moment cmd.now }) }
         ensures err { OnErr result (self.new ≡ self.old) }
     {
         change(alloc, &mut self.room, conn, badge, moment, cmd)?;

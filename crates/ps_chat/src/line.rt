@@ -4,7 +4,8 @@ ghost use Rattle.std.specs.Option.{option_copied};
 ghost use Rattle.ps_group.specs.ShownNames.{shown_name};
 ghost use Rattle.ps_chat.specs.Texts.{moved, said, noted, done_to, done_because, promoted, level};
 ghost use Rattle.ps_chat.specs.Lines.{logged, passing, to_staff, shown_name_of, line_to_member, line_to_id};
-ghost use Rattle.ps_chat.specs.Lines.{line_of_join, line_of_leave, line_of_quit, line_of_say, line_of_announce, line_of_modnote, line_of_warn, line_of_mute, line_of_unmute};
+ghost use Rattle.ps_chat.specs.Lines.{line_of_join, line_of_leave, line_of_quit, line_of_say, line_of_announce, line_of_modnote};
+ghost use Rattle.ps_chat.specs.Lines.{line_of_warn, line_of_mute, line_of_unmute};
 ghost use Rattle.ps_chat.specs.Lines.{line_of_ban, line_of_unban, line_of_promote, line_of_modchat};
 
 use crate::present::Present;
@@ -66,7 +67,8 @@ fn line_to_member(
     target: Option<&Present>,
     reason: &Option<Text>,
 ) -> Result<Vec<ChatLine>, AllocError>
-    ensures { IfOk result (λ v. v.items ≡ line_to_member room.now word.now (option_copied me.entry) (option_copied target.entry) reason.now) }
+    ensures { IfOk result (λ v. v.items ≡ line_to_member room.now word.now (option_copied me.entry) (option_copied target.entry)
+        reason.now) }
 {
     match me {
         None => Ok(Vec::new(alloc)),

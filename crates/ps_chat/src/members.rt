@@ -1,5 +1,6 @@
 //! The members of a room, with indices by connection and by id.
-ghost use Rattle.std.specs.Prelude.{◌≡◌, ◌==◌, ◌<◌, ℕ, List, Some, ◌++◌, ◌∷◌, [], true, None, find, is_some, not, map, length, OnOk, OnErr, if◌then◌else◌};
+ghost use Rattle.std.specs.Prelude.{◌≡◌, ◌==◌, ◌<◌, ℕ, List, Some, ◌++◌, ◌∷◌, [], true, None, find, is_some, not, map, length, OnOk};
+ghost use Rattle.std.specs.Prelude.{OnErr, if◌then◌else◌};
 ghost use Rattle.std.specs.List.{filter, remove};
 ghost use Rattle.std.specs.Option.{option_copied, option_map, option_or};
 ghost use Rattle.ps_chat.specs.Lookups.{member, user, has_id};
@@ -130,7 +131,9 @@ fn note_id(
     id: &str,
     index: usize,
 ) -> Result<(), AllocError>
-    ensures ok { OnOk result ((other : List ℕ) → get_by_text ids.new other ≡ (if bytes_eq id.now other then option_or (get_by_text ids.old other) (Some index) else get_by_text ids.old other)) }
+    ensures ok { OnOk result ((other : List ℕ)
+        → get_by_text ids.new other ≡ (if bytes_eq id.now other then option_or (get_by_text ids.old other) (Some index) else
+        get_by_text ids.old other)) }
     ensures err { OnErr result ((other : List ℕ) → get_by_text ids.new other ≡ get_by_text ids.old other) }
 {
     if ids.get(id).is_some() {

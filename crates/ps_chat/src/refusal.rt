@@ -6,8 +6,10 @@ ghost use Rattle.ps_base.specs.declared.why.Why.TheVariants as why;
 ghost use Rattle.ps_group.specs.declared.group.Perm.TheVariants as perms;
 ghost use Rattle.ps_chat.specs.Lookups.{is_muted, is_banned, is_long_reason};
 ghost use Rattle.ps_chat.specs.Refusals.{when, of_text, may, may_to, rank_of_id, is_too_high, is_same_level};
-ghost use Rattle.ps_chat.specs.Refusals.{refusal_of_staff_text, refusal_over, refusal_of_bar, refusal_to_rank, refusal_of_promoted, refusal_to_level, refusal_of_level};
-ghost use Rattle.ps_chat.specs.Refusals.{refusal_of_join, refusal_of_leave, refusal_of_quit, refusal_of_say, refusal_of_announce, refusal_of_modnote, refusal_of_warn, refusal_of_mute, refusal_of_unmute};
+ghost use Rattle.ps_chat.specs.Refusals.{refusal_of_staff_text, refusal_over, refusal_of_bar, refusal_to_rank, refusal_of_promoted};
+ghost use Rattle.ps_chat.specs.Refusals.{refusal_to_level, refusal_of_level};
+ghost use Rattle.ps_chat.specs.Refusals.{refusal_of_join, refusal_of_leave, refusal_of_quit, refusal_of_say, refusal_of_announce};
+ghost use Rattle.ps_chat.specs.Refusals.{refusal_of_modnote, refusal_of_warn, refusal_of_mute, refusal_of_unmute};
 ghost use Rattle.ps_chat.specs.Refusals.{refusal_of_ban, refusal_of_unban, refusal_of_promote, refusal_of_modchat, refusal_of_battle};
 
 use crate::lookup;

@@ -1,20 +1,23 @@
 -- The order of a team that a text of digits stands for.
-use Rattle.std.specs.Prelude.{ℕ, ◌-◌, ◌||◌, ◌&&◌, ◌==◌, nat_lt, nat_le, List, [], ◌∷◌, length, position, Option, Some, None, slice_index, slice_set, if◌then◌else◌}
+use Rattle.std.specs.Prelude.{ℕ, ◌-◌, ◌||◌, ◌&&◌, ◌==◌, nat_lt, nat_le, List, [], ◌∷◌, length, position, Option, Some, None}
+use Rattle.std.specs.Prelude.{slice_index, slice_set, if◌then◌else◌}
 use Rattle.ps_mon.specs.declared.choice.Choice.{Choice}
 use Rattle.ps_mon.specs.declared.choice.Choice.TheVariants as choices
 use Rattle.ps_mon.specs.Orders.{has_number, are_positions}
+use Rattle.ps_base.specs.Characters as characters
 
 -- the first place that nobody has yet
 unfoldable pub first_zero : List ℕ → Option ℕ
-first_zero numbers = position (λ n. n == 0) numbers
+first_zero numbers = position (λ number. number == 0) numbers
 
 abbrev pub set_at : Option ℕ → ℕ → List ℕ → List ℕ
-set_at None p numbers = numbers
-set_at (Some k) p numbers = slice_set numbers k p
+set_at None number numbers = numbers
+set_at (Some place) number numbers = slice_set numbers place number
 
 -- a position of the team that isn't named comes behind those that are
 unfoldable pub placed_last : ℕ → ℕ → List ℕ → List ℕ
-placed_last count p numbers = if nat_lt count p || has_number p numbers then numbers else set_at (first_zero numbers) p numbers
+placed_last count number numbers = if nat_lt count number
+    || has_number number numbers then numbers else set_at (first_zero numbers) number numbers
 
 -- all that aren't named follow in ascending order
 unfoldable pub whole : ℕ → List ℕ → List ℕ
@@ -27,7 +30,7 @@ nobody = 0 ∷ 0 ∷ 0 ∷ 0 ∷ 0 ∷ 0 ∷ []
 
 -- the digit at a place of a text; 0 behind its end
 unfoldable pub digit_at : List ℕ → ℕ → ℕ
-digit_at digits k = slice_index digits k - 48
+digit_at digits place = slice_index digits place - characters.digit_zero
 
 -- the digits of a text of at most six, and 0 behind them
 unfoldable pub numbers_in : List ℕ → List ℕ

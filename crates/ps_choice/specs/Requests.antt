@@ -1,6 +1,7 @@
 -- The JSON of a request. It looks at the phase, the dex and the own side alone, with that side's names. The members of each
 -- object stand in the order of their keys, as they are written.
-use Rattle.std.specs.Prelude.{ℕ, zero, suc, ◌==◌, Bool, true, false, ◌&&◌, List, [], ◌∷◌, ◌++◌, map, take, codes, Option, Some, None, slice_index, if◌then◌else◌}
+use Rattle.std.specs.Prelude.{ℕ, zero, suc, ◌==◌, Bool, true, false, ◌&&◌, List, [], ◌∷◌, ◌++◌, map, take, codes, Option, Some, None}
+use Rattle.std.specs.Prelude.{slice_index, if◌then◌else◌}
 use Rattle.serde_json.specs.Data.{Data, Members, boolean, number, unsigned, string, array, object, no_items, item, no_members, member}
 use Rattle.serde_json.specs.View.{items_of}
 use Rattle.json.specs.Print.{quoted}
@@ -23,24 +24,24 @@ abbrev pub text : List ℕ → Data
 text bytes = string bytes
 
 abbrev pub count : ℕ → Data
-count n = number (unsigned n)
+count amount = number (unsigned amount)
 
 -- ---- the moves that can be chosen
 
 -- a slot in force, from 0
 unfoldable pub slot_data : List MoveItem → SideState → ℕ → Data
-slot_data moves side j = object
-    (member (codes "disabled") (boolean (is_disabled side.vol.disabled j))
-    (member (codes "id") (text (id_of_move (slot_now side j).mv moves))
-    (member (codes "maxpp") (count (slot_now side j).max_pp)
-    (member (codes "move") (text (name_of_move (slot_now side j).mv moves))
-    (member (codes "pp") (count (slot_now side j).pp)
+slot_data moves side slot = object
+    (member (codes "disabled") (boolean (is_disabled side.vol.disabled slot))
+    (member (codes "id") (text (id_of_move (slot_now side slot).mv moves))
+    (member (codes "maxpp") (count (slot_now side slot).max_pp)
+    (member (codes "move") (text (name_of_move (slot_now side slot).mv moves))
+    (member (codes "pp") (count (slot_now side slot).pp)
     no_members)))))
 
 -- so many slots, from this one on
 abbrev pub slots_from : List MoveItem → SideState → ℕ → ℕ → List Data
-slots_from moves side j zero = []
-slots_from moves side j (suc left) = slot_data moves side j ∷ slots_from moves side (suc j) left
+slots_from moves side slot zero = []
+slots_from moves side slot (suc left) = slot_data moves side slot ∷ slots_from moves side (suc slot) left
 
 abbrev pub slots_data : List MoveItem → SideState → List Data
 slots_data moves side = slots_from moves side 0 (slot_count_now side)
@@ -77,32 +78,33 @@ move_id_data moves slot = text (id_of_move slot.mv moves)
 
 -- the ids of its own moves
 abbrev pub own_moves : List MoveItem → Member → List Data
-own_moves moves m = map (move_id_data moves) (take m.slot_count m.slots)
+own_moves moves pokemon = map (move_id_data moves) (take pokemon.slot_count pokemon.slots)
 
 -- a member under its nickname
 unfoldable pub member_data : Tables → ℕ → Bool → List ℕ → Member → Data
-member_data dex s active nick m = object
+member_data dex side_number active nick pokemon = object
     (member (codes "active") (boolean active)
-    (member (codes "condition") (text (condition m))
-    (member (codes "details") (text (details dex.species m))
-    (member (codes "ident") (text (ident s nick))
-    (member (codes "moves") (array (items_of (own_moves dex.moves m)))
-    (member (codes "stats") (stats_data m.stats)
+    (member (codes "condition") (text (condition pokemon))
+    (member (codes "details") (text (details dex.species pokemon))
+    (member (codes "ident") (text (ident side_number nick))
+    (member (codes "moves") (array (items_of (own_moves dex.moves pokemon)))
+    (member (codes "stats") (stats_data pokemon.stats)
     no_members))))))
 
 -- the member at an index of the team; once members are sent out the first in the order is active
 unfoldable pub member_at_data : Tables → List (List ℕ) → ℕ → Bool → SideState → ℕ → Data
-member_at_data dex nicks s out side k = member_data dex s (out && k == active_index side) (nick_of nicks k) (member_of side k)
+member_at_data dex nicks side_number out side index = member_data dex side_number (out && index == active_index side)
+    (nick_of nicks index) (member_of side index)
 
 -- all members, in their order now
 abbrev pub members_data : Tables → List (List ℕ) → ℕ → Bool → SideState → List Data
-members_data dex nicks s out side = map (member_at_data dex nicks s out side) (take side.count side.order)
+members_data dex nicks side_number out side = map (member_at_data dex nicks side_number out side) (take side.count side.order)
 
 unfoldable pub side_data : Tables → List ℕ → List (List ℕ) → ℕ → Bool → SideState → Data
-side_data dex name nicks s out side = object
-    (member (codes "id") (text (side_id s))
+side_data dex name nicks side_number out side = object
+    (member (codes "id") (text (side_id side_number))
     (member (codes "name") (text name)
-    (member (codes "pokemon") (array (items_of (members_data dex nicks s out side)))
+    (member (codes "pokemon") (array (items_of (members_data dex nicks side_number out side)))
     no_members)))
 
 -- ---- all of it
@@ -143,9 +145,9 @@ abbrev pub switch_or_wait : Bool → ℕ → Data → Data
 switch_or_wait replaced round side = if replaced then switch_data round side else wait_data round side
 
 abbrev pub asked_data : Phase → ℕ → List Data → ℕ → Data → Data
-asked_data phases.Preview s moves round side = preview_data round side
-asked_data phases.Turn s moves round side = turn_data moves round side
-asked_data phase s moves round side = switch_or_wait (replaces phase s) round side
+asked_data phases.Preview side_number moves round side = preview_data round side
+asked_data phases.Turn side_number moves round side = turn_data moves round side
+asked_data phase side_number moves round side = switch_or_wait (replaces phase side_number) round side
 
 -- whether members are sent out
 abbrev pub is_out : Phase → Bool
@@ -154,12 +156,12 @@ is_out other = true
 
 -- the request of a side, with the number of the round that is open
 unfoldable pub request_data : Phase → Tables → List ℕ → List (List ℕ) → ℕ → SideState → ℕ → Data
-request_data phase dex name nicks s side round =
-    asked_data phase s (moves_data dex.moves side) round (side_data dex name nicks s (is_out phase) side)
+request_data phase dex name nicks side_number side round =
+    asked_data phase side_number (moves_data dex.moves side) round (side_data dex name nicks side_number (is_out phase) side)
 
 -- as it is written, without spaces
 abbrev pub request : Phase → Tables → List ℕ → List (List ℕ) → ℕ → SideState → ℕ → List ℕ
-request phase dex name nicks s side round = compact_text (request_data phase dex name nicks s side round)
+request phase dex name nicks side_number side round = compact_text (request_data phase dex name nicks side_number side round)
 
 -- ---- for private clauses: parts of the text
 
@@ -188,7 +190,7 @@ shown_slot moves disabled own = object
 
 -- the last members of a member
 abbrev pub moves_and_stats : List MoveItem → Member → Members
-moves_and_stats moves m =
-    member (codes "moves") (array (items_of (own_moves moves m)))
-    (member (codes "stats") (stats_data m.stats)
+moves_and_stats moves pokemon =
+    member (codes "moves") (array (items_of (own_moves moves pokemon)))
+    (member (codes "stats") (stats_data pokemon.stats)
     no_members)

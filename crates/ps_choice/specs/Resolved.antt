@@ -1,5 +1,6 @@
 -- The choice that a player's wish stands for. It looks at the phase, the dex and the own side alone.
-use Rattle.std.specs.Prelude.{ℕ, ◌+◌, Bool, false, not, ◌&&◌, ◌==◌, nat_lt, List, codes, take, drop, position, Option, Some, None, Result, Ok, Err, if◌then◌else◌}
+use Rattle.std.specs.Prelude.{ℕ, ◌+◌, Bool, false, not, ◌&&◌, ◌==◌, nat_lt, List, codes, take, drop, position, Option, Some, None}
+use Rattle.std.specs.Prelude.{Result, Ok, Err, if◌then◌else◌}
 use Rattle.std.specs.Str.{bytes_eq}
 use Rattle.ps_base.specs.Ids.{id_of}
 use Rattle.ps_mon.specs.declared.record.Lock.{Lock}
@@ -21,7 +22,7 @@ use Rattle.ps_choice.specs.Wants.{Want, Slot, Named, Position, Team, Default}
 
 -- which of four is the first, from 1; 0 where none is
 abbrev pub first_of : Bool → Bool → Bool → Bool → ℕ
-first_of a b c d = if a then 1 else (if b then 2 else (if c then 3 else (if d then 4 else 0)))
+first_of first second third fourth = if first then 1 else (if second then 2 else (if third then 3 else (if fourth then 4 else 0)))
 
 -- the lowest usable slot; 0 where none is
 unfoldable pub lowest_usable : SideState → ℕ
@@ -29,7 +30,7 @@ lowest_usable side = first_of (is_usable side 0) (is_usable side 1) (is_usable s
 
 -- whether a slot, from 0, is there and has a move
 unfoldable pub has_move_at : SideState → ℕ → ℕ → Bool
-has_move_at side mv j = nat_lt j (slot_count_now side) && (slot_now side j).mv == mv
+has_move_at side mv slot = nat_lt slot (slot_count_now side) && (slot_now side slot).mv == mv
 
 -- the lowest slot with a move; 0 where none has it
 unfoldable pub slot_with : SideState → ℕ → ℕ
@@ -39,7 +40,8 @@ slot_with side mv = first_of (has_move_at side mv 0) (has_move_at side mv 1) (ha
 
 -- in a turn: to go on, then Struggle, then the lowest usable slot
 unfoldable pub first_act : SideState → Choice
-first_act side = if is_locked side then choices.Continue else (if has_usable side then choices.Move (lowest_usable side) else choices.Struggle)
+first_act side = if is_locked side then choices.Continue else
+    (if has_usable side then choices.Move (lowest_usable side) else choices.Struggle)
 
 -- the positions from 2, as indices in the team
 abbrev pub bench : SideState → List ℕ
@@ -47,30 +49,31 @@ bench side = drop 1 (take side.count side.order)
 
 -- the first of them whose member stands, from 0
 unfoldable pub first_standing : SideState → Option ℕ
-first_standing side = position (λ k. nat_lt 0 (member_of side k).hp) (bench side)
+first_standing side = position (λ index. nat_lt 0 (member_of side index).hp) (bench side)
 
 -- a position that isn't there, where none of them stands
 abbrev pub replacement : Option ℕ → Choice
 replacement None = choices.Switch 0
-replacement (Some k) = choices.Switch (k + 2)
+replacement (Some place) = choices.Switch (place + 2)
 
 -- before members are sent out the order as it stands
 abbrev pub by_default : Phase → SideState → Choice
 by_default phases.Preview side = choices.Team (whole side.count nobody)
-by_default (phases.Replace p1 p2) side = replacement (first_standing side)
+by_default (phases.Replace first second) side = replacement (first_standing side)
 by_default other side = first_act side
 
 -- ---- a slot by its number
 
 -- `move 1` also goes on, and is Struggle where no slot is usable
 unfoldable pub numbered : SideState → ℕ → Choice
-numbered side n = if n == 1 && is_locked side then choices.Continue else (if n == 1 && not (has_usable side) then choices.Struggle else choices.Move n)
+numbered side number = if number == 1 && is_locked side then choices.Continue else
+    (if number == 1 && not (has_usable side) then choices.Struggle else choices.Move number)
 
 -- ---- a slot by its move
 
 abbrev pub is_number : Option ℕ → ℕ → Bool
 is_number None mv = false
-is_number (Some n) mv = n == mv
+is_number (Some found) mv = found == mv
 
 abbrev pub is_lock_name : Tables → Option Lock → List ℕ → Bool
 is_lock_name dex None name = false
@@ -103,9 +106,9 @@ named dex side name =
 -- The choice that a wish stands for. Where there is none, it is one whose slot or position isn't there, so that it has the
 -- faults of the phase and of a lock first.
 abbrev pub meant : Phase → SideState → Tables → Want → Choice
-meant phase side dex (Slot n) = numbered side n
+meant phase side dex (Slot number) = numbered side number
 meant phase side dex (Named name) = named dex side name
-meant phase side dex (Position n) = choices.Switch n
+meant phase side dex (Position number) = choices.Switch number
 meant phase side dex (Team digits) = choices.Team (order_of side.count digits)
 meant phase side dex Default = by_default phase side
 
@@ -115,4 +118,4 @@ judged choice (Some fault) = Err fault
 
 -- that choice where it is legal, else its first fault
 abbrev pub resolved : Phase → ℕ → SideState → Tables → Want → Result Choice ChoiceFault
-resolved phase s side dex want = judged (meant phase side dex want) (fault_of phase s side (meant phase side dex want))
+resolved phase side_number side dex want = judged (meant phase side dex want) (fault_of phase side_number side (meant phase side dex want))

@@ -1,10 +1,12 @@
 -- What a player asks for, and the texts that say it.
-use Rattle.std.specs.Prelude.{◌≡◌, ◌≢◌, ℕ, ◌+◌, ◌-◌, ◌≤◌, true, ◌&&◌, nat_le, nat_lt, List, [], ◌∷◌, ◌++◌, codes, length, Bool, Option, Some, None, if◌then◌else◌}
+use Rattle.std.specs.Prelude.{◌≡◌, ◌≢◌, ℕ, ◌+◌, ◌-◌, ◌≤◌, true, ◌&&◌, nat_le, nat_lt, List, [], ◌∷◌, ◌++◌, codes, length, Bool}
+use Rattle.std.specs.Prelude.{Option, Some, None, if◌then◌else◌}
 use Rattle.std.specs.List.{list_all}
 use Rattle.std.specs.Str.{bytes_eq}
 use Rattle.ps_base.specs.Cuts.{after_front}
 use Rattle.ps_choice.specs.declared.wanted.Wanted.{Wanted}
 use Rattle.ps_choice.specs.declared.wanted.Wanted.TheVariants as wanted
+use Rattle.ps_base.specs.Characters as characters
 
 -- what a player asks for: the move in a slot, the move of a name, the member at a position, the members whose positions are these
 -- digits to stand first, or what comes first
@@ -20,14 +22,15 @@ pub data Want : Type 0 where
 -- the digit that a text is
 abbrev pub digit_in : List ℕ → Option ℕ
 digit_in [] = None
-digit_in (b ∷ []) = if nat_le 48 b && nat_le b 57 then Some (b - 48) else None
-digit_in (b ∷ c ∷ bytes) = None
+digit_in (byte ∷ []) = if nat_le characters.digit_zero byte
+    && nat_le byte characters.digit_nine then Some (byte - characters.digit_zero) else None
+digit_in (byte ∷ next ∷ bytes) = None
 
 abbrev pub are_few : ℕ → Bool
 are_few count = nat_lt 0 count && nat_le count 6
 
 abbrev pub is_digit : ℕ → Bool
-is_digit byte = nat_le 48 byte && nat_le byte 57
+is_digit byte = nat_le characters.digit_zero byte && nat_le byte characters.digit_nine
 
 -- one to six digits
 abbrev pub are_digits : List ℕ → Bool
@@ -35,25 +38,25 @@ are_digits bytes = are_few (length bytes) && list_all is_digit bytes
 
 -- `move N`, `move NAME`, `switch N`, `team D..D`, `default`. N is one digit, D..D are one to six, and NAME is neither empty nor one digit
 abbrev pub IsForm : Want → List ℕ → Type 0
-IsForm (Slot n) text = (n ≤ 9) × (text ≡ codes "move " ++ (48 + n) ∷ [])
+IsForm (Slot digit) text = (digit ≤ 9) × (text ≡ codes "move " ++ (characters.digit_zero + digit) ∷ [])
 IsForm (Named name) text = (text ≡ codes "move " ++ name) × (name ≢ []) × (digit_in name ≡ None)
-IsForm (Position n) text = (n ≤ 9) × (text ≡ codes "switch " ++ (48 + n) ∷ [])
+IsForm (Position digit) text = (digit ≤ 9) × (text ≡ codes "switch " ++ (characters.digit_zero + digit) ∷ [])
 IsForm (Team digits) text = (text ≡ codes "team " ++ digits) × (are_digits digits ≡ true)
 IsForm Default text = text ≡ codes "default"
 
 -- ---- the same by reading
 
 abbrev pub slot_or_name : Option ℕ → List ℕ → Want
-slot_or_name (Some n) name = Slot n
+slot_or_name (Some digit) name = Slot digit
 slot_or_name None name = Named name
 
 -- what stands behind `move `
 abbrev pub move_want : List ℕ → Option Want
 move_want [] = None
-move_want (b ∷ bytes) = Some (slot_or_name (digit_in (b ∷ bytes)) (b ∷ bytes))
+move_want (byte ∷ bytes) = Some (slot_or_name (digit_in (byte ∷ bytes)) (byte ∷ bytes))
 
 abbrev pub position_want : Option ℕ → Option Want
-position_want (Some n) = Some (Position n)
+position_want (Some digit) = Some (Position digit)
 position_want None = None
 
 -- what stands behind `switch `
@@ -83,8 +86,8 @@ want_in text = if bytes_eq text (codes "default") then Some Default else behind_
 -- ---- for the code: what was read, as contracts see it
 
 abbrev pub want_of : Wanted → Want
-want_of (wanted.Move n) = Slot n
+want_of (wanted.Move number) = Slot number
 want_of (wanted.Named name) = Named name.now
-want_of (wanted.Switch n) = Position n
+want_of (wanted.Switch position) = Position position
 want_of (wanted.Team digits) = Team digits.now
 want_of wanted.Default = Default

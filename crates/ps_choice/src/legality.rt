@@ -2,7 +2,9 @@
 ghost use Rattle.std.specs.Prelude.{◌≡◌, ◌<◌, Some, None, false, OnOk, IfErr};
 ghost use Rattle.ps_mon.specs.Valid.{IsSound, IsSide, replaces};
 ghost use Rattle.ps_mon.specs.Slots.{is_ready, is_usable, has_usable, is_disabled};
-ghost use Rattle.ps_mon.specs.Choices.{is_asked, is_locked, wrong_for_order, wrong_for_switch, wrong_for_act, wrong_phase, locked, no_such_move, no_pp, disabled, no_such_member, already_out, fainted, fault_of, legal as fault_in};
+ghost use Rattle.ps_mon.specs.Choices.{is_asked, is_locked, wrong_for_order, wrong_for_switch, wrong_for_act, wrong_phase, locked};
+ghost use Rattle.ps_mon.specs.Choices.{no_such_move, no_pp, disabled, no_such_member, already_out, fainted, fault_of};
+ghost use Rattle.ps_mon.specs.Choices.{legal as fault_in};
 
 use crate::ordering::is_order;
 use ps_mon::choice::{Choice, ChoiceFault};

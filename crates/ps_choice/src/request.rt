@@ -7,7 +7,10 @@ ghost use Rattle.serde_json.specs.Written.{compact_text, items_text, members_tex
 ghost use Rattle.ps_mon.specs.Reading.{active_index, side_of};
 ghost use Rattle.ps_mon.specs.Valid.{IsSound, IsSide};
 ghost use Rattle.ps_choice.specs.Shown.{details, condition, nick_of, ident};
-ghost use Rattle.ps_choice.specs.Requests.{text, slot_data, slots_data, only_move, unheld_moves, moves_data, stats_data, move_id_data, member_data, member_at_data, members_data, side_data, turn_data, switch_data, wait_data, preview_data, switch_or_wait, request_data, request, shown_move, shown_slot, later_member, moves_and_stats};
+ghost use Rattle.ps_choice.specs.Requests.{text, slot_data, slots_data, only_move, unheld_moves, moves_data, stats_data};
+ghost use Rattle.ps_choice.specs.Requests.{move_id_data, member_data, member_at_data, members_data, side_data, turn_data};
+ghost use Rattle.ps_choice.specs.Requests.{switch_data, wait_data, preview_data, switch_or_wait, request_data, request, shown_move};
+ghost use Rattle.ps_choice.specs.Requests.{shown_slot, later_member, moves_and_stats};
 
 use crate::legality::{has_usable, is_disabled, replaces};
 use crate::shown::{id_of_move, push_condition, push_details, push_ident, side_id};
@@ -582,7 +585,8 @@ pub fn request_behind(
 ) -> Result<String, AllocError>
     requires sound { IsSound battle.now }
     requires side { side < 2 }
-    ensures { IfOk result (λ text. string_bytes text ≡ front.now ++ request battle.now.phase dex.now names.entry.player.now names.entry.nicks.now side (side_of battle.now side) rqid) }
+    ensures { IfOk result (λ text. string_bytes text ≡ front.now
+        ++ request battle.now.phase dex.now names.entry.player.now names.entry.nicks.now side (side_of battle.now side) rqid) }
 {
     let room = ROOM_OF_REQUEST + ROOM_OF_MEMBER * usize::from(battle.sides[side as usize].count);
     let mut line = String::with_capacity(alloc, room)?;
@@ -605,7 +609,8 @@ pub fn request_text(
 ) -> Result<String, AllocError>
     requires sound { IsSound battle.now }
     requires side { side < 2 }
-    ensures { IfOk result (λ text. string_bytes text ≡ request battle.now.phase dex.now names.entry.player.now names.entry.nicks.now side (side_of battle.now side) rqid) }
+    ensures { IfOk result (λ text. string_bytes text
+        ≡ request battle.now.phase dex.now names.entry.player.now names.entry.nicks.now side (side_of battle.now side) rqid) }
 {
     request_behind(alloc, "", battle, dex, names, side, rqid)
 }

@@ -4,7 +4,9 @@ ghost use Rattle.ps_mon.specs.Reading.{side_of, member_of};
 ghost use Rattle.ps_mon.specs.Valid.{IsSound, IsSide, IsShaped};
 ghost use Rattle.ps_mon.specs.Choices.{IsChoiceOf};
 ghost use Rattle.ps_choice.specs.Wants.{want_of};
-ghost use Rattle.ps_choice.specs.Resolved.{first_of, lowest_usable, has_move_at, slot_with, first_act, bench, first_standing, replacement, by_default, numbered, is_number, is_lock_name, is_locked_name, slot_of_move, is_struggle, named, meant, resolved};
+ghost use Rattle.ps_choice.specs.Resolved.{first_of, lowest_usable, has_move_at, slot_with, first_act, bench, first_standing};
+ghost use Rattle.ps_choice.specs.Resolved.{replacement, by_default, numbered, is_number, is_lock_name, is_locked_name, slot_of_move};
+ghost use Rattle.ps_choice.specs.Resolved.{is_struggle, named, meant, resolved};
 
 use crate::legality::{has_usable, is_locked, is_usable, legal};
 use crate::ordering::{NOBODY, order_of, whole};

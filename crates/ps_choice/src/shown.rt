@@ -1,6 +1,7 @@
 //! The texts of a request on the own members.
 ghost use Rattle.std.specs.Prelude.{◌≡◌, ◌++◌, OnOk, string_bytes};
-ghost use Rattle.ps_choice.specs.Shown.{id_of_move, name_of_species, level_part, details, status_part, health_part, condition, side_id, nick_of, ident};
+ghost use Rattle.ps_choice.specs.Shown.{id_of_move, name_of_species, level_part, details, status_part, health_part, condition};
+ghost use Rattle.ps_choice.specs.Shown.{side_id, nick_of, ident};
 
 use ps_base::text::Text;
 use ps_dex::item::{MoveItem, SpeciesItem};

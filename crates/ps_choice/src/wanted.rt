@@ -1,7 +1,8 @@
 //! What a player asks for.
 ghost use Rattle.std.specs.Prelude.{◌≡◌, option_map, IfSome, IfNone};
 ghost use Rattle.std.specs.List.{list_all};
-ghost use Rattle.ps_choice.specs.Wants.{Want, want_of, IsForm, are_few, is_digit, are_digits, digit_in, move_want, switch_want, team_want, want_in};
+ghost use Rattle.ps_choice.specs.Wants.{Want, want_of, IsForm, are_few, is_digit, are_digits, digit_in, move_want, switch_want};
+ghost use Rattle.ps_choice.specs.Wants.{team_want, want_in};
 
 use ps_base::cut;
 

@@ -44,7 +44,7 @@ is_calling other = false
 
 -- whether Metronome can take a move: any but one of its own kind
 abbrev pub is_callable : MoveData → Bool
-is_callable m = not (is_metronome m.effect)
+is_callable move = not (is_metronome move.effect)
 
 -- the indices of those moves in the dex
 unfoldable pub callable : Figures → List ℕ
@@ -52,15 +52,15 @@ callable facts = indices is_callable 0 facts.moves
 
 abbrev pub fail : Play (Option ℕ)
 fail = do
-  d ← duel_now
-  tell (events.Fail (who_of d.user))
+  duel ← duel_now
+  tell (events.Fail (who_of duel.user))
   give None
 
 -- metronome: one of those moves, drawn; Fail where there is none
 unfoldable pub metronome_row : Figures → Play (Option ℕ)
 metronome_row facts = choose (length (callable facts) == 0) fail (do
-  k ← draw (length (callable facts))
-  give (Some (slice_index (callable facts) k)))
+  index ← draw (length (callable facts))
+  give (Some (slice_index (callable facts) index)))
 
 -- a move that Mirror Move can take: any but Metronome and Mirror Move
 abbrev pub unless_calling : Bool → ℕ → Option ℕ
@@ -78,5 +78,5 @@ give_or_fail (Some mv) = give (Some mv)
 -- mirrormove: the foe's last move; Fail where there is none that it can take
 unfoldable pub mirrormove_row : Figures → Play (Option ℕ)
 mirrormove_row facts = do
-  d ← duel_now
-  give_or_fail (mirrored facts d.foe.vol.last)
+  duel ← duel_now
+  give_or_fail (mirrored facts duel.foe.vol.last)

@@ -13,7 +13,7 @@ with_changes side slots = record side { vol = record side.vol { slots = slots } 
 
 -- the battle where the slots of side `user` are changed so; nothing else of it is
 unfoldable pub with_slots : Battle → ℕ → ChangedSlots → Battle
-with_slots b user slots = record b { sides = slice_set b.sides user (with_changes (side_of b user) slots) }
+with_slots battle user slots = record battle { sides = slice_set battle.sides user (with_changes (side_of battle user) slots) }
 
 -- a slot with another move; its PP and its greatest PP stay
 abbrev pub with_move : MoveSlot → ℕ → MoveSlot
@@ -41,11 +41,14 @@ copied_if true slot = copied_slot slot
 copied_if false slot = no_slot
 
 unfoldable pub copied_at : SideState → ℕ → MoveSlot
-copied_at side j = copied_if (nat_lt j (slot_count_now side)) (slot_now side j)
+copied_at side slot = copied_if (nat_lt slot (slot_count_now side)) (slot_now side slot)
 
 -- the slots in force of a side, as Transform copies them; no move of Mimic stays beside them
 unfoldable pub copied_from : SideState → ChangedSlots
 copied_from side = record {
   mimic = None ∷ None ∷ None ∷ None ∷ [];
-  copied = Some (record { slots = copied_at side 0 ∷ copied_at side 1 ∷ copied_at side 2 ∷ copied_at side 3 ∷ []; count = slot_count_now side });
+  copied = Some (record {
+    slots = copied_at side 0 ∷ copied_at side 1 ∷ copied_at side 2 ∷ copied_at side 3 ∷ [];
+    count = slot_count_now side;
+  });
 }

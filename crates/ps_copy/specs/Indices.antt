@@ -9,4 +9,4 @@ index_if false at = []
 -- the indices of the elements that pass, in their order, where the first element has the index `at`
 abbrev pub indices : {A : Type 0} → (A → Bool) → ℕ → List A → List ℕ
 indices test at [] = []
-indices test at (x ∷ xs) = index_if (test x) at ++ indices test (1 + at) xs
+indices test at (first ∷ rest) = index_if (test first) at ++ indices test (1 + at) rest

@@ -19,50 +19,53 @@ use Rattle.ps_copy.specs.Changing.{with_slots, with_mimic, copied_from}
 -- the accuracy test of Mimic, and where it hits the slot of the foe that is drawn
 unfoldable pub mimic_row : Figures → ℕ → Play (Option ℕ)
 mimic_row facts mv = do
-  d ← duel_now
+  duel ← duel_now
   lands ← accuracy_test (move_of facts mv).accuracy
   choose lands
       (do
-        from ← draw d.slot_count
+        from ← draw duel.slot_count
         give (Some from))
       (give None)
 
 -- the user's slot takes the move that stands in a slot of the foe
 unfoldable pub learned : ℕ → ℕ → ℕ → Course → Course
-learned slot user from c =
-    let mv = (slot_now (side_of c.battle (1 - user)) from).mv in
-    let mine = side_of c.battle user in
-    record { battle = with_slots c.battle user (with_mimic mine.vol.slots slot mv); told = c.told ++ events.VolStart (who_of (fighter_of user mine)) numbers.effect_mimic (Some mv) ∷ [] }
+learned slot user from course =
+    let mv = (slot_now (side_of course.battle (1 - user)) from).mv in
+    let mine = side_of course.battle user in
+    record {
+      battle = with_slots course.battle user (with_mimic mine.vol.slots slot mv);
+      told = course.told ++ events.VolStart (who_of (fighter_of user mine)) numbers.effect_mimic (Some mv) ∷ [];
+    }
 
 abbrev pub learned_from : ℕ → ℕ → Option ℕ → Course → Course
-learned_from slot user None c = c
-learned_from slot user (Some from) c = learned slot user from c
+learned_from slot user None course = course
+learned_from slot user (Some from) course = learned slot user from course
 
 -- mimic: where it lands the used slot takes a move of the foe
 unfoldable pub mimic_effect : Figures → ℕ → ℕ → ℕ → Course → Course
-mimic_effect facts mv slot user c =
-    learned_from slot user (answer_of (mimic_row facts mv) user c) (played (mimic_row facts mv) user c)
+mimic_effect facts mv slot user course =
+    learned_from slot user (answer_of (mimic_row facts mv) user course) (played (mimic_row facts mv) user course)
 
 -- a fighter with the types, the stats and the stages of another one. Its health, level, base Speed and species stay
 unfoldable pub in_form_of : Fighter → Fighter → Fighter
-in_form_of foe f =
-    record f { vol = record f.vol { types = Some (types_now foe); stats = Some (stats_now foe); stages = foe.vol.stages } }
+in_form_of foe fighter =
+    record fighter { vol = record fighter.vol { types = Some (types_now foe); stats = Some (stats_now foe); stages = foe.vol.stages } }
 
 unfoldable pub form_row : Play (Unit {0})
 form_row = do
-  d ← duel_now
-  change (λ d. record d { user = in_form_of d.foe d.user })
-  tell (events.Transform (who_of d.user) (who_of d.foe))
+  duel ← duel_now
+  change (λ duel. record duel { user = in_form_of duel.foe duel.user })
+  tell (events.Transform (who_of duel.user) (who_of duel.foe))
 
 -- transform: the foe's form, and then its slots, with no accuracy test
 unfoldable pub transform_effect : ℕ → Course → Course
-transform_effect user c =
-    let formed = played form_row user c in
+transform_effect user course =
+    let formed = played form_row user course in
     record formed { battle = with_slots formed.battle user (copied_from (side_of formed.battle (1 - user))) }
 
 -- conversion: the foe's types, with no accuracy test
 unfoldable pub conversion_row : Play (Unit {0})
 conversion_row = do
-  d ← duel_now
-  change (λ d. record d { user = record d.user { vol = record d.user.vol { types = Some (types_now d.foe) } } })
-  tell (events.VolStart (who_of d.user) numbers.effect_typechange None)
+  duel ← duel_now
+  change (λ duel. record duel { user = record duel.user { vol = record duel.user.vol { types = Some (types_now duel.foe) } } })
+  tell (events.VolStart (who_of duel.user) numbers.effect_typechange None)

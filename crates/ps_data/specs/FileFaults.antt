@@ -16,7 +16,7 @@ IsReported (refusals.Fault fault) (faults.Fault path kind) = (path ≡ path_text
 -- What the file stands for, or else the path of its first fault as a text, and its kind. Out of memory may come in the
 -- place of either.
 abbrev pub GivesFile : {A : Type 0} → Result A FileFault → Result A Fault → Type 0
-GivesFile (Ok x) read = read ≡ Ok x
+GivesFile (Ok value) read = read ≡ Ok value
 GivesFile (Err faults.NoMemory) read = Unit {0}
-GivesFile (Err (faults.Fault path kind)) (Ok x) = ⊥
+GivesFile (Err (faults.Fault path kind)) (Ok value) = ⊥
 GivesFile (Err (faults.Fault path kind)) (Err fault) = (path ≡ path_text fault.path) × (kind ≡ fault.kind)

@@ -11,30 +11,31 @@ use Rattle.ps_data.specs.Forms.{sized_in}
 -- The items of a list in order. Each is read beside what the items before it gave and the items after it.
 unfoldable pub each : {A : Type 0} → (List A → List Data → Data → Result A Fault) → List A → List Data → Result (List A) Fault
 each form before [] = Ok before
-each form before (d ∷ after) = under (Index (length before)) (form before after d) >>= λ x. each form (before ++ x ∷ []) after
+each form before (value ∷ after) = under (Index (length before)) (form before after value) >>= λ item. each form (before ++ item ∷ []) after
 
 -- a list of least to most items of one form
 abbrev pub list_in : {A : Type 0} → ℕ → ℕ → (List A → List Data → Data → Result A Fault) → Data → Result (List A) Fault
-list_in least most form d = sized_in least most d >>= each form []
+list_in least most form value = sized_in least most value >>= each form []
 
 -- such a list at a key, empty where the key is missing
 abbrev pub list_at : {A : Type 0} → List ℕ → ℕ → ℕ → (List A → List Data → Data → Result A Fault) → Data → Result (List A) Fault
-list_at key least most form d = optional key [] (list_in least most form) d
+list_at key least most form value = optional key [] (list_in least most form) value
 
 -- the entries of an object, which are in byte order of their keys
 abbrev pub entries_of : Members → List (List ℕ × Data)
 entries_of no_members = []
-entries_of (member key d members) = (key, d) ∷ entries_of members
+entries_of (member key value members) = (key, value) ∷ entries_of members
 
 -- The entries of an object in order. Each is read beside what the entries before it gave.
 unfoldable pub each_entry : {A : Type 0} → (List A → List ℕ → Data → Result A Fault) → List A → List (List ℕ × Data) → Result (List A) Fault
 each_entry form before [] = Ok before
-each_entry form before (e ∷ after) = under (Key e.0) (form before e.0 e.1) >>= λ x. each_entry form (before ++ x ∷ []) after
+each_entry form before (entry ∷ after) = under (Key entry.0) (form before entry.0 entry.1) >>= λ item.
+    each_entry form (before ++ item ∷ []) after
 
 -- an object whose keys are free, with entries of one form
 abbrev pub entries_in : {A : Type 0} → (List A → List ℕ → Data → Result A Fault) → Data → Result (List A) Fault
-entries_in form d = some_or Shape (option_map entries_of (as_object d)) >>= each_entry form []
+entries_in form value = some_or Shape (option_map entries_of (as_object value)) >>= each_entry form []
 
 -- such an object at a key, empty where the key is missing
 abbrev pub entries_at : {A : Type 0} → List ℕ → (List A → List ℕ → Data → Result A Fault) → Data → Result (List A) Fault
-entries_at key form d = optional key [] (entries_in form) d
+entries_at key form value = optional key [] (entries_in form) value

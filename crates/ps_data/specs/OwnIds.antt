@@ -9,7 +9,7 @@ use Rattle.ps_data.specs.Forms.{text_in}
 
 -- an item has the id
 unfoldable pub has_id : {A : Type 0} → (A → List ℕ) → List ℕ → List A → Bool
-has_id own id items = is_some (position (λ t. bytes_eq (own t) id) items)
+has_id own id items = is_some (position (λ item. bytes_eq (own item) id) items)
 
 -- no item has the id
 abbrev pub IsNew : {A : Type 0} → (A → List ℕ) → List ℕ → List A → Type 0
@@ -17,8 +17,8 @@ IsNew own id items = not (has_id own id items) ≡ true
 
 -- at least one character, each of a to z and 0 to 9, and not the id of an item before
 unfoldable pub own_id_in : {A : Type 0} → (A → List ℕ) → List A → Data → Result (List ℕ) Fault
-own_id_in own before d = do
-  text ← text_in d
+own_id_in own before value = do
+  text ← text_in value
   id ← some_or Range (id_in text)
   _ ← ensure Repeat (not (has_id own id before))
   Ok id

@@ -6,7 +6,7 @@ use Rattle.ps_data.specs.declared.fault.Part.TheVariants as parts
 
 abbrev pub step_of : Part → Step
 step_of (parts.Key key) = Key (string_bytes key)
-step_of (parts.Index i) = Index i
+step_of (parts.Index index) = Index index
 
 -- the steps, outermost first, of parts that stand innermost first
 abbrev pub steps_of : List Part → List Step

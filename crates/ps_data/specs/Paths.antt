@@ -1,6 +1,7 @@
 -- The way from a value to one inside it, and its text.
 use Rattle.std.specs.Prelude.{ℕ, List, [], ◌∷◌, ◌++◌, Bool, true, false, if◌then◌else◌}
 use Rattle.std.specs.Fmt.{decimal}
+use Rattle.ps_base.specs.Characters as characters
 
 -- to what an object has at a key, or to an item of an array
 pub data Step : Type 0 where
@@ -9,12 +10,12 @@ pub data Step : Type 0 where
 
 -- a key after a dot, but for the first step, and an index in brackets
 abbrev pub step_text : Bool → Step → List ℕ
-step_text first (Key key) = if first then key else 46 ∷ key
-step_text first (Index i) = 91 ∷ decimal i ++ 93 ∷ []
+step_text first (Key key) = if first then key else characters.full_stop ∷ key
+step_text first (Index index) = characters.open_bracket ∷ decimal index ++ characters.close_bracket ∷ []
 
 abbrev pub steps_text : Bool → List Step → List ℕ
 steps_text first [] = []
-steps_text first (s ∷ steps) = step_text first s ++ steps_text false steps
+steps_text first (step ∷ steps) = step_text first step ++ steps_text false steps
 
 -- a path as text, like `moves[3].effect.kind`
 abbrev pub path_text : List Step → List ℕ
@@ -24,4 +25,4 @@ path_text steps = steps_text true steps
 abbrev pub first_index : List Step → ℕ
 first_index [] = 0
 first_index (Key key ∷ steps) = 0
-first_index (Index i ∷ steps) = i
+first_index (Index index ∷ steps) = index

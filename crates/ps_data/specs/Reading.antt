@@ -12,7 +12,7 @@ use Rattle.ps_data.specs.declared.fault.Refusal.TheVariants as refusals
 -- one reading after another: the first fault is the fault of both
 infixl 10 ◌>>=◌
 abbrev pub ◌>>=◌ : {A B F : Type 0} → Result A F → (A → Result B F) → Result B F
-(Ok x) >>= next = next x
+(Ok value) >>= next = next value
 (Err fault) >>= next = Err fault
 
 -- a fault of the value itself
@@ -21,13 +21,13 @@ refuse kind = Err (record { path = []; kind = kind })
 
 -- a fault of a value inside is one step further down
 abbrev pub under : {A : Type 0} → Step → Result A Fault → Result A Fault
-under step (Ok x) = Ok x
+under step (Ok value) = Ok value
 under step (Err fault) = Err (record { path = step ∷ fault.path; kind = fault.kind })
 
 -- what there is, or else a fault
 abbrev pub some_or : {A : Type 0} → DataKind → Option A → Result A Fault
 some_or kind None = refuse kind
-some_or kind (Some x) = Ok x
+some_or kind (Some value) = Ok value
 
 -- a test that has to hold
 abbrev pub ensure : DataKind → Bool → Result ⊤ Fault
@@ -35,19 +35,19 @@ ensure kind holds = if holds then Ok tt else refuse kind
 
 -- what an object has at a key that must be there
 abbrev pub there : List ℕ → Data → Result Data Fault
-there key d = under (Key key) (some_or Shape (get key d))
+there key holder = under (Key key) (some_or Shape (get key holder))
 
 -- a key that must be there, with a value in the form
 abbrev pub required : {A : Type 0} → List ℕ → (Data → Result A Fault) → Data → Result A Fault
-required key form d = there key d >>= λ v. under (Key key) (form v)
+required key form holder = there key holder >>= λ value. under (Key key) (form value)
 
 abbrev pub if_there : {A : Type 0} → A → (Data → Result A Fault) → Option Data → Result A Fault
-if_there x form None = Ok x
-if_there x form (Some d) = form d
+if_there default form None = Ok default
+if_there default form (Some value) = form value
 
--- a key that may be missing, and then stands for the default x
+-- a key that may be missing, and then stands for the default
 abbrev pub optional : {A : Type 0} → List ℕ → A → (Data → Result A Fault) → Data → Result A Fault
-optional key x form d = if_there x (λ v. under (Key key) (form v)) (get key d)
+optional key default form holder = if_there default (λ value. under (Key key) (form value)) (get key holder)
 
 -- ---- What a function returned, beside what a definition finds. Out of memory may come in the place of either.
 
@@ -58,7 +58,7 @@ FailsWith (Some fault) found = found ≡ Err fault
 
 -- What was returned is seen by view, and an error by the fault that it tells.
 abbrev pub Returns : {A B E F : Type 0} → (A → B) → (E → Option F) → Result A E → Result B F → Type 0
-Returns view fault_of (Ok x) found = found ≡ Ok (view x)
+Returns view fault_of (Ok value) found = found ≡ Ok (view value)
 Returns view fault_of (Err error) found = FailsWith (fault_of error) found
 
 -- ---- the same of a function that reads
@@ -71,7 +71,7 @@ abbrev pub Fails : {A : Type 0} → Refusal → Result A Fault → Type 0
 Fails refusal read = FailsWith (fault_of refusal) read
 
 abbrev pub Gives : {A : Type 0} → Result A Refusal → Result A Fault → Type 0
-Gives result read = Returns (λ x. x) fault_of result read
+Gives result read = Returns (λ value. value) fault_of result read
 
 -- the same, where what was returned is seen by view
 abbrev pub GivesBy : {A B : Type 0} → (A → B) → Result A Refusal → Result B Fault → Type 0

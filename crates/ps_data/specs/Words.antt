@@ -13,4 +13,4 @@ meaning (entry ∷ table) word = if bytes_eq word entry.0 then Some entry.1 else
 
 -- a word of a table; another text is Unknown
 abbrev pub word_in : {A : Type 0} → List (List ℕ × A) → Data → Result A Fault
-word_in table d = text_in d >>= λ word. some_or Unknown (meaning table word)
+word_in table value = text_in value >>= λ word. some_or Unknown (meaning table word)

@@ -35,7 +35,8 @@ fn each_entry<T: Drop, F: EntryForm<T>>(
     form: &F,
     pairs: &[(&String, &Value)],
 ) -> Result<Vec<T>, Refusal>
-    ensures { GivesBy (λ v. v.items) result (each_entry (F.reading form.now) [] (map (λ e. (string_bytes e.0.now, view e.1.now)) pairs.now)) }
+    ensures { GivesBy (λ v. v.items) result (each_entry (F.reading form.now) []
+        (map (λ e. (string_bytes e.0.now, view e.1.now)) pairs.now)) }
 {
     let mut entries = Vec::new(alloc);
     for (key, value) in pairs {

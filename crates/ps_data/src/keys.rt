@@ -32,7 +32,8 @@ pub fn items_at_key<T>(
     read: Result<Vec<T>, Refusal>,
 ) -> Result<Vec<T>, Refusal>
     ensures same { IfOk result (λ x. read ≡ Ok x) }
-    ensures deeper { (form : Result (List T) Fault) → GivesBy (λ v. v.items) read form → GivesBy (λ v. v.items) result (under (Key key.now) form) }
+    ensures deeper { (form : Result (List T) Fault) → GivesBy (λ v. v.items) read form
+        → GivesBy (λ v. v.items) result (under (Key key.now) form) }
 {
     match read {
         Ok(items) => Ok(items),

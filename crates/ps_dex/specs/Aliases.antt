@@ -15,12 +15,12 @@ use Rattle.ps_dex.specs.Species.{species_index}
 
 -- the index of the alias with an id
 unfoldable pub alias_index : List ℕ → List AliasItem → Option ℕ
-alias_index id aliases = position (λ a. bytes_eq a.id id) aliases
+alias_index id aliases = position (λ alias. bytes_eq alias.id id) aliases
 
 -- The key is tested before the value, which names a species, a move or both.
 unfoldable pub alias_item_in : List SpeciesItem → List MoveItem → List AliasItem → List ℕ → Data → Result AliasItem Fault
-alias_item_in species moves before key d = do
-  id ← key_id_in (λ a. a.id) before key
-  text ← text_in d
+alias_item_in species moves before key value = do
+  id ← key_id_in (λ alias. alias.id) before key
+  text ← text_in value
   _ ← ensure Unknown (is_some (species_index (id_of text) species) || is_some (move_index (id_of text) moves))
   Ok (record { id = id; species = species_index (id_of text) species; mv = move_index (id_of text) moves })

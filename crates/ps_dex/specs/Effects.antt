@@ -64,110 +64,110 @@ copy_words =
 
 -- out of 256
 abbrev pub chance_in : Data → Result ℕ Fault
-chance_in d = optional (codes "chance") 256 (number_in 0 256) d
+chance_in value = optional (codes "chance") 256 (number_in 0 256) value
 
 unfoldable pub fixed_in : Data → Result Effect Fault
-fixed_in d = do
-  amount ← required (codes "amount") (number_in 1 713) d
+fixed_in value = do
+  amount ← required (codes "amount") (number_in 1 713) value
   Ok (effects.Fixed amount)
 
 unfoldable pub status_effect_in : Data → Result Effect Fault
-status_effect_in d = do
-  status ← required (codes "status") (word_in status_words) d
-  chance ← chance_in d
+status_effect_in value = do
+  status ← required (codes "status") (word_in status_words) value
+  chance ← chance_in value
   Ok (effects.Status status chance)
 
 unfoldable pub confuse_in : Data → Result Effect Fault
-confuse_in d = do
-  chance ← chance_in d
+confuse_in value = do
+  chance ← chance_in value
   Ok (effects.Confuse chance)
 
 unfoldable pub flinch_in : Data → Result Effect Fault
-flinch_in d = do
-  chance ← chance_in d
+flinch_in value = do
+  chance ← chance_in value
   Ok (effects.Flinch chance)
 
 -- from -6 to 6, and not 0
 unfoldable pub stages_in : Data → Result ℤ Fault
-stages_in d = do
-  by ← integer_in (negsuc 5) (pos 6) d
+stages_in value = do
+  by ← integer_in (negsuc 5) (pos 6) value
   _ ← ensure Range (not (int_le (pos 0) by && int_le by (pos 0)))
   Ok by
 
 unfoldable pub boost_in : Data → Result Effect Fault
-boost_in d = do
-  who ← required (codes "who") (word_in aim_words) d
-  stat ← required (codes "stat") (word_in stat_words) d
-  by ← required (codes "by") stages_in d
-  chance ← chance_in d
+boost_in value = do
+  who ← required (codes "who") (word_in aim_words) value
+  stat ← required (codes "stat") (word_in stat_words) value
+  by ← required (codes "by") stages_in value
+  chance ← chance_in value
   Ok (effects.Boost who stat by chance)
 
 unfoldable pub recoil_in : Data → Result Effect Fault
-recoil_in d = do
-  by ← required (codes "by") (number_in 1 255) d
+recoil_in value = do
+  by ← required (codes "by") (number_in 1 255) value
   Ok (effects.Recoil by)
 
 unfoldable pub double_in : Data → Result Effect Fault
-double_in d = do
-  status ← required (codes "status") (word_in status_words) d
-  chance ← chance_in d
+double_in value = do
+  status ← required (codes "status") (word_in status_words) value
+  chance ← chance_in value
   Ok (effects.Double status chance)
 
 unfoldable pub charge_in : Data → Result Effect Fault
-charge_in d = do
-  away ← optional (codes "away") false boolean_in d
+charge_in value = do
+  away ← optional (codes "away") false boolean_in value
   Ok (effects.Charge away)
 
 unfoldable pub screen_in : Data → Result Effect Fault
-screen_in d = do
-  which ← required (codes "which") (word_in screen_words) d
+screen_in value = do
+  which ← required (codes "which") (word_in screen_words) value
   Ok (effects.Screen which)
 
 unfoldable pub copy_in : Data → Result Effect Fault
-copy_in d = do
-  sub ← required (codes "sub") (word_in copy_words) d
+copy_in value = do
+  sub ← required (codes "sub") (word_in copy_words) value
   Ok (effects.Copy sub)
 
 -- ---- the effect
 
 abbrev pub effect_of : Kind → Data → Result Effect Fault
-effect_of kinds.Plain d = Ok effects.Plain
-effect_of kinds.Fixed d = fixed_in d
-effect_of kinds.Level d = Ok effects.Level
-effect_of kinds.Half d = Ok effects.Half
-effect_of kinds.Psywave d = Ok effects.Psywave
-effect_of kinds.Ohko d = Ok effects.Ohko
-effect_of kinds.Status d = status_effect_in d
-effect_of kinds.Confuse d = confuse_in d
-effect_of kinds.Flinch d = flinch_in d
-effect_of kinds.Boost d = boost_in d
-effect_of kinds.Drain d = Ok effects.Drain
-effect_of kinds.DreamEater d = Ok effects.DreamEater
-effect_of kinds.Recoil d = recoil_in d
-effect_of kinds.Crash d = Ok effects.Crash
-effect_of kinds.Multi d = Ok effects.Multi
-effect_of kinds.Double d = double_in d
-effect_of kinds.Explode d = Ok effects.Explode
-effect_of kinds.Charge d = charge_in d
-effect_of kinds.Recharge d = Ok effects.Recharge
-effect_of kinds.Trap d = Ok effects.Trap
-effect_of kinds.Thrash d = Ok effects.Thrash
-effect_of kinds.Bide d = Ok effects.Bide
-effect_of kinds.Rage d = Ok effects.Rage
-effect_of kinds.Counter d = Ok effects.Counter
-effect_of kinds.Substitute d = Ok effects.Substitute
-effect_of kinds.LeechSeed d = Ok effects.LeechSeed
-effect_of kinds.Screen d = screen_in d
-effect_of kinds.Mist d = Ok effects.Mist
-effect_of kinds.Focus d = Ok effects.Focus
-effect_of kinds.Haze d = Ok effects.Haze
-effect_of kinds.Heal d = Ok effects.Heal
-effect_of kinds.Rest d = Ok effects.Rest
-effect_of kinds.Copy d = copy_in d
-effect_of kinds.Nothing d = Ok effects.Nothing
+effect_of kinds.Plain value = Ok effects.Plain
+effect_of kinds.Fixed value = fixed_in value
+effect_of kinds.Level value = Ok effects.Level
+effect_of kinds.Half value = Ok effects.Half
+effect_of kinds.Psywave value = Ok effects.Psywave
+effect_of kinds.Ohko value = Ok effects.Ohko
+effect_of kinds.Status value = status_effect_in value
+effect_of kinds.Confuse value = confuse_in value
+effect_of kinds.Flinch value = flinch_in value
+effect_of kinds.Boost value = boost_in value
+effect_of kinds.Drain value = Ok effects.Drain
+effect_of kinds.DreamEater value = Ok effects.DreamEater
+effect_of kinds.Recoil value = recoil_in value
+effect_of kinds.Crash value = Ok effects.Crash
+effect_of kinds.Multi value = Ok effects.Multi
+effect_of kinds.Double value = double_in value
+effect_of kinds.Explode value = Ok effects.Explode
+effect_of kinds.Charge value = charge_in value
+effect_of kinds.Recharge value = Ok effects.Recharge
+effect_of kinds.Trap value = Ok effects.Trap
+effect_of kinds.Thrash value = Ok effects.Thrash
+effect_of kinds.Bide value = Ok effects.Bide
+effect_of kinds.Rage value = Ok effects.Rage
+effect_of kinds.Counter value = Ok effects.Counter
+effect_of kinds.Substitute value = Ok effects.Substitute
+effect_of kinds.LeechSeed value = Ok effects.LeechSeed
+effect_of kinds.Screen value = screen_in value
+effect_of kinds.Mist value = Ok effects.Mist
+effect_of kinds.Focus value = Ok effects.Focus
+effect_of kinds.Haze value = Ok effects.Haze
+effect_of kinds.Heal value = Ok effects.Heal
+effect_of kinds.Rest value = Ok effects.Rest
+effect_of kinds.Copy value = copy_in value
+effect_of kinds.Nothing value = Ok effects.Nothing
 
 unfoldable pub effect_in : Data → Result Effect Fault
-effect_in d = do
-  _ ← object_in d
-  kind ← required (codes "kind") (word_in kind_words) d
-  effect_of kind d
+effect_in value = do
+  _ ← object_in value
+  kind ← required (codes "kind") (word_in kind_words) value
+  effect_of kind value

@@ -7,8 +7,8 @@ use Rattle.ps_dex.specs.Lookups.{factor_of, built_in}
 
 -- the first values of a function
 abbrev pub listed : {A : Type 0} → (ℕ → A) → ℕ → List A
-listed f zero = []
-listed f (suc n) = listed f n ++ f n ∷ []
+listed value_of zero = []
+listed value_of (suc count) = listed value_of count ++ value_of count ∷ []
 
 -- the factors of a type on each of 32 types
 unfoldable pub factors_of_attack : List FactorItem → ℕ → List ℕ
@@ -20,4 +20,4 @@ factor_table items = listed (factors_of_attack items) 32
 
 -- the numbers of the moves, all factors, and Struggle
 unfoldable pub figures_of : Tables → Figures
-figures_of t = record { moves = map (λ m. m.numbers) t.moves; factors = factor_table t.factors; struggle = built_in t.types }
+figures_of dex = record { moves = map (λ move. move.numbers) dex.moves; factors = factor_table dex.factors; struggle = built_in dex.types }

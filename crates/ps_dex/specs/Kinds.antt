@@ -1,7 +1,10 @@
 -- The kinds of effect, by their names, in the order of their table.
 use Rattle.std.specs.Prelude.{ℕ, List, [], ◌∷◌, codes}
 use Rattle.ps_dex.specs.declared.kind.Kind.{Kind}
-use Rattle.ps_dex.specs.declared.kind.Kind.TheVariants.{Plain, Fixed, Level, Half, Psywave, Ohko, Status, Confuse, Flinch, Boost, Drain, DreamEater, Recoil, Crash, Multi, Double, Explode, Charge, Recharge, Trap, Thrash, Bide, Rage, Counter, Substitute, LeechSeed, Screen, Mist, Focus, Haze, Heal, Rest, Copy, Nothing}
+use Rattle.ps_dex.specs.declared.kind.Kind.TheVariants.{Plain, Fixed, Level, Half, Psywave, Ohko, Status, Confuse, Flinch, Boost}
+use Rattle.ps_dex.specs.declared.kind.Kind.TheVariants.{Drain, DreamEater, Recoil, Crash, Multi, Double, Explode, Charge, Recharge}
+use Rattle.ps_dex.specs.declared.kind.Kind.TheVariants.{Trap, Thrash, Bide, Rage, Counter, Substitute, LeechSeed, Screen, Mist, Focus}
+use Rattle.ps_dex.specs.declared.kind.Kind.TheVariants.{Haze, Heal, Rest, Copy, Nothing}
 
 unfoldable pub kind_words : List (List ℕ × Kind)
 kind_words =

@@ -17,36 +17,46 @@ use Rattle.ps_dex.specs.Effects.{effect_in}
 
 -- the number of the move with an id: its index
 unfoldable pub move_index : List ℕ → List MoveItem → Option ℕ
-move_index id moves = position (λ m. bytes_eq m.id id) moves
+move_index id moves = position (λ move. bytes_eq move.id id) moves
 
 unfoldable pub has_move : List ℕ → List MoveItem → Bool
-has_move id moves = has_id (λ m. m.id) id moves
+has_move id moves = has_id (λ move. move.id) id moves
 
 -- the ids of the moves before, and those of the two moves that are built in
 unfoldable pub is_move_taken : List ℕ → List MoveItem → Bool
 is_move_taken id moves = has_move id moves || bytes_eq id (codes "struggle") || bytes_eq id (codes "recharge")
 
 unfoldable pub move_name_in : List MoveItem → Data → Result Named Fault
-move_name_in before d = do
-  named ← name_in d
+move_name_in before value = do
+  named ← name_in value
   _ ← ensure Repeat (not (is_move_taken named.id before))
   Ok named
 
 -- all but the name
 unfoldable pub numbers_in : List TypeItem → Data → Result MoveData Fault
-numbers_in types d = do
-  kind ← required (codes "type") (type_in types) d
-  power ← required (codes "power") (number_in 0 255) d
-  accuracy ← required (codes "accuracy") (number_in 0 100) d
-  pp ← required (codes "pp") (number_in 1 64) d
-  priority ← required (codes "priority") (integer_in (negsuc 0) (pos 1)) d
-  high ← optional (codes "high") false boolean_in d
-  effect ← optional (codes "effect") Plain effect_in d
-  Ok (record { kind = kind; special = is_special types kind; contact = is_contact types kind; power = power; accuracy = accuracy; pp = pp; priority = priority; high = high; effect = effect })
+numbers_in types value = do
+  kind ← required (codes "type") (type_in types) value
+  power ← required (codes "power") (number_in 0 255) value
+  accuracy ← required (codes "accuracy") (number_in 0 100) value
+  pp ← required (codes "pp") (number_in 1 64) value
+  priority ← required (codes "priority") (integer_in (negsuc 0) (pos 1)) value
+  high ← optional (codes "high") false boolean_in value
+  effect ← optional (codes "effect") Plain effect_in value
+  Ok (record {
+    kind = kind;
+    special = is_special types kind;
+    contact = is_contact types kind;
+    power = power;
+    accuracy = accuracy;
+    pp = pp;
+    priority = priority;
+    high = high;
+    effect = effect;
+  })
 
 unfoldable pub move_item_in : List TypeItem → List MoveItem → Data → Result MoveItem Fault
-move_item_in types before d = do
-  _ ← object_in d
-  named ← required (codes "name") (move_name_in before) d
-  numbers ← numbers_in types d
+move_item_in types before value = do
+  _ ← object_in value
+  named ← required (codes "name") (move_name_in before) value
+  numbers ← numbers_in types value
   Ok (record { name = named.name; id = named.id; numbers = numbers })

@@ -19,94 +19,94 @@ use Rattle.ps_dex.specs.Moves.{move_index}
 
 -- the number of the species with an id: its index
 unfoldable pub species_index : List ℕ → List SpeciesItem → Option ℕ
-species_index id species = position (λ s. bytes_eq s.id id) species
+species_index id species = position (λ item. bytes_eq item.id id) species
 
 unfoldable pub has_species : List ℕ → List SpeciesItem → Bool
-has_species id species = has_id (λ s. s.id) id species
+has_species id species = has_id (λ item. item.id) id species
 
 -- ---- types: one, which is kept twice, or two that differ
 
 unfoldable pub other_type_in : List TypeItem → ℕ → Data → Result ℕ Fault
-other_type_in types first d = do
-  second ← type_in types d
+other_type_in types first value = do
+  second ← type_in types value
   _ ← ensure Repeat (not (second == first))
   Ok second
 
 unfoldable pub one_type_in : List TypeItem → Data → Result (List ℕ) Fault
-one_type_in types a = do
-  only ← under (Index 0) (type_in types a)
+one_type_in types value = do
+  only ← under (Index 0) (type_in types value)
   Ok (only ∷ only ∷ [])
 
 unfoldable pub two_types_in : List TypeItem → Data → Data → Result (List ℕ) Fault
-two_types_in types a b = do
-  first ← under (Index 0) (type_in types a)
-  second ← under (Index 1) (other_type_in types first b)
+two_types_in types one two = do
+  first ← under (Index 0) (type_in types one)
+  second ← under (Index 1) (other_type_in types first two)
   Ok (first ∷ second ∷ [])
 
 abbrev pub types_of : List TypeItem → List Data → Result (List ℕ) Fault
 types_of types [] = refuse Range
-types_of types (a ∷ []) = one_type_in types a
-types_of types (a ∷ b ∷ []) = two_types_in types a b
-types_of types (a ∷ b ∷ c ∷ more) = refuse Range
+types_of types (one ∷ []) = one_type_in types one
+types_of types (one ∷ two ∷ []) = two_types_in types one two
+types_of types (one ∷ two ∷ three ∷ more) = refuse Range
 
 unfoldable pub types_in : List TypeItem → Data → Result (List ℕ) Fault
-types_in types d = do
-  items ← array_in d
+types_in types value = do
+  items ← array_in value
   types_of types items
 
 -- ---- stats: HP, Attack, Defense, Special and Speed
 
 abbrev pub base_stat_in : ℕ → Data → Result ℕ Fault
-base_stat_in index d = under (Index index) (number_in 1 255 d)
+base_stat_in index value = under (Index index) (number_in 1 255 value)
 
 unfoldable pub five_stats_in : Data → Data → Data → Data → Data → Result (List ℕ) Fault
-five_stats_in a b c d e = do
-  hp ← base_stat_in 0 a
-  attack ← base_stat_in 1 b
-  defense ← base_stat_in 2 c
-  special ← base_stat_in 3 d
-  speed ← base_stat_in 4 e
+five_stats_in one two three four five = do
+  hp ← base_stat_in 0 one
+  attack ← base_stat_in 1 two
+  defense ← base_stat_in 2 three
+  special ← base_stat_in 3 four
+  speed ← base_stat_in 4 five
   Ok (hp ∷ attack ∷ defense ∷ special ∷ speed ∷ [])
 
 abbrev pub stats_of : List Data → Result (List ℕ) Fault
 stats_of [] = refuse Range
-stats_of (a ∷ []) = refuse Range
-stats_of (a ∷ b ∷ []) = refuse Range
-stats_of (a ∷ b ∷ c ∷ []) = refuse Range
-stats_of (a ∷ b ∷ c ∷ d ∷ []) = refuse Range
-stats_of (a ∷ b ∷ c ∷ d ∷ e ∷ []) = five_stats_in a b c d e
-stats_of (a ∷ b ∷ c ∷ d ∷ e ∷ f ∷ more) = refuse Range
+stats_of (one ∷ []) = refuse Range
+stats_of (one ∷ two ∷ []) = refuse Range
+stats_of (one ∷ two ∷ three ∷ []) = refuse Range
+stats_of (one ∷ two ∷ three ∷ four ∷ []) = refuse Range
+stats_of (one ∷ two ∷ three ∷ four ∷ five ∷ []) = five_stats_in one two three four five
+stats_of (one ∷ two ∷ three ∷ four ∷ five ∷ six ∷ more) = refuse Range
 
 unfoldable pub stats_in : Data → Result (List ℕ) Fault
-stats_in d = do
-  items ← array_in d
+stats_in value = do
+  items ← array_in value
   stats_of items
 
 -- ---- learns: numbers of moves, none of them twice
 
 unfoldable pub has_number : ℕ → List ℕ → Bool
-has_number number numbers = list_any (λ n. n == number) numbers
+has_number number numbers = list_any (λ other. other == number) numbers
 
 -- the number of the move whose id is that of a text
 unfoldable pub learned_in : List MoveItem → List ℕ → Data → Result ℕ Fault
-learned_in moves before d = do
-  text ← text_in d
+learned_in moves before value = do
+  text ← text_in value
   mv ← some_or Unknown (move_index (id_of text) moves)
   _ ← ensure Repeat (not (has_number mv before))
   Ok mv
 
 unfoldable pub learns_in : List MoveItem → Data → Result (List ℕ) Fault
-learns_in moves d = do
-  items ← array_in d
+learns_in moves value = do
+  items ← array_in value
   each (λ before after. learned_in moves before) [] items
 
 -- ---- a species
 
 unfoldable pub species_item_in : List TypeItem → List MoveItem → List SpeciesItem → Data → Result SpeciesItem Fault
-species_item_in types moves before d = do
-  _ ← object_in d
-  named ← required (codes "name") (own_name_in (λ s. s.id) before) d
-  own_types ← required (codes "types") (types_in types) d
-  stats ← required (codes "stats") stats_in d
-  learns ← required (codes "learns") (learns_in moves) d
+species_item_in types moves before value = do
+  _ ← object_in value
+  named ← required (codes "name") (own_name_in (λ item. item.id) before) value
+  own_types ← required (codes "types") (types_in types) value
+  stats ← required (codes "stats") stats_in value
+  learns ← required (codes "learns") (learns_in moves) value
   Ok (record { name = named.name; id = named.id; types = own_types; stats = stats; learns = learns })

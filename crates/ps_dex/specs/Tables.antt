@@ -14,13 +14,13 @@ use Rattle.ps_dex.specs.Aliases.{alias_item_in}
 
 -- the keys of a dex in their order, each of which may be missing
 unfoldable pub tables_in : Data → Result Tables Fault
-tables_in d = do
-  _ ← object_in d
-  types ← list_at (codes "types") 0 32 (λ before after. type_item_in before) d
-  factors ← optional (codes "factors") [] (factors_in types) d
-  moves ← list_at (codes "moves") 0 1024 (λ before after. move_item_in types before) d
-  species ← list_at (codes "species") 0 1024 (λ before after. species_item_in types moves before) d
-  aliases ← entries_at (codes "aliases") (λ before key. alias_item_in species moves before key) d
+tables_in value = do
+  _ ← object_in value
+  types ← list_at (codes "types") 0 32 (λ before after. type_item_in before) value
+  factors ← optional (codes "factors") [] (factors_in types) value
+  moves ← list_at (codes "moves") 0 1024 (λ before after. move_item_in types before) value
+  species ← list_at (codes "species") 0 1024 (λ before after. species_item_in types moves before) value
+  aliases ← entries_at (codes "aliases") (λ before key. alias_item_in species moves before key) value
   Ok (record { types = types; factors = factors; moves = moves; species = species; aliases = aliases })
 
 -- the bytes of a dex file

@@ -11,25 +11,25 @@ use Rattle.ps_dex.specs.Names.{own_name_in}
 
 -- the number of the type with an id: its index
 unfoldable pub type_index : List ℕ → List TypeItem → Option ℕ
-type_index id types = position (λ t. bytes_eq t.id id) types
+type_index id types = position (λ item. bytes_eq item.id id) types
 
 unfoldable pub type_item_in : List TypeItem → Data → Result TypeItem Fault
-type_item_in before d = do
-  _ ← object_in d
-  named ← required (codes "name") (own_name_in (λ t. t.id) before) d
-  special ← required (codes "special") boolean_in d
+type_item_in before value = do
+  _ ← object_in value
+  named ← required (codes "name") (own_name_in (λ item. item.id) before) value
+  special ← required (codes "special") boolean_in value
   Ok (record { name = named.name; id = named.id; special = special })
 
 -- the number of the type whose id is that of a text
 unfoldable pub type_in : List TypeItem → Data → Result ℕ Fault
-type_in types d = do
-  text ← text_in d
+type_in types value = do
+  text ← text_in value
   some_or Unknown (type_index (id_of text) types)
 
 -- whether a type uses Special
 abbrev pub uses_special : Option TypeItem → Bool
 uses_special None = false
-uses_special (Some t) = t.special
+uses_special (Some item) = item.special
 
 abbrev pub is_special : List TypeItem → ℕ → Bool
 is_special types number = uses_special (slice_get types number)
@@ -37,7 +37,7 @@ is_special types number = uses_special (slice_get types number)
 -- whether a type is `normal` or `fighting`
 abbrev pub makes_contact : Option TypeItem → Bool
 makes_contact None = false
-makes_contact (Some t) = bytes_eq t.id (codes "normal") || bytes_eq t.id (codes "fighting")
+makes_contact (Some item) = bytes_eq item.id (codes "normal") || bytes_eq item.id (codes "fighting")
 
 abbrev pub is_contact : List TypeItem → ℕ → Bool
 is_contact types number = makes_contact (slice_get types number)

@@ -44,7 +44,8 @@ impl Model for Dex {
 
     ghost view = { λ d. d.tables };
 
-    ghost invariant = { λ d. AreFit d.tables × (d.numbers.items ≡ map (λ m. m.numbers) d.tables.moves) × (d.factors ≡ factor_table d.tables.factors) × (d.struggle ≡ built_in d.tables.types) };
+    ghost invariant = { λ d. AreFit d.tables × (d.numbers.items ≡ map (λ m. m.numbers) d.tables.moves)
+        × (d.factors ≡ factor_table d.tables.factors) × (d.struggle ≡ built_in d.tables.types) };
 }
 
 // By hand, so that whoever drops a dex has one step of its proof for that.

@@ -5,7 +5,9 @@ ghost use Rattle.ps_data.specs.Reading.{Gives, required, optional};
 ghost use Rattle.ps_data.specs.Words.{word_in};
 ghost use Rattle.ps_mon.specs.declared.effect.Effect.TheVariants as effects;
 ghost use Rattle.ps_dex.specs.Kinds.{kind_words};
-ghost use Rattle.ps_dex.specs.Effects.{status_words, aim_words, stat_words, screen_words, copy_words, chance_in, fixed_in, status_effect_in, confuse_in, flinch_in, stages_in, boost_in, recoil_in, double_in, charge_in, screen_in, copy_in, effect_of, effect_in};
+ghost use Rattle.ps_dex.specs.Effects.{status_words, aim_words, stat_words, screen_words, copy_words, chance_in, fixed_in};
+ghost use Rattle.ps_dex.specs.Effects.{status_effect_in, confuse_in, flinch_in, stages_in, boost_in, recoil_in, double_in, charge_in};
+ghost use Rattle.ps_dex.specs.Effects.{screen_in, copy_in, effect_of, effect_in};
 
 use crate::kind::{KINDS, Kind};
 use ps_data::fault::{DataKind, Refusal};

@@ -4,7 +4,9 @@ ghost use Rattle.serde_json.specs.View.{view};
 ghost use Rattle.ps_data.specs.OwnIds.{IsNew};
 ghost use Rattle.ps_data.specs.Reading.{Gives, GivesBy, required};
 ghost use Rattle.ps_data.specs.Lists.{each, list_at};
-ghost use Rattle.ps_dex.specs.Species.{species_index, has_species, other_type_in, one_type_in, two_types_in, types_of, types_in, base_stat_in, five_stats_in, stats_of, stats_in, has_number, learned_in, learns_in, species_item_in};
+ghost use Rattle.ps_dex.specs.Species.{species_index, has_species, other_type_in, one_type_in, two_types_in, types_of, types_in};
+ghost use Rattle.ps_dex.specs.Species.{base_stat_in, five_stats_in, stats_of, stats_in, has_number, learned_in, learns_in};
+ghost use Rattle.ps_dex.specs.Species.{species_item_in};
 
 use crate::item::{MoveItem, SpeciesItem, TypeItem};
 use crate::moves::move_index;
@@ -264,7 +266,8 @@ pub(crate) fn species_at(
 ) -> Result<Table<SpeciesItem>, Refusal>
     requires few_types { length types.now ≤ 32 }
     requires few_moves { length moves.now ≤ 1024 }
-    ensures gives { Gives result (list_at (codes "species") 0 1024 (λ before after. species_item_in types.now moves.now before) (view value.now)) }
+    ensures gives { Gives result (list_at (codes "species") 0 1024 (λ before after. species_item_in types.now moves.now before)
+        (view value.now)) }
     ensures few { IfOk result (λ species. length species ≤ 1024) }
 {
     let form = SpeciesForm { types, moves };

@@ -1,5 +1,6 @@
 -- What a line below the first says.
-use Rattle.std.specs.Prelude.{ℕ, ◌==◌, ◌&&◌, not, Bool, false, List, [], ◌∷◌, length, Option, Some, None, codes, nat_le, option_map, option_and_then, if◌then◌else◌}
+use Rattle.std.specs.Prelude.{ℕ, ◌==◌, ◌&&◌, not, Bool, false, List, [], ◌∷◌, length, Option, Some, None, codes, nat_le, option_map}
+use Rattle.std.specs.Prelude.{option_and_then, if◌then◌else◌}
 use Rattle.std.specs.List.{list_all, list_any}
 use Rattle.std.specs.Str.{chars, bytes_eq}
 use Rattle.ps_base.specs.Cuts.{after_front, before_end}
@@ -13,6 +14,7 @@ use Rattle.ps_export.specs.declared.detail.Detail.{Detail}
 use Rattle.ps_export.specs.declared.detail.Detail.TheVariants.{Said, Move, Ignored}
 use Rattle.ps_export.specs.Lines.{bare, after_space}
 use Rattle.ps_export.specs.Spreads.{number_in, pairs_in, numbers_of}
+use Rattle.ps_base.specs.Characters as characters
 
 -- the field of a packed set is this text
 abbrev pub said : Key → Option (List ℕ) → Option Detail
@@ -53,7 +55,7 @@ move_named (Some name) = if is_move_name name then Some (Move (id_of name)) else
 
 -- a line with none of the keys
 unfoldable pub unkeyed : List ℕ → Option Detail
-unkeyed line = if list_any (λ b. b == 58) line then Some Ignored else said keys.Nature (nature_in line)
+unkeyed line = if list_any (λ byte. byte == characters.colon) line then Some Ignored else said keys.Nature (nature_in line)
 
 -- a line with this key says what follows it; else look further
 abbrev pub if_keyed : Option (List ℕ) → Key → (List ℕ → Option (List ℕ)) → Option Detail → Option Detail
@@ -76,7 +78,7 @@ keyed line =
 
 abbrev pub begins_with_dash : List ℕ → Bool
 begins_with_dash [] = false
-begins_with_dash (b ∷ bytes) = b == 45
+begins_with_dash (byte ∷ bytes) = byte == characters.hyphen
 
 unfoldable pub detail_of : List ℕ → Option Detail
 detail_of line = if begins_with_dash line then move_named (after_front (codes "- ") line) else keyed line

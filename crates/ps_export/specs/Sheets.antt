@@ -1,5 +1,6 @@
 -- Lines make sheets: the packed text of the sets so far, line by line.
-use Rattle.std.specs.Prelude.{ℕ, ◌+◌, ◌||◌, Bool, List, [], ◌∷◌, ◌++◌, Option, Some, None, codes, option_and_then, is_some, nat_lt, if◌then◌else◌}
+use Rattle.std.specs.Prelude.{ℕ, ◌+◌, ◌||◌, Bool, List, [], ◌∷◌, ◌++◌, Option, Some, None, codes, option_and_then, is_some, nat_lt}
+use Rattle.std.specs.Prelude.{if◌then◌else◌}
 use Rattle.std.specs.List.{join_with_byte}
 use Rattle.std.specs.Str.{bytes_eq}
 use Rattle.ps_base.specs.Cuts.{after_front, before_end}
@@ -14,6 +15,7 @@ use Rattle.ps_export.specs.declared.first.Names.{Names}
 use Rattle.ps_export.specs.declared.sheet.Sheet.{Sheet}
 use Rattle.ps_export.specs.Lines.{parts, clean, bare}
 use Rattle.ps_export.specs.Details.{detail_of}
+use Rattle.ps_base.specs.Characters as characters
 
 -- ---- the first line of a set
 
@@ -63,7 +65,8 @@ abbrev pub names_of : List (List ℕ) → Option Names
 names_of [] = None
 names_of (species ∷ []) = species_alone [] (bare (Some species))
 names_of (front ∷ group ∷ []) = with_group (before_end (codes " ") front) (before_end (codes ")") group)
-names_of (front ∷ group ∷ gender ∷ []) = with_groups (before_end (codes " ") front) (before_end (codes ") ") group) (before_end (codes ")") gender)
+names_of (front ∷ group ∷ gender ∷ []) = with_groups (before_end (codes " ") front) (before_end (codes ") ") group)
+    (before_end (codes ")") gender)
 names_of (front ∷ group ∷ gender ∷ more ∷ left) = None
 
 abbrev pub draft_with : Option (List ℕ) → Option Names → Option Draft
@@ -73,7 +76,7 @@ draft_with (Some item) (Some names) = Some (drafted names.nick names.species nam
 
 abbrev pub names_in : Option (List ℕ) → Option Names
 names_in None = None
-names_in (Some text) = names_of (parts 40 text)
+names_in (Some text) = names_of (parts characters.open_parenthesis text)
 
 -- what the parts round the at sign say
 abbrev pub first_of : List (List ℕ) → Option Draft
@@ -83,7 +86,7 @@ first_of (front ∷ back ∷ []) = draft_with (bare (after_front (codes " ") bac
 first_of (front ∷ back ∷ more ∷ left) = None
 
 unfoldable pub draft_of : List ℕ → Option Draft
-draft_of line = first_of (parts 64 line)
+draft_of line = first_of (parts characters.at_sign line)
 
 -- ---- details
 
@@ -99,7 +102,7 @@ say draft keys.Misc text = if is_some draft.misc then None else Some (record dra
 
 -- ids between commas
 unfoldable pub with_move : List ℕ → List ℕ → List ℕ
-with_move moves id = if is_nil moves then id else moves ++ 44 ∷ id
+with_move moves id = if is_nil moves then id else moves ++ characters.comma ∷ id
 
 abbrev pub with_detail : Draft → Detail → Option Draft
 with_detail draft (Said key text) = say draft key text
@@ -114,14 +117,16 @@ spoken (Some text) = text
 
 -- the fields of a packed set
 abbrev pub fields_of : Draft → List (List ℕ)
-fields_of d = d.nick ∷ d.species ∷ d.item ∷ spoken d.ability ∷ d.moves ∷ spoken d.nature ∷ spoken d.evs ∷ d.gender ∷ spoken d.ivs ∷ spoken d.shiny ∷ spoken d.level ∷ spoken d.misc ∷ []
+fields_of draft = draft.nick ∷ draft.species ∷ draft.item ∷ spoken draft.ability ∷ draft.moves ∷ spoken draft.nature
+    ∷ spoken draft.evs ∷ draft.gender ∷ spoken draft.ivs
+    ∷ spoken draft.shiny ∷ spoken draft.level ∷ spoken draft.misc ∷ []
 
 unfoldable pub set_text : Draft → List ℕ
-set_text draft = join_with_byte 124 (fields_of draft)
+set_text draft = join_with_byte characters.bar (fields_of draft)
 
 -- one more set of a packed text
 unfoldable pub joined_sets : List ℕ → List ℕ → List ℕ
-joined_sets before set = if is_nil before then set else before ++ 93 ∷ set
+joined_sets before set = if is_nil before then set else before ++ characters.close_bracket ∷ set
 
 abbrev pub start : Sheet
 start = record { before = []; sets = 0; draft = None }
@@ -151,8 +156,8 @@ detailed draft (Some detail) = with_detail draft detail
 -- an empty line ends the set; any other begins one or says more of it
 abbrev pub with_clean : List ℕ → ℕ → Option Draft → List ℕ → Option Sheet
 with_clean before sets draft [] = Some (record { before = packed_with before draft; sets = sets; draft = None })
-with_clean before sets None (b ∷ bytes) = opened before sets (draft_of (b ∷ bytes))
-with_clean before sets (Some draft) (b ∷ bytes) = gone_on before sets (detailed draft (detail_of (b ∷ bytes)))
+with_clean before sets None (byte ∷ bytes) = opened before sets (draft_of (byte ∷ bytes))
+with_clean before sets (Some draft) (byte ∷ bytes) = gone_on before sets (detailed draft (detail_of (byte ∷ bytes)))
 
 unfoldable pub with_line : Sheet → List ℕ → Option Sheet
 with_line sheet line = with_clean sheet.before sheet.sets sheet.draft (clean line)

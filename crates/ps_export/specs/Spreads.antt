@@ -1,9 +1,11 @@
 -- EVs and IVs: ` 252 HP / 4 Atk`.
-use Rattle.std.specs.Prelude.{ℕ, ◌==◌, ◌&&◌, ◌||◌, Bool, true, false, List, [], ◌∷◌, ◌++◌, length, map, Option, Some, None, codes, nat_le, option_map, option_and_then, if◌then◌else◌}
+use Rattle.std.specs.Prelude.{ℕ, ◌==◌, ◌&&◌, ◌||◌, Bool, true, false, List, [], ◌∷◌, ◌++◌, length, map, Option, Some, None, codes}
+use Rattle.std.specs.Prelude.{nat_le, option_map, option_and_then, if◌then◌else◌}
 use Rattle.std.specs.Str.{bytes_eq}
 use Rattle.ps_packed.specs.Forms.{are_digits, number_of}
 use Rattle.ps_packed.specs.Packed.{is_nil}
 use Rattle.ps_export.specs.Lines.{parts}
+use Rattle.ps_base.specs.Characters as characters
 
 -- the number that one to three digits spell
 unfoldable pub number_in : List ℕ → Option ℕ
@@ -52,11 +54,12 @@ more_pairs (Some pair) before = if is_named pair.0 before then None else Some (b
 -- those of the parts, behind others
 abbrev pub pairs_after : List (ℕ × ℕ) → List (List ℕ) → Option (List (ℕ × ℕ))
 pairs_after before [] = Some before
-pairs_after before (part ∷ parts_left) = option_and_then (λ more. pairs_after more parts_left) (more_pairs (pair_of (parts 32 part)) before)
+pairs_after before (part ∷ parts_left) = option_and_then (λ more. pairs_after more parts_left)
+    (more_pairs (pair_of (parts characters.space part)) before)
 
 -- what the text says that stands behind the colon
 unfoldable pub pairs_in : List ℕ → Option (List (ℕ × ℕ))
-pairs_in rest = pairs_after [] (parts 47 (rest ++ 32 ∷ []))
+pairs_in rest = pairs_after [] (parts characters.slash (rest ++ characters.space ∷ []))
 
 -- HP, Attack, Defense, Special Attack, Special Defense and Speed; those that aren't named have the silent one
 unfoldable pub numbers_of : ℕ → List (ℕ × ℕ) → List ℕ

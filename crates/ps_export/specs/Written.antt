@@ -1,5 +1,6 @@
 -- The export text that is written for a team.
-use Rattle.std.specs.Prelude.{◌≡◌, ℕ, ◌+◌, ◌<◌, ◌==◌, ◌&&◌, ◌||◌, not, Bool, List, [], ◌∷◌, ◌++◌, length, map, Option, Some, None, codes, encode_utf8, decimal, is_some, if◌then◌else◌}
+use Rattle.std.specs.Prelude.{◌≡◌, ℕ, ◌+◌, ◌<◌, ◌==◌, ◌&&◌, ◌||◌, not, Bool, List, [], ◌∷◌, ◌++◌, length, map, Option, Some, None}
+use Rattle.std.specs.Prelude.{codes, encode_utf8, decimal, is_some, if◌then◌else◌}
 use Rattle.std.specs.List.{list_all, list_any, join_with_byte}
 use Rattle.std.specs.Str.{bytes_eq}
 use Rattle.ps_base.specs.Cuts.{after_front, before_end}
@@ -12,23 +13,26 @@ use Rattle.ps_export.specs.declared.fault.WriteExportFault.TheVariants as faults
 use Rattle.ps_export.specs.Lines.{is_sign}
 use Rattle.ps_export.specs.Details.{begins_with_dash}
 use Rattle.ps_export.specs.Sheets.{is_gender}
+use Rattle.ps_base.specs.Characters as characters
 
 -- ---- what can be written
 
 -- none of the signs, and no space at an end
 unfoldable pub is_plain : List ℕ → Bool
-is_plain text = list_all (λ b. not (is_sign b)) text && not (is_some (after_front (codes " ") text)) && not (is_some (before_end (codes " ") text))
+is_plain text = list_all (λ byte. not (is_sign byte)) text && not (is_some (after_front (codes " ") text))
+    && not (is_some (before_end (codes " ") text))
 
 -- a nature that no key and no move looks like
 unfoldable pub is_nature : List ℕ → Bool
-is_nature nature = not (list_any (λ b. b == 58) nature) && not (begins_with_dash nature)
+is_nature nature = not (list_any (λ byte. byte == characters.colon) nature) && not (begins_with_dash nature)
 
 -- the species beside another nickname looks like no gender
 unfoldable pub are_names : List ℕ → List ℕ → Bool
 are_names nick species = bytes_eq nick species || not (is_gender species)
 
 unfoldable pub are_plain : Set → Bool
-are_plain set = is_plain set.nick && is_plain set.species && is_plain set.item && is_plain set.ability && is_plain set.nature && is_plain set.misc
+are_plain set = is_plain set.nick && is_plain set.species && is_plain set.item && is_plain set.ability && is_plain set.nature
+    && is_plain set.misc
 
 unfoldable pub is_writable : Set → Bool
 is_writable set = are_plain set && is_nature set.nature && are_names set.nick set.species
@@ -73,7 +77,8 @@ slash before = if is_nil before then [] else codes " /"
 
 -- one stat more, where it has another number than the silent one
 unfoldable pub with_stat : ℕ → ℕ → List ℕ → List ℕ → List ℕ
-with_stat silent number name before = if number == silent then before else before ++ slash before ++ codes " " ++ decimal number ++ codes " " ++ name
+with_stat silent number name before = if number == silent then before else before ++ slash before ++ codes " " ++ decimal number
+    ++ codes " " ++ name
 
 abbrev pub stats_text : ℕ → List ℕ → List ℕ
 stats_text silent (hp ∷ atk ∷ def ∷ spa ∷ spd ∷ spe ∷ []) =
@@ -104,15 +109,16 @@ set_lines set =
 
 -- each line ends with a newline
 unfoldable pub block : Set → List ℕ
-block set = join_with_byte 10 (set_lines set ++ [] ∷ [])
+block set = join_with_byte characters.newline (set_lines set ++ [] ∷ [])
 
 -- one empty line parts sets
 unfoldable pub export_text : List Set → List ℕ
-export_text team = join_with_byte 10 (map block team)
+export_text team = join_with_byte characters.newline (map block team)
 
 -- ---- faults
 
 abbrev pub WriteFails : List Set → WriteExportFault → Type 0
 WriteFails team (faults.Unwritable set) = first_unwritable 1 team ≡ Some set
-WriteFails team (faults.Long bytes) = (first_unwritable 1 team ≡ None) × (8192 < length (export_text team)) × (bytes ≡ counted (length (export_text team)))
+WriteFails team (faults.Long bytes) = (first_unwritable 1 team ≡ None) × (8192 < length (export_text team))
+    × (bytes ≡ counted (length (export_text team)))
 WriteFails team faults.NoMemory = Unit {0}

@@ -4,7 +4,8 @@ ghost use Rattle.std.specs.Option.{option_copied};
 ghost use Rattle.std.specs.List.{list_any, list_all};
 ghost use Rattle.ps_packed.specs.Canon.{level_text};
 ghost use Rattle.ps_packed.specs.Forms.{is_field_char};
-ghost use Rattle.ps_export.specs.Details.{said, words_text, level_after, shiny_after, evs_after, ivs_after, nature_in, is_move_name, move_named, unkeyed, numbered, keyed, begins_with_dash, detail_of};
+ghost use Rattle.ps_export.specs.Details.{said, words_text, level_after, shiny_after, evs_after, ivs_after, nature_in, is_move_name};
+ghost use Rattle.ps_export.specs.Details.{move_named, unkeyed, numbered, keyed, begins_with_dash, detail_of};
 
 use crate::part::{after_space, bare, char_count, is_nil};
 use crate::spread::{evs_after, ivs_after, level_text, number_in};

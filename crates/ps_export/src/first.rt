@@ -2,7 +2,8 @@
 ghost use Rattle.std.specs.Prelude.{◌≡◌, IfOk, map, nat_le, length, chars, Some};
 ghost use Rattle.std.specs.Option.{option_copied};
 ghost use Rattle.ps_packed.specs.Canon.{nick_text, species_text};
-ghost use Rattle.ps_export.specs.Sheets.{is_gender, species_alone, both_names, with_group, with_groups, names_of, draft_with, names_in, first_of, draft_of};
+ghost use Rattle.ps_export.specs.Sheets.{is_gender, species_alone, both_names, with_group, with_groups, names_of, draft_with};
+ghost use Rattle.ps_export.specs.Sheets.{names_in, first_of, draft_of};
 
 use crate::draft::{Draft, drafted};
 use crate::part::{bare, char_count, parts};

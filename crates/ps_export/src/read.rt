@@ -1,5 +1,6 @@
 //! Reads export texts.
-ghost use Rattle.std.specs.Prelude.{◌≡◌, ◌==◌, ◌<◌, ◌≤◌, false, filter, take, codes, is_some, IsTrue, IfOk, IfErr, IfSome, IfNone, List, length, map};
+ghost use Rattle.std.specs.Prelude.{◌≡◌, ◌==◌, ◌<◌, ◌≤◌, false, filter, take, codes, is_some, IsTrue, IfOk, IfErr, IfSome, IfNone};
+ghost use Rattle.std.specs.Prelude.{List, length, map};
 ghost use Rattle.ps_base.specs.Cuts.{before_end};
 ghost use Rattle.ps_packed.specs.declared.set.Set.{Set};
 ghost use Rattle.ps_export.specs.Lines.{lines};

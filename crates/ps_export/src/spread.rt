@@ -5,7 +5,8 @@ ghost use Rattle.ps_packed.specs.Canon.{are_all, ev_text, evs_text, iv_text, ivs
 ghost use Rattle.ps_packed.specs.Forms.{are_digits, number_of};
 ghost use Rattle.ps_export.specs.Details.{evs_after, ivs_after};
 ghost use Rattle.ps_export.specs.Lines.{parts as parts_of};
-ghost use Rattle.ps_export.specs.Spreads.{number_in, stat_named, pair_with, pair_of, number_at, is_named, pairs_after, pairs_in, numbers_of};
+ghost use Rattle.ps_export.specs.Spreads.{number_in, stat_named, pair_with, pair_of, number_at, is_named, pairs_after, pairs_in};
+ghost use Rattle.ps_export.specs.Spreads.{numbers_of};
 
 use crate::join::joined;
 use crate::part::{is_nil, parts};

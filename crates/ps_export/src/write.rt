@@ -3,7 +3,9 @@ ghost use Rattle.std.specs.Prelude.{◌≡◌, ◌++◌, ◌∷◌, [], ◌≤�
 ghost use Rattle.std.specs.List.{join_with_byte};
 ghost use Rattle.ps_packed.specs.Canon.{are_all};
 ghost use Rattle.ps_export.specs.Export.{IsExport};
-ghost use Rattle.ps_export.specs.Written.{first_unwritable, names_text, gender_part, item_part, first_line, words_line, level_line, shiny_line, nature_line, slash, with_stat, stats_text, or_zero, evs_line, ivs_line, move_line, set_lines, block, export_text, WriteFails};
+ghost use Rattle.ps_export.specs.Written.{first_unwritable, names_text, gender_part, item_part, first_line, words_line, level_line};
+ghost use Rattle.ps_export.specs.Written.{shiny_line, nature_line, slash, with_stat, stats_text, or_zero, evs_line, ivs_line};
+ghost use Rattle.ps_export.specs.Written.{move_line, set_lines, block, export_text, WriteFails};
 
 use crate::fault::WriteExportFault;
 use crate::join::joined;

@@ -1,5 +1,6 @@
 -- What list of groups a value stands for.
-use Rattle.std.specs.Prelude.{ℕ, ◌==◌, ◌||◌, Bool, true, false, not, List, [], ◌∷◌, length, codes, Option, Some, None, option_and_then, bytes_eq, Result, Ok, nat_le, nat_lt, if◌then◌else◌}
+use Rattle.std.specs.Prelude.{ℕ, ◌==◌, ◌||◌, Bool, true, false, not, List, [], ◌∷◌, length, codes, Option, Some, None}
+use Rattle.std.specs.Prelude.{option_and_then, bytes_eq, Result, Ok, nat_le, nat_lt, if◌then◌else◌}
 use Rattle.std.specs.List.{list_any, list_all}
 use Rattle.std.specs.Str.{chars}
 use Rattle.serde_json.specs.Data.{Data}
@@ -13,30 +14,31 @@ use Rattle.ps_data.specs.OwnIds.{own_id_in}
 use Rattle.ps_group.specs.declared.group.Jurisdiction.{Jurisdiction}
 use Rattle.ps_group.specs.declared.group.Permissions.{Permissions}
 use Rattle.ps_group.specs.declared.group.Group.{Group}
+use Rattle.ps_base.specs.Characters as characters
 
 -- ---- symbol
 
 -- one character, and no control character below the space
 abbrev pub one_character : List ℕ → Option ℕ
 one_character [] = None
-one_character (c ∷ []) = if nat_le 32 c then Some c else None
-one_character (c ∷ d ∷ cs) = None
+one_character (char ∷ []) = if nat_le characters.space char then Some char else None
+one_character (char ∷ next ∷ rest) = None
 
 abbrev pub symbol_in : Data → Result ℕ Fault
-symbol_in d = text_in d >>= λ text. some_or Range (one_character (chars text))
+symbol_in value = text_in value >>= λ text. some_or Range (one_character (chars text))
 
 -- the last group's symbol is the space
 abbrev pub may_stand : ℕ → List Data → Bool
-may_stand symbol [] = symbol == 32
-may_stand symbol (d ∷ after) = true
+may_stand symbol [] = symbol == characters.space
+may_stand symbol (next ∷ after) = true
 
 -- a group has the symbol
 unfoldable pub has_symbol : ℕ → List Group → Bool
-has_symbol symbol groups = list_any (λ g. g.symbol == symbol) groups
+has_symbol symbol groups = list_any (λ group. group.symbol == symbol) groups
 
 unfoldable pub own_symbol_in : List Group → List Data → Data → Result ℕ Fault
-own_symbol_in before after d = do
-  symbol ← symbol_in d
+own_symbol_in before after value = do
+  symbol ← symbol_in value
   _ ← ensure Range (may_stand symbol after)
   _ ← ensure Repeat (not (has_symbol symbol before))
   Ok symbol
@@ -49,33 +51,37 @@ is_text text None = false
 is_text text (Some other) = bytes_eq other text
 
 unfoldable pub shows : List ℕ → Data → Bool
-shows text d = is_text text (option_and_then as_str (get (codes "symbol") d))
+shows text value = is_text text (option_and_then as_str (get (codes "symbol") value))
 
 -- a group that stands later in the list, by the text of its symbol as it stands. A text that isn't one character names at
 -- most a group that is a fault itself, further on.
 unfoldable pub lower_in : List Data → Data → Result (Option ℕ) Fault
-lower_in after d = do
-  text ← text_in d
+lower_in after value = do
+  text ← text_in value
   _ ← ensure Unknown (list_any (shows text) after)
   Ok (one_character (chars text))
 
 -- only the last group may inherit none
 unfoldable pub inherit_in : List Data → Data → Result (Option ℕ) Fault
-inherit_in [] d = optional (codes "inherit") None (lower_in []) d
-inherit_in (e ∷ after) d = required (codes "inherit") (lower_in (e ∷ after)) d
+inherit_in [] value = optional (codes "inherit") None (lower_in []) value
+inherit_in (next ∷ after) value = required (codes "inherit") (lower_in (next ∷ after)) value
 
 -- ---- permissions
 
 -- u, s or a
 abbrev pub is_letter : ℕ → Bool
-is_letter b = b == 117 || b == 115 || b == 97
+is_letter byte = byte == characters.letter_u || byte == characters.letter_s || byte == characters.letter_a
 
 abbrev pub jurisdiction_of : List ℕ → Jurisdiction
-jurisdiction_of text = record { under = list_any (λ b. b == 117) text; oneself = list_any (λ b. b == 115) text; all = list_any (λ b. b == 97) text }
+jurisdiction_of text = record {
+  under = list_any (λ byte. byte == characters.letter_u) text;
+  oneself = list_any (λ byte. byte == characters.letter_s) text;
+  all = list_any (λ byte. byte == characters.letter_a) text;
+}
 
 unfoldable pub jurisdiction_in : Data → Result (Option Jurisdiction) Fault
-jurisdiction_in d = do
-  text ← text_in d
+jurisdiction_in value = do
+  text ← text_in value
   _ ← ensure Range (list_all is_letter text)
   Ok (Some (jurisdiction_of text))
 
@@ -83,36 +89,36 @@ abbrev pub no_permissions : Permissions
 no_permissions = record { announce = None; modnote = None; warn = None; mute = None; ban = None; modchat = None; promote = None }
 
 unfoldable pub permissions_in : Data → Result Permissions Fault
-permissions_in d = do
-  _ ← object_in d
-  announce ← optional (codes "announce") None jurisdiction_in d
-  modnote ← optional (codes "modnote") None jurisdiction_in d
-  warn ← optional (codes "warn") None jurisdiction_in d
-  mute ← optional (codes "mute") None jurisdiction_in d
-  ban ← optional (codes "ban") None jurisdiction_in d
-  modchat ← optional (codes "modchat") None jurisdiction_in d
-  promote ← optional (codes "promote") None jurisdiction_in d
+permissions_in value = do
+  _ ← object_in value
+  announce ← optional (codes "announce") None jurisdiction_in value
+  modnote ← optional (codes "modnote") None jurisdiction_in value
+  warn ← optional (codes "warn") None jurisdiction_in value
+  mute ← optional (codes "mute") None jurisdiction_in value
+  ban ← optional (codes "ban") None jurisdiction_in value
+  modchat ← optional (codes "modchat") None jurisdiction_in value
+  promote ← optional (codes "promote") None jurisdiction_in value
   Ok (record { announce = announce; modnote = modnote; warn = warn; mute = mute; ban = ban; modchat = modchat; promote = promote })
 
 -- ---- a group, and the list
 
 unfoldable pub group_in : List Group → List Data → Data → Result Group Fault
-group_in before after d = do
-  _ ← object_in d
-  symbol ← required (codes "symbol") (own_symbol_in before after) d
-  id ← required (codes "id") (own_id_in (λ g. g.id) before) d
-  name ← required (codes "name") text_in d
-  inherit ← inherit_in after d
-  permissions ← optional (codes "permissions") no_permissions permissions_in d
+group_in before after value = do
+  _ ← object_in value
+  symbol ← required (codes "symbol") (own_symbol_in before after) value
+  id ← required (codes "id") (own_id_in (λ group. group.id) before) value
+  name ← required (codes "name") text_in value
+  inherit ← inherit_in after value
+  permissions ← optional (codes "permissions") no_permissions permissions_in value
   Ok (record { symbol = symbol; id = id; name = name; inherit = inherit; permissions = permissions })
 
 -- sixteen groups at most
 abbrev pub group_in_sixteen : List Group → List Data → Data → Result Group Fault
-group_in_sixteen before after d = if nat_lt (length before) 16 then group_in before after d else refuse Range
+group_in_sixteen before after value = if nat_lt (length before) 16 then group_in before after value else refuse Range
 
 -- one group at least
 unfoldable pub groups_in : Data → Result (List Group) Fault
-groups_in d = do
-  items ← array_in d
+groups_in value = do
+  items ← array_in value
   _ ← ensure Range (nat_lt 0 (length items))
   each group_in_sixteen [] items

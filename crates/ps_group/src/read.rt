@@ -4,7 +4,9 @@ ghost use Rattle.std.specs.List.{list_any, list_all};
 ghost use Rattle.std.specs.Str.{chars};
 ghost use Rattle.serde_json.specs.View.{view};
 ghost use Rattle.ps_data.specs.Reading.{Gives, GivesBy, optional};
-ghost use Rattle.ps_group.specs.Reading.{one_character, symbol_in, may_stand, has_symbol, own_symbol_in, shows, lower_in, inherit_in, is_letter, jurisdiction_in, permissions_in, no_permissions, group_in, group_in_sixteen, groups_in};
+ghost use Rattle.ps_group.specs.Reading.{one_character, symbol_in, may_stand, has_symbol, own_symbol_in, shows, lower_in, inherit_in};
+ghost use Rattle.ps_group.specs.Reading.{is_letter, jurisdiction_in, permissions_in, no_permissions, group_in, group_in_sixteen};
+ghost use Rattle.ps_group.specs.Reading.{groups_in};
 
 use crate::group::{Group, Jurisdiction, Permissions};
 use crate::groups::Groups;

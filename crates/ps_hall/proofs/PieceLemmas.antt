@@ -6,7 +6,7 @@ use Rattle.ps_base.specs.Messages.{sent}
 use Rattle.ps_hall.specs.declared.notice.Notice.{Notice}
 use Rattle.ps_hall.specs.declared.piece.TheConstants.{PIECE_MESSAGES, PIECE_BYTES}
 use Rattle.ps_hall.specs.Halls.{pulled, message_of}
-use Rattle.ps_hall.specs.Pieces.{message_bytes, piece_bytes, IsShort}
+use Rattle.ps_hall.specs.Pieces.{message_bytes, piece_bytes, HadRoomBeforeLast}
 
 pulled_more : (conn : ℕ) (log more : List (List Notice)) → pulled conn (log ++ more) ≡ pulled conn log ++ pulled conn more
 pulled_more conn [] more = refl
@@ -16,7 +16,7 @@ sent_bytes : (lines : List (List ℕ)) → piece_bytes (sent lines) ≡ message_
 sent_bytes [] = refl
 sent_bytes (line ∷ lines) = omega arith
 
-short_behind : (ms : List (List (List ℕ))) (lines : List (List ℕ)) → length ms < PIECE_MESSAGES → piece_bytes ms < PIECE_BYTES → IsShort (ms ++ sent lines)
+short_behind : (ms : List (List (List ℕ))) (lines : List (List ℕ)) → length ms < PIECE_MESSAGES → piece_bytes ms < PIECE_BYTES → HadRoomBeforeLast (ms ++ sent lines)
 short_behind ms [] few small = rw (append-nil ms) (record {
   messages = omega arith;
   bytes = omega (arith, sum_by-take-drop message_bytes ms (length ms - 1));
@@ -30,7 +30,7 @@ short_behind ms (line ∷ lines) few small = record {
 pub record IsTaken (conn : ℕ) (log : List (List Notice)) (must : ℕ) (ms : List (List (List ℕ))) (room i : ℕ) : Type 0 where
   pub told : ms ≡ pulled conn (take i log)
   pub left : room ≡ PIECE_BYTES - piece_bytes ms
-  pub short : IsShort ms ⊎ (i ≤ must)
+  pub short : HadRoomBeforeLast ms ⊎ (i ≤ must)
 
 told_more : (conn : ℕ) (log : List (List Notice)) (i : ℕ) (ns : List Notice) → i < length log → ns ≡ get_or log i ns → pulled conn (take (i + 1) log) ≡ pulled conn (take i log) ++ sent (message_of conn ns)
 told_more conn log i ns inside is =
@@ -50,7 +50,7 @@ next_taken conn log must ms new count room i ns lines after taken counts goes in
   left = room_is ∙ room_left ms lines room taken.left ∙ ap (λ (all : List (List (List ℕ))). PIECE_BYTES - piece_bytes all) (sym put);
   short = elim goes [
     | inl early ↦ inr (omega arith)
-    | inr more ↦ inl (subst IsShort (sym put) (short_behind ms lines (omega (arith, counts, more.0)) (omega (arith, taken.left, more.1))))
+    | inr more ↦ inl (subst HadRoomBeforeLast (sym put) (short_behind ms lines (omega (arith, counts, more.0)) (omega (arith, taken.left, more.1))))
   ];
 }
 

@@ -6,11 +6,11 @@ use Rattle.ps_base.specs.ById.{ById}
 use Rattle.ps_users.specs.declared.account.Account.{Account}
 
 abbrev pub account_of : Registered → Account
-account_of u = record { secret = u.secret; rank = u.rank }
+account_of user = record { secret = user.secret; rank = user.rank }
 
 abbrev pub accounts_from : ById Account → List Registered → ById Account
 accounts_from accounts [] = accounts
-accounts_from accounts (u ∷ us) = accounts_from (insert accounts u.id (account_of u)) us
+accounts_from accounts (user ∷ users) = accounts_from (insert accounts user.id (account_of user)) users
 
 -- no two registered names have one id
 abbrev pub accounts_of : List Registered → ById Account

@@ -17,7 +17,7 @@ staying None gs = gs
 staying (Some number) gs = without_game gs number
 
 abbrev pub games_after : ComingGames → List Game
-games_after c = staying c.gone c.games.now.list ++ option_to_list (option_copied c.new)
+games_after coming = staying coming.gone coming.games.now.list ++ option_to_list (option_copied coming.new)
 
 -- ---- searches
 
@@ -28,14 +28,14 @@ left_of (Own user) ss = cancelled ss user.now
 left_of (Matched user format rating) ss = without ss user.now format.now rating
 
 abbrev pub searches_after : ComingSearches → List Search
-searches_after c = left_of c.gone c.searches.now ++ option_to_list (option_copied c.new)
+searches_after coming = left_of coming.gone coming.searches.now ++ option_to_list (option_copied coming.new)
 
 -- ---- the same of the searches of one user, which the index finds
 
 -- whether the search that is matched, if one is, is of a user
 abbrev pub has_matched : Option Search → List ℕ → Bool
 has_matched None id = false
-has_matched (Some s) id = has_user id s
+has_matched (Some search) id = has_user id search
 
 -- without the one that is matched, if it is of the user
 abbrev pub own_without : List Search → List ℕ → List ℕ → ℤ → List ℕ → List Search → List Search
@@ -51,4 +51,4 @@ own_left (Own user) ss id own = own_but user.now id own
 own_left (Matched user format rating) ss id own = own_without ss user.now format.now rating id own
 
 abbrev pub formats_of : List Search → List (List ℕ)
-formats_of ss = map (λ s. s.format) ss
+formats_of ss = map (λ search. search.format) ss

@@ -12,19 +12,19 @@ pub record Played : Type 0 where
   pub list : List Game
 
 abbrev pub played_of : Table → Played
-played_of t = record { started = t.started; list = items_of t.games }
+played_of table = record { started = table.started; list = items_of table.games }
 
 -- the next battle has started
 abbrev pub with_next : Played → Game → Played
-with_next p g = record { started = p.started + 1; list = p.list ++ g ∷ [] }
+with_next played game = record { started = played.started + 1; list = played.list ++ game ∷ [] }
 
 -- each battle stands at its number
 abbrev pub AreNumbered : List (ℕ × Game) → Type 0
 AreNumbered [] = Unit {0}
-AreNumbered (e ∷ es) = (e.0 ≡ e.1.number) × AreNumbered es
+AreNumbered (entry ∷ entries) = (entry.0 ≡ entry.1.number) × AreNumbered entries
 
 -- the battles stand at their numbers, of those that have started, and the index finds each at its players' ids
-pub record AreKept (t : Table) : Type 0 where
-  pub below : AreBelow (t.started + 1) t.games
-  pub numbered : AreNumbered t.games
-  pub indexed : IsIndexed plays (t.started + 1) t.games t.players
+pub record AreKept (table : Table) : Type 0 where
+  pub below : AreBelow (table.started + 1) table.games
+  pub numbered : AreNumbered table.games
+  pub indexed : IsIndexed plays (table.started + 1) table.games table.players

@@ -13,9 +13,9 @@ pub record IsKeptIndex (ks : List KeptTeam) (user with_id : List ℕ) (index : �
   pub left : without_kept user with_id ks ≡ remove ks index
 
 abbrev pub IsKeptReady : Tables → KeptTeam → Type 0
-IsKeptReady dex k = IsReady dex k.team
+IsKeptReady dex kept = IsReady dex kept.team
 
 -- all teams that are kept can open a battle
-pub record AreReady (h : Record) : Type 0 where
-  pub challenge_teams : All (IsKeptReady h.dex) h.challenge_teams
-  pub search_teams : All (IsKeptReady h.dex) h.search_teams
+pub record AreReady (hall : Record) : Type 0 where
+  pub challenge_teams : All (IsKeptReady hall.dex) hall.challenge_teams
+  pub search_teams : All (IsKeptReady hall.dex) hall.search_teams

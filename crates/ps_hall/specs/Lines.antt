@@ -23,6 +23,7 @@ use Rattle.ps_ladder.specs.declared.searches.Search.{Search}
 use Rattle.ps_hall.specs.declared.game.Game.{Game}
 use Rattle.rules_start.specs.Starts.{battle_id, battle_title}
 use Rattle.ps_hall.specs.Lookups.{searched, games_of}
+use Rattle.ps_base.specs.Characters as characters
 
 -- ---- connecting
 
@@ -35,7 +36,7 @@ guest_line conn = codes "|updateuser| Guest " ++ decimal conn ++ codes "|0|0|{}"
 
 -- the names of the formats, in order
 abbrev pub formats_line : List Format → List ℕ
-formats_line fs = codes "|formats|" ++ join_with_byte 124 (map (λ f. f.name) fs)
+formats_line fs = codes "|formats|" ++ join_with_byte characters.bar (map (λ format. format.name) fs)
 
 -- what who connects is sent
 abbrev pub open_lines : List ℕ → List Format → ℕ → List (List ℕ)
@@ -48,27 +49,30 @@ user_line groups badge = codes "|updateuser|" ++ shown_name groups badge.rank ba
 -- ---- `|updatesearch|`
 
 abbrev pub with_game : Members → Game → Members
-with_game ms g = put (battle_id g.format g.number) (string (battle_title (slice_index_or g.players 0 []) (slice_index_or g.players 1 []))) ms
+with_game ms game = put (battle_id game.format game.number)
+    (string (battle_title (slice_index_or game.players 0 []) (slice_index_or game.players 1 []))) ms
 
 abbrev pub with_games : Members → List Game → Members
 with_games ms [] = ms
-with_games ms (g ∷ gs) = with_games (with_game ms g) gs
+with_games ms (game ∷ games) = with_games (with_game ms game) games
 
 -- an object, or null where it has no members
 abbrev pub object_or_null : Members → Data
 object_or_null no_members = null
-object_or_null (member k d ms) = object (member k d ms)
+object_or_null (member key value ms) = object (member key value ms)
 
 -- each of the battles with its title, by its id; null where there is none
 abbrev pub games_data : List Game → Data
 games_data gs = object_or_null (with_games no_members gs)
 
 abbrev pub search_data : List Game → List (List ℕ) → Data
-search_data games formats = object (member (codes "games") (games_data games) (member (codes "searching") (array (items_of (map string formats))) no_members))
+search_data games formats = object (member (codes "games") (games_data games)
+    (member (codes "searching") (array (items_of (map string formats))) no_members))
 
 -- for the code: a battle's title at its id, and all battles, as they are written
 unfoldable pub game_member : Game → List ℕ
-game_member g = quoted (battle_id g.format g.number) ++ 58 ∷ quoted (battle_title (slice_index_or g.players 0 []) (slice_index_or g.players 1 []))
+game_member game = quoted (battle_id game.format game.number)
+    ++ characters.colon ∷ quoted (battle_title (slice_index_or game.players 0 []) (slice_index_or game.players 1 []))
 
 unfoldable pub games_text : List Game → List ℕ
 games_text gs = compact_text (games_data gs)
@@ -82,15 +86,17 @@ search_line gs ss id = codes "|updatesearch|" ++ compact_text (search_data (game
 -- null, or the format and who is challenged
 abbrev pub asked_data : Option Asked → Data
 asked_data None = null
-asked_data (Some a) = object (member (codes "format") (string a.format) (member (codes "to") (string a.to) no_members))
+asked_data (Some challenge) = object (member (codes "format") (string challenge.format)
+    (member (codes "to") (string challenge.to) no_members))
 
 abbrev pub with_asked : Members → List Asked → Members
 with_asked ms [] = ms
-with_asked ms (a ∷ others) = with_asked (put a.by (string a.format) ms) others
+with_asked ms (challenge ∷ others) = with_asked (put challenge.by (string challenge.format) ms) others
 
 -- the format of each challenge that was got, by who made it
 abbrev pub challenge_data : Option Asked → List Asked → Data
-challenge_data made got = object (member (codes "challengeTo") (asked_data made) (member (codes "challengesFrom") (object (with_asked no_members got)) no_members))
+challenge_data made got = object (member (codes "challengeTo") (asked_data made)
+    (member (codes "challengesFrom") (object (with_asked no_members got)) no_members))
 
 -- for the code: the two parts of it, as they are written
 unfoldable pub made_text : Option Asked → List ℕ
@@ -107,7 +113,8 @@ challenge_line asked id = codes "|updatechallenges|" ++ compact_text (challenge_
 
 -- `|pm|SNAME|SNAME|TEXT`
 abbrev pub whisper_line : List Group → Badge → Badge → List ℕ → List ℕ
-whisper_line groups from to text = codes "|pm|" ++ shown_name groups from.rank from.name ++ codes "|" ++ shown_name groups to.rank to.name ++ codes "|" ++ text
+whisper_line groups from to text = codes "|pm|" ++ shown_name groups from.rank from.name ++ codes "|"
+    ++ shown_name groups to.rank to.name ++ codes "|" ++ text
 
 -- `|popup|ID FORMAT RATING`
 abbrev pub rating_line : List ℕ → List ℕ → ℤ → List ℕ

@@ -15,20 +15,22 @@ pub record PackFaultAt : Type 0 where
 
 -- what is wrong where no step is made
 abbrev pub kind_in : State → Option ℕ → PackKind
-kind_in s next = kind_of (nameless_at s.bare s.field s.word) s.sets s.field s.word next
+kind_in state next = kind_of (nameless_at state.bare state.field state.word) state.sets state.field state.word next
 
 abbrev pub fault_at : ℕ → PackKind → Option PackFaultAt
 fault_at at kind = Some (record { at = at; kind = kind })
 
 -- what is wrong at a character, or behind it
 abbrev pub next_fault : State → ℕ → ℕ → Option State → (State → Option PackFaultAt) → Option PackFaultAt
-next_fault s at c None behind = fault_at at (kind_in s (Some c))
-next_fault s at c (Some t) behind = if nat_lt 4096 (at + bytes_of (c ∷ []) + need_of t) then fault_at at Long else behind t
+next_fault state at char None behind = fault_at at (kind_in state (Some char))
+next_fault state at char (Some next) behind = if nat_lt 4096 (at + bytes_of (char ∷ []) + need_of next) then fault_at at Long else
+    behind next
 
 -- from a state, with so many bytes before these characters
 abbrev pub fault_from : State → ℕ → List ℕ → Option PackFaultAt
-fault_from s at [] = if accepts s then None else fault_at at (kind_in s None)
-fault_from s at (c ∷ text) = if nat_le 4096 at then fault_at at Long else next_fault s at c (step s c) (λ t. fault_from t (at + bytes_of (c ∷ [])) text)
+fault_from state at [] = if accepts state then None else fault_at at (kind_in state None)
+fault_from state at (char ∷ text) = if nat_le 4096 at then fault_at at Long else next_fault state at char (step state char)
+    (λ next. fault_from next (at + bytes_of (char ∷ [])) text)
 
 -- the fault of a text, if it is no packed team
 abbrev pub pack_fault : List ℕ → Option PackFaultAt
@@ -37,7 +39,7 @@ pack_fault text = fault_from start 0 text
 -- what a fault, or none, says of a text: that it has no team and why, or the team
 abbrev pub Tells : List ℕ → Option PackFaultAt → Type 0
 Tells text None = IsTeam text (team_of text)
-Tells text (Some p) = Refuses text (Fault p.at p.kind)
+Tells text (Some fault) = Refuses text (Fault fault.at fault.kind)
 
 -- the function says what is true, of any text
 abbrev pub PacksLaw : Type 0

@@ -16,6 +16,6 @@ abbrev pub IsEnough : List (List (List ℕ)) → Type 0
 IsEnough ms = (PIECE_MESSAGES ≤ length ms) ⊎ (PIECE_BYTES ≤ piece_bytes ms)
 
 -- a piece with these messages hadn't enough before its last one
-pub record IsShort (ms : List (List (List ℕ))) : Type 0 where
+pub record HadRoomBeforeLast (ms : List (List (List ℕ))) : Type 0 where
   pub messages : length ms ≤ PIECE_MESSAGES
   pub bytes : piece_bytes (take (length ms - 1) ms) < PIECE_BYTES

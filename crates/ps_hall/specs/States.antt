@@ -4,16 +4,16 @@ use Rattle.ps_hall.specs.declared.state.State.{State}
 use Rattle.ps_hall.specs.Records.{Record}
 
 abbrev pub record_of : State → Record
-record_of s = record {
-  config = arc_value s.config;
-  dex = arc_value s.dex;
-  users = s.users;
-  pms = s.pms;
-  teams = s.teams;
-  challenge_teams = s.challenge_teams.items;
-  search_teams = s.search_teams;
-  searches = s.searches;
-  ladders = s.ladders;
-  started = s.games.started;
-  games = s.games.list;
+record_of state = record {
+  config = arc_value state.config;
+  dex = arc_value state.dex;
+  users = state.users;
+  pms = state.pms;
+  teams = state.teams;
+  challenge_teams = state.challenge_teams.items;
+  search_teams = state.search_teams;
+  searches = state.searches;
+  ladders = state.ladders;
+  started = state.games.started;
+  games = state.games.list;
 }

@@ -6,7 +6,8 @@ use Rattle.std.specs.FinMap.{get}
 use Rattle.ps_base.specs.Ids.{id_of}
 use Rattle.ps_base.specs.declared.badge.Badge.{Badge}
 use Rattle.ps_lines.specs.declared.command.HallCmd.{HallCmd}
-use Rattle.ps_lines.specs.declared.command.HallCmd.TheVariants.{Open, Quit, Bad, Name, Search, CancelSearch, Challenge, CancelChallenge, Reject, Accept, Whisper, Rank, Report}
+use Rattle.ps_lines.specs.declared.command.HallCmd.TheVariants.{Open, Quit, Bad, Name, Search, CancelSearch, Challenge}
+use Rattle.ps_lines.specs.declared.command.HallCmd.TheVariants.{CancelChallenge, Reject, Accept, Whisper, Rank, Report}
 use Rattle.ps_group.specs.declared.group.Group.{Group}
 use Rattle.rules_config.specs.declared.settings.Settings.{Settings}
 use Rattle.ps_base.specs.ById.{ById}
@@ -58,7 +59,7 @@ told_of_quit online pms asked (Some badge) = told_partners online asked (partner
 -- the other one, where there is a match
 abbrev pub told_matched : ById ℕ → List Game → List Waiting → Option Waiting → List Notice
 told_matched online gs ss None = []
-told_matched online gs ss (Some s) = to_user online s.user (search_line gs ss s.user ∷ [])
+told_matched online gs ss (Some search) = to_user online search.user (search_line gs ss search.user ∷ [])
 
 abbrev pub told_of_search : ById ℕ → List Game → List Waiting → ℕ → List ℕ → Option Waiting → List Notice
 told_of_search online gs ss conn me other = notice conn (search_line gs ss me ∷ []) ∷ told_matched online gs ss other
@@ -72,13 +73,14 @@ told_both online asked conn me user = notice conn (challenge_line asked me ∷ [
 
 abbrev pub told_of_cancel_challenge : ById ℕ → List Asked → ℕ → List ℕ → Option Asked → List Notice
 told_of_cancel_challenge online asked conn me None = []
-told_of_cancel_challenge online asked conn me (Some a) = told_both online asked conn me a.to
+told_of_cancel_challenge online asked conn me (Some challenge) = told_both online asked conn me challenge.to
 
 abbrev pub accept_lines : List Game → List Waiting → List Asked → List ℕ → List (List ℕ)
 accept_lines gs ss asked id = challenge_line asked id ∷ search_line gs ss id ∷ []
 
 abbrev pub told_of_accept : ById ℕ → List Game → List Waiting → List Asked → ℕ → List ℕ → List ℕ → List Notice
-told_of_accept online gs ss asked conn me user = notice conn (accept_lines gs ss asked me) ∷ to_user online user (accept_lines gs ss asked user)
+told_of_accept online gs ss asked conn me user = notice conn (accept_lines gs ss asked me)
+    ∷ to_user online user (accept_lines gs ss asked user)
 
 -- both ends of a whisper, once where they are one
 abbrev pub told_ends : ℕ → ℕ → List (List ℕ) → List Notice
@@ -89,38 +91,44 @@ told_whisper groups conn from (Some other) (Some to) text = told_ends conn other
 told_whisper groups conn from other to text = []
 
 abbrev pub told_of_pm : List Group → Users → ℕ → Badge → List ℕ → List ℕ → List Notice
-told_of_pm groups users conn from user text = told_whisper groups conn from (get users.online user) (option_and_then (badge_in users.seats) (get users.online user)) text
+told_of_pm groups users conn from user text = told_whisper groups conn from (get users.online user)
+    (option_and_then (badge_in users.seats) (get users.online user)) text
 
 abbrev pub told_of_rank : ℕ → List ℕ → List ℕ → ℤ → List Notice
 told_of_rank conn user format rating = notice conn (rating_line user format rating ∷ []) ∷ []
 
 -- a rated battle that was won also tells the new rating
 abbrev pub rating_lines : ℤ → Game → Bool → Option ℕ → List ℕ → List (List ℕ)
-rating_lines rating g true (Some s) id = rating_line id g.format rating ∷ []
-rating_lines rating g rated winner id = []
+rating_lines rating game true (Some winner) id = rating_line id game.format rating ∷ []
+rating_lines rating game rated winner id = []
 
 -- a player, who has this rating after the battle
 abbrev pub told_player : ById ℕ → List Game → List Waiting → ℤ → Game → Option ℕ → List ℕ → List Notice
-told_player online gs ss rating g winner id = to_user online id (search_line gs ss id ∷ rating_lines rating g g.rated winner id)
+told_player online gs ss rating game winner id = to_user online id (search_line gs ss id ∷ rating_lines rating game game.rated winner id)
 
 -- player 1 and player 2, who have these ratings
 abbrev pub told_players : ById ℕ → List Game → List Waiting → ℤ → ℤ → Game → Option ℕ → List Notice
-told_players online gs ss one two g winner = told_player online gs ss one g winner (player_id g 0) ++ told_player online gs ss two g winner (player_id g 1)
+told_players online gs ss one two game winner = told_player online gs ss one game winner (player_id game 0)
+    ++ told_player online gs ss two game winner (player_id game 1)
 
 abbrev pub told_of_report : ById ℕ → Record → Option ℕ → Option Game → List Notice
 told_of_report online after winner None = []
-told_of_report online after winner (Some g) = told_players online after.games after.searches (rating_in after g.format (player_id g 0)) (rating_in after g.format (player_id g 1)) g winner
+told_of_report online after winner (Some game) = told_players online after.games after.searches
+    (rating_in after game.format (player_id game 0)) (rating_in after game.format (player_id game 1)) game winner
 
 -- ---- all of them
 
 -- the commands that take a name
 abbrev pub told_of_named : Record → Record → ℕ → Badge → HallCmd → List Notice
-told_of_named before after conn me (Search format) = told_of_search before.users.online after.games after.searches conn (id_of me.name) (opponent before (id_of me.name) format)
+told_of_named before after conn me (Search format) = told_of_search before.users.online after.games after.searches conn
+    (id_of me.name) (opponent before (id_of me.name) format)
 told_of_named before after conn me CancelSearch = told_of_cancel_search after.games after.searches conn (id_of me.name)
 told_of_named before after conn me (Challenge user format) = told_both before.users.online after.pms.asked conn (id_of me.name) user
-told_of_named before after conn me CancelChallenge = told_of_cancel_challenge before.users.online after.pms.asked conn (id_of me.name) (asked_by before.pms (id_of me.name))
+told_of_named before after conn me CancelChallenge = told_of_cancel_challenge before.users.online after.pms.asked conn (id_of me.name)
+    (asked_by before.pms (id_of me.name))
 told_of_named before after conn me (Reject user) = told_both before.users.online after.pms.asked conn (id_of me.name) user
-told_of_named before after conn me (Accept user) = told_of_accept before.users.online after.games after.searches after.pms.asked conn (id_of me.name) user
+told_of_named before after conn me (Accept user) = told_of_accept before.users.online after.games after.searches after.pms.asked conn
+    (id_of me.name) user
 told_of_named before after conn me (Whisper user text) = told_of_pm before.config.groups before.users conn me user text
 told_of_named before after conn me (Rank user format) = told_of_rank conn user format (rating_in before format user)
 told_of_named before after conn me other = []

@@ -10,7 +10,8 @@ ghost use Rattle.ps_users.specs.Steps.{badge_for};
 ghost use Rattle.ps_hall.specs.Lookups.{ladder_in, player_id};
 ghost use Rattle.ps_hall.specs.Refusals.{is_winner};
 ghost use Rattle.ps_hall.specs.States.{record_of};
-ghost use Rattle.ps_hall.specs.Steps.{after_cancel_challenge, after_cancel_search, after_challenge, after_reject, forgotten_by, loser_of, reported, settled_by, standing_with, winner_of, with_accept, with_settled};
+ghost use Rattle.ps_hall.specs.Steps.{after_cancel_challenge, after_cancel_search, after_challenge, after_reject, forgotten_by};
+ghost use Rattle.ps_hall.specs.Steps.{loser_of, reported, settled_by, standing_with, winner_of, with_accept, with_settled};
 ghost use Rattle.ps_hall.specs.Told as rows;
 
 use crate::coming::{
@@ -67,7 +68,8 @@ pub(crate) fn told_left(
     state: &State,
     badge: &Badge,
 ) -> Result<List<Notice>, AllocError>
-    ensures { IfOk result (λ l. l ≡ rows.told_of_quit (record_of state.now).users.online (record_of state.now).pms (forgotten_by (record_of state.now) (id_of badge.now.name)).pms.asked (Some badge.now)) }
+    ensures { IfOk result (λ l. l ≡ rows.told_of_quit (record_of state.now).users.online (record_of state.now).pms
+        (forgotten_by (record_of state.now) (id_of badge.now.name)).pms.asked (Some badge.now)) }
 {
     let asked = asked_not_with(alloc, state.pms.challenges(), badge.name.id())?;
     told_of_quit(
@@ -131,7 +133,8 @@ pub(crate) fn told_cancel_search(
     conn: ConnNo,
     me: &Id,
 ) -> Result<List<Notice>, AllocError>
-    ensures { IfOk result (λ l. l ≡ rows.told_of_cancel_search (after_cancel_search (record_of state.now) me.now).games (after_cancel_search (record_of state.now) me.now).searches conn me.now) }
+    ensures { IfOk result (λ l. l ≡ rows.told_of_cancel_search (after_cancel_search (record_of state.now) me.now).games
+        (after_cancel_search (record_of state.now) me.now).searches conn me.now) }
 {
     let games = all_games(&state.games);
     let searches = searches_not_of(&state.searches, me);
@@ -158,7 +161,8 @@ pub(crate) fn told_challenge(
     user: &Id,
     format: &Id,
 ) -> Result<List<Notice>, AllocError>
-    ensures { IfOk result (λ l. l ≡ rows.told_both (record_of state.now).users.online (after_challenge (record_of state.now) name.now user.now format.now).pms.asked conn (id_of name.now) user.now) }
+    ensures { IfOk result (λ l. l ≡ rows.told_both (record_of state.now).users.online
+        (after_challenge (record_of state.now) name.now user.now format.now).pms.asked conn (id_of name.now) user.now) }
 {
     let new = new_asked(alloc, name.id(), user, format)?;
     let asked = asked_and(alloc, state.pms.challenges(), &new)?;
@@ -171,7 +175,8 @@ pub(crate) fn told_cancel_challenge(
     conn: ConnNo,
     me: &Id,
 ) -> Result<List<Notice>, AllocError>
-    ensures { IfOk result (λ l. l ≡ rows.told_of_cancel_challenge (record_of state.now).users.online (after_cancel_challenge (record_of state.now) me.now).pms.asked conn me.now (asked_by (record_of state.now).pms me.now)) }
+    ensures { IfOk result (λ l. l ≡ rows.told_of_cancel_challenge (record_of state.now).users.online
+        (after_cancel_challenge (record_of state.now) me.now).pms.asked conn me.now (asked_by (record_of state.now).pms me.now)) }
 {
     let asked = asked_not_by(alloc, state.pms.challenges(), me)?;
     told_of_cancel_challenge(
@@ -191,7 +196,8 @@ pub(crate) fn told_reject(
     me: &Id,
     user: &Id,
 ) -> Result<List<Notice>, AllocError>
-    ensures { IfOk result (λ l. l ≡ rows.told_both (record_of state.now).users.online (after_reject (record_of state.now) me.now user.now).pms.asked conn me.now user.now) }
+    ensures { IfOk result (λ l. l ≡ rows.told_both (record_of state.now).users.online
+        (after_reject (record_of state.now) me.now user.now).pms.asked conn me.now user.now) }
 {
     let asked = asked_not_of(alloc, state.pms.challenges(), user, me)?;
     told_both(alloc, &state.users, asked.as_slice(), conn, me, user)
@@ -262,8 +268,12 @@ fn ratings_of(
 // The ratings of player 1 and player 2 after one of them won.
 fn ratings_won(alloc: Global, ladders: &IdMap<Ladder>, game: &Game, won: u8) -> (i32, i32)
     requires { is_winner (Some won) ≡ true }
-    ensures one { result.0 ≡ rating (ladder_in (with_settled ladders.now game.now.format (winner_of game.now won) (loser_of game.now won)) game.now.format).ratings (player_id game.now 0) }
-    ensures two { result.1 ≡ rating (ladder_in (with_settled ladders.now game.now.format (winner_of game.now won) (loser_of game.now won)) game.now.format).ratings (player_id game.now 1) }
+    ensures one { result.0 ≡ rating (ladder_in
+        (with_settled ladders.now game.now.format (winner_of game.now won) (loser_of game.now won)) game.now.format).ratings
+        (player_id game.now 0) }
+    ensures two { result.1 ≡ rating (ladder_in
+        (with_settled ladders.now game.now.format (winner_of game.now won) (loser_of game.now won)) game.now.format).ratings
+        (player_id game.now 1) }
 {
     let (higher, lower) = ratings_of(
         alloc,
@@ -297,8 +307,10 @@ fn ratings_after(
     winner: Option<u8>,
 ) -> (i32, i32)
     requires { is_winner winner ≡ true }
-    ensures one { result.0 ≡ rating (ladder_in (settled_by ladders.now game.now game.now.rated winner) game.now.format).ratings (player_id game.now 0) }
-    ensures two { result.1 ≡ rating (ladder_in (settled_by ladders.now game.now game.now.rated winner) game.now.format).ratings (player_id game.now 1) }
+    ensures one { result.0 ≡ rating (ladder_in (settled_by ladders.now game.now game.now.rated winner) game.now.format).ratings
+        (player_id game.now 0) }
+    ensures two { result.1 ≡ rating (ladder_in (settled_by ladders.now game.now game.now.rated winner) game.now.format).ratings
+        (player_id game.now 1) }
 {
     if !game.rated {
         return ratings_before(ladders, game);
@@ -317,7 +329,8 @@ pub(crate) fn told_game(
     game: &Game,
 ) -> Result<List<Notice>, AllocError>
     requires { is_winner winner ≡ true }
-    ensures { IfOk result (λ l. l ≡ rows.told_of_report (record_of state.now).users.online (reported (record_of state.now) number winner (Some game.now)) winner (Some game.now)) }
+    ensures { IfOk result (λ l. l ≡ rows.told_of_report (record_of state.now).users.online
+        (reported (record_of state.now) number winner (Some game.now)) winner (Some game.now)) }
 {
     let (one, two) = ratings_after(alloc, &state.ladders, game, winner);
     let games = games_but(&state.games, number);

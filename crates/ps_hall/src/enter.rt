@@ -77,7 +77,8 @@ fn allow(
     ensures notices { IfOk result (λ t. t.notices
         ≡ notices_by (refusal (record_of state.old) conn cmd.now) (record_of state.old) conn cmd.now) }
     ensures fit { IfOk result (λ t. IfSome t.out.start (λ s. IsFit s (record_of state.old).config (record_of state.old).dex)) }
-    ensures state { OnOk result (record_of state.new ≡ after_by (refusal (record_of state.old) conn cmd.now) (record_of state.old) conn cmd.now) }
+    ensures state { OnOk result (record_of state.new
+        ≡ after_by (refusal (record_of state.old) conn cmd.now) (record_of state.old) conn cmd.now) }
     ensures ready { OnOk result (AreReady (record_of state.new)) }
     ensures same { OnErr result (record_of state.new ≡ record_of state.old) }
 {
@@ -110,7 +111,8 @@ pub(crate) fn enter(
     ensures notices { IfOk result (λ t. t.notices
         ≡ notices_by (refusal (record_of state.old) conn cmd.now) (record_of state.old) conn cmd.now) }
     ensures fit { IfOk result (λ t. IfSome t.out.start (λ s. IsFit s (record_of state.old).config (record_of state.old).dex)) }
-    ensures state { OnOk result (record_of state.new ≡ after_by (refusal (record_of state.old) conn cmd.now) (record_of state.old) conn cmd.now) }
+    ensures state { OnOk result (record_of state.new
+        ≡ after_by (refusal (record_of state.old) conn cmd.now) (record_of state.old) conn cmd.now) }
     ensures ready { OnOk result (AreReady (record_of state.new)) }
     ensures same { OnErr result (record_of state.new ≡ record_of state.old) }
 {

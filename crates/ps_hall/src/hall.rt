@@ -8,7 +8,7 @@ ghost use Rattle.ps_hall.specs.Records.{opened};
 ghost use Rattle.ps_hall.specs.Lookups.{badge_of, game_in};
 ghost use Rattle.ps_hall.specs.Refusals.{refusal};
 ghost use Rattle.ps_hall.specs.Halls.{seen_opened, seen_after, after, notices, out_of, pulled_past, cursor_past, before_last, last_told};
-ghost use Rattle.ps_hall.specs.Pieces.{IsEnough, IsShort};
+ghost use Rattle.ps_hall.specs.Pieces.{IsEnough, HadRoomBeforeLast};
 ghost use Rattle.ps_base.specs.Messages.{msg_lines};
 
 use crate::cursor::Cursor;
@@ -216,7 +216,7 @@ impl Hall {
         ensures end { IfOk result (λ p. cursor.new ≡ cursor_past cursor.old (before_last p.left self.now)) }
         ensures least { IfOk result (λ p. cursor.old.at + least ≤ length self.now.log → least ≤ p.left) }
         ensures most { IfOk result (λ p. least ≤ most → p.left ≤ most) }
-        ensures short { IfOk result (λ p. IsShort (map msg_lines p.messages.items) ⊎ (most ≤ p.left)) }
+        ensures short { IfOk result (λ p. HadRoomBeforeLast (map msg_lines p.messages.items) ⊎ (most ≤ p.left)) }
         ensures enough { IfOk result (λ p. least < p.left → IsEnough (map msg_lines p.messages.items)) }
         ensures err { OnErr result (cursor.new ≡ cursor.old) }
     {

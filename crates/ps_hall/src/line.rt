@@ -8,7 +8,9 @@ ghost use Rattle.serde_json.specs.Written.{comma_if, compact_text, items_text};
 ghost use Rattle.ps_pms.specs.Lookups.{is_by, is_to};
 ghost use Rattle.ps_hall.specs.Coming.{formats_of, games_after, searches_after};
 ghost use Rattle.ps_hall.specs.Lookups.{games_of, searched};
-ghost use Rattle.ps_hall.specs.Lines.{challstr_line, guest_line, formats_line, open_lines, user_line, with_game, with_games, games_text, game_member, object_or_null, search_line, made_text, got_text, with_asked, challenge_line, whisper_line, rating_line, taken_by, taken_line, refused_line};
+ghost use Rattle.ps_hall.specs.Lines.{challstr_line, guest_line, formats_line, open_lines, user_line, with_game, with_games};
+ghost use Rattle.ps_hall.specs.Lines.{games_text, game_member, object_or_null, search_line, made_text, got_text, with_asked};
+ghost use Rattle.ps_hall.specs.Lines.{challenge_line, whisper_line, rating_line, taken_by, taken_line, refused_line};
 
 use crate::coming::{ComingGames, ComingSearches, own_games, own_searches};
 use crate::game::Game;

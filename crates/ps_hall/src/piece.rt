@@ -2,7 +2,7 @@
 ghost use Rattle.std.specs.Prelude.{◌≡◌, ◌+◌, ◌-◌, ◌<◌, ◌≤◌, ◌⊎◌, MatchBool, IfOk, length, map, take, drop};
 ghost use Rattle.ps_base.specs.Messages.{msg_lines};
 ghost use Rattle.ps_hall.specs.Halls.{pulled};
-ghost use Rattle.ps_hall.specs.Pieces.{message_bytes, piece_bytes, IsEnough, IsShort};
+ghost use Rattle.ps_hall.specs.Pieces.{message_bytes, piece_bytes, IsEnough, HadRoomBeforeLast};
 
 use crate::log::{message_of, past};
 use crate::notice::Notice;
@@ -56,7 +56,7 @@ fn first_piece(
 ) -> Result<HallPiece, AllocError>
     ensures messages { IfOk result (λ p. map msg_lines p.messages.items ≡ pulled conn (take (length log.now - p.left) log.now)) }
     ensures left { IfOk result (λ p. p.left ≤ length log.now - must) }
-    ensures short { IfOk result (λ p. IsShort (map msg_lines p.messages.items) ⊎ (length log.now - must ≤ p.left)) }
+    ensures short { IfOk result (λ p. HadRoomBeforeLast (map msg_lines p.messages.items) ⊎ (length log.now - must ≤ p.left)) }
     ensures enough { IfOk result (λ p. 0 < p.left → IsEnough (map msg_lines p.messages.items)) }
 {
     let mut messages = Vec::new(alloc);
@@ -87,7 +87,7 @@ pub(crate) fn piece_past(
     ensures left { IfOk result (λ p. p.left ≤ length log.now - at) }
     ensures least { IfOk result (λ p. at + least ≤ length log.now → least ≤ p.left) }
     ensures most { IfOk result (λ p. least ≤ most → p.left ≤ most) }
-    ensures short { IfOk result (λ p. IsShort (map msg_lines p.messages.items) ⊎ (most ≤ p.left)) }
+    ensures short { IfOk result (λ p. HadRoomBeforeLast (map msg_lines p.messages.items) ⊎ (most ≤ p.left)) }
     ensures enough { IfOk result (λ p. least < p.left → IsEnough (map msg_lines p.messages.items)) }
 {
     let later = past(log, at);

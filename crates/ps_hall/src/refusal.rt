@@ -2,10 +2,12 @@
 ghost use Rattle.std.specs.Prelude.{◌≡◌, IfOk, Some};
 ghost use Rattle.std.specs.Option.{option_copied};
 ghost use Rattle.ps_hall.specs.States.{record_of};
-ghost use Rattle.ps_hall.specs.Refusals.{bad_why, of_found, of_team, of_text, of_battles, of_waiting, of_search, of_challenge, of_accepted, of_accept, is_winner};
+ghost use Rattle.ps_hall.specs.Refusals.{bad_why, of_found, of_team, of_text, of_battles, of_waiting, of_search, of_challenge};
+ghost use Rattle.ps_hall.specs.Refusals.{of_accepted, of_accept, is_winner};
 ghost use Rattle.ps_hall.specs.Changes.{IsJudged};
 ghost use Rattle.ps_hall.specs.Lookups.{legal_or, legal_under, legal_team};
-ghost use Rattle.ps_hall.specs.Refusals.{refusal_of_search, refusal_of_cancel_search, refusal_of_challenge, refusal_of_cancel_challenge, refusal_of_reject, refusal_of_pm, refusal_of_rank};
+ghost use Rattle.ps_hall.specs.Refusals.{refusal_of_search, refusal_of_cancel_search, refusal_of_challenge};
+ghost use Rattle.ps_hall.specs.Refusals.{refusal_of_cancel_challenge, refusal_of_reject, refusal_of_pm, refusal_of_rank};
 ghost use Rattle.ps_valid.specs.TeamRows.{legal_in};
 
 use crate::lookup;

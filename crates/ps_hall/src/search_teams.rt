@@ -117,7 +117,8 @@ fn index_last(
     teams: &Numbered<KeptTeam>,
     number: u64,
 ) -> Result<(), AllocError>
-    ensures ok { OnOk result ((k : KeptTeam) → item_at number teams.now ≡ Some k → users.new ≡ with_number users.old (id_of k.name) number) }
+    ensures ok { OnOk result ((k : KeptTeam) → item_at number teams.now ≡ Some k
+        → users.new ≡ with_number users.old (id_of k.name) number) }
     ensures err { OnErr result (users.new ≡ users.old) }
 {
     match teams.get(number) {

@@ -3,7 +3,10 @@ ghost use Rattle.std.specs.Prelude.{◌≡◌, ◌∷◌, ◌++◌, [], map, Som
 ghost use Rattle.std.specs.Option.{option_copied};
 ghost use Rattle.ps_hall.specs.Coming.{games_after, searches_after};
 ghost use Rattle.ps_hall.specs.Lines.{search_line, challenge_line};
-ghost use Rattle.ps_hall.specs.Told.{notice, to_user, told_of_open, told_of_name, told_partners, told_of_quit, told_matched, told_of_search, told_of_cancel_search, told_both, told_of_cancel_challenge, accept_lines, told_of_accept, told_ends, told_whisper, told_of_pm, told_of_rank, rating_lines, told_player, told_players};
+ghost use Rattle.ps_hall.specs.Told.{notice, to_user, told_of_open, told_of_name, told_partners, told_of_quit, told_matched};
+ghost use Rattle.ps_hall.specs.Told.{told_of_search, told_of_cancel_search, told_both, told_of_cancel_challenge, accept_lines};
+ghost use Rattle.ps_hall.specs.Told.{told_of_accept, told_ends, told_whisper, told_of_pm, told_of_rank, rating_lines, told_player};
+ghost use Rattle.ps_hall.specs.Told.{told_players};
 
 use crate::coming::{ComingGames, ComingSearches};
 use crate::game::Game;
@@ -116,7 +119,8 @@ fn push_challenges(
     asked: &[&Asked],
     id: &Id,
 ) -> Result<(), AllocError>
-    ensures { OnOk result (notices.new.items ≡ notices.old.items ++ to_user users.now.online id.now (challenge_line (map (λ x. x.now) asked.now) id.now ∷ [])) }
+    ensures { OnOk result (notices.new.items ≡ notices.old.items
+        ++ to_user users.now.online id.now (challenge_line (map (λ x. x.now) asked.now) id.now ∷ [])) }
 {
     let line = challenge_line(alloc, asked, id)?;
     let lines = one_line(alloc, line)?;
@@ -266,7 +270,8 @@ pub(crate) fn told_of_cancel_challenge(
     me: &Id,
     made: Option<&Asked>,
 ) -> Result<List<Notice>, AllocError>
-    ensures { IfOk result (λ l. l ≡ told_of_cancel_challenge users.now.online (map (λ x. x.now) asked.now) conn me.now (option_copied made.entry)) }
+    ensures { IfOk result (λ l. l ≡ told_of_cancel_challenge users.now.online (map (λ x. x.now) asked.now) conn me.now
+        (option_copied made.entry)) }
 {
     match made {
         None => Ok(none(alloc)),

@@ -7,4 +7,4 @@ module _ {O C : Type 0} where
   -- The view of who has the turn of a lock that isn't open yet, by which nobody else has it: it sees the whole history, in which
   -- there is no entry
   abbrev pub unopened : O → View O C
-  unopened o = holder (newcomer o 0) []
+  unopened origin = holder (newcomer origin 0) []

@@ -4,14 +4,14 @@ use Rattle.ps_histlock.specs.declared.view.Entry.{Entry}
 use Rattle.ps_histlock.specs.Histories.{commands, signed}
 
 module _ {C : Type 0} (signer : C → Option ℕ) where
-  -- all that was signed here is signed by c
+  -- all that was signed here is signed by this name
   abbrev pub SignsAs : ℕ → List (Entry C) → Type 0
-  SignsAs c said = (d : ℕ) → 0 < length (signed signer d (commands said)) → d ≡ c
+  SignsAs name said = (other : ℕ) → 0 < length (signed signer other (commands said)) → other ≡ name
 
-  -- something here is signed by c
+  -- something here is signed by this name
   abbrev pub Speaks : ℕ → List (Entry C) → Type 0
-  Speaks c said = 0 < length (signed signer c (commands said))
+  Speaks name said = 0 < length (signed signer name (commands said))
 
-  -- the command is signed by c, or by nobody
+  -- the command is signed by this name, or by nobody
   abbrev pub IsOf : ℕ → C → Type 0
-  IsOf c x = (d : ℕ) → signer x ≡ Some d → d ≡ c
+  IsOf name cmd = (other : ℕ) → signer cmd ≡ Some other → other ≡ name

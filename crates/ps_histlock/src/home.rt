@@ -1,5 +1,6 @@
 //! What lies behind a lock: its value, and the names by which the entries of its history are signed.
-ghost use Rattle.std.specs.Prelude.{◌≡◌, ◌<◌, ◌^◌, ℕ, List, [], ◌∷◌, ◌++◌, length, true, false, Some, cond, ◌==◌, MatchBool, IfOk, OnOk, OnErr};
+ghost use Rattle.std.specs.Prelude.{◌≡◌, ◌<◌, ◌^◌, ℕ, List, [], ◌∷◌, ◌++◌, length, true, false, Some, cond, ◌==◌, MatchBool, IfOk};
+ghost use Rattle.std.specs.Prelude.{OnOk, OnErr};
 ghost use Rattle.std.specs.Ordering.{nat_cmp};
 ghost use Rattle.std.specs.BTreeSet.{contains};
 ghost use Rattle.ps_histlock.specs.Histories.{signed};
@@ -48,8 +49,10 @@ impl<K: Kept> Home<K> {
     /// Whether an entry is signed as this command is.
     pub(crate) fn is_taken(&self, cmd: &K::Cmd) -> bool
         ensures { MatchBool result
-            ((log : List K.Cmd) → HomeStands K.stands K.signer log self.now → (c : ℕ) × (K.signer cmd.now ≡ Some c) × (0 < length (signed K.signer c log)))
-            ((log : List K.Cmd) → HomeStands K.stands K.signer log self.now → (c : ℕ) → K.signer cmd.now ≡ Some c → signed K.signer c log ≡ []) }
+            ((log : List K.Cmd) → HomeStands K.stands K.signer log self.now → (c : ℕ) × (K.signer cmd.now ≡ Some c)
+            × (0 < length (signed K.signer c log)))
+            ((log : List K.Cmd) → HomeStands K.stands K.signer log self.now → (c : ℕ) → K.signer cmd.now ≡ Some c
+            → signed K.signer c log ≡ []) }
     {
         match K::signed_by(cmd) {
             None => false,
@@ -60,10 +63,14 @@ impl<K: Kept> Home<K> {
     /// Appends one entry. `AllocError` if out of memory: then there is no entry.
     pub(crate) fn apply(&mut self, cmd: K::Cmd) -> Result<K::Out, AllocError>
         ensures origin { K.origin self.new.kept ≡ K.origin self.old.kept }
-        ensures entry { IfOk result (λ out. (log : List K.Cmd) → HomeStands K.stands K.signer log self.old → HomeStands K.stands K.signer (log ++ cmd ∷ []) self.new) }
-        ensures answer { IfOk result (λ out. (log : List K.Cmd) → HomeStands K.stands K.signer log self.old → K.answers (K.origin self.old.kept) log cmd out) }
-        ensures short { IfOk result (λ out. (log : List K.Cmd) → HomeStands K.stands K.signer log self.old → length (log ++ cmd ∷ []) < 2 ^ 62) }
-        ensures err { OnErr result ((log : List K.Cmd) → HomeStands K.stands K.signer log self.old → HomeStands K.stands K.signer log self.new) }
+        ensures entry { IfOk result (λ out. (log : List K.Cmd) → HomeStands K.stands K.signer log self.old
+            → HomeStands K.stands K.signer (log ++ cmd ∷ []) self.new) }
+        ensures answer { IfOk result (λ out. (log : List K.Cmd) → HomeStands K.stands K.signer log self.old
+            → K.answers (K.origin self.old.kept) log cmd out) }
+        ensures short { IfOk result (λ out. (log : List K.Cmd) → HomeStands K.stands K.signer log self.old
+            → length (log ++ cmd ∷ []) < 2 ^ 62) }
+        ensures err { OnErr result ((log : List K.Cmd) → HomeStands K.stands K.signer log self.old
+            → HomeStands K.stands K.signer log self.new) }
     {
         match K::signed_by(&cmd) {
             None => {
@@ -78,10 +85,14 @@ impl<K: Kept> Home<K> {
     fn apply_signed(&mut self, cmd: K::Cmd, name: u64) -> Result<K::Out, AllocError>
         requires { K.signer cmd ≡ Some name }
         ensures origin { K.origin self.new.kept ≡ K.origin self.old.kept }
-        ensures entry { IfOk result (λ out. (log : List K.Cmd) → HomeStands K.stands K.signer log self.old → HomeStands K.stands K.signer (log ++ cmd ∷ []) self.new) }
-        ensures answer { IfOk result (λ out. (log : List K.Cmd) → HomeStands K.stands K.signer log self.old → K.answers (K.origin self.old.kept) log cmd out) }
-        ensures short { IfOk result (λ out. (log : List K.Cmd) → HomeStands K.stands K.signer log self.old → length (log ++ cmd ∷ []) < 2 ^ 62) }
-        ensures err { OnErr result ((log : List K.Cmd) → HomeStands K.stands K.signer log self.old → HomeStands K.stands K.signer log self.new) }
+        ensures entry { IfOk result (λ out. (log : List K.Cmd) → HomeStands K.stands K.signer log self.old
+            → HomeStands K.stands K.signer (log ++ cmd ∷ []) self.new) }
+        ensures answer { IfOk result (λ out. (log : List K.Cmd) → HomeStands K.stands K.signer log self.old
+            → K.answers (K.origin self.old.kept) log cmd out) }
+        ensures short { IfOk result (λ out. (log : List K.Cmd) → HomeStands K.stands K.signer log self.old
+            → length (log ++ cmd ∷ []) < 2 ^ 62) }
+        ensures err { OnErr result ((log : List K.Cmd) → HomeStands K.stands K.signer log self.old
+            → HomeStands K.stands K.signer log self.new) }
     {
         if self.names.contains(&name) {
             let out = self.kept.apply(cmd)?;
@@ -99,7 +110,8 @@ impl<K: Kept> Home<K> {
 
     /// The messages past the cursor, which it moves. `AllocError` if out of memory: then the cursor stays.
     pub(crate) fn pull(&self, cursor: &mut K::Cursor) -> Result<Vec<K::Msg>, AllocError>
-        ensures ok { IfOk result (λ msgs. (log : List K.Cmd) → HomeStands K.stands K.signer log self.now → K.pulls (K.origin self.now.kept) log cursor.old msgs.items cursor.new) }
+        ensures ok { IfOk result (λ msgs. (log : List K.Cmd) → HomeStands K.stands K.signer log self.now
+            → K.pulls (K.origin self.now.kept) log cursor.old msgs.items cursor.new) }
         ensures err { OnErr result (cursor.new ≡ cursor.old) }
     {
         self.kept.pull(cursor)

@@ -56,6 +56,7 @@ pub trait Kept: Drop {
 
     /// The messages past the cursor, which it moves. `AllocError` if out of memory: then the cursor stays.
     fn pull(&self, cursor: &mut Self::Cursor) -> Result<Vec<Self::Msg>, AllocError>
-        ensures ok { IfOk result (λ msgs. (log : List Self.Cmd) → stands log self.now → pulls (origin self.now) log cursor.old msgs.items cursor.new) }
+        ensures ok { IfOk result (λ msgs. (log : List Self.Cmd) → stands log self.now
+            → pulls (origin self.now) log cursor.old msgs.items cursor.new) }
         ensures err { OnErr result (cursor.new ≡ cursor.old) };
 }

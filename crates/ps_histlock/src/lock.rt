@@ -1,8 +1,11 @@
 //! The lock, its passes, and the calls.
-ghost use Rattle.std.specs.Prelude.{All, ◌≡◌, ◌≢◌, ◌+◌, ◌≤◌, ◌<◌, ◌^◌, ◌*◌, ◌/◌, ◌++◌, ℕ, List, true, false, [], ◌∷◌, length, Option, IfOk, IfErr, OnErr, IsTrue, IsFalse, None, Some, IsSome, IfSome};
+ghost use Rattle.std.specs.Prelude.{All, ◌≡◌, ◌≢◌, ◌+◌, ◌≤◌, ◌<◌, ◌^◌, ◌*◌, ◌/◌, ◌++◌, ℕ, List, true, false, [], ◌∷◌, length, Option};
+ghost use Rattle.std.specs.Prelude.{IfOk, IfErr, OnErr, IsTrue, IsFalse, None, Some, IsSome, IfSome};
 ghost use mathlib.Core.List.{IsPrefix};
 ghost use Rattle.ps_histlock.specs.Histories.{commands, entry, entries_of, longer, AreOneList};
-ghost use Rattle.ps_histlock.specs.Views.{newcomer, offspring, heir_of, with_number, after_look, after_meeting, after_entry, after_turn, holder, hearing, informed, comparing, compared, counted, knowing, HasGrown, HasLooked, IsAtRest, Extends};
+ghost use Rattle.ps_histlock.specs.Views.{newcomer, offspring, heir_of, with_number, after_look, after_meeting, after_entry};
+ghost use Rattle.ps_histlock.specs.Views.{after_turn, holder, hearing, informed, comparing, compared, counted, knowing, HasGrown};
+ghost use Rattle.ps_histlock.specs.Views.{HasLooked, IsAtRest, Extends};
 ghost use Rattle.ps_histlock.specs.Openers.{unopened};
 ghost use mathlib.Core.Option.{none};
 ghost use Rattle.atomic_table.specs.Table.{step, Allows};
@@ -73,7 +76,8 @@ impl<K: Kept> Model for Pass<K> {
 
     ghost view = { λ p. (p.seat.table_id, p.seat.me.0) };
 
-    ghost invariant = { λ p. (p.seat.me.1 ≡ []) × IsAtRest K.origin K.stands p.seat.me.0 × (p.own ≡ length p.seat.me.0.mine) × (p.own ≤ OWN_LIMIT) × OwnSigns K.signer p.seat.me.0 p.seat.me.0.known × HasSigned K.signer p.has_signed p.seat.me.0.said };
+    ghost invariant = { λ p. (p.seat.me.1 ≡ []) × IsAtRest K.origin K.stands p.seat.me.0 × (p.own ≡ length p.seat.me.0.mine)
+        × (p.own ≤ OWN_LIMIT) × OwnSigns K.signer p.seat.me.0 p.seat.me.0.known × HasSigned K.signer p.has_signed p.seat.me.0.said };
 }
 
 /// The turn of a lock that isn't open yet. Who has it has the value too, so nobody else makes an entry or reads. Contracts see
@@ -111,7 +115,8 @@ fn is_anothers<K: Kept>(has_signed: bool, home: &Home<K>, cmd: &K::Cmd) -> bool
 
 // Whether a pass that has signed something, or not, has once it has made this entry.
 fn signs_with<K: Kept>(has_signed: bool, cmd: &K::Cmd) -> bool
-    ensures { (by : ℕ) (said : List (Entry K.Cmd)) → HasSigned K.signer has_signed said → HasSigned K.signer result (said ++ entry by cmd.now ∷ []) }
+    ensures { (by : ℕ) (said : List (Entry K.Cmd)) → HasSigned K.signer has_signed said
+        → HasSigned K.signer result (said ++ entry by cmd.now ∷ []) }
 {
     if has_signed {
         return true;
@@ -262,8 +267,11 @@ impl<K: Kept> HistLock<K> {
         pass: &mut Pass<K>,
     ) -> u64
         requires lock { pass.old.0 ≡ self.now.0 }
-        requires allowed { (id : ℕ) → Allows (IsKept (home_origin K.origin) (HomeStands K.stands K.signer) K.signer self.now.1) 1 id (pass.old.1, []) 0 (λ n. n) (M.then (step 1 0 0 0 none) (pass.old.1, [])) }
-        requires rest { (n : ℕ) (v : View K.Origin K.Cmd) (out : List (ℕ × Option (Home K))) → M.then (step 1 0 0 0 none) (pass.old.1, []) n (v, out) → (v ≡ after_look pass.old.1 (n / 2)) × (out ≡ []) × (length pass.old.1.known ≤ n / 2) }
+        requires allowed { (id : ℕ) → Allows (IsKept (home_origin K.origin) (HomeStands K.stands K.signer) K.signer self.now.1) 1 id
+            (pass.old.1, []) 0 (λ n. n) (M.then (step 1 0 0 0 none) (pass.old.1, [])) }
+        requires rest { (n : ℕ) (v : View K.Origin K.Cmd) (out : List (ℕ × Option (Home K)))
+            → M.then (step 1 0 0 0 none) (pass.old.1, []) n (v, out) → (v ≡ after_look pass.old.1 (n / 2)) × (out ≡ [])
+            × (length pass.old.1.known ≤ n / 2) }
         ensures lock { pass.new.0 ≡ pass.old.0 }
         ensures does { M.then (step 1 0 0 0 none) (pass.old.1, []) result (pass.new.1, []) }
         ensures signed { OwnSigns K.signer pass.new.1 pass.new.1.known }
@@ -274,11 +282,14 @@ impl<K: Kept> HistLock<K> {
 
     // Tells one pass all that another knows.
     fn tell(&self, from: &mut OwnSeat<K>, to: &mut OwnSeat<K>)
-        requires seat_state { (from.old.table_id ≡ self.now.0) × (to.old.table_id ≡ self.now.0) × (to.old.me.1 ≡ []) × (from.old.me.0.named ≡ true) }
+        requires seat_state { (from.old.table_id ≡ self.now.0) × (to.old.table_id ≡ self.now.0) × (to.old.me.1 ≡ [])
+            × (from.old.me.0.named ≡ true) }
         requires to { (to.old.me.0.named ≡ true) × (to.old.me.0.letter ≡ false) × (to.old.me.0.heard ≡ []) × (to.old.me.0.speaks ≡ true) }
         ensures from { (from.new.table_id ≡ from.old.table_id) × (from.new.id ≡ from.old.id) × (from.new.me ≡ from.old.me) }
-        ensures to { (to.new.table_id ≡ to.old.table_id) × (to.new.id ≡ to.old.id) × (to.new.me ≡ (knowing to.old.me.0 (longer to.old.me.0.known from.old.me.0.known), [])) }
-        ensures one { IsPrefix to.old.me.0.known (longer to.old.me.0.known from.old.me.0.known) × IsPrefix from.old.me.0.known (longer to.old.me.0.known from.old.me.0.known) }
+        ensures to { (to.new.table_id ≡ to.old.table_id) × (to.new.id ≡ to.old.id)
+            × (to.new.me ≡ (knowing to.old.me.0 (longer to.old.me.0.known from.old.me.0.known), [])) }
+        ensures one { IsPrefix to.old.me.0.known (longer to.old.me.0.known from.old.me.0.known)
+            × IsPrefix from.old.me.0.known (longer to.old.me.0.known from.old.me.0.known) }
         ensures own { to.old.me.0.mine ≡ entries_of to.old.me.0.number (longer to.old.me.0.known from.old.me.0.known) }
         ensures signed { OwnSigns K.signer to.old.me.0 (longer to.old.me.0.known from.old.me.0.known) }
     {
@@ -293,8 +304,10 @@ impl<K: Kept> HistLock<K> {
         requires seat { (seat.old.me.0.named ≡ true) × (seat.old.me.0.letter ≡ false) }
         requires other { other.old.me.0.named ≡ true }
         requires far { N.far ≡ seat.old.me.0.mark + 1 }
-        ensures seat { (seat.new.table_id ≡ seat.old.table_id) × (seat.new.id ≡ seat.old.id) × (seat.new.me ≡ (compared seat.old.me.0, [])) }
-        ensures other { (other.new.table_id ≡ other.old.table_id) × (other.new.id ≡ other.old.id) × (other.new.me ≡ (counted other.old.me.0 N.far, other.old.me.1)) }
+        ensures seat { (seat.new.table_id ≡ seat.old.table_id) × (seat.new.id ≡ seat.old.id)
+            × (seat.new.me ≡ (compared seat.old.me.0, [])) }
+        ensures other { (other.new.table_id ≡ other.old.table_id) × (other.new.id ≡ other.old.id)
+            × (other.new.me ≡ (counted other.old.me.0 N.far, other.old.me.1)) }
         ensures two { other.old.me.0.number ≢ seat.old.me.0.number }
     {
         let shared = &self.table.shared;
@@ -323,7 +336,8 @@ impl<K: Kept> HistLock<K> {
         ensures other { other.new ≡ (other.old.0, knowing other.old.1 (longer pass.old.1.known other.old.1.known)) }
         ensures one { IsPrefix pass.old.1.known pass.new.1.known × IsPrefix other.old.1.known pass.new.1.known }
         ensures one_list { AreOneList pass.old.1.seen other.old.1.seen }
-        ensures own { (pass.new.1.mine ≡ entries_of pass.new.1.number pass.new.1.known) × (other.new.1.mine ≡ entries_of other.new.1.number pass.new.1.known) }
+        ensures own { (pass.new.1.mine ≡ entries_of pass.new.1.number pass.new.1.known)
+            × (other.new.1.mine ≡ entries_of other.new.1.number pass.new.1.known) }
         ensures signed { OwnSigns K.signer pass.new.1 pass.new.1.known × OwnSigns K.signer other.new.1 pass.new.1.known }
         ensures rest { IsAtRest K.origin K.stands pass.new.1 × IsAtRest K.origin K.stands other.new.1 }
     {
@@ -333,9 +347,12 @@ impl<K: Kept> HistLock<K> {
 
     // Takes the turn and the value, or answers the last word met.
     fn seize(&self, seat: &mut OwnSeat<K>) -> Result<Home<K>, u64>
-        requires { (seat.old.table_id ≡ self.now.0) × (seat.old.me.1 ≡ []) × (seat.old.me.0.named ≡ true) × (seat.old.me.0.letter ≡ false) × (seat.old.me.0.speaks ≡ true) }
+        requires { (seat.old.table_id ≡ self.now.0) × (seat.old.me.1 ≡ []) × (seat.old.me.0.named ≡ true)
+            × (seat.old.me.0.letter ≡ false) × (seat.old.me.0.speaks ≡ true) }
         ensures same { (seat.new.table_id ≡ seat.old.table_id) × (seat.new.id ≡ seat.old.id) }
-        ensures ok { IfOk result (λ k. (log : List (Entry K.Cmd)) × Extends seat.old.me.0 log × OwnSigns K.signer seat.old.me.0 log × Stands (home_origin K.origin) (HomeStands K.stands K.signer) K.signer seat.old.me.0.origin log k × (seat.new.me ≡ (holder (after_meeting seat.old.me.0 (2 * length log)) log, (0, None) ∷ []))) }
+        ensures ok { IfOk result (λ k. (log : List (Entry K.Cmd)) × Extends seat.old.me.0 log × OwnSigns K.signer seat.old.me.0 log
+            × Stands (home_origin K.origin) (HomeStands K.stands K.signer) K.signer seat.old.me.0.origin log k
+            × (seat.new.me ≡ (holder (after_meeting seat.old.me.0 (2 * length log)) log, (0, None) ∷ []))) }
         ensures err { IfErr result (λ word. IsBusy seat.old.me.0 word seat.new.me.0 × (seat.new.me.1 ≡ [])) }
     {
         let shared = &self.table.shared;
@@ -353,12 +370,15 @@ impl<K: Kept> HistLock<K> {
     // Puts the value back and ends the turn with an entry, that of the command which W names.
     fn append<W: Writes<K::Cmd>>(&self, seat: &mut OwnSeat<K>, home: Home<K>)
         requires seat_state { (seat.old.table_id ≡ self.now.0) × (seat.old.me.1 ≡ (0, None) ∷ []) }
-        requires turn { (seat.old.me.0.holds ≡ true) × (seat.old.me.0.named ≡ true) × (seat.old.me.0.letter ≡ false) × (seat.old.me.0.heard ≡ []) × (seat.old.me.0.speaks ≡ true) }
+        requires turn { (seat.old.me.0.holds ≡ true) × (seat.old.me.0.named ≡ true) × (seat.old.me.0.letter ≡ false)
+            × (seat.old.me.0.heard ≡ []) × (seat.old.me.0.speaks ≡ true) }
         requires own { seat.old.me.0.mine ≡ entries_of seat.old.me.0.number seat.old.me.0.seen }
         requires grown { HasGrown (seat.old.me.0.turns + 1) seat.old.me.0 }
         requires looked { HasLooked seat.old.me.0 }
         requires value { K.origin home.kept ≡ seat.old.me.0.origin }
-        requires entry { (c : K.Cmd) × (W.written ≡ Some c) × HomeStands K.stands K.signer (commands seat.old.me.0.seen ++ c ∷ []) home × (length (commands seat.old.me.0.seen ++ c ∷ []) < 2 ^ 62) × MaySign K.signer seat.old.me.0 seat.old.me.0.seen c }
+        requires entry { (c : K.Cmd) × (W.written ≡ Some c)
+            × HomeStands K.stands K.signer (commands seat.old.me.0.seen ++ c ∷ []) home
+            × (length (commands seat.old.me.0.seen ++ c ∷ []) < 2 ^ 62) × MaySign K.signer seat.old.me.0 seat.old.me.0.seen c }
         ensures same { (seat.new.table_id ≡ seat.old.table_id) × (seat.new.id ≡ seat.old.id) }
         ensures entry { (c : K.Cmd) × (W.written ≡ Some c) × (seat.new.me ≡ (after_entry seat.old.me.0 c, [])) }
         ensures signed { OwnSigns K.signer seat.new.me.0 seat.new.me.0.known }
@@ -411,8 +431,10 @@ impl<K: Kept> HistLock<K> {
         cmd: K::Cmd,
     ) -> Tried<K>
         requires seat_state { (seat.old.table_id ≡ self.now.0) × (seat.old.me.1 ≡ (0, None) ∷ []) }
-        requires turn { (seat.old.me.0.holds ≡ true) × (seat.old.me.0.named ≡ true) × (seat.old.me.0.letter ≡ false) × (seat.old.me.0.heard ≡ []) × (seat.old.me.0.speaks ≡ true) }
-        requires own { (seat.old.me.0.mine ≡ entries_of seat.old.me.0.number seat.old.me.0.seen) × (seat.old.me.0.known ≡ seat.old.me.0.seen) }
+        requires turn { (seat.old.me.0.holds ≡ true) × (seat.old.me.0.named ≡ true) × (seat.old.me.0.letter ≡ false)
+            × (seat.old.me.0.heard ≡ []) × (seat.old.me.0.speaks ≡ true) }
+        requires own { (seat.old.me.0.mine ≡ entries_of seat.old.me.0.number seat.old.me.0.seen)
+            × (seat.old.me.0.known ≡ seat.old.me.0.seen) }
         requires grown { HasGrown (seat.old.me.0.turns + 1) seat.old.me.0 }
         requires looked { HasLooked seat.old.me.0 }
         requires signed { OwnSigns K.signer seat.old.me.0 seat.old.me.0.known }
@@ -578,7 +600,8 @@ impl<K: Kept> HistLock<K> {
         requires sign { IfSome cmd (SignsOn K.signer pass.old.1.said) }
         ensures lock { pass.new.0 ≡ pass.old.0 }
         ensures does { Turned K.answers K.pulls pass.old.1 cursor.old cmd result pass.new.1 cursor.new }
-        ensures limit { IsSome cmd → length pass.old.1.mine ≡ OWN_LIMIT → (result ≡ OwnLimit cmd) × (pass.new ≡ pass.old) × (cursor.new ≡ cursor.old) }
+        ensures limit { IsSome cmd → length pass.old.1.mine ≡ OWN_LIMIT → (result ≡ OwnLimit cmd) × (pass.new ≡ pass.old)
+            × (cursor.new ≡ cursor.old) }
         ensures taken { (back : Option K.Cmd) → result ≡ Taken back → IfSome cmd (IsNameTaken K.signer pass.old.1.said pass.new.1.seen) }
         ensures signed { OwnSigns K.signer pass.new.1 pass.new.1.known }
         ensures rest { IsAtRest K.origin K.stands pass.new.1 }
@@ -620,7 +643,8 @@ impl<K: Kept> HistLock<K> {
         ensures does { AtLast (λ v. Turned K.answers K.pulls v cursor.old cmd result pass.new.1 cursor.new) pass.old.1 }
         ensures taken { IsNotBusy result }
         ensures named { (back : Option K.Cmd) → result ≡ Taken back → IfSome cmd (IsNameTaken K.signer pass.old.1.said pass.new.1.seen) }
-        ensures limit { IsSome cmd → length pass.old.1.mine ≡ OWN_LIMIT → (result ≡ OwnLimit cmd) × (pass.new ≡ pass.old) × (cursor.new ≡ cursor.old) }
+        ensures limit { IsSome cmd → length pass.old.1.mine ≡ OWN_LIMIT → (result ≡ OwnLimit cmd) × (pass.new ≡ pass.old)
+            × (cursor.new ≡ cursor.old) }
         ensures signed { OwnSigns K.signer pass.new.1 pass.new.1.known }
         ensures rest { IsAtRest K.origin K.stands pass.new.1 }
     {

@@ -17,8 +17,8 @@ played row user before =
     record { battle = with_duel before.battle user after.duel; told = after.told }
 
 abbrev pub course : Battle → ArrayVec Event → Course
-course b events = record { battle = b; told = events.items }
+course battle events = record { battle = battle; told = events.items }
 
 -- a battle of which nothing is told yet
 abbrev pub untold : Battle → Course
-untold b = record { battle = b; told = [] }
+untold battle = record { battle = battle; told = [] }

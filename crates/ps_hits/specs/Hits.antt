@@ -16,6 +16,6 @@ plain_row facts mv = do
 unfoldable pub explode_row : Figures → ℕ → Play (Unit {0})
 explode_row facts mv = do
   struck ← strike_with facts mv true
-  change (λ d. record d { user = record d.user { hp = 0 } })
-  d ← duel_now
-  tell (events.Faint (who_of d.user))
+  change (λ duel. record duel { user = record duel.user { hp = 0 } })
+  duel ← duel_now
+  tell (events.Faint (who_of duel.user))

@@ -16,35 +16,35 @@ Play A = Scene → A × Scene
 
 infixl 10 ◌>>=◌
 abbrev pub ◌>>=◌ : {A B : Type 0} → Play A → (A → Play B) → Play B
-p >>= f = λ s. f (p s).0 (p s).1
+one >>= next = λ now. next (one now).0 (one now).1
 
 infixl 10 ◌>>◌
 abbrev pub ◌>>◌ : {A B : Type 0} → Play A → Play B → Play B
-p >> q = λ s. q (p s).1
+one >> next = λ now. next (one now).1
 
 -- nothing more, with this answer
 abbrev pub give : {A : Type 0} → A → Play A
-give x = λ s. (x, s)
+give answer = λ now. (answer, now)
 
 -- the duel as it is now
 abbrev pub duel_now : Play Duel
-duel_now = λ s. (s.duel, s)
+duel_now = λ now. (now.duel, now)
 
 abbrev pub tell : Event → Play (Unit {0})
-tell e = λ s. (tt, record s { told = s.told ++ e ∷ [] })
+tell event = λ now. (tt, record now { told = now.told ++ event ∷ [] })
 
 abbrev pub change : (Duel → Duel) → Play (Unit {0})
-change f = λ s. (tt, record s { duel = f s.duel })
+change edit = λ now. (tt, record now { duel = edit now.duel })
 
 -- one of two ways to go on
 abbrev pub choose : {A : Type 0} → Bool → Play A → Play A → Play A
-choose true p q = p
-choose false p q = q
+choose true one other = one
+choose false one other = other
 
--- a number below n, after one step of the random source
+-- a number below the bound, after one step of the random source
 abbrev pub draw : ℕ → Play ℕ
-draw n = λ s. (drawn (after s.duel.rng) n, record s { duel = record s.duel { rng = after s.duel.rng } })
+draw bound = λ now. (drawn (after now.duel.rng) bound, record now { duel = record now.duel { rng = after now.duel.rng } })
 
 -- the scene of a duel and its events
 abbrev pub scene : Duel → ArrayVec Event → Scene
-scene d events = record { duel = d; told = events.items }
+scene duel events = record { duel = duel; told = events.items }

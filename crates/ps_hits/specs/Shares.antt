@@ -12,20 +12,20 @@ use Rattle.ps_hits.specs.Scenes.{Play, ◌>>=◌, ◌>>◌, give, duel_now, tell
 use Rattle.ps_hits.specs.Told.{who_of, health_of}
 use Rattle.ps_hits.specs.Strikes.{strike_with}
 
--- the user gains up to n; Heal is told at full health too
+-- the user gains up to so much; Heal is told at full health too
 unfoldable pub gain : ℕ → Play (Unit {0})
-gain n = do
-  d ← duel_now
-  let user = record d.user { hp = min d.user.max (d.user.hp + n) }
-  change (λ d. record d { user = user })
+gain amount = do
+  duel ← duel_now
+  let user = record duel.user { hp = min duel.user.max (duel.user.hp + amount) }
+  change (λ duel. record duel { user = user })
   tell (events.Heal (who_of user) (health_of user))
 
--- the user loses up to n, and faints at 0
+-- the user loses up to so much, and faints at 0
 unfoldable pub lose : ℕ → ℕ → Play (Unit {0})
-lose from n = do
-  d ← duel_now
-  let user = record d.user { hp = d.user.hp - n }
-  change (λ d. record d { user = user })
+lose from amount = do
+  duel ← duel_now
+  let user = record duel.user { hp = duel.user.hp - amount }
+  change (λ duel. record duel { user = user })
   tell (events.Damage (who_of user) (health_of user) from)
   choose (user.hp == 0) (tell (events.Faint (who_of user))) (give tt)
 
@@ -44,8 +44,8 @@ drain_row facts mv = do
 -- dreameater: Fail unless the foe sleeps, then drain
 unfoldable pub dreameater_row : Figures → ℕ → Play (Unit {0})
 dreameater_row facts mv = do
-  d ← duel_now
-  choose (is_slp d.foe.status) (drain_row facts mv) (tell (events.Fail (who_of d.user)))
+  duel ← duel_now
+  choose (is_slp duel.foe.status) (drain_row facts mv) (tell (events.Fail (who_of duel.user)))
 
 -- what was dealt divided by a number, at least 1
 unfoldable pub recoiled : ℕ → Struck → Play (Unit {0})

@@ -11,10 +11,10 @@ use Rattle.ps_mon.specs.declared.duel.Fighter.{Fighter}
 -- side 0 is P1's, side 1 is P2's
 abbrev pub side_name : ℕ → Side
 side_name zero = P1
-side_name (suc s) = P2
+side_name (suc side) = P2
 
 abbrev pub who_of : Fighter → Who
-who_of f = record { side = side_name f.side; member = f.member }
+who_of fighter = record { side = side_name fighter.side; member = fighter.member }
 
 abbrev pub status_number : Status → ℕ
 status_number Healthy = 0
@@ -26,4 +26,4 @@ status_number Tox = 5
 status_number Frz = 6
 
 abbrev pub health_of : Fighter → Health
-health_of f = record { hp = f.hp; max = f.max; status = status_number f.status }
+health_of fighter = record { hp = fighter.hp; max = fighter.max; status = status_number fighter.status }

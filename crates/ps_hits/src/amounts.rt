@@ -52,7 +52,9 @@ pub fn fixed(battle: &mut Battle, facts: Facts<'_>, user: u8, mv: u16, out: &mut
     requires fair { AreFair (figures facts) }
     requires user { user < 2 }
     requires room { array_vec_len out.old + 20 ≤ 160 }
-    ensures effect { course battle.new out.new ≡ played (fixed_row (amount_of (move_of (figures facts.entry) mv).effect) (figures facts.entry) mv) user (course battle.old out.old) }
+    ensures effect { course battle.new out.new
+        ≡ played (fixed_row (amount_of (move_of (figures facts.entry) mv).effect) (figures facts.entry) mv) user
+        (course battle.old out.old) }
     ensures sound { IsSound battle.new }
     ensures whole { IsValid battle.old → StillStands battle.old battle.new → IsValid battle.new }
     ensures known { (moves : ℕ) → IsNamed moves mv → AreKnown moves battle.old → AreKnown moves battle.new }

@@ -1,7 +1,8 @@
 //! A fighter's numbers as they count now.
 ghost use Rattle.std.specs.Prelude.{◌≡◌, ◌≤◌, ◌<◌, slice_index};
 ghost use Rattle.ps_mon.specs.Duels.{IsFighter};
-ghost use Rattle.ps_hits.specs.Fighters.{types_now, stats_now, is_of_type, is_burnt, is_paralysed, is_away_by, is_away, is_rage, rages, attack_of, defence_of, own_attack, own_defence, speed_of};
+ghost use Rattle.ps_hits.specs.Fighters.{types_now, stats_now, is_of_type, is_burnt, is_paralysed, is_away_by, is_away, is_rage};
+ghost use Rattle.ps_hits.specs.Fighters.{rages, attack_of, defence_of, own_attack, own_defence, speed_of};
 
 use ps_calc::staged;
 use ps_mon::duel::Fighter;

@@ -9,7 +9,8 @@ ghost use Rattle.ps_mon.specs.Valid.{IsSound, IsValid};
 ghost use Rattle.ps_mon.specs.Duels.{IsFit, IsDuelKnown};
 ghost use Rattle.ps_hits.specs.Scenes.{scene};
 ghost use Rattle.ps_hits.specs.Courses.{played, course};
-ghost use Rattle.ps_hits.specs.Shares.{gain, lose, drained, drain_row, dreameater_row, recoiled, recoil_row, crashed, crash_row, divisor_of};
+ghost use Rattle.ps_hits.specs.Shares.{gain, lose, drained, drain_row, dreameater_row, recoiled, recoil_row, crashed, crash_row};
+ghost use Rattle.ps_hits.specs.Shares.{divisor_of};
 
 use crate::scene::{health, who};
 use crate::strike::{Struck, strike_foe_with};
@@ -196,7 +197,9 @@ pub fn recoil(battle: &mut Battle, facts: Facts<'_>, user: u8, mv: u16, out: &mu
     requires fair { AreFair (figures facts) }
     requires user { user < 2 }
     requires room { array_vec_len out.old + 20 ≤ 160 }
-    ensures effect { course battle.new out.new ≡ played (recoil_row (divisor_of (move_of (figures facts.entry) mv).effect) (figures facts.entry) mv) user (course battle.old out.old) }
+    ensures effect { course battle.new out.new
+        ≡ played (recoil_row (divisor_of (move_of (figures facts.entry) mv).effect) (figures facts.entry) mv) user
+        (course battle.old out.old) }
     ensures sound { IsSound battle.new }
     ensures whole { IsValid battle.old → StillStands battle.old battle.new → IsValid battle.new }
     ensures known { (moves : ℕ) → IsNamed moves mv → AreKnown moves battle.old → AreKnown moves battle.new }

@@ -6,7 +6,9 @@ ghost use Rattle.ps_mon.specs.Known.{AreNamed};
 ghost use Rattle.ps_mon.specs.Moves.{IsNamed};
 ghost use Rattle.ps_mon.specs.Duels.{IsFit, IsFighter, IsDuelKnown};
 ghost use Rattle.ps_hits.specs.Scenes.{scene};
-ghost use Rattle.ps_hits.specs.Strikes.{deal_to_substitute, taken_after, stored_by, stored_after, hurt_by, enrage, rage_on, deal_to_foe, deal, accuracy_test, halved, numbers_of, tell_factors, hit, IsStruck, strike, blow_of, strike_with};
+ghost use Rattle.ps_hits.specs.Strikes.{deal_to_substitute, taken_after, stored_by, stored_after, hurt_by, enrage, rage_on};
+ghost use Rattle.ps_hits.specs.Strikes.{deal_to_foe, deal, accuracy_test, halved, numbers_of, tell_factors, hit, IsStruck, strike};
+ghost use Rattle.ps_hits.specs.Strikes.{blow_of, strike_with};
 
 use crate::fighters::{
     attack, away, defence, has_type, plain_attack, plain_defence, raging, types,

@@ -69,31 +69,33 @@ badge_after old (Some badge) = Some badge
 
 -- the room of the place, as far as the pass has seen its history, is missing or has another id
 abbrev pub Lacks : Hub → List ℕ → RoomPass → Type 0
-Lacks hub id k = (told : Option Story) × Tells (site_of hub k.number) (commands k.pass.1.seen) told × (id_told told ≢ Some id)
+Lacks hub id pass = (told : Option Story) × Tells (site_of hub pass.number) (commands pass.pass.1.seen) told × (id_told told ≢ Some id)
 
 -- A place is held by an id: it was already, and nothing changed; or it is a chat room's, and nothing else changed; or it is a
 -- battle's, which was free, and its pass took a turn, which found the room with that id.
 abbrev pub Held : List ℕ → RoomPass → RoomPass → Type 0
-Held id h k = ((h.id ≡ Some id) × (k ≡ h))
-    ⊎ ((h.number < first_battle) × (k ≡ record h { id = Some id }))
-    ⊎ ((first_battle ≤ h.number) × (h.id ≡ None) × (k.id ≡ Some id) × (k.at ≡ h.at) × Turns h.pass.1 None k.pass.1)
+Held id before behind = ((before.id ≡ Some id) × (behind ≡ before))
+    ⊎ ((before.number < first_battle) × (behind ≡ record before { id = Some id }))
+    ⊎ ((first_battle ≤ before.number) × (before.id ≡ None) × (behind.id ≡ Some id) × (behind.at ≡ before.at)
+    × Turns before.pass.1 None behind.pass.1)
 
 -- It isn't, since no such room is there: it is held by another id, and nothing changed; or its pass took a turn, which found no
 -- room with that id. Never of a chat room.
 abbrev pub NotHeld : Hub → List ℕ → RoomPass → RoomPass → Type 0
-NotHeld hub id h k = (first_battle ≤ h.number)
-    × (((other : List ℕ) × (h.id ≡ Some other) × (other ≢ id) × (k ≡ h))
-    ⊎ ((h.id ≡ None) × (k.id ≡ None) × (k.at ≡ h.at) × Turns h.pass.1 None k.pass.1 × Lacks hub id k))
+NotHeld hub id before behind = (first_battle ≤ before.number)
+    × (((other : List ℕ) × (before.id ≡ Some other) × (other ≢ id) × (behind ≡ before))
+    ⊎ ((before.id ≡ None) × (behind.id ≡ None) × (behind.at ≡ before.at) × Turns before.pass.1 None behind.pass.1 × Lacks hub id behind))
 
 -- somebody else had the turn. Never of a chat room.
 abbrev pub HeldUp : ℕ → RoomPass → RoomPass → Type 0
-HeldUp word h k = (first_battle ≤ h.number) × (h.id ≡ None) × (k.id ≡ None) × (k.at ≡ h.at) × IsBusy h.pass.1 word k.pass.1
+HeldUp word before behind = (first_battle ≤ before.number) × (before.id ≡ None) × (behind.id ≡ None) × (behind.at ≡ before.at)
+    × IsBusy before.pass.1 word behind.pass.1
 
 -- Out of memory: at the most the pass took a turn without an entry, and that only at the place of a battle which isn't
 -- held. No message was pulled, so the cursor stands where it stood.
 abbrev pub Unheld : RoomPass → RoomPass → Type 0
-Unheld h k = (k.id ≡ h.id) × (k.at ≡ h.at) × (k.cursor ≡ h.cursor)
-    × ((k.pass.1 ≡ h.pass.1) ⊎ ((first_battle ≤ h.number) × (h.id ≡ None) × Turns h.pass.1 None k.pass.1))
+Unheld before behind = (behind.id ≡ before.id) × (behind.at ≡ before.at) × (behind.cursor ≡ before.cursor)
+    × ((behind.pass.1 ≡ before.pass.1) ⊎ ((first_battle ≤ before.number) × (before.id ≡ None) × Turns before.pass.1 None behind.pass.1))
 
 -- what a call that enters does to the pass of the place that the id names
 pub record EntersAt (hub : Hub) (id : List ℕ) (does : RoomPass → RoomPass → Type 0) (old new : Passes) : Type 0 where
@@ -105,7 +107,7 @@ pub record EntersAt (hub : Hub) (id : List ℕ) (does : RoomPass → RoomPass �
 
 -- the id names no place: no chat room of the configuration has it, and it is no `battle-FORMAT-n` with n from 1 to 65,536
 abbrev pub NamesNone : Hub → List ℕ → Type 0
-NamesNone hub id = IsNoChat hub.config id × ((n : ℕ) → IsBattleId id n → ⊥)
+NamesNone hub id = IsNoChat hub.config id × ((number : ℕ) → IsBattleId id number → ⊥)
 
 abbrev pub EnterFails : Hub → List ℕ → Passes → EnterFault → Passes → Type 0
 EnterFails hub id old enter_faults.NoSuchRoom new = (NamesNone hub id × (new ≡ old)) ⊎ EntersAt hub id (NotHeld hub id) old new
@@ -114,10 +116,10 @@ EnterFails hub id old enter_faults.NoMemory new = IsAsBefore old new ⊎ EntersA
 
 -- what asking for a room by an id does to the pass of the place that it names
 abbrev pub Holds : {T : Type 0} → Hub → List ℕ → RoomPass → Result T EnterFault → RoomPass → Type 0
-Holds hub id h (Ok done) k = Held id h k
-Holds hub id h (Err enter_faults.NoSuchRoom) k = NotHeld hub id h k
-Holds hub id h (Err (enter_faults.Busy word)) k = HeldUp word h k
-Holds hub id h (Err enter_faults.NoMemory) k = Unheld h k
+Holds hub id before (Ok done) behind = Held id before behind
+Holds hub id before (Err enter_faults.NoSuchRoom) behind = NotHeld hub id before behind
+Holds hub id before (Err (enter_faults.Busy word)) behind = HeldUp word before behind
+Holds hub id before (Err enter_faults.NoMemory) behind = Unheld before behind
 
 abbrev pub Enters : {T : Type 0} → Hub → List ℕ → Passes → Result T EnterFault → Passes → Type 0
 Enters hub id old (Ok done) new = EntersAt hub id (Held id) old new
@@ -140,8 +142,9 @@ pub record HallGoes (does : HallPass → HallPass → Type 0) (old new : Passes)
 pub record HallOrdered (hub : Hub) (cmd : HallCmd) (moment : ℕ) (old : Passes) (out : HubOut) (new : Passes) : Type 0 where
   pub log : List (Made HallEntry)
   pub gave : HallOut
-  pub goes : HallGoes (λ h k. Extends h.pass.1 log × (k.pass.1 ≡ turned h.pass.1 log (Some (hall_entry old.conn moment cmd)))
-      × (length h.pass.1.mine ≢ OWN_LIMIT)) old new
+  pub goes : HallGoes (λ before behind. Extends before.pass.1 log
+      × (behind.pass.1 ≡ turned before.pass.1 log (Some (hall_entry old.conn moment cmd)))
+      × (length before.pass.1.mine ≢ OWN_LIMIT)) old new
   pub answer : HallAnswers (root_of hub) (commands log) (hall_entry old.conn moment cmd) gave
   pub badge_out : out.badge ≡ gave.badge
   pub start : out.start ≡ gave.start
@@ -152,24 +155,26 @@ pub record HallOrdered (hub : Hub) (cmd : HallCmd) (moment : ℕ) (old : Passes)
 -- the badge is as before
 abbrev pub HallFails : Hub → HallCmd → ℕ → Passes → HubFault → Passes → Type 0
 HallFails hub cmd moment old (hub_faults.OwnLimit room) new = (room ≡ None) × (new.badge ≡ old.badge)
-    × HallGoes (λ h k. (length h.pass.1.mine ≡ OWN_LIMIT) × (k.pass ≡ h.pass)) old new
+    × HallGoes (λ before behind. (length before.pass.1.mine ≡ OWN_LIMIT) × (behind.pass ≡ before.pass)) old new
 HallFails hub cmd moment old hub_faults.Taken new = ⊥
 HallFails hub cmd moment old hub_faults.NoSuchRoom new = ⊥
 HallFails hub cmd moment old (hub_faults.Busy word order) new = (order ≡ Hall cmd) × (new.badge ≡ old.badge)
-    × HallGoes (λ h k. IsBusy h.pass.1 word k.pass.1 × (length h.pass.1.mine ≢ OWN_LIMIT)) old new
+    × HallGoes (λ before behind. IsBusy before.pass.1 word behind.pass.1 × (length before.pass.1.mine ≢ OWN_LIMIT)) old new
 HallFails hub cmd moment old hub_faults.NoMemory new = (new.badge ≡ old.badge)
-    × HallGoes (λ h k. FallsShort h.pass.1 h.cursor k.pass.1 k.cursor) old new
+    × HallGoes (λ before behind. FallsShort before.pass.1 before.cursor behind.pass.1 behind.cursor) old new
 
 -- what a turn with this entry does to the pass of the hall
 abbrev pub HallTakes : HallEntry → HallPass → Result HallOut HubFault → HallPass → Type 0
-HallTakes e h (Ok gave) k = (log : List (Made HallEntry)) × Extends h.pass.1 log × (k.pass.1 ≡ turned h.pass.1 log (Some e))
-    × HallAnswers h.pass.1.origin (commands log) e gave × (length h.pass.1.mine ≢ OWN_LIMIT)
-HallTakes e h (Err (hub_faults.OwnLimit room)) k = (room ≡ None) × (length h.pass.1.mine ≡ OWN_LIMIT) × (k.pass ≡ h.pass)
-HallTakes e h (Err hub_faults.Taken) k = ⊥
-HallTakes e h (Err hub_faults.NoSuchRoom) k = ⊥
-HallTakes e h (Err (hub_faults.Busy word order)) k = (order ≡ Hall e.cmd) × IsBusy h.pass.1 word k.pass.1
-    × (length h.pass.1.mine ≢ OWN_LIMIT)
-HallTakes e h (Err hub_faults.NoMemory) k = FallsShort h.pass.1 h.cursor k.pass.1 k.cursor
+HallTakes entry before (Ok gave) behind = (log : List (Made HallEntry)) × Extends before.pass.1 log
+    × (behind.pass.1 ≡ turned before.pass.1 log (Some entry))
+    × HallAnswers before.pass.1.origin (commands log) entry gave × (length before.pass.1.mine ≢ OWN_LIMIT)
+HallTakes entry before (Err (hub_faults.OwnLimit room)) behind = (room ≡ None) × (length before.pass.1.mine ≡ OWN_LIMIT)
+    × (behind.pass ≡ before.pass)
+HallTakes entry before (Err hub_faults.Taken) behind = ⊥
+HallTakes entry before (Err hub_faults.NoSuchRoom) behind = ⊥
+HallTakes entry before (Err (hub_faults.Busy word order)) behind = (order ≡ Hall entry.cmd) × IsBusy before.pass.1 word behind.pass.1
+    × (length before.pass.1.mine ≢ OWN_LIMIT)
+HallTakes entry before (Err hub_faults.NoMemory) behind = FallsShort before.pass.1 before.cursor behind.pass.1 behind.cursor
 
 -- the name that a command asks for, if it asks for one
 abbrev pub name_asked : HallCmd → Option (List ℕ)
@@ -205,8 +210,9 @@ pub record RoomOrdered (hub : Hub) (id : List ℕ) (cmd : Command) (moment : ℕ
   pub number : ℕ
   pub log : List (Made RoomCmd)
   pub gave : Option RoomOut
-  pub goes : RoomGoes hub id (λ h k. (h.number ≡ number) × Extends h.pass.1 log
-      × (k.pass.1 ≡ turned h.pass.1 log (Some (Play (room_entry old.conn badge moment cmd)))) × (length h.pass.1.mine ≢ OWN_LIMIT)) old new
+  pub goes : RoomGoes hub id (λ before behind. (before.number ≡ number) × Extends before.pass.1 log
+      × (behind.pass.1 ≡ turned before.pass.1 log (Some (Play (room_entry old.conn badge moment cmd))))
+      × (length before.pass.1.mine ≢ OWN_LIMIT)) old new
   pub answer : Answers (site_of hub number) (commands log) (Play (room_entry old.conn badge moment cmd)) gave
   pub no_badge : out.badge ≡ None
   pub start : out.start ≡ None
@@ -215,31 +221,36 @@ pub record RoomOrdered (hub : Hub) (id : List ℕ) (cmd : Command) (moment : ℕ
 
 -- a turn that made no entry, since one stands that is signed as the command is, and the pass has signed none so
 abbrev pub IsKeptOut : RoomCmd → RoomPass → RoomPass → Type 0
-IsKeptOut cmd h k = Turns h.pass.1 None k.pass.1 × (k.cursor ≡ h.cursor) × IsNameTaken room_signer h.pass.1.said k.pass.1.seen cmd
+IsKeptOut cmd before behind = Turns before.pass.1 None behind.pass.1 × (behind.cursor ≡ before.cursor)
+    × IsNameTaken room_signer before.pass.1.said behind.pass.1.seen cmd
 
 -- what a turn with this entry does to the pass of a place that is held by this id
 abbrev pub RoomTakes : Site → List ℕ → Entry → RoomPass → Result HubOut HubFault → RoomPass → Type 0
-RoomTakes site id e h (Ok out) k =
-    (log : List (Made RoomCmd)) × (gave : Option RoomOut) × Extends h.pass.1 log × (k.pass.1 ≡ turned h.pass.1 log (Some (Play e)))
-    × Answers site (commands log) (Play e) gave × (out ≡ room_gave gave) × (length h.pass.1.mine ≢ OWN_LIMIT)
-RoomTakes site id e h (Err (hub_faults.OwnLimit room)) k = (room ≡ Some id) × (length h.pass.1.mine ≡ OWN_LIMIT) × (k.pass ≡ h.pass)
-RoomTakes site id e h (Err hub_faults.Taken) k = IsKeptOut (Play e) h k
-RoomTakes site id e h (Err hub_faults.NoSuchRoom) k = ⊥
-RoomTakes site id e h (Err (hub_faults.Busy word order)) k = (order ≡ Room id e.cmd) × IsBusy h.pass.1 word k.pass.1
-    × (length h.pass.1.mine ≢ OWN_LIMIT)
-RoomTakes site id e h (Err hub_faults.NoMemory) k = FallsShort h.pass.1 h.cursor k.pass.1 k.cursor
+RoomTakes site id entry before (Ok out) behind =
+    (log : List (Made RoomCmd)) × (gave : Option RoomOut) × Extends before.pass.1 log
+    × (behind.pass.1 ≡ turned before.pass.1 log (Some (Play entry)))
+    × Answers site (commands log) (Play entry) gave × (out ≡ room_gave gave) × (length before.pass.1.mine ≢ OWN_LIMIT)
+RoomTakes site id entry before (Err (hub_faults.OwnLimit room)) behind = (room ≡ Some id) × (length before.pass.1.mine ≡ OWN_LIMIT)
+    × (behind.pass ≡ before.pass)
+RoomTakes site id entry before (Err hub_faults.Taken) behind = IsKeptOut (Play entry) before behind
+RoomTakes site id entry before (Err hub_faults.NoSuchRoom) behind = ⊥
+RoomTakes site id entry before (Err (hub_faults.Busy word order)) behind = (order ≡ Room id entry.cmd)
+    × IsBusy before.pass.1 word behind.pass.1
+    × (length before.pass.1.mine ≢ OWN_LIMIT)
+RoomTakes site id entry before (Err hub_faults.NoMemory) behind = FallsShort before.pass.1 before.cursor behind.pass.1 behind.cursor
 
 -- after the place is held
 abbrev pub RoomFails : Hub → List ℕ → Command → ℕ → Passes → HubFault → Passes → Type 0
 RoomFails hub id cmd moment old (hub_faults.OwnLimit room) new = (room ≡ Some id)
-    × RoomGoes hub id (λ h k. (length h.pass.1.mine ≡ OWN_LIMIT) × (k.pass ≡ h.pass)) old new
+    × RoomGoes hub id (λ before behind. (length before.pass.1.mine ≡ OWN_LIMIT) × (behind.pass ≡ before.pass)) old new
 RoomFails hub id cmd moment old hub_faults.Taken new =
     (badge : Badge) × (old.badge ≡ Some badge) × RoomGoes hub id (IsKeptOut (Play (room_entry old.conn badge moment cmd))) old new
 RoomFails hub id cmd moment old hub_faults.NoSuchRoom new = ⊥
 RoomFails hub id cmd moment old (hub_faults.Busy word order) new = (order ≡ Room id cmd)
-    × RoomGoes hub id (λ h k. IsBusy h.pass.1 word k.pass.1 × (length h.pass.1.mine ≢ OWN_LIMIT)) old new
+    × RoomGoes hub id (λ before behind. IsBusy before.pass.1 word behind.pass.1 × (length before.pass.1.mine ≢ OWN_LIMIT)) old new
 RoomFails hub id cmd moment old hub_faults.NoMemory new =
-    (badge : Badge) × (old.badge ≡ Some badge) × RoomGoes hub id (λ h k. FallsShort h.pass.1 h.cursor k.pass.1 k.cursor) old new
+    (badge : Badge) × (old.badge ≡ Some badge)
+    × RoomGoes hub id (λ before behind. FallsShort before.pass.1 before.cursor behind.pass.1 behind.cursor) old new
 
 -- while the place isn't held
 abbrev pub EntryFails : Hub → List ℕ → Command → Passes → HubFault → Passes → Type 0
@@ -278,10 +289,11 @@ pub record BeginsAt (hub : Hub) (start : Start) (does : RoomPass → RoomPass �
 
 -- no Begin, if out of memory, or the pass had made as many entries as it may
 abbrev pub BeginsNothing : RoomPass → RoomPass → Type 0
-BeginsNothing h k = FallsShortAtLast h.pass.1 h.cursor k.pass.1 k.cursor
+BeginsNothing before behind = FallsShortAtLast before.pass.1 before.cursor behind.pass.1 behind.cursor
 
 abbrev pub Starts : {T E : Type 0} → Hub → Start → Passes → Result T E → Passes → Type 0
-Starts hub start old (Ok done) new = BeginsAt hub start (λ h k. TurnsAtLast h.pass.1 (Some (Begin start)) k.pass.1) old new
+Starts hub start old (Ok done) new = BeginsAt hub start
+    (λ before behind. TurnsAtLast before.pass.1 (Some (Begin start)) behind.pass.1) old new
 Starts hub start old (Err fault) new = IsAsBefore old new ⊎ BeginsAt hub start BeginsNothing old new
 
 -- ---- the begin of a connection
@@ -302,10 +314,10 @@ pub record Admits (hub : Hub) (conn moment : ℕ) (new : Passes) : Type 0 where
   pub conn_is : new.conn ≡ conn
 
 -- an entry stands in the hall under the number of the connection, and the pass that met it has said nothing under it
-pub record IsStranger (hub : Hub) (conn : ℕ) (h : HallPass) : Type 0 where
-  pub of : IsHallPass hub conn h
-  pub silent : signed hall_signer conn (commands h.pass.1.said) ≡ []
-  pub stands : Speaks hall_signer conn h.pass.1.seen
+pub record IsStranger (hub : Hub) (conn : ℕ) (pass : HallPass) : Type 0 where
+  pub of : IsHallPass hub conn pass
+  pub silent : signed hall_signer conn (commands pass.pass.1.said) ≡ []
+  pub stands : Speaks hall_signer conn pass.pass.1.seen
 
 abbrev pub IsRefused : Hub → ℕ → AdmitFault → Type 0
 IsRefused hub conn (admit_faults.Taken opener) = IsStranger hub conn opener
@@ -319,10 +331,10 @@ NeedsBadge (Room id cmd) passes = IsSome passes.badge
 -- ---- catching up
 
 abbrev pub HallCaught : Hub → ℕ → List Msg → HallPass → HallPass → Type 0
-HallCaught hub conn msgs h k = CaughtAt hall_telling conn (root_of hub) msgs h k
+HallCaught hub conn msgs before behind = CaughtAt hall_telling conn (root_of hub) msgs before behind
 
 abbrev pub HallHanded : Hub → ℕ → List Msg → HallPass → HallPass → Type 0
-HallHanded hub conn msgs h k = HandedAt hall_telling conn (root_of hub) msgs h k
+HallHanded hub conn msgs before behind = HandedAt hall_telling conn (root_of hub) msgs before behind
 
 -- what a call does to the pass of the hall, and to nothing else
 pub record HallOnly (does : HallPass → HallPass → Type 0) (old new : Passes) : Type 0 where
@@ -337,18 +349,19 @@ pub record HallOnly (does : HallPass → HallPass → Type 0) (old new : Passes)
 
 abbrev pub CatchesUpHall : {E : Type 0} → Hub → Passes → Result (Vec Msg Global) E → Passes → Type 0
 CatchesUpHall hub old (Ok msgs) new = HallOnly (HallCaught hub old.conn msgs.items) old new
-CatchesUpHall hub old (Err e) new = HallOnly (λ h k. LooksAtMost h.pass.1 k.pass.1 × (k.at ≡ h.at)) old new
+CatchesUpHall hub old (Err fault) new = HallOnly (λ before behind. LooksAtMost before.pass.1 behind.pass.1 × (behind.at ≡ before.at))
+    old new
 
 -- if out of memory, nothing was handed out
 abbrev pub HandsOnHall : {E : Type 0} → Hub → Passes → Result (Vec Msg Global) E → Passes → Type 0
 HandsOnHall hub old (Ok msgs) new = HallOnly (HallHanded hub old.conn msgs.items) old new
-HandsOnHall hub old (Err e) new = HallOnly (λ h k. Rereads h.pass.1 k.pass.1 × (k.at ≡ h.at)) old new
+HandsOnHall hub old (Err fault) new = HallOnly (λ before behind. Rereads before.pass.1 behind.pass.1 × (behind.at ≡ before.at)) old new
 
 abbrev pub Caught : Hub → ℕ → List Msg → RoomPass → RoomPass → Type 0
-Caught hub conn msgs h k = CaughtAt room_telling conn (site_of hub h.number) msgs h k
+Caught hub conn msgs before behind = CaughtAt room_telling conn (site_of hub before.number) msgs before behind
 
 abbrev pub Handed : Hub → ℕ → List Msg → RoomPass → RoomPass → Type 0
-Handed hub conn msgs h k = HandedAt room_telling conn (site_of hub h.number) msgs h k
+Handed hub conn msgs before behind = HandedAt room_telling conn (site_of hub before.number) msgs before behind
 
 -- what a call does to the pass that stands at an index of the list, and to nothing else
 pub record RoomOnly (pass_index : ℕ) (does : RoomPass → RoomPass → Type 0) (old new : Passes) : Type 0 where
@@ -365,83 +378,93 @@ pub record RoomOnly (pass_index : ℕ) (does : RoomPass → RoomPass → Type 0)
 
 abbrev pub CatchesUp : {E : Type 0} → Hub → ℕ → Passes → Result (Vec Msg Global) E → Passes → Type 0
 CatchesUp hub pass_index old (Ok msgs) new = RoomOnly pass_index (Caught hub old.conn msgs.items) old new
-CatchesUp hub pass_index old (Err e) new = RoomOnly pass_index (λ h k. LooksAtMost h.pass.1 k.pass.1 × (k.at ≡ h.at)) old new
+CatchesUp hub pass_index old (Err fault) new = RoomOnly pass_index
+    (λ before behind. LooksAtMost before.pass.1 behind.pass.1 × (behind.at ≡ before.at)) old new
 
 abbrev pub HandsOn : {E : Type 0} → Hub → ℕ → Passes → Result (Vec Msg Global) E → Passes → Type 0
 HandsOn hub pass_index old (Ok msgs) new = RoomOnly pass_index (Handed hub old.conn msgs.items) old new
-HandsOn hub pass_index old (Err e) new = RoomOnly pass_index (λ h k. Rereads h.pass.1 k.pass.1 × (k.at ≡ h.at)) old new
+HandsOn hub pass_index old (Err fault) new = RoomOnly pass_index
+    (λ before behind. Rereads before.pass.1 behind.pass.1 × (behind.at ≡ before.at)) old new
 
 -- the hall, or a room that is held by this id
 abbrev pub IsHeldBy : Option (List ℕ) → Passes → Type 0
 IsHeldBy None passes = Unit {0}
-IsHeldBy (Some id) passes = (pass_index : ℕ) × (k : RoomPass) × (slice_get passes.rooms.items pass_index ≡ Some k) × (k.id ≡ Some id)
+IsHeldBy (Some id) passes = (pass_index : ℕ) × (pass : RoomPass) × (slice_get passes.rooms.items pass_index ≡ Some pass)
+    × (pass.id ≡ Some id)
 
 abbrev pub Catches : {E : Type 0} → Hub → Option (List ℕ) → Passes → Result (Vec Msg Global) E → Passes → Type 0
 Catches hub None old result new = CatchesUpHall hub old result new
 Catches hub (Some id) old result new =
-    (pass_index : ℕ) × (k : RoomPass) × (slice_get old.rooms.items pass_index ≡ Some k) × (k.id ≡ Some id)
+    (pass_index : ℕ) × (pass : RoomPass) × (slice_get old.rooms.items pass_index ≡ Some pass) × (pass.id ≡ Some id)
     × CatchesUp hub pass_index old result new
 
 -- ---- counting
 
 -- a look alone
 abbrev pub LooksHall : ℕ → HallPass → HallPass → Type 0
-LooksHall n h k = (length h.pass.1.seen ≤ n) × (k ≡ record h { pass = (h.pass.0, after_look h.pass.1 n) }) × IsFresh h.pass.1 n
+LooksHall shown before behind = (length before.pass.1.seen ≤ shown)
+    × (behind ≡ record before { pass = (before.pass.0, after_look before.pass.1 shown) }) × IsFresh before.pass.1 shown
 
 abbrev pub LooksRoom : ℕ → RoomPass → RoomPass → Type 0
-LooksRoom n h k = (length h.pass.1.seen ≤ n) × (k ≡ record h { pass = (h.pass.0, after_look h.pass.1 n) }) × IsFresh h.pass.1 n
+LooksRoom shown before behind = (length before.pass.1.seen ≤ shown)
+    × (behind ≡ record before { pass = (before.pass.0, after_look before.pass.1 shown) }) × IsFresh before.pass.1 shown
 
 abbrev pub Counts : Option (List ℕ) → Passes → ℕ → Passes → Type 0
-Counts None old n new = HallOnly (LooksHall n) old new
-Counts (Some id) old n new =
-    (pass_index : ℕ) × (k : RoomPass) × (slice_get old.rooms.items pass_index ≡ Some k) × (k.id ≡ Some id)
-    × RoomOnly pass_index (LooksRoom n) old new
+Counts None old count new = HallOnly (LooksHall count) old new
+Counts (Some id) old count new =
+    (pass_index : ℕ) × (pass : RoomPass) × (slice_get old.rooms.items pass_index ≡ Some pass) × (pass.id ≡ Some id)
+    × RoomOnly pass_index (LooksRoom count) old new
 
 -- ---- the end of a connection
 
 -- the entries of the end can be made: a badge is kept where a room is held
 abbrev pub MayQuit : Passes → Type 0
-MayQuit passes = All (λ (k : RoomPass). IsSome k.id → IsSome passes.badge) passes.rooms.items
+MayQuit passes = All (λ (pass : RoomPass). IsSome pass.id → IsSome passes.badge) passes.rooms.items
 
 -- An entry stands in the room under the number of the connection, and its pass, as far as it has said anything, hasn't made it
 abbrev pub IsShutOut : ℕ → RoomPass → QuitFault → Type 0
-IsShutOut conn k quit_faults.Taken = (signed room_signer conn (commands k.pass.1.said) ≡ []) × Speaks room_signer conn k.pass.1.seen
-IsShutOut conn k quit_faults.NoMemory = Unit {0}
+IsShutOut conn pass quit_faults.Taken = (signed room_signer conn (commands pass.pass.1.said) ≡ [])
+    × Speaks room_signer conn pass.pass.1.seen
+IsShutOut conn pass quit_faults.NoMemory = Unit {0}
 
 -- so it is in one of the rooms
 abbrev pub IsShutOutAmong : ℕ → List RoomPass → QuitFault → Type 0
-IsShutOutAmong conn rooms quit_faults.Taken = (i : ℕ) × (k : RoomPass) × (slice_get rooms i ≡ Some k) × IsShutOut conn k quit_faults.Taken
+IsShutOutAmong conn rooms quit_faults.Taken = (pass_index : ℕ) × (pass : RoomPass) × (slice_get rooms pass_index ≡ Some pass)
+    × IsShutOut conn pass quit_faults.Taken
 IsShutOutAmong conn rooms quit_faults.NoMemory = Unit {0}
 
 -- the Quit in the hall
 abbrev pub QuitsHall : ℕ → ℕ → HallPass → HallPass → Type 0
-QuitsHall conn moment h k = TurnsInTheEnd h.pass.1 (hall_entry conn moment hall_commands.Quit) k.pass.1 × (k.at ≡ h.at)
+QuitsHall conn moment before behind = TurnsInTheEnd before.pass.1 (hall_entry conn moment hall_commands.Quit) behind.pass.1
+    × (behind.at ≡ before.at)
 
 -- the Quit in a room, where it is held
 abbrev pub QuitsBy : Option (List ℕ) → Option Badge → ℕ → ℕ → RoomPass → RoomPass → Type 0
-QuitsBy None badge conn moment h k = k ≡ h
-QuitsBy (Some id) badge conn moment h k =
-    (b : Badge) × (badge ≡ Some b) × TurnsInTheEnd h.pass.1 (Play (room_entry conn b moment room_commands.Quit)) k.pass.1
-    × (k.at ≡ h.at) × (k.number ≡ h.number) × (k.id ≡ h.id)
+QuitsBy None badge conn moment before behind = behind ≡ before
+QuitsBy (Some id) badge conn moment before behind =
+    (kept_badge : Badge) × (badge ≡ Some kept_badge)
+    × TurnsInTheEnd before.pass.1 (Play (room_entry conn kept_badge moment room_commands.Quit)) behind.pass.1
+    × (behind.at ≡ before.at) × (behind.number ≡ before.number) × (behind.id ≡ before.id)
 
 abbrev pub QuitsRoom : Option Badge → ℕ → ℕ → RoomPass → RoomPass → Type 0
-QuitsRoom badge conn moment h k = QuitsBy h.id badge conn moment h k
+QuitsRoom badge conn moment before behind = QuitsBy before.id badge conn moment before behind
 
 -- No Quit in a room that is held, if out of memory, or the pass had made as many entries as it may: turns without an entry, if any, which
 -- pulled nothing.
 abbrev pub StaysInRoom : RoomPass → RoomPass → Type 0
-StaysInRoom h k = IsSome h.id × (k.number ≡ h.number) × (k.id ≡ h.id) × (k.at ≡ h.at) × (k.cursor ≡ h.cursor) × Rereads h.pass.1 k.pass.1
+StaysInRoom before behind = IsSome before.id × (behind.number ≡ before.number) × (behind.id ≡ before.id) × (behind.at ≡ before.at)
+    × (behind.cursor ≡ before.cursor) × Rereads before.pass.1 behind.pass.1
 
 -- the same in the hall
 abbrev pub StaysInHall : HallPass → HallPass → Type 0
-StaysInHall h k = (k.at ≡ h.at) × (k.cursor ≡ h.cursor) × Rereads h.pass.1 k.pass.1
+StaysInHall before behind = (behind.at ≡ before.at) × (behind.cursor ≡ before.cursor) × Rereads before.pass.1 behind.pass.1
 
 -- the Quit, or none
 abbrev pub QuitsRoomAtMost : Option Badge → ℕ → ℕ → RoomPass → RoomPass → Type 0
-QuitsRoomAtMost badge conn moment h k = QuitsRoom badge conn moment h k ⊎ StaysInRoom h k
+QuitsRoomAtMost badge conn moment before behind = QuitsRoom badge conn moment before behind ⊎ StaysInRoom before behind
 
 abbrev pub QuitsHallAtMost : ℕ → ℕ → HallPass → HallPass → Type 0
-QuitsHallAtMost conn moment h k = QuitsHall conn moment h k ⊎ StaysInHall h k
+QuitsHallAtMost conn moment before behind = QuitsHall conn moment before behind ⊎ StaysInHall before behind
 
 pub record QuitsWith (room : RoomPass → RoomPass → Type 0) (hall : HallPass → HallPass → Type 0) (old new : Passes) : Type 0 where
   pub rooms : AllZip room old.rooms.items new.rooms.items
@@ -455,4 +478,4 @@ pub record QuitsWith (room : RoomPass → RoomPass → Type 0) (hall : HallPass 
 
 abbrev pub Quits : {T E : Type 0} → ℕ → Passes → Result T E → Passes → Type 0
 Quits moment old (Ok done) new = QuitsWith (QuitsRoom old.badge old.conn moment) (QuitsHall old.conn moment) old new
-Quits moment old (Err e) new = QuitsWith (QuitsRoomAtMost old.badge old.conn moment) (QuitsHallAtMost old.conn moment) old new
+Quits moment old (Err fault) new = QuitsWith (QuitsRoomAtMost old.badge old.conn moment) (QuitsHallAtMost old.conn moment) old new

@@ -53,9 +53,10 @@ IsEmpty new = IsUnopened new.hub.hall new.hall × AllZip IsUnopened new.hub.chat
 -- ---- for the code: the locks, each with its origin
 
 abbrev pub name_of : TableId × Site → TableId
-name_of l = l.0
+name_of lock = lock.0
 
 -- these places, of which the first has this number
 abbrev pub AreAt : Settings → Tables → ℕ → List (TableId × Site) → Type 0
 AreAt config dex number [] = Unit {0}
-AreAt config dex number (l ∷ ls) = (l.1 ≡ record { number = number; config = config; dex = dex }) × AreAt config dex (suc number) ls
+AreAt config dex number (lock ∷ locks) = (lock.1 ≡ record { number = number; config = config; dex = dex })
+    × AreAt config dex (suc number) locks

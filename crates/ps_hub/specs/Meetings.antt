@@ -48,7 +48,7 @@ pub record RoomsMet (number : ℕ) (old new other after : Passes) : Type 0 where
 
 -- a connection has no pass of that place
 abbrev pub HasNone : ℕ → Passes → Type 0
-HasNone number passes = All (λ (k : RoomPass). k.number ≢ number) passes.rooms.items
+HasNone number passes = All (λ (pass : RoomPass). pass.number ≢ number) passes.rooms.items
 
 -- they met, or one has no pass of that place, and nothing changed
 abbrev pub RoomsMeet : ℕ → Passes → Passes → Passes → Passes → Type 0

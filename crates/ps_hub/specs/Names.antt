@@ -12,7 +12,7 @@ IsChatId config id number = (room : ChatRoom) × (slice_get config.rooms number 
 
 -- the id of a battle with one of the numbers of battles, of any format
 abbrev pub IsBattleId : List ℕ → ℕ → Type 0
-IsBattleId id n = (format : List ℕ) × (id ≡ battle_id format n) × (1 ≤ n) × (n ≤ most_battles)
+IsBattleId id number = (format : List ℕ) × (id ≡ battle_id format number) × (1 ≤ number) × (number ≤ most_battles)
 
 -- no chat room has the id
 abbrev pub IsNoChat : Settings → List ℕ → Type 0
@@ -25,4 +25,4 @@ IsFirstChat config id number = IsChatId config id number × ((before : ℕ) → 
 -- the one place that an id names: a chat room's, or else a battle's
 abbrev pub Names : Settings → List ℕ → ℕ → Type 0
 Names config id number = (IsFirstChat config id number × (number < first_battle))
-    ⊎ ((n : ℕ) × IsBattleId id n × (number ≡ room_of_battle n) × IsNoChat config id)
+    ⊎ ((battle_number : ℕ) × IsBattleId id battle_number × (number ≡ room_of_battle battle_number) × IsNoChat config id)

@@ -4,4 +4,5 @@ use Rattle.std.proofs.lemmas.Cmp.{then_total, back_total, on_total, int_cmp_tota
 use Rattle.ps_keep.specs.Standings.{place_cmp}
 
 pub place_cmp_total : IsTotalOrder place_cmp
-place_cmp_total = then_total (back_total (on_total (λ p. p.rating) int_cmp_total)) (on_total (λ p. p.user) nat_list_cmp_total)
+place_cmp_total = then_total (back_total (on_total (λ place. place.rating) int_cmp_total))
+    (on_total (λ place. place.user) nat_list_cmp_total)

@@ -8,7 +8,8 @@ use Rattle.ps_keep.specs.declared.note.Note.TheVariants.{Won as WonNote, Act}
 
 -- a rated battle of the format that was won, by another user than who lost it
 abbrev pub result_in : List ℕ → Note → Option Won
-result_in format (WonNote other winner loser) = if bytes_eq other format && not (bytes_eq winner loser) then Some (record { winner = winner; loser = loser }) else None
+result_in format (WonNote other winner loser) = if bytes_eq other format
+    && not (bytes_eq winner loser) then Some (record { winner = winner; loser = loser }) else None
 result_in format (Act room actor kind target rank moment) = None
 
 abbrev pub results_in : List ℕ → List Note → List Won

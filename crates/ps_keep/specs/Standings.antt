@@ -13,35 +13,36 @@ use Rattle.ps_keep.specs.declared.standings.Place.{Place}
 
 -- the higher rating stands first, and of equal ones the lower id
 abbrev pub place_cmp : Place → Place → Ordering
-place_cmp = then_cmp (flip_args (on (λ p. p.rating) int_cmp)) (on (λ p. p.user) (slice_cmp nat_cmp))
+place_cmp = then_cmp (flip_args (on (λ place. place.rating) int_cmp)) (on (λ place. place.user) (slice_cmp nat_cmp))
 
 -- These are the standings after the results: who played a battle, each once, with the rating of its own; each stands before all who
 -- stand lower.
 pub record AreStandings (results : List Won) (places : List Place) : Type 0 where
-  pub rated : All (λ p. p.rating ≡ rating_of p.user results) places
-  pub only : All (λ p. list_any (has_played p.user) results ≡ true) places
-  pub all : (user : List ℕ) → list_any (has_played user) results ≡ true → Any (λ p. p.user ≡ user) places
+  pub rated : All (λ place. place.rating ≡ rating_of place.user results) places
+  pub only : All (λ place. list_any (has_played place.user) results ≡ true) places
+  pub all : (user : List ℕ) → list_any (has_played user) results ≡ true → Any (λ place. place.user ≡ user) places
   pub order : IsStrictlySortedBy place_cmp places
 
 -- the text of a place: the user and its rating
 abbrev pub place_text : Place → List ℕ
-place_text p = p.user ++ codes " " ++ signed_decimal p.rating
+place_text place = place.user ++ codes " " ++ signed_decimal place.rating
 
 -- ---- for the code alone
 
 -- the standing of a ladder after a result, if there is one
 abbrev pub standing_with : Standing → Option Won → Standing
-standing_with s None = s
-standing_with s (Some r) = standing_after s r.winner r.loser
+standing_with standing None = standing
+standing_with standing (Some result) = standing_after standing result.winner result.loser
 
 abbrev pub standing_from : Standing → List ℕ → List Note → Standing
-standing_from s format [] = s
-standing_from s format (note ∷ notes) = standing_from (standing_with s (result_in format note)) format notes
+standing_from standing format [] = standing
+standing_from standing format (note ∷ notes) = standing_from (standing_with standing (result_in format note)) format notes
 
 -- the places of both users of a result, if there is one
 abbrev pub places_with : Ratings → Option Won → List Place
 places_with ratings None = []
-places_with ratings (Some r) = record { user = r.winner; rating = rating ratings r.winner } ∷ record { user = r.loser; rating = rating ratings r.loser } ∷ []
+places_with ratings (Some result) = record { user = result.winner; rating = rating ratings result.winner }
+    ∷ record { user = result.loser; rating = rating ratings result.loser } ∷ []
 
 -- those of all results of a format, before they are sorted
 abbrev pub places_in : Ratings → List ℕ → List Note → List Place

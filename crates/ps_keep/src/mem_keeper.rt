@@ -1,7 +1,8 @@
 //! Keepers in memory.
 ghost use Rattle.std.specs.Prelude.{◌≡◌, ◌≤◌, ◌++◌, ◌∷◌, [], false, length, Some, Ok, IfOk, IfSome, OnOk, OnErr};
 ghost use Rattle.ps_outside.specs.Counts.{is_listed, one_more};
-ghost use Rattle.ps_keep.specs.Keepers.{no_counts, IsLoadEnd, HasLoadCause, HasNoteCause, after_note, after_notes, AppendsSome, has_failed, IsNoMemory};
+ghost use Rattle.ps_keep.specs.Keepers.{no_counts, IsLoadEnd, HasLoadCause, HasNoteCause, after_note, after_notes, AppendsSome};
+ghost use Rattle.ps_keep.specs.Keepers.{has_failed, IsNoMemory};
 
 use crate::keeper::{KeepEnd, Keeper};
 use crate::note::Note;

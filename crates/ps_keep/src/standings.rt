@@ -92,7 +92,8 @@ impl fmt::Display for Place {
 
 // The users of a rated battle of the format that was won, winner first, if the note is of one.
 fn result_in<'a>(note: &'a Note, format: &Id) -> Option<(&'a Id, &'a Id)>
-    ensures { MatchOption result (result_in format.now note.now ≡ None) (λ users. result_in format.now note.now ≡ Some (record { winner = users.0.now; loser = users.1.now })) }
+    ensures { MatchOption result (result_in format.now note.now ≡ None)
+        (λ users. result_in format.now note.now ≡ Some (record { winner = users.0.now; loser = users.1.now })) }
 {
     match note {
         Note::Won {

@@ -3,7 +3,7 @@ use Rattle.std.specs.Prelude.{ℕ, ◌-◌, ◌*◌, ◌/◌, nat_le, ℤ, ◌-�
 
 -- how far two ratings are apart
 abbrev pub distance : ℤ → ℤ → ℕ
-distance a b = unsigned_abs (a -ℤ b)
+distance one two = unsigned_abs (one -ℤ two)
 
 -- How many of 1000 battles the player with the higher rating is expected to win: the entry at the greatest
 -- tabled distance that isn't above theirs.

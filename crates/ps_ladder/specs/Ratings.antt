@@ -21,7 +21,8 @@ rating ratings user = unwrap_or (get ratings user) (pos 1000)
 
 -- so many points go from loser to winner
 abbrev pub moved : Ratings → List ℕ → List ℕ → ℕ → Ratings
-moved ratings winner loser gain = insert (insert ratings winner (rating ratings winner +ℤ pos gain)) loser (rating ratings loser -ℤ pos gain)
+moved ratings winner loser gain = insert (insert ratings winner (rating ratings winner +ℤ pos gain)) loser
+    (rating ratings loser -ℤ pos gain)
 
 -- the ratings after a battle was won
 abbrev pub settled : Ratings → List ℕ → List ℕ → Ratings
@@ -30,7 +31,7 @@ settled ratings winner loser = moved ratings winner loser (gain_of (rating ratin
 -- the ratings after results, the oldest first
 abbrev pub ratings_from : Ratings → List Won → Ratings
 ratings_from ratings [] = ratings
-ratings_from ratings (r ∷ results) = ratings_from (settled ratings r.winner r.loser) results
+ratings_from ratings (result ∷ results) = ratings_from (settled ratings result.winner result.loser) results
 
 abbrev pub ratings_of : List Won → Ratings
 ratings_of results = ratings_from empty results
@@ -50,13 +51,13 @@ standing_of results = record { count = length results; ratings = ratings_of resu
 
 -- the standing after one more result
 abbrev pub standing_after : Standing → List ℕ → List ℕ → Standing
-standing_after s winner loser = record { count = s.count + 1; ratings = settled s.ratings winner loser }
+standing_after standing winner loser = record { count = standing.count + 1; ratings = settled standing.ratings winner loser }
 
 -- ---- what results can't change
 
 abbrev pub sum : List ℤ → ℤ
 sum [] = pos 0
-sum (z ∷ zs) = z +ℤ sum zs
+sum (number ∷ numbers) = number +ℤ sum numbers
 
 -- the sum of all ratings is 1000 times the number of those who were rated
 abbrev pub IsBalanced : Ratings → Type 0
@@ -64,22 +65,22 @@ IsBalanced ratings = sum (values ratings) ≡ pos (1000 * len ratings)
 
 -- whether a user played a battle
 abbrev pub has_played : List ℕ → Won → Bool
-has_played user r = bytes_eq user r.winner || bytes_eq user r.loser
+has_played user result = bytes_eq user result.winner || bytes_eq user result.loser
 
 -- a battle between two users
 abbrev pub IsOfTwo : Won → Type 0
-IsOfTwo r = bytes_eq r.winner r.loser ≡ false
+IsOfTwo result = bytes_eq result.winner result.loser ≡ false
 
 -- after so many results nobody is further from 1000 than 32 points for each
-pub record IsNear (count : ℕ) (z : ℤ) : Type 0 where
-  pub low : pos 1000 ≤ℤ (z +ℤ pos (32 * count))
-  pub high : z ≤ℤ pos (1000 + 32 * count)
+pub record IsNear (count : ℕ) (points : ℤ) : Type 0 where
+  pub low : pos 1000 ≤ℤ (points +ℤ pos (32 * count))
+  pub high : points ≤ℤ pos (1000 + 32 * count)
 
 abbrev pub AreNear : ℕ → Ratings → Type 0
 AreNear count ratings = (user : List ℕ) → IsNear count (rating ratings user)
 
 -- what is true of a ladder at any time
-pub record IsSound (s : Standing) : Type 0 where
-  pub few : s.count ≤ most_battles
-  pub near : AreNear s.count s.ratings
-  pub balanced : IsBalanced s.ratings
+pub record IsSound (standing : Standing) : Type 0 where
+  pub few : standing.count ≤ most_battles
+  pub near : AreNear standing.count standing.ratings
+  pub balanced : IsBalanced standing.ratings

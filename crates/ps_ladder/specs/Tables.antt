@@ -10,11 +10,11 @@ use Rattle.ps_ladder.specs.Waiting.{has_user}
 
 -- whether a search is for this format
 abbrev pub has_format : List ℕ → Search → Bool
-has_format format s = bytes_eq s.format format
+has_format format search = bytes_eq search.format format
 
 -- the searches stand at numbers below the next, and the indices find each at its user and at its format
-pub record AreKept (t : Table) : Type 0 where
-  pub below : AreBelow t.next t.waiting
-  pub apart : AreApart t.waiting
-  pub by_user : IsIndexed has_user t.next t.waiting t.users
-  pub by_format : IsIndexed has_format t.next t.waiting t.formats
+pub record AreKept (table : Table) : Type 0 where
+  pub below : AreBelow table.next table.waiting
+  pub apart : AreApart table.waiting
+  pub by_user : IsIndexed has_user table.next table.waiting table.users
+  pub by_format : IsIndexed has_format table.next table.waiting table.formats

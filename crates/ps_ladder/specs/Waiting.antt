@@ -1,5 +1,6 @@
 -- Who waits for a rated battle.
-use Rattle.std.specs.Prelude.{◌≡◌, ℕ, Bool, true, false, not, ◌&&◌, nat_le, ℤ, List, [], ◌∷◌, ◌++◌, Option, Some, None, filter, if◌then◌else◌}
+use Rattle.std.specs.Prelude.{◌≡◌, ℕ, Bool, true, false, not, ◌&&◌, nat_le, ℤ, List, [], ◌∷◌, ◌++◌, Option, Some, None, filter}
+use Rattle.std.specs.Prelude.{if◌then◌else◌}
 use Rattle.std.specs.List.{list_any}
 use Rattle.std.specs.Str.{bytes_eq}
 use Rattle.ps_ladder.specs.Gains.{distance}
@@ -10,10 +11,10 @@ use Rattle.ps_ladder.specs.declared.searches.AddFault.{AddFault}
 use Rattle.ps_ladder.specs.declared.searches.AddFault.TheVariants.{Already, NoMemory}
 
 abbrev pub has_user : List ℕ → Search → Bool
-has_user user s = bytes_eq s.user user
+has_user user search = bytes_eq search.user user
 
 abbrev pub is_for : List ℕ → List ℕ → Search → Bool
-is_for user format s = bytes_eq s.user user && bytes_eq s.format format
+is_for user format search = bytes_eq search.user user && bytes_eq search.format format
 
 -- whether a user waits for a format
 abbrev pub waits : List Search → List ℕ → List ℕ → Bool
@@ -24,21 +25,21 @@ abbrev pub reach : ℕ
 reach = 300
 
 abbrev pub is_near : ℤ → ℤ → Bool
-is_near a b = nat_le (distance a b) reach
+is_near one two = nat_le (distance one two) reach
 
 -- whether a search suits a user who wants to play a format: another's, of that format, at a near rating
 abbrev pub suits : List ℕ → List ℕ → ℤ → Search → Bool
-suits user format rating s = not (bytes_eq s.user user) && (bytes_eq s.format format && is_near s.rating rating)
+suits user format rating search = not (bytes_eq search.user user) && (bytes_eq search.format format && is_near search.rating rating)
 
 -- of the searches that suit, the one that has waited longest
 abbrev pub found : List Search → List ℕ → List ℕ → ℤ → Option Search
 found [] user format rating = None
-found (s ∷ list) user format rating = if suits user format rating s then Some s else found list user format rating
+found (search ∷ list) user format rating = if suits user format rating search then Some search else found list user format rating
 
 -- what is left when that one is taken out
 abbrev pub without : List Search → List ℕ → List ℕ → ℤ → List Search
 without [] user format rating = []
-without (s ∷ list) user format rating = if suits user format rating s then list else s ∷ without list user format rating
+without (search ∷ list) user format rating = if suits user format rating search then list else search ∷ without list user format rating
 
 abbrev pub added_by : Option Search → List Search → List ℕ → List ℕ → ℤ → List Search
 added_by (Some other) list user format rating = without list user format rating
@@ -50,7 +51,7 @@ added list user format rating = added_by (found list user format rating) list us
 
 -- what who searches learns
 abbrev pub answer : Option Search → Found
-answer (Some s) = Matched s.user s.rating
+answer (Some search) = Matched search.user search.rating
 answer None = Waiting
 
 -- what a fault tells of whether the user waits already
@@ -60,4 +61,4 @@ IsAddFault waiting NoMemory = waiting ≡ false
 
 -- the searches without those of a user
 abbrev pub cancelled : List Search → List ℕ → List Search
-cancelled list user = filter (λ s. not (has_user user s)) list
+cancelled list user = filter (λ search. not (has_user user search)) list

@@ -5,7 +5,8 @@ ghost use Rattle.std.specs.List.{All, list_any};
 ghost use Rattle.std.specs.Str.{bytes_eq};
 ghost use Rattle.ps_base.specs.Limits.{most_battles};
 ghost use Rattle.ps_ladder.specs.Gains.{gain_of};
-ghost use Rattle.ps_ladder.specs.Ratings.{Won, rating, settled, ratings_of, rating_of, standing_of, standing_after, IsBalanced, IsNear, IsOfTwo, has_played};
+ghost use Rattle.ps_ladder.specs.Ratings.{Won, rating, settled, ratings_of, rating_of, standing_of, standing_after, IsBalanced};
+ghost use Rattle.ps_ladder.specs.Ratings.{IsNear, IsOfTwo, has_played};
 
 use crate::gain::gain_of;
 use crate::scores::{Scores, set_both};
@@ -152,7 +153,8 @@ impl Ladder {
         ensures winner { IfOk result (λ new. new.0 ≡ rating (settled self.old.ratings winner.now loser.now) winner.now) }
         ensures loser { IfOk result (λ new. new.1 ≡ rating (settled self.old.ratings winner.now loser.now) loser.now) }
         ensures after { OnOk result (self.new ≡ standing_after self.old winner.now loser.now) }
-        ensures history { OnOk result ((results : List Won) → self.old ≡ standing_of results → self.new ≡ standing_of (results ++ record { winner = winner.now; loser = loser.now } ∷ [])) }
+        ensures history { OnOk result ((results : List Won) → self.old ≡ standing_of results
+            → self.new ≡ standing_of (results ++ record { winner = winner.now; loser = loser.now } ∷ [])) }
         ensures sum { IsBalanced self.new.ratings }
         ensures err { OnErr result (self.new ≡ self.old) }
     {

@@ -159,7 +159,8 @@ fn add_ids(
 ) -> Result<(), AllocError>
     ensures users { OnOk result (users.new ≡ with_number users.old search.now.user number) }
     ensures formats { OnOk result (formats.new ≡ with_number formats.old search.now.format number) }
-    ensures undone { OnErr result ((es : List (ℕ × Search)) → IsIndexed has_user number es users.old → IsIndexed has_user number es users.new) }
+    ensures undone { OnErr result ((es : List (ℕ × Search)) → IsIndexed has_user number es users.old
+        → IsIndexed has_user number es users.new) }
     ensures same { OnErr result (formats.new ≡ formats.old) }
 {
     users.add(alloc, search.user.as_str(), number)?;
@@ -175,8 +176,10 @@ fn index_last(
     number: u64,
 ) -> Result<(), AllocError>
     ensures users { OnOk result ((s : Search) → item_at number waiting.now ≡ Some s → users.new ≡ with_number users.old s.user number) }
-    ensures formats { OnOk result ((s : Search) → item_at number waiting.now ≡ Some s → formats.new ≡ with_number formats.old s.format number) }
-    ensures undone { OnErr result ((es : List (ℕ × Search)) → IsIndexed has_user number es users.old → IsIndexed has_user number es users.new) }
+    ensures formats { OnOk result ((s : Search) → item_at number waiting.now ≡ Some s
+        → formats.new ≡ with_number formats.old s.format number) }
+    ensures undone { OnErr result ((es : List (ℕ × Search)) → IsIndexed has_user number es users.old
+        → IsIndexed has_user number es users.new) }
     ensures same { OnErr result (formats.new ≡ formats.old) }
 {
     match waiting.get(number) {

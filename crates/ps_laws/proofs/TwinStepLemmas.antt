@@ -18,7 +18,7 @@ use Rattle.ps_room.specs.declared.entry.Entry.{Entry}
 use Rattle.ps_room.specs.Tolds.{Logged}
 use Rattle.ps_room.specs.Records.{Record, presents_of, cast_in, logged_events}
 use Rattle.ps_room.specs.Roles.{role_of_member}
-use Rattle.ps_room.specs.Rooms.{events_by, lines_by, battle_after, outcome_by, seen_text, seen_texts, shown_events, shown_items, kept_back, logged_lines}
+use Rattle.ps_room.specs.Rooms.{events_by, lines_by, battle_after, outcome_by, seen_text, seen_texts, shown_events, shown_items, backlog_items, logged_lines}
 use Rattle.ps_room.specs.Rooms.{logged_of, applied, sender_of, allowed_events, allowed_lines, chat_lines, joiner_of, head, request_for, joined_if, joined_or}
 use Rattle.ps_laws.specs.Alike.{AreAlike, AreFightsAlike, AreMaybeAlike, IsLoggedOpenly}
 use Rattle.ps_laws.proofs.PartLemmas.{PlaysOwn, is_choose}
@@ -118,7 +118,7 @@ pub joined_same : (own : ℕ → Bool) (places : Hidden) (r : Record) (go : Opti
 joined_same own places r go e one two true true plain w plays same =
     let p : Present = joiner_of r e in
     let first : List (List ℕ) = head r (presents_of r ++ p ∷ []) in
-    let shown : Option Fight → Role → List (List ℕ) = λ fo role. shown_items (cast_in fo) role (kept_back (cast_in fo) (take (length r.logged) r.logged)) in
+    let shown : Option Fight → Role → List (List ℕ) = λ fo role. shown_items (cast_in fo) role (backlog_items (cast_in fo) (take (length r.logged) r.logged)) in
     ap (λ (role : Role). first ++ shown r.battle role ++ option_to_list (request_for r.battle p)) (member_role_same places r.battle go p w.battle)
     ∙ ap (λ (texts : List (List ℕ)). first ++ texts ++ option_to_list (request_for r.battle p)) (backlog_same places r.battle go (role_of_member (cast_in go) p) (length r.logged) r.logged w.battle w.openly)
     ∙ ap (λ (text : Option (List ℕ)). first ++ shown go (role_of_member (cast_in go) p) ++ option_to_list text) (request_for_same own places r.battle go p plain (plays refl refl) w.battle)

@@ -19,7 +19,7 @@ use Rattle.battle_secrecy.specs.Showing.{NamesNoHidden}
 use Rattle.ps_room.specs.Tolds as logs
 use Rattle.ps_room.specs.Tolds.{Logged}
 use Rattle.ps_room.specs.Records.{cast_in, logged_event, logged_events}
-use Rattle.ps_room.specs.Rooms.{logged_line, logged_lines, logged_of, shown_events, shown_item, shown_items, kept_back}
+use Rattle.ps_room.specs.Rooms.{logged_line, logged_lines, logged_of, shown_events, shown_item, shown_items, backlog_items}
 use Rattle.ps_laws.specs.Alike.{AreMaybeAlike, IsLoggedOpenly}
 use Rattle.ps_laws.proofs.LineLemmas.{NamesNone, line_same}
 use Rattle.ps_laws.proofs.TwinAskLemmas.{AreCastsAlike, casts_alike}
@@ -102,7 +102,7 @@ item_same places c d role (logs.Event e) w shown = event_text_same places c d ro
 
 -- the backlog
 pub backlog_same : (places : Hidden) (fo go : Option Fight) (role : Role) (n : ℕ) (items : List Logged) → AreMaybeAlike places fo go → All (IsLoggedOpenly places) items →
-    shown_items (cast_in fo) role (kept_back (cast_in fo) (take n items)) ≡ shown_items (cast_in go) role (kept_back (cast_in go) (take n items))
+    shown_items (cast_in fo) role (backlog_items (cast_in fo) (take n items)) ≡ shown_items (cast_in go) role (backlog_items (cast_in go) (take n items))
 backlog_same places None None role n items w shown = refl
 backlog_same places None (Some g) role n items w shown = absurd w
 backlog_same places (Some f) None role n items w shown = absurd w

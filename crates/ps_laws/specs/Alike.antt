@@ -22,15 +22,15 @@ if_own true choice = choice
 if_own false choice = None
 
 abbrev pub own_bout : (ℕ → Bool) → Bout → Bout
-own_bout own b = record b { first = if_own (own 0) b.first; second = if_own (own 1) b.second }
+own_bout own bout = record bout { first = if_own (own 0) bout.first; second = if_own (own 1) bout.second }
 
 abbrev pub own_fight : (ℕ → Bool) → Option Fight → Option Fight
 own_fight own None = None
-own_fight own (Some f) = Some (record f { bout = own_bout own f.bout })
+own_fight own (Some fight) = Some (record fight { bout = own_bout own fight.bout })
 
 -- the record of a room without the choices that wait on other sides
 abbrev pub own_part : (ℕ → Bool) → Record → Record
-own_part own r = record r { battle = own_fight own r.battle }
+own_part own room = record room { battle = own_fight own room.battle }
 
 -- ---- alike
 
@@ -62,7 +62,7 @@ AreMaybeAlike places one two = ⊥
 -- what is logged names no hidden member
 abbrev pub IsLoggedOpenly : Hidden → Logged → Type 0
 IsLoggedOpenly places (logs.Text text) = Unit {0}
-IsLoggedOpenly places (logs.Event event) = All (λ w. places.member (side_number w.side) w.member ≡ false) (whos event)
+IsLoggedOpenly places (logs.Event event) = All (λ who. places.member (side_number who.side) who.member ≡ false) (whos event)
 
 -- Two records are alike where they are equal but for what these places hold. (That of a connection stands between their own parts:
 -- choices that wait on other sides may differ, too.)

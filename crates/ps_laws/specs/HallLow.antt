@@ -28,16 +28,16 @@ id_taken None = []
 id_taken (Some badge) = id_of badge.name ∷ []
 
 abbrev pub ids_taken : ℕ → Record → HallEntry → List (List ℕ)
-ids_taken conn h e = if e.conn == conn then id_taken (out_of h e).badge else []
+ids_taken conn hall entry = if entry.conn == conn then id_taken (out_of hall entry).badge else []
 
 -- the ids that a connection takes in a history, from a record on
 abbrev pub hall_users_from : ℕ → Record → List HallEntry → List (List ℕ)
-hall_users_from conn h [] = []
-hall_users_from conn h (e ∷ es) = ids_taken conn h e ++ hall_users_from conn (after h e) es
+hall_users_from conn hall [] = []
+hall_users_from conn hall (entry ∷ entries) = ids_taken conn hall entry ++ hall_users_from conn (after hall entry) entries
 
 -- the users of a connection in a story
 abbrev pub hall_users : ℕ → HallStory → List (List ℕ)
-hall_users conn s = hall_users_from conn (hall_opened s.opening) s.history
+hall_users conn story = hall_users_from conn (hall_opened story.opening) story.history
 
 -- whether an id is one of a connection's users
 abbrev pub is_user : List (List ℕ) → List ℕ → Bool
@@ -73,7 +73,7 @@ is_sender_user ids (Some badge) = is_user ids (id_of badge.name)
 
 -- whether an entry is of the connection, or of one that has a name of one of its users
 abbrev pub is_own_entry : ℕ → List (List ℕ) → Record → HallEntry → Bool
-is_own_entry conn ids h e = e.conn == conn || is_sender_user ids (badge_of h e.conn)
+is_own_entry conn ids hall entry = entry.conn == conn || is_sender_user ids (badge_of hall entry.conn)
 
 -- ---- the table, row by row
 
@@ -82,13 +82,13 @@ abbrev pub items_of_report : ℕ → Option ℕ → List HallItem
 items_of_report number winner = reported number winner ∷ []
 
 abbrev pub own_allowed : HallEntry → HallCmd → List HallItem
-own_allowed e (Report number winner) = items_of_report number winner
-own_allowed e other = whole e ∷ []
+own_allowed entry (Report number winner) = items_of_report number winner
+own_allowed entry other = whole entry ∷ []
 
 -- an entry of the connection, or of a connection that has a name of one of its users: the entry whole, but for an allowed Report
 abbrev pub items_of_own : HallEntry → Option HallWhy → List HallItem
-items_of_own e (Some why) = whole e ∷ []
-items_of_own e None = own_allowed e e.cmd
+items_of_own entry (Some why) = whole entry ∷ []
+items_of_own entry None = own_allowed entry entry.cmd
 
 -- of others, refused: none
 abbrev pub items_of_refused : List HallItem
@@ -108,11 +108,11 @@ items_of_rank = []
 
 -- of others, Open: the entry whole
 abbrev pub items_of_open : HallEntry → List HallItem
-items_of_open e = whole e ∷ []
+items_of_open entry = whole entry ∷ []
 
 -- of others, Quit: the entry whole
 abbrev pub items_of_quit : HallEntry → List HallItem
-items_of_quit e = whole e ∷ []
+items_of_quit entry = whole entry ∷ []
 
 -- of others, an allowed Name: the connection and the name that is read of its text, without the assertion. Where no name is read
 -- it isn't allowed.
@@ -131,11 +131,11 @@ items_of_cancel_search me = search_cancelled me ∷ []
 -- the battle that started: who challenged, who accepted, and the format. An allowed Accept always starts one.
 abbrev pub items_of_start : Option Start → List HallItem
 items_of_start None = []
-items_of_start (Some s) = started (slice_index_or s.players 0 []) (slice_index_or s.players 1 []) s.format ∷ []
+items_of_start (Some start) = started (slice_index_or start.players 0 []) (slice_index_or start.players 1 []) start.format ∷ []
 
 -- of others, an allowed Accept: the entry whole where the challenge is with one of the connection's users, else the battle
 abbrev pub items_of_accept : List (List ℕ) → HallEntry → List ℕ → Option Start → List HallItem
-items_of_accept ids e user start = if is_user ids user then whole e ∷ [] else items_of_start start
+items_of_accept ids entry user start = if is_user ids user then whole entry ∷ [] else items_of_start start
 
 -- of others, an allowed Challenge: who challenges, who is challenged and the format, where this is one of the connection's users
 abbrev pub items_of_challenge : List (List ℕ) → List ℕ → List ℕ → List ℕ → List HallItem
@@ -145,70 +145,72 @@ items_of_challenge ids name user format = if is_user ids user then challenged na
 -- connection's users. Nobody has more than one open challenge.
 abbrev pub items_of_cancel_challenge : List (List ℕ) → List ℕ → Option Asked → List HallItem
 items_of_cancel_challenge ids me None = []
-items_of_cancel_challenge ids me (Some a) = if is_user ids a.to then challenge_cancelled me a.to a.format ∷ [] else []
+items_of_cancel_challenge ids me (Some challenge) = if is_user ids challenge.to then challenge_cancelled me challenge.to
+    challenge.format ∷ [] else []
 
 -- of others, an allowed Reject: who was challenged, who had challenged and the format, where this is one of the connection's users
 abbrev pub items_of_reject : List (List ℕ) → List ℕ → List ℕ → Option Asked → List HallItem
 items_of_reject ids me user None = []
-items_of_reject ids me user (Some a) = if is_user ids user then rejected me user a.format ∷ [] else []
+items_of_reject ids me user (Some challenge) = if is_user ids user then rejected me user challenge.format ∷ [] else []
 
 -- of others, an allowed Whisper: the entry whole where it is to one of the connection's users
 abbrev pub items_of_whisper : List (List ℕ) → HallEntry → List ℕ → List HallItem
-items_of_whisper ids e user = if is_user ids user then whole e ∷ [] else []
+items_of_whisper ids entry user = if is_user ids user then whole entry ∷ [] else []
 
 -- of others, an allowed Block: the entry whole where it is of one of the connection's users
 abbrev pub items_of_block : List (List ℕ) → HallEntry → List ℕ → List HallItem
-items_of_block ids e user = if is_user ids user then whole e ∷ [] else []
+items_of_block ids entry user = if is_user ids user then whole entry ∷ [] else []
 
 -- of others, an allowed Unblock: the entry whole where it is of one of the connection's users
 abbrev pub items_of_unblock : List (List ℕ) → HallEntry → List ℕ → List HallItem
-items_of_unblock ids e user = if is_user ids user then whole e ∷ [] else []
+items_of_unblock ids entry user = if is_user ids user then whole entry ∷ [] else []
 
 -- ---- which row an entry has
 
 -- the commands that take a name
 abbrev pub items_of_named : List (List ℕ) → Record → HallEntry → List ℕ → HallCmd → List HallItem
-items_of_named ids h e name (Team pack) = items_of_team
-items_of_named ids h e name (Search format) = items_of_search name format
-items_of_named ids h e name CancelSearch = items_of_cancel_search (id_of name)
-items_of_named ids h e name (Challenge user format) = items_of_challenge ids name user format
-items_of_named ids h e name CancelChallenge = items_of_cancel_challenge ids (id_of name) (asked_by h.pms (id_of name))
-items_of_named ids h e name (Reject user) = items_of_reject ids (id_of name) user (challenge_from h (id_of name) user)
-items_of_named ids h e name (Accept user) = items_of_accept ids e user (start_of_accept h name user)
-items_of_named ids h e name (Whisper user text) = items_of_whisper ids e user
-items_of_named ids h e name (Block user) = items_of_block ids e user
-items_of_named ids h e name (Unblock user) = items_of_unblock ids e user
-items_of_named ids h e name (Rank user format) = items_of_rank
-items_of_named ids h e name other = []
+items_of_named ids hall entry name (Team pack) = items_of_team
+items_of_named ids hall entry name (Search format) = items_of_search name format
+items_of_named ids hall entry name CancelSearch = items_of_cancel_search (id_of name)
+items_of_named ids hall entry name (Challenge user format) = items_of_challenge ids name user format
+items_of_named ids hall entry name CancelChallenge = items_of_cancel_challenge ids (id_of name) (asked_by hall.pms (id_of name))
+items_of_named ids hall entry name (Reject user) = items_of_reject ids (id_of name) user (challenge_from hall (id_of name) user)
+items_of_named ids hall entry name (Accept user) = items_of_accept ids entry user (start_of_accept hall name user)
+items_of_named ids hall entry name (Whisper user text) = items_of_whisper ids entry user
+items_of_named ids hall entry name (Block user) = items_of_block ids entry user
+items_of_named ids hall entry name (Unblock user) = items_of_unblock ids entry user
+items_of_named ids hall entry name (Rank user format) = items_of_rank
+items_of_named ids hall entry name other = []
 
 -- a command that takes a name is refused where the sender has none
 abbrev pub items_by : List (List ℕ) → Record → HallEntry → Option Badge → HallCmd → List HallItem
-items_by ids h e None cmd = items_of_refused
-items_by ids h e (Some badge) cmd = items_of_named ids h e badge.name cmd
+items_by ids hall entry None cmd = items_of_refused
+items_by ids hall entry (Some badge) cmd = items_of_named ids hall entry badge.name cmd
 
 abbrev pub items_of_allowed : List (List ℕ) → Record → HallEntry → HallCmd → List HallItem
-items_of_allowed ids h e Open = items_of_open e
-items_of_allowed ids h e Quit = items_of_quit e
-items_of_allowed ids h e (Bad reason) = items_of_bad
-items_of_allowed ids h e (Name text assertion) = items_of_name e.conn (read_of text)
-items_of_allowed ids h e (Report number winner) = items_of_report number winner
-items_of_allowed ids h e other = items_by ids h e (badge_of h e.conn) other
+items_of_allowed ids hall entry Open = items_of_open entry
+items_of_allowed ids hall entry Quit = items_of_quit entry
+items_of_allowed ids hall entry (Bad reason) = items_of_bad
+items_of_allowed ids hall entry (Name text assertion) = items_of_name entry.conn (read_of text)
+items_of_allowed ids hall entry (Report number winner) = items_of_report number winner
+items_of_allowed ids hall entry other = items_by ids hall entry (badge_of hall entry.conn) other
 
 abbrev pub items_of_others : List (List ℕ) → Record → HallEntry → Option HallWhy → List HallItem
-items_of_others ids h e (Some why) = items_of_refused
-items_of_others ids h e None = items_of_allowed ids h e e.cmd
+items_of_others ids hall entry (Some why) = items_of_refused
+items_of_others ids hall entry None = items_of_allowed ids hall entry entry.cmd
 
 -- the items of an entry, to a connection with these users
 abbrev pub hall_items_of : ℕ → List (List ℕ) → Record → HallEntry → List HallItem
-hall_items_of conn ids h e = if is_own_entry conn ids h e then items_of_own e (verdict h e) else items_of_others ids h e (verdict h e)
+hall_items_of conn ids hall entry = if is_own_entry conn ids hall entry then items_of_own entry (verdict hall entry) else
+    items_of_others ids hall entry (verdict hall entry)
 
 -- ---- the low history
 
 -- the items of a history, from a record on
 abbrev pub hall_low_from : ℕ → List (List ℕ) → Record → List HallEntry → List HallItem
-hall_low_from conn ids h [] = []
-hall_low_from conn ids h (e ∷ es) = hall_items_of conn ids h e ++ hall_low_from conn ids (after h e) es
+hall_low_from conn ids hall [] = []
+hall_low_from conn ids hall (entry ∷ entries) = hall_items_of conn ids hall entry ++ hall_low_from conn ids (after hall entry) entries
 
 -- the low history of a story. Its users are those of the whole history, also of later entries.
 abbrev pub hall_low : ℕ → HallStory → List HallItem
-hall_low conn s = hall_low_from conn (hall_users conn s) (hall_opened s.opening) s.history
+hall_low conn story = hall_low_from conn (hall_users conn story) (hall_opened story.opening) story.history

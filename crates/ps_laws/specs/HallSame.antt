@@ -22,25 +22,26 @@ HallViewsAreEqual conn = (one two : HallStory) → AreHallsSame conn one two →
 -- An entry is unshown in a record to a connection with these users where it has no item, and what follows has the same items
 -- with it and without it. The second says something of its own: a team that others don't see decides which of their later
 -- commands are allowed.
-pub record IsUnshown (conn : ℕ) (ids : List (List ℕ)) (h : Record) (e : HallEntry) (later : List HallEntry) : Type 0 where
-  pub none : hall_items_of conn ids h e ≡ []
-  pub later_same : hall_low_from conn ids (after h e) later ≡ hall_low_from conn ids h later
+pub record IsUnshown (conn : ℕ) (ids : List (List ℕ)) (hall : Record) (entry : HallEntry) (later : List HallEntry) : Type 0 where
+  pub none : hall_items_of conn ids hall entry ≡ []
+  pub later_same : hall_low_from conn ids (after hall entry) later ≡ hall_low_from conn ids hall later
 
 -- Such an entry may as well be missing: the story with it and the story without it are the same to the connection.
 abbrev pub HallUnshownMayBeMissing : ℕ → Type 0
-HallUnshownMayBeMissing conn = (o : HallOpening) (before : List HallEntry) (e : HallEntry) (later : List HallEntry)
-    → IsUnshown conn (hall_users conn (hall_story o (before ++ later))) (run_record (hall_opened o) before) e later
-    → AreHallsSame conn (hall_story o (before ++ e ∷ later)) (hall_story o (before ++ later))
+HallUnshownMayBeMissing conn = (opening : HallOpening) (before : List HallEntry) (entry : HallEntry) (later : List HallEntry)
+    → IsUnshown conn (hall_users conn (hall_story opening (before ++ later))) (run_record (hall_opened opening) before) entry later
+    → AreHallsSame conn (hall_story opening (before ++ entry ∷ later)) (hall_story opening (before ++ later))
 
 -- An allowed Accept starts a battle, whatever the history is before it: so each allowed Accept of others has an item.
 abbrev pub HallAcceptsStart : Type 0
-HallAcceptsStart = (o : HallOpening) (before : List HallEntry) (e : HallEntry) (user : List ℕ) → e.cmd ≡ Accept user
-    → verdict (run_record (hall_opened o) before) e ≡ None → is_some (out_of (run_record (hall_opened o) before) e).start ≡ true
+HallAcceptsStart = (opening : HallOpening) (before : List HallEntry) (entry : HallEntry) (user : List ℕ) → entry.cmd ≡ Accept user
+    → verdict (run_record (hall_opened opening) before) entry ≡ None
+    → is_some (out_of (run_record (hall_opened opening) before) entry).start ≡ true
 
 -- An allowed Search starts a battle exactly where it is matched, whatever the history is before it.
 abbrev pub HallMatchesStart : Type 0
-HallMatchesStart = (o : HallOpening) (before : List HallEntry) (e : HallEntry) (format : List ℕ) (badge : Badge)
-    → e.cmd ≡ Search format → badge_of (run_record (hall_opened o) before) e.conn ≡ Some badge
-    → verdict (run_record (hall_opened o) before) e ≡ None
-    → is_some (out_of (run_record (hall_opened o) before) e).start
-    ≡ is_some (opponent (run_record (hall_opened o) before) (id_of badge.name) format)
+HallMatchesStart = (opening : HallOpening) (before : List HallEntry) (entry : HallEntry) (format : List ℕ) (badge : Badge)
+    → entry.cmd ≡ Search format → badge_of (run_record (hall_opened opening) before) entry.conn ≡ Some badge
+    → verdict (run_record (hall_opened opening) before) entry ≡ None
+    → is_some (out_of (run_record (hall_opened opening) before) entry).start
+    ≡ is_some (opponent (run_record (hall_opened opening) before) (id_of badge.name) format)

@@ -16,19 +16,19 @@ whispers_past ids other = ⊥
 
 -- A whisper, allowed or not, where it stands: neither end of it is an id that the connection takes anywhere in the history, and
 -- it isn't the connection's.
-pub record IsForeignWhisper (conn : ℕ) (ids : List (List ℕ)) (h : Record) (e : HallEntry) : Type 0 where
-  pub target : whispers_past ids e.cmd
-  pub other : is_own_entry conn ids h e ≡ false
+pub record IsForeignWhisper (conn : ℕ) (ids : List (List ℕ)) (hall : Record) (entry : HallEntry) : Type 0 where
+  pub target : whispers_past ids entry.cmd
+  pub other : is_own_entry conn ids hall entry ≡ false
 
 -- Such a whisper may as well be missing.
 abbrev pub WhispersMayBeMissing : ℕ → Type 0
-WhispersMayBeMissing conn = (o : HallOpening) (before : List HallEntry) (e : HallEntry) (later : List HallEntry)
-    → IsForeignWhisper conn (hall_users conn (hall_story o (before ++ e ∷ later))) (run_record (hall_opened o) before) e
-    → hall_view_of conn (hall_story o (before ++ e ∷ later)) ≡ hall_view_of conn (hall_story o (before ++ later))
+WhispersMayBeMissing conn = (opening : HallOpening) (before : List HallEntry) (entry : HallEntry) (later : List HallEntry)
+    → IsForeignWhisper conn (hall_users conn (hall_story opening (before ++ entry ∷ later))) (run_record (hall_opened opening) before) entry
+    → hall_view_of conn (hall_story opening (before ++ entry ∷ later)) ≡ hall_view_of conn (hall_story opening (before ++ later))
 
 -- And another one may stand in its place.
 abbrev pub WhispersMayDiffer : ℕ → Type 0
-WhispersMayDiffer conn = (o : HallOpening) (before : List HallEntry) (e f : HallEntry) (later : List HallEntry)
-    → IsForeignWhisper conn (hall_users conn (hall_story o (before ++ e ∷ later))) (run_record (hall_opened o) before) e
-    → IsForeignWhisper conn (hall_users conn (hall_story o (before ++ f ∷ later))) (run_record (hall_opened o) before) f
-    → hall_view_of conn (hall_story o (before ++ e ∷ later)) ≡ hall_view_of conn (hall_story o (before ++ f ∷ later))
+WhispersMayDiffer conn = (opening : HallOpening) (before : List HallEntry) (entry other : HallEntry) (later : List HallEntry)
+    → IsForeignWhisper conn (hall_users conn (hall_story opening (before ++ entry ∷ later))) (run_record (hall_opened opening) before) entry
+    → IsForeignWhisper conn (hall_users conn (hall_story opening (before ++ other ∷ later))) (run_record (hall_opened opening) before) other
+    → hall_view_of conn (hall_story opening (before ++ entry ∷ later)) ≡ hall_view_of conn (hall_story opening (before ++ other ∷ later))

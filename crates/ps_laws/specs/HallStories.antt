@@ -18,12 +18,12 @@ pub record HallStory : Type 0 where
   pub history : List HallEntry
 
 abbrev pub hall_story : HallOpening → List HallEntry → HallStory
-hall_story o es = record { opening = o; history = es }
+hall_story opening es = record { opening = opening; history = es }
 
 -- the record before the first entry
 abbrev pub hall_opened : HallOpening → Record
-hall_opened o = opened o.config o.dex o.ranks
+hall_opened opening = opened opening.config opening.dex opening.ranks
 
 -- all that a connection is sent, message by message
 abbrev pub hall_view_of : ℕ → HallStory → List (List (List ℕ))
-hall_view_of conn s = view conn (hall_opened s.opening) s.history
+hall_view_of conn story = view conn (hall_opened story.opening) story.history

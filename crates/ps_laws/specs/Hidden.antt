@@ -21,7 +21,7 @@ use Rattle.ps_laws.specs.Rounds.{Round, choice_of, rounds}
 
 -- a member of a team as the battle starts, by side and place
 abbrev pub member_in : Start → ℕ → ℕ → Member
-member_in st s k = slice_index_or (legal_of st.teams s).team.members k no_member
+member_in st side member = slice_index_or (legal_of st.teams side).team.members member no_member
 
 -- whether a battle's format has Team Preview, whose bit is 64
 abbrev pub is_previewed : Settings → Option Start → Bool
@@ -30,62 +30,66 @@ is_previewed config (Some st) = previews (clauses_of_format (format_in config st
 
 -- whether a member was ever sent out: the first one is at the opening, but for a battle with Team Preview
 abbrev pub has_stood : Bool → List Round → ℕ → ℕ → Bool
-has_stood preview rs s k = (not preview && k == 0) || list_any (λ r. active_index (side_of r.after s) == k) rs
+has_stood preview rs side member = (not preview && member == 0) || list_any (λ round. active_index (side_of round.after side) == member) rs
 
 -- a member is hidden where its side isn't the connection's own and it was never sent out
 abbrev pub is_member_hidden : Bool → Bool → Start → List Round → ℕ → ℕ → Bool
-is_member_hidden preview own st rs s k = not own && nat_lt k (legal_of st.teams s).team.count && not (has_stood preview rs s k)
+is_member_hidden preview own st rs side member = not own && nat_lt member (legal_of st.teams side).team.count
+    && not (has_stood preview rs side member)
 
 -- ---- slots
 
 -- whether a choice names a slot, which counts from 1 in choices
 abbrev pub names_slot : ℕ → Choice → Bool
-names_slot j (choices.Move n) = n - 1 == j
-names_slot j other = false
+names_slot slot (choices.Move number) = number - 1 == slot
+names_slot slot other = false
 
 -- whether a slot's number was in the choice of a round while its member was active
 abbrev pub is_chosen : ℕ → ℕ → ℕ → Round → Bool
-is_chosen s k j r = active_index (side_of r.before s) == k && names_slot j (choice_of r s)
+is_chosen side member slot round = active_index (side_of round.before side) == member && names_slot slot (choice_of round side)
 
 -- whether an event of a round shows the slot: its move was used by its member or named by an event of its member, or Mimic or
 -- Transform copied it
 abbrev pub is_told : Start → ℕ → ℕ → ℕ → Round → Bool
-is_told st s k j r =
-    shows_one s k (active_index (side_of r.after s) == k) (slot_of (member_in st s k) j).mv (forms r.before r.first r.second s k) r.told
+is_told st side member slot round =
+    shows_one side member (active_index (side_of round.after side) == member) (slot_of (member_in st side member) slot).mv
+    (forms round.before round.first round.second side member) round.told
 
 abbrev pub is_slot_shown : Start → ℕ → ℕ → ℕ → Round → Bool
-is_slot_shown st s k j r = is_chosen s k j r || is_told st s k j r
+is_slot_shown st side member slot round = is_chosen side member slot round || is_told st side member slot round
 
 -- a slot is hidden where its side isn't the connection's own and no round showed it
 abbrev pub is_slot_hidden : Bool → Start → List Round → ℕ → ℕ → ℕ → Bool
-is_slot_hidden own st rs s k j = not own && nat_lt j (member_in st s k).slot_count && not (list_any (is_slot_shown st s k j) rs)
+is_slot_hidden own st rs side member slot = not own && nat_lt slot (member_in st side member).slot_count
+    && not (list_any (is_slot_shown st side member slot) rs)
 
 -- ---- a story
 
 -- a chat room has neither members of a side nor slots
 abbrev pub hidden_with : Bool → (ℕ → Bool) → Option Start → List Round → Hidden
-hidden_with preview own None rs = record { member = λ s k. false; slot = λ s k j. false; move = λ s k j. 0 }
+hidden_with preview own None rs = record { member = λ side member. false; slot = λ side member slot. false; move = λ side member slot. 0 }
 hidden_with preview own (Some st) rs = record {
-  member = λ s k. is_member_hidden preview (own s) st rs s k;
-  slot = λ s k j. is_slot_hidden (own s) st rs s k j;
-  move = λ s k j. (slot_of (member_in st s k) j).mv;
+  member = λ side member. is_member_hidden preview (own side) st rs side member;
+  slot = λ side member slot. is_slot_hidden (own side) st rs side member slot;
+  move = λ side member slot. (slot_of (member_in st side member) slot).mv;
 }
 
 -- which sides of a battle are a connection's own
 abbrev pub own_sides : List (List ℕ) → Settings → Option Start → ℕ → Bool
-own_sides ids config None s = false
-own_sides ids config (Some st) s = is_own_side ids (names_of config st) s
+own_sides ids config None side = false
+own_sides ids config (Some st) side = is_own_side ids (names_of config st) side
 
 -- the places that are hidden to a connection in a story
 abbrev pub hidden : ℕ → Story → Hidden
-hidden conn s =
-    hidden_with (is_previewed s.opening.config s.opening.battle) (own_sides (users conn s) s.opening.config s.opening.battle)
-    s.opening.battle (rounds s)
+hidden conn story =
+    hidden_with (is_previewed story.opening.config story.opening.battle)
+    (own_sides (users conn story) story.opening.config story.opening.battle)
+    story.opening.battle (rounds story)
 
 -- the places that are hidden in both of two stories; the moves are those of the first
 abbrev pub hidden_in_both : ℕ → Story → Story → Hidden
 hidden_in_both conn one two = record {
-  member = λ s k. (hidden conn one).member s k && (hidden conn two).member s k;
-  slot = λ s k j. (hidden conn one).slot s k j && (hidden conn two).slot s k j;
+  member = λ side member. (hidden conn one).member side member && (hidden conn two).member side member;
+  slot = λ side member slot. (hidden conn one).slot side member slot && (hidden conn two).slot side member slot;
   move = (hidden conn one).move;
 }

@@ -35,11 +35,11 @@ looked_at cmd me badge = no_badge
 
 -- an entry without a badge that nothing looks at
 abbrev pub entry_kept : Record → Entry → Entry
-entry_kept r e = record e { badge = looked_at e.cmd (sender_of r e) e.badge }
+entry_kept room entry = record entry { badge = looked_at entry.cmd (sender_of room entry) entry.badge }
 
 -- whether an entry is of the connection, or of one with the same user
 abbrev pub is_own : ℕ → List (List ℕ) → Record → Entry → Bool
-is_own conn ids r e = e.conn == conn || list_any (bytes_eq (user_of r e)) ids
+is_own conn ids room entry = entry.conn == conn || list_any (bytes_eq (user_of room entry)) ids
 
 abbrev pub commit_of : Option Round → List Item
 commit_of None = []
@@ -47,13 +47,13 @@ commit_of (Some round) = commit round.first round.second ∷ []
 
 -- any choice that completes a round: the round's two choices, whoever chose first
 abbrev pub items_of_round : Record → Entry → List Item
-items_of_round r e = commit_of (round_of r e)
+items_of_round room entry = commit_of (round_of room entry)
 
 -- ---- the table, row by row
 
 -- an entry of the connection, or of a connection whose user is one of its users: the entry whole, and the round that it completes
 abbrev pub items_of_own : Record → Entry → List Item
-items_of_own r e = whole (entry_kept r e) ∷ items_of_round r e
+items_of_own room entry = whole (entry_kept room entry) ∷ items_of_round room entry
 
 -- of others, refused: none
 abbrev pub items_of_refused : List Item
@@ -61,7 +61,7 @@ items_of_refused = []
 
 -- of others, a choice: the round that it completes, else none
 abbrev pub items_of_choice : Record → Entry → List Item
-items_of_choice r e = items_of_round r e
+items_of_choice room entry = items_of_round room entry
 
 -- of others, an Undo: none
 abbrev pub items_of_undo : List Item
@@ -69,35 +69,36 @@ items_of_undo = []
 
 -- of others, an allowed Modnote: none where the connection's role doesn't see it
 abbrev pub items_of_modnote : ℕ → Record → Entry → List Item
-items_of_modnote conn r e = if sees_notes conn r then whole (entry_kept r e) ∷ [] else []
+items_of_modnote conn room entry = if sees_notes conn room then whole (entry_kept room entry) ∷ [] else []
 
 -- of others, an allowed entry that no row above names: the entry whole
 abbrev pub items_of_rest : Record → Entry → List Item
-items_of_rest r e = whole (entry_kept r e) ∷ []
+items_of_rest room entry = whole (entry_kept room entry) ∷ []
 
 -- ---- which row an entry has
 
 abbrev pub items_of_allowed : ℕ → Record → Entry → Command → List Item
-items_of_allowed conn r e (Choose choice rqid) = items_of_choice r e
-items_of_allowed conn r e Undo = items_of_undo
-items_of_allowed conn r e (Modnote text) = items_of_modnote conn r e
-items_of_allowed conn r e other = items_of_rest r e
+items_of_allowed conn room entry (Choose choice rqid) = items_of_choice room entry
+items_of_allowed conn room entry Undo = items_of_undo
+items_of_allowed conn room entry (Modnote text) = items_of_modnote conn room entry
+items_of_allowed conn room entry other = items_of_rest room entry
 
 abbrev pub items_of_others : ℕ → Record → Entry → Option Why → List Item
-items_of_others conn r e (Some why) = items_of_refused
-items_of_others conn r e None = items_of_allowed conn r e e.cmd
+items_of_others conn room entry (Some why) = items_of_refused
+items_of_others conn room entry None = items_of_allowed conn room entry entry.cmd
 
 -- the items of an entry, to a connection with these users
 abbrev pub items_of : ℕ → List (List ℕ) → Record → Entry → List Item
-items_of conn ids r e = if is_own conn ids r e then items_of_own r e else items_of_others conn r e (verdict r e)
+items_of conn ids room entry = if is_own conn ids room entry then items_of_own room entry else items_of_others conn room entry
+    (verdict room entry)
 
 -- ---- the low history
 
 -- the items of a history, from a record on
 abbrev pub low_from : ℕ → List (List ℕ) → Record → List Entry → List Item
-low_from conn ids r [] = []
-low_from conn ids r (e ∷ es) = items_of conn ids r e ++ low_from conn ids (after r e) es
+low_from conn ids room [] = []
+low_from conn ids room (entry ∷ entries) = items_of conn ids room entry ++ low_from conn ids (after room entry) entries
 
 -- the low history of a story. Its users are those of the whole history, also of later entries.
 abbrev pub low : ℕ → Story → List Item
-low conn s = low_from conn (users conn s) (begun s) s.history
+low conn story = low_from conn (users conn story) (begun story) story.history

@@ -33,52 +33,52 @@ pub record Round : Type 0 where
   pub told : List Event
 
 abbrev pub choice_of : Round → ℕ → Choice
-choice_of r zero = r.first
-choice_of r (suc s) = r.second
+choice_of round zero = round.first
+choice_of round (suc other) = round.second
 
 -- the round of two choices
 abbrev pub round_of_choices : Figures → Battle → Choice → Choice → Round
-round_of_choices facts b first second =
-    let c = turn facts first second (untold b) in
-    record { before = b; first = first; second = second; after = c.battle; told = c.told }
+round_of_choices facts battle first second =
+    let course = turn facts first second (untold battle) in
+    record { before = battle; first = first; second = second; after = course.battle; told = course.told }
 
 -- what waits is a round where both sides are ready
 abbrev pub completed_if : Bool → Figures → Bout → Option Round
-completed_if true facts b = Some (round_of_choices facts b.battle (choice_or_pass b.first) (choice_or_pass b.second))
-completed_if false facts b = None
+completed_if true facts bout = Some (round_of_choices facts bout.battle (choice_or_pass bout.first) (choice_or_pass bout.second))
+completed_if false facts bout = None
 
 abbrev pub completed_by : Figures → Bout → Option Round
-completed_by facts b = completed_if (is_ready b 0 && is_ready b 1) facts b
+completed_by facts bout = completed_if (is_ready bout 0 && is_ready bout 1) facts bout
 
 -- the choice of a side completes a round, or waits
 abbrev pub round_by : Tables → Bout → ℕ → Result Choice Why → Option Round
-round_by dex b s (Ok choice) = completed_by (figures_of dex) (with_waiting s (Some choice) b)
-round_by dex b s (Err why) = None
+round_by dex bout side (Ok choice) = completed_by (figures_of dex) (with_waiting side (Some choice) bout)
+round_by dex bout side (Err why) = None
 
 abbrev pub round_of_side : Tables → Bout → ℕ → Command → Option Round
-round_of_side dex b s (Choose choice rqid) = round_by dex b s (chosen b s dex choice rqid)
-round_of_side dex b s other = None
+round_of_side dex bout side (Choose choice rqid) = round_by dex bout side (chosen bout side dex choice rqid)
+round_of_side dex bout side other = None
 
 abbrev pub round_in : Tables → Bout → Option ℕ → Command → Option Round
-round_in dex b None cmd = None
-round_in dex b (Some s) cmd = round_of_side dex b s cmd
+round_in dex bout None cmd = None
+round_in dex bout (Some side) cmd = round_of_side dex bout side cmd
 
 abbrev pub round_of_member : Option Fight → Option Present → Command → Option Round
 round_of_member None me cmd = None
-round_of_member (Some f) me cmd = round_in f.cast.dex f.bout (side_of_member f.cast me) cmd
+round_of_member (Some fight) me cmd = round_in fight.cast.dex fight.bout (side_of_member fight.cast me) cmd
 
 abbrev pub round_if_allowed : Option Why → Record → Entry → Option Round
-round_if_allowed (Some why) r e = None
-round_if_allowed None r e = round_of_member r.battle (sender_of r e) e.cmd
+round_if_allowed (Some why) room entry = None
+round_if_allowed None room entry = round_of_member room.battle (sender_of room entry) entry.cmd
 
 -- the round that an entry completes, if it completes one
 abbrev pub round_of : Record → Entry → Option Round
-round_of r e = round_if_allowed (verdict r e) r e
+round_of room entry = round_if_allowed (verdict room entry) room entry
 
 -- the rounds that a history completes, from a record on
 abbrev pub rounds_from : Record → List Entry → List Round
-rounds_from r [] = []
-rounds_from r (e ∷ es) = option_to_list (round_of r e) ++ rounds_from (after r e) es
+rounds_from room [] = []
+rounds_from room (entry ∷ entries) = option_to_list (round_of room entry) ++ rounds_from (after room entry) entries
 
 abbrev pub rounds : Story → List Round
-rounds s = rounds_from (begun s) s.history
+rounds story = rounds_from (begun story) story.history

@@ -22,55 +22,55 @@ use Rattle.ps_lines.specs.declared.command.Command.TheVariants.{Choose, Undo}
 
 -- a hidden slot may hold anything
 abbrev pub IsSlotSame : Bool → MoveSlot → MoveSlot → Type 0
-IsSlotSame true x y = Unit {0}
-IsSlotSame false x y = x ≡ y
+IsSlotSame true one two = Unit {0}
+IsSlotSame false one two = one ≡ two
 
 -- all but the hidden slots is equal, so both have equally many slots
-pub record AreEqualMembers (hides : ℕ → Bool) (m n : Member) : Type 0 where
-  pub front : front_of m ≡ front_of n
-  pub long : length m.slots ≡ length n.slots
-  pub slots : (j : ℕ) → IsSlotSame (hides j) (slot_of m j) (slot_of n j)
+pub record AreEqualMembers (hides : ℕ → Bool) (one two : Member) : Type 0 where
+  pub front : front_of one ≡ front_of two
+  pub long : length one.slots ≡ length two.slots
+  pub slots : (slot : ℕ) → IsSlotSame (hides slot) (slot_of one slot) (slot_of two slot)
 
 -- what Team Preview makes known of each member: its species, its level, and what the dex says of the species
-pub record AreKindsEqual (m n : Member) : Type 0 where
-  pub species : m.species ≡ n.species
-  pub level : m.level ≡ n.level
-  pub types : m.types ≡ n.types
-  pub base_speed : m.base_speed ≡ n.base_speed
+pub record AreKindsEqual (one two : Member) : Type 0 where
+  pub species : one.species ≡ two.species
+  pub level : one.level ≡ two.level
+  pub types : one.types ≡ two.types
+  pub base_speed : one.base_speed ≡ two.base_speed
 
 abbrev pub IsKindSame : Bool → Member → Member → Type 0
-IsKindSame true m n = AreKindsEqual m n
-IsKindSame false m n = Unit {0}
+IsKindSame true one two = AreKindsEqual one two
+IsKindSame false one two = Unit {0}
 
 -- a hidden member may be anything, but for what Team Preview makes known
 abbrev pub IsMemberSame : Bool → Bool → (ℕ → Bool) → Member → Member → Type 0
-IsMemberSame preview true hides m n = IsKindSame preview m n
-IsMemberSame preview false hides m n = AreEqualMembers hides m n
+IsMemberSame preview true hides one two = IsKindSame preview one two
+IsMemberSame preview false hides one two = AreEqualMembers hides one two
 
 -- and its nickname
 abbrev pub IsNickSame : Bool → List ℕ → List ℕ → Type 0
-IsNickSame true x y = Unit {0}
-IsNickSame false x y = x ≡ y
+IsNickSame true one two = Unit {0}
+IsNickSame false one two = one ≡ two
 
 -- the nickname of a member of a team, by side and place
 abbrev pub nick_in : Start → ℕ → ℕ → List ℕ
-nick_in st s k = unwrap_or (slice_get (legal_of st.teams s).nicks k) []
+nick_in st side member = unwrap_or (slice_get (legal_of st.teams side).nicks member) []
 
 -- the teams of a side; what stands past the members is equal
-pub record AreTeamsSame (preview : Bool) (places : Hidden) (one two : Start) (s : ℕ) : Type 0 where
-  pub count : (legal_of one.teams s).team.count ≡ (legal_of two.teams s).team.count
-  pub members : (k : ℕ) → k < (legal_of one.teams s).team.count →
-      IsMemberSame preview (places.member s k) (places.slot s k) (member_in one s k) (member_in two s k)
-  pub long : length (legal_of one.teams s).team.members ≡ length (legal_of two.teams s).team.members
-  pub rest : (k : ℕ) → (legal_of one.teams s).team.count ≤ k → member_in one s k ≡ member_in two s k
-  pub nicks : (k : ℕ) → IsNickSame (places.member s k) (nick_in one s k) (nick_in two s k)
+pub record AreTeamsSame (preview : Bool) (places : Hidden) (one two : Start) (side : ℕ) : Type 0 where
+  pub count : (legal_of one.teams side).team.count ≡ (legal_of two.teams side).team.count
+  pub members : (member : ℕ) → member < (legal_of one.teams side).team.count →
+      IsMemberSame preview (places.member side member) (places.slot side member) (member_in one side member) (member_in two side member)
+  pub long : length (legal_of one.teams side).team.members ≡ length (legal_of two.teams side).team.members
+  pub rest : (member : ℕ) → (legal_of one.teams side).team.count ≤ member → member_in one side member ≡ member_in two side member
+  pub nicks : (member : ℕ) → IsNickSame (places.member side member) (nick_in one side member) (nick_in two side member)
 
 pub record AreStartsSame (preview : Bool) (places : Hidden) (one two : Start) : Type 0 where
   pub number : one.number ≡ two.number
   pub format : one.format ≡ two.format
   pub players : one.players ≡ two.players
   pub seed : one.seed ≡ two.seed
-  pub teams : (s : ℕ) → s < 2 → AreTeamsSame preview places one two s
+  pub teams : (side : ℕ) → side < 2 → AreTeamsSame preview places one two side
 
 -- both open a chat room, or both open a battle
 abbrev pub AreBattlesSame : Bool → Hidden → Option Start → Option Start → Type 0
@@ -102,20 +102,20 @@ pub record AreSame (conn : ℕ) (one two : Story) : Type 0 where
 -- In a chat room an entry that has no item where it stands may as well be missing: the story with it and the story without it are
 -- the same to the connection.
 abbrev pub UnshownMayBeMissing : Type 0
-UnshownMayBeMissing = (conn : ℕ) (o : Opening) (before : List Entry) (e : Entry) (later : List Entry) → o.battle ≡ None
-    → items_of conn (users conn (story o (before ++ later))) (run_record (opened o) before) e ≡ []
-    → AreSame conn (story o (before ++ e ∷ later)) (story o (before ++ later))
+UnshownMayBeMissing = (conn : ℕ) (opening : Opening) (before : List Entry) (entry : Entry) (later : List Entry) → opening.battle ≡ None
+    → items_of conn (users conn (story opening (before ++ later))) (run_record (opened opening) before) entry ≡ []
+    → AreSame conn (story opening (before ++ entry ∷ later)) (story opening (before ++ later))
 
 -- In every room so may entries that have no items where they stand, and together leave the record as it was.
 abbrev pub IdleMayBeMissing : Type 0
-IdleMayBeMissing = (conn : ℕ) (o : Opening) (before es later : List Entry) → IsFitOpening o
-    → low_from conn (users conn (story o (before ++ later))) (run_record (opened o) before) es ≡ []
-    → run_record (run_record (opened o) before) es ≡ run_record (opened o) before
-    → AreSame conn (story o (before ++ (es ++ later))) (story o (before ++ later))
+IdleMayBeMissing = (conn : ℕ) (opening : Opening) (before es later : List Entry) → IsFitOpening opening
+    → low_from conn (users conn (story opening (before ++ later))) (run_record (opened opening) before) es ≡ []
+    → run_record (run_record (opened opening) before) es ≡ run_record (opened opening) before
+    → AreSame conn (story opening (before ++ (es ++ later))) (story opening (before ++ later))
 
 -- A choice that waits and is taken back at once leaves the record as it was.
 abbrev pub UndoneLeavesNothing : Type 0
-UndoneLeavesNothing = (r : Record) (e u : Entry) (choice : List ℕ) (rqid : Option ℕ)
-    → e.cmd ≡ Choose choice rqid → u.cmd ≡ Undo → u.conn ≡ e.conn
-    → verdict r e ≡ None → round_of r e ≡ None → verdict (after r e) u ≡ None
-    → after (after r e) u ≡ r
+UndoneLeavesNothing = (room : Record) (entry undo : Entry) (choice : List ℕ) (rqid : Option ℕ)
+    → entry.cmd ≡ Choose choice rqid → undo.cmd ≡ Undo → undo.conn ≡ entry.conn
+    → verdict room entry ≡ None → round_of room entry ≡ None → verdict (after room entry) undo ≡ None
+    → after (after room entry) undo ≡ room

@@ -35,39 +35,40 @@ use Rattle.ps_laws.specs.Same.{AreKindsEqual}
 
 -- a battle's start with another team of a side
 abbrev pub with_team : Start → ℕ → Legal → Start
-with_team st s l = record st { teams = slice_set st.teams s l }
+with_team st side legal = record st { teams = slice_set st.teams side legal }
 
 -- a team with another member at a place
 abbrev pub member_put : BattleTeam → ℕ → Member → BattleTeam
-member_put t k m = record t { members = slice_set t.members k m }
+member_put team index member = record team { members = slice_set team.members index member }
 
 -- a battle's start with another member at a place of a side's team, and with another nickname
 abbrev pub with_member : Start → ℕ → ℕ → Member → List ℕ → Start
-with_member st s k m nick =
-    let l = legal_of st.teams s in
-    with_team st s (record { team = member_put l.team k m; nicks = slice_set l.nicks k nick })
+with_member st side index member nick =
+    let legal = legal_of st.teams side in
+    with_team st side (record { team = member_put legal.team index member; nicks = slice_set legal.nicks index nick })
 
 -- a room of a battle
 abbrev pub with_start : Opening → Start → Opening
-with_start o st = record o { battle = Some st }
+with_start opening st = record opening { battle = Some st }
 
 -- A member that is hidden to the connection, since its side is no own one and it was never sent out, may as well be any other one that the
 -- battle can start with, of any nickname; under Team Preview any of its species and level.
 abbrev pub MembersMayDiffer : ℕ → Type 0
-MembersMayDiffer conn = (o : Opening) (st : Start) (h : List Entry) (s k : ℕ) (m : Member) (nick : List ℕ)
-    → IsFitOpening (with_start o st) → IsFitOpening (with_start o (with_member st s k m nick))
-    → s < 2 → (hidden conn (story (with_start o st) h)).member s k ≡ true
-    → (is_previewed o.config (Some st) ≡ true → AreKindsEqual (member_in st s k) m)
-    → view_of conn (story (with_start o st) h) ≡ view_of conn (story (with_start o (with_member st s k m nick)) h)
+MembersMayDiffer conn = (opening : Opening) (st : Start) (history : List Entry) (side index : ℕ) (member : Member) (nick : List ℕ)
+    → IsFitOpening (with_start opening st) → IsFitOpening (with_start opening (with_member st side index member nick))
+    → side < 2 → (hidden conn (story (with_start opening st) history)).member side index ≡ true
+    → (is_previewed opening.config (Some st) ≡ true → AreKindsEqual (member_in st side index) member)
+    → view_of conn (story (with_start opening st) history)
+    ≡ view_of conn (story (with_start opening (with_member st side index member nick)) history)
 
 -- ---- a slot of the other side that was never shown
 
 -- a battle's start with another move, and its PP, in a slot of a member
 abbrev pub with_slot : Start → ℕ → ℕ → ℕ → MoveSlot → Start
-with_slot st s k j slot =
-    let l = legal_of st.teams s in
-    let m = member_in st s k in
-    with_team st s (record l { team = member_put l.team k (record m { slots = slice_set m.slots j slot }) })
+with_slot st side member index slot =
+    let legal = legal_of st.teams side in
+    let old = member_in st side member in
+    with_team st side (record legal { team = member_put legal.team member (record old { slots = slice_set old.slots index slot }) })
 
 -- the move that a player asks for by its name, if there is one of that name
 abbrev pub named_in : Tables → Option Want → Option ℕ
@@ -76,25 +77,28 @@ named_in dex other = None
 
 -- a command of a side's player asks by name for neither of two moves
 abbrev pub NamesNeither : ℕ → ℕ → ℕ → Option Fight → Option Present → Command → Type 0
-NamesNeither s one two (Some f) me (Choose choice rqid) =
-    side_of_member f.cast me ≡ Some s → (mv : ℕ) → named_in f.cast.dex (want_in choice) ≡ Some mv → (one ≢ mv) × (two ≢ mv)
-NamesNeither s one two fo me cmd = Unit {0}
+NamesNeither side one two (Some fight) me (Choose choice rqid) =
+    side_of_member fight.cast me ≡ Some side → (mv : ℕ) → named_in fight.cast.dex (want_in choice) ≡ Some mv → (one ≢ mv) × (two ≢ mv)
+NamesNeither side one two fo me cmd = Unit {0}
 
 -- and so do all commands of a history, from a record on
 abbrev pub AllNameNeither : ℕ → ℕ → ℕ → Record → List Entry → Type 0
-AllNameNeither s one two r [] = Unit {0}
-AllNameNeither s one two r (e ∷ es) = NamesNeither s one two r.battle (sender_of r e) e.cmd × AllNameNeither s one two (after r e) es
+AllNameNeither side one two room [] = Unit {0}
+AllNameNeither side one two room (entry ∷ entries) = NamesNeither side one two room.battle (sender_of room entry) entry.cmd
+    × AllNameNeither side one two (after room entry) entries
 
 -- A slot that is hidden to the connection, since its side is no own one and no round showed it, may as well have any other move, of
 -- any PP, that the battle can start with and that its member neither used nor had named or copied. Its player never asks by name
 -- for one of both moves, also in vain: a choice by name of a move that the member hasn't is refused, and would be allowed.
 abbrev pub SlotsMayDiffer : ℕ → Type 0
-SlotsMayDiffer conn = (o : Opening) (st : Start) (h : List Entry) (s k j : ℕ) (slot : MoveSlot)
-    → IsFitOpening (with_start o st) → IsFitOpening (with_start o (with_slot st s k j slot))
-    → s < 2 → k < (legal_of st.teams s).team.count → (hidden conn (story (with_start o st) h)).slot s k j ≡ true
-    → list_any (is_told (with_slot st s k j slot) s k j) (rounds (story (with_start o st) h)) ≡ false
-    → AllNameNeither s (slot_of (member_in st s k) j).mv slot.mv (opened (with_start o st)) h
-    → view_of conn (story (with_start o st) h) ≡ view_of conn (story (with_start o (with_slot st s k j slot)) h)
+SlotsMayDiffer conn = (opening : Opening) (st : Start) (history : List Entry) (side member index : ℕ) (slot : MoveSlot)
+    → IsFitOpening (with_start opening st) → IsFitOpening (with_start opening (with_slot st side member index slot))
+    → side < 2 → member < (legal_of st.teams side).team.count
+    → (hidden conn (story (with_start opening st) history)).slot side member index ≡ true
+    → list_any (is_told (with_slot st side member index slot) side member index) (rounds (story (with_start opening st) history)) ≡ false
+    → AllNameNeither side (slot_of (member_in st side member) index).mv slot.mv (opened (with_start opening st)) history
+    → view_of conn (story (with_start opening st) history)
+    ≡ view_of conn (story (with_start opening (with_slot st side member index slot)) history)
 
 -- ---- a choice that no round has
 
@@ -105,41 +109,43 @@ is_choose other = false
 -- the side that a member plays
 abbrev pub side_in : Option Fight → Option Present → Option ℕ
 side_in None me = None
-side_in (Some f) me = side_of_member f.cast me
+side_in (Some fight) me = side_of_member fight.cast me
 
 -- whether a choice of a side waits
 abbrev pub waits_in : Option Fight → ℕ → Bool
-waits_in None s = false
-waits_in (Some f) s = is_some (waiting f.bout s)
+waits_in None side = false
+waits_in (Some fight) side = is_some (waiting fight.bout side)
 
 -- As long as a choice of the side waits, no entry of a history completes a round: it is taken back, or somebody gives up, or the
 -- history ends.
 abbrev pub IsNeverPlayed : ℕ → Record → List Entry → Type 0
-IsNeverPlayed s r [] = Unit {0}
-IsNeverPlayed s r (e ∷ es) = waits_in r.battle s ≡ true → (round_of r e ≡ None) × IsNeverPlayed s (after r e) es
+IsNeverPlayed side room [] = Unit {0}
+IsNeverPlayed side room (entry ∷ entries) = waits_in room.battle side ≡ true → (round_of room entry ≡ None)
+    × IsNeverPlayed side (after room entry) entries
 
 -- An allowed choice of a side's player, where it stands: it is neither of the connection nor of one of its users, and completes no
 -- round, neither at once nor later.
-pub record IsUnplayed (conn : ℕ) (ids : List (List ℕ)) (r : Record) (s : ℕ) (e : Entry) (later : List Entry) : Type 0 where
-  pub chooses : is_choose e.cmd ≡ true
-  pub other : is_own conn ids r e ≡ false
-  pub side : side_in r.battle (sender_of r e) ≡ Some s
-  pub allowed : verdict r e ≡ None
-  pub waits : round_of r e ≡ None
-  pub never : IsNeverPlayed s (after r e) later
+pub record IsUnplayed (conn : ℕ) (ids : List (List ℕ)) (room : Record) (player : ℕ) (entry : Entry) (later : List Entry) : Type 0 where
+  pub chooses : is_choose entry.cmd ≡ true
+  pub other : is_own conn ids room entry ≡ false
+  pub side : side_in room.battle (sender_of room entry) ≡ Some player
+  pub allowed : verdict room entry ≡ None
+  pub waits : round_of room entry ≡ None
+  pub never : IsNeverPlayed player (after room entry) later
 
 -- Such a choice may as well be missing.
 abbrev pub ChoicesMayBeMissing : ℕ → Type 0
-ChoicesMayBeMissing conn = (o : Opening) (before : List Entry) (s : ℕ) (e : Entry) (later : List Entry) → IsFitOpening o
-    → IsUnplayed conn (users conn (story o (before ++ e ∷ later))) (run_record (opened o) before) s e later
-    → view_of conn (story o (before ++ e ∷ later)) ≡ view_of conn (story o (before ++ later))
+ChoicesMayBeMissing conn = (opening : Opening) (before : List Entry) (side : ℕ) (entry : Entry) (later : List Entry) → IsFitOpening opening
+    → IsUnplayed conn (users conn (story opening (before ++ entry ∷ later))) (run_record (opened opening) before) side entry later
+    → view_of conn (story opening (before ++ entry ∷ later)) ≡ view_of conn (story opening (before ++ later))
 
 -- And its player may choose anything else in its place that completes no round at once.
 abbrev pub ChoicesMayDiffer : ℕ → Type 0
-ChoicesMayDiffer conn = (o : Opening) (before : List Entry) (s : ℕ) (e f : Entry) (later : List Entry) → IsFitOpening o
-    → IsUnplayed conn (users conn (story o (before ++ e ∷ later))) (run_record (opened o) before) s e later
-    → f.conn ≡ e.conn → is_choose f.cmd ≡ true → round_of (run_record (opened o) before) f ≡ None
-    → view_of conn (story o (before ++ e ∷ later)) ≡ view_of conn (story o (before ++ f ∷ later))
+ChoicesMayDiffer conn = (opening : Opening) (before : List Entry) (side : ℕ) (entry other : Entry) (later : List Entry)
+    → IsFitOpening opening
+    → IsUnplayed conn (users conn (story opening (before ++ entry ∷ later))) (run_record (opened opening) before) side entry later
+    → other.conn ≡ entry.conn → is_choose other.cmd ≡ true → round_of (run_record (opened opening) before) other ≡ None
+    → view_of conn (story opening (before ++ entry ∷ later)) ≡ view_of conn (story opening (before ++ other ∷ later))
 
 -- ---- who chose first
 
@@ -150,40 +156,42 @@ is_undo other = false
 -- no choices, and none that is taken back
 abbrev pub AreNoChoices : List Entry → Type 0
 AreNoChoices [] = Unit {0}
-AreNoChoices (e ∷ es) = ((is_choose e.cmd || is_undo e.cmd) ≡ false) × AreNoChoices es
+AreNoChoices (entry ∷ entries) = ((is_choose entry.cmd || is_undo entry.cmd) ≡ false) × AreNoChoices entries
 
 -- Two choices complete the same round, whichever of them comes first; between them nobody chooses.
-pub record IsEitherFirst (r : Record) (one : Entry) (middle : List Entry) (two : Entry) (round : Round) : Type 0 where
+pub record IsEitherFirst (room : Record) (one : Entry) (middle : List Entry) (two : Entry) (round : Round) : Type 0 where
   pub first : is_choose one.cmd ≡ true
   pub second : is_choose two.cmd ≡ true
   pub between : AreNoChoices middle
-  pub waits : round_of r one ≡ None
-  pub waits_too : round_of r two ≡ None
-  pub completes : round_of (run_record (after r one) middle) two ≡ Some round
-  pub completes_too : round_of (run_record (after r two) middle) one ≡ Some round
+  pub waits : round_of room one ≡ None
+  pub waits_too : round_of room two ≡ None
+  pub completes : round_of (run_record (after room one) middle) two ≡ Some round
+  pub completes_too : round_of (run_record (after room two) middle) one ≡ Some round
 
 -- To a player of one side it may be either that comes first, of two that stand next to each other. (Who plays both sides
 -- knows.)
 abbrev pub OrderMayDiffer : ℕ → Type 0
-OrderMayDiffer conn = (o : Opening) (before : List Entry) (one two : Entry) (later : List Entry) (round : Round)
-    → IsFitOpening o
-    → IsEitherFirst (run_record (opened o) before) one [] two round
-    → is_own conn (users conn (story o (before ++ one ∷ two ∷ later))) (run_record (opened o) before) two ≡ false
-    → view_of conn (story o (before ++ one ∷ two ∷ later)) ≡ view_of conn (story o (before ++ two ∷ one ∷ later))
+OrderMayDiffer conn = (opening : Opening) (before : List Entry) (one two : Entry) (later : List Entry) (round : Round)
+    → IsFitOpening opening
+    → IsEitherFirst (run_record (opened opening) before) one [] two round
+    → is_own conn (users conn (story opening (before ++ one ∷ two ∷ later))) (run_record (opened opening) before) two ≡ false
+    → view_of conn (story opening (before ++ one ∷ two ∷ later)) ≡ view_of conn (story opening (before ++ two ∷ one ∷ later))
 
 -- neither is of the connection or one of its users, where they stand
-pub record AreForeign (conn : ℕ) (ids : List (List ℕ)) (r : Record) (one : Entry) (middle : List Entry) (two : Entry) : Type 0 where
-  pub first : is_own conn ids r one ≡ false
-  pub second : is_own conn ids r two ≡ false
-  pub first_late : is_own conn ids (run_record (after r two) middle) one ≡ false
-  pub second_late : is_own conn ids (run_record (after r one) middle) two ≡ false
+pub record AreForeign (conn : ℕ) (ids : List (List ℕ)) (room : Record) (one : Entry) (middle : List Entry) (two : Entry) : Type 0 where
+  pub first : is_own conn ids room one ≡ false
+  pub second : is_own conn ids room two ≡ false
+  pub first_late : is_own conn ids (run_record (after room two) middle) one ≡ false
+  pub second_late : is_own conn ids (run_record (after room one) middle) two ≡ false
 
 -- To who looks on it may be either that comes first, also where others do something between them.
 abbrev pub OrderIsUnseen : ℕ → Type 0
-OrderIsUnseen conn = (o : Opening) (before : List Entry) (one : Entry) (middle : List Entry) (two : Entry) (later : List Entry)
-    (round : Round) → IsFitOpening o → IsEitherFirst (run_record (opened o) before) one middle two round
-    → AreForeign conn (users conn (story o (before ++ one ∷ (middle ++ two ∷ later)))) (run_record (opened o) before) one middle two
-    → view_of conn (story o (before ++ one ∷ (middle ++ two ∷ later))) ≡ view_of conn (story o (before ++ two ∷ (middle ++ one ∷ later)))
+OrderIsUnseen conn = (opening : Opening) (before : List Entry) (one : Entry) (middle : List Entry) (two : Entry) (later : List Entry)
+    (round : Round) → IsFitOpening opening → IsEitherFirst (run_record (opened opening) before) one middle two round
+    → AreForeign conn (users conn (story opening (before ++ one ∷ (middle ++ two ∷ later)))) (run_record (opened opening) before) one
+    middle two
+    → view_of conn (story opening (before ++ one ∷ (middle ++ two ∷ later)))
+    ≡ view_of conn (story opening (before ++ two ∷ (middle ++ one ∷ later)))
 
 -- ---- staff notes
 
@@ -193,20 +201,20 @@ is_note other = false
 
 -- a staff note, allowed or not, where it stands: it is neither of the connection nor of one of its users, and the connection sees no
 -- staff notes
-pub record IsUnseenNote (conn : ℕ) (ids : List (List ℕ)) (r : Record) (e : Entry) : Type 0 where
-  pub note : is_note e.cmd ≡ true
-  pub other : is_own conn ids r e ≡ false
-  pub unseen : sees_notes conn r ≡ false
+pub record IsUnseenNote (conn : ℕ) (ids : List (List ℕ)) (room : Record) (entry : Entry) : Type 0 where
+  pub note : is_note entry.cmd ≡ true
+  pub other : is_own conn ids room entry ≡ false
+  pub unseen : sees_notes conn room ≡ false
 
 -- In every room such a note may as well be missing.
 abbrev pub NotesMayBeMissing : ℕ → Type 0
-NotesMayBeMissing conn = (o : Opening) (before : List Entry) (e : Entry) (later : List Entry) → IsFitOpening o
-    → IsUnseenNote conn (users conn (story o (before ++ e ∷ later))) (run_record (opened o) before) e
-    → view_of conn (story o (before ++ e ∷ later)) ≡ view_of conn (story o (before ++ later))
+NotesMayBeMissing conn = (opening : Opening) (before : List Entry) (entry : Entry) (later : List Entry) → IsFitOpening opening
+    → IsUnseenNote conn (users conn (story opening (before ++ entry ∷ later))) (run_record (opened opening) before) entry
+    → view_of conn (story opening (before ++ entry ∷ later)) ≡ view_of conn (story opening (before ++ later))
 
 -- And another one may stand in its place.
 abbrev pub NotesMayDiffer : ℕ → Type 0
-NotesMayDiffer conn = (o : Opening) (before : List Entry) (e f : Entry) (later : List Entry) → IsFitOpening o
-    → IsUnseenNote conn (users conn (story o (before ++ e ∷ later))) (run_record (opened o) before) e
-    → IsUnseenNote conn (users conn (story o (before ++ f ∷ later))) (run_record (opened o) before) f
-    → view_of conn (story o (before ++ e ∷ later)) ≡ view_of conn (story o (before ++ f ∷ later))
+NotesMayDiffer conn = (opening : Opening) (before : List Entry) (entry other : Entry) (later : List Entry) → IsFitOpening opening
+    → IsUnseenNote conn (users conn (story opening (before ++ entry ∷ later))) (run_record (opened opening) before) entry
+    → IsUnseenNote conn (users conn (story opening (before ++ other ∷ later))) (run_record (opened opening) before) other
+    → view_of conn (story opening (before ++ entry ∷ later)) ≡ view_of conn (story opening (before ++ other ∷ later))

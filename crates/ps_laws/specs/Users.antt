@@ -20,17 +20,18 @@ badge_of (Some me) brought = me.badge
 
 -- the id of who makes an entry
 abbrev pub user_of : Record → Entry → List ℕ
-user_of r e = id_of (badge_of (member e.conn (presents_of r)) e.badge).name
+user_of room entry = id_of (badge_of (member entry.conn (presents_of room)) entry.badge).name
 
 -- the ids of a connection's entries in a history, from a record on
 abbrev pub users_from : ℕ → Record → List Entry → List (List ℕ)
-users_from conn r [] = []
-users_from conn r (e ∷ es) = (if e.conn == conn then user_of r e ∷ [] else []) ++ users_from conn (after r e) es
+users_from conn room [] = []
+users_from conn room (entry ∷ entries) = (if entry.conn == conn then user_of room entry ∷ [] else [])
+    ++ users_from conn (after room entry) entries
 
 -- the users of a connection in a story
 abbrev pub users : ℕ → Story → List (List ℕ)
-users conn s = users_from conn (begun s) s.history
+users conn story = users_from conn (begun story) story.history
 
 -- a side is the connection's own where its player's id is one of its users
 abbrev pub is_own_side : List (List ℕ) → Names → ℕ → Bool
-is_own_side ids names s = list_any (plays names (side_name s)) ids
+is_own_side ids names side = list_any (plays names (side_name side)) ids

@@ -6,6 +6,7 @@ use Rattle.ps_lines.specs.Faults.{◌>>=◌}
 use Rattle.ps_lines.specs.Parts.{at_first, after_space}
 use Rattle.ps_lines.specs.declared.command.CommandFault.{CommandFault}
 use Rattle.ps_lines.specs.declared.command.CommandFault.TheVariants.{BadArgs}
+use Rattle.ps_base.specs.Characters as characters
 
 -- a command without arguments: nothing follows
 abbrev pub nothing : Option (List ℕ) → Result ⊤ CommandFault
@@ -20,7 +21,7 @@ argument (Some text) = Ok text
 -- an id that isn't empty
 abbrev pub filled : ℕ → List ℕ → Result (List ℕ) CommandFault
 filled which [] = Err (BadArgs which)
-filled which (b ∷ bytes) = Ok (b ∷ bytes)
+filled which (byte ∷ bytes) = Ok (byte ∷ bytes)
 
 -- USER or FORMAT: a text whose id isn't empty
 abbrev pub id_at : ℕ → List ℕ → Result (List ℕ) CommandFault
@@ -29,8 +30,8 @@ id_at which text = filled which (id_of text)
 -- the one character of a list
 abbrev pub only : ℕ → List ℕ → Result ℕ CommandFault
 only which [] = Err (BadArgs which)
-only which (c ∷ []) = Ok c
-only which (c ∷ d ∷ more) = Err (BadArgs which)
+only which (char ∷ []) = Ok char
+only which (char ∷ extra ∷ more) = Err (BadArgs which)
 
 -- SYMBOL: one character
 abbrev pub symbol_at : ℕ → List ℕ → Result ℕ CommandFault
@@ -43,7 +44,7 @@ parted text (Some parts) = (parts.0, Some (after_space parts.1))
 
 -- the arguments before and after the first comma and the one space behind it
 abbrev pub two : List ℕ → List ℕ × Option (List ℕ)
-two text = parted text (at_first 44 text)
+two text = parted text (at_first characters.comma text)
 
 -- a second argument that may not be missing
 abbrev pub second : Option (List ℕ) → Result (List ℕ) CommandFault

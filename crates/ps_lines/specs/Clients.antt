@@ -6,6 +6,7 @@ use Rattle.ps_base.specs.Limits.{most_text}
 use Rattle.ps_lines.specs.Parts.{at_first}
 use Rattle.ps_lines.specs.declared.client.ClientFault.{ClientFault}
 use Rattle.ps_lines.specs.declared.client.ClientFault.TheVariants.{Long, NotUtf8, NoBar}
+use Rattle.ps_base.specs.Characters as characters
 
 -- the bytes as a text, if they are UTF-8
 unfoldable pub text_of : List ℕ → Option (List ℕ)
@@ -19,7 +20,7 @@ barred (Some parts) = Ok parts
 -- bytes that are UTF-8
 abbrev pub readable : Option (List ℕ) → Result (List ℕ × List ℕ) ClientFault
 readable None = Err NotUtf8
-readable (Some text) = barred (at_first 124 text)
+readable (Some text) = barred (at_first characters.bar text)
 
 -- the room and the text: at most 8,192 bytes of UTF-8, parted at the first bar
 unfoldable pub client : List ℕ → Result (List ℕ × List ℕ) ClientFault

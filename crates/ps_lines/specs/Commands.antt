@@ -4,13 +4,18 @@ use Rattle.std.specs.List.{list_any}
 use Rattle.ps_base.specs.Cuts.{after_front}
 use Rattle.ps_lines.specs.Parts.{at_first}
 use Rattle.ps_lines.specs.Words.{word_of}
-use Rattle.ps_lines.specs.RoomRows.{join, leave, say, announce, modnote, warn, mute, unmute, ban, unban, promote, modchat, choose, undo, forfeit}
-use Rattle.ps_lines.specs.HallRows.{trn, utm, search_for, cancel_search, challenge, cancel_challenge, reject, accept, whisper, block, unblock, rank}
+use Rattle.ps_lines.specs.RoomRows.{join, leave, say, announce, modnote, warn, mute, unmute, ban, unban, promote, modchat, choose}
+use Rattle.ps_lines.specs.RoomRows.{undo, forfeit}
+use Rattle.ps_lines.specs.HallRows.{trn, utm, search_for, cancel_search, challenge, cancel_challenge, reject, accept, whisper, block}
+use Rattle.ps_lines.specs.HallRows.{unblock, rank}
 use Rattle.ps_lines.specs.declared.command.CommandFault.{CommandFault}
 use Rattle.ps_lines.specs.declared.command.CommandFault.TheVariants.{UnknownCommand, BadArgs}
 use Rattle.ps_lines.specs.declared.command.Parsed.{Parsed}
 use Rattle.ps_lines.specs.declared.word.Word.{Word}
-use Rattle.ps_lines.specs.declared.word.Word.TheVariants.{Join, Leave, Announce, Modnote, Warn, Mute, Unmute, Ban, Unban, Promote, Modchat, Choose, Undo, Forfeit, Name, Team, Search, CancelSearch, Challenge, CancelChallenge, Reject, Accept, Whisper, Block, Unblock, Rank}
+use Rattle.ps_lines.specs.declared.word.Word.TheVariants.{Join, Leave, Announce, Modnote, Warn, Mute, Unmute, Ban, Unban, Promote}
+use Rattle.ps_lines.specs.declared.word.Word.TheVariants.{Modchat, Choose, Undo, Forfeit, Name, Team, Search, CancelSearch, Challenge}
+use Rattle.ps_lines.specs.declared.word.Word.TheVariants.{CancelChallenge, Reject, Accept, Whisper, Block, Unblock, Rank}
+use Rattle.ps_base.specs.Characters as characters
 
 -- the row of a word
 abbrev pub row : Word → Option (List ℕ) → Result Parsed CommandFault
@@ -43,7 +48,7 @@ row Rank rest = rank rest
 
 -- a control character, below U+0020, stands in a text
 abbrev pub has_control : List ℕ → Bool
-has_control text = list_any (λ b. nat_lt b 32) text
+has_control text = list_any (λ byte. nat_lt byte characters.space) text
 
 -- a text has no control character, else its argument 0 is bad
 abbrev pub clean : Bool → Result Parsed CommandFault → Result Parsed CommandFault
@@ -63,7 +68,7 @@ spaced control line (Some parts) = worded control (word_of parts.0) (Some parts.
 -- a text, and what follows its slash if it begins with one
 abbrev pub slashed : List ℕ → Option (List ℕ) → Result Parsed CommandFault
 slashed text None = clean (has_control text) (say text)
-slashed text (Some line) = spaced (has_control text) line (at_first 32 line)
+slashed text (Some line) = spaced (has_control text) line (at_first characters.space line)
 
 unfoldable pub command : List ℕ → Result Parsed CommandFault
 command text = slashed text (after_front (codes "/") text)

@@ -6,8 +6,8 @@ use Rattle.ps_lines.specs.declared.command.CommandFault.TheVariants.{UnknownComm
 
 infixl 10 ◌>>=◌
 abbrev pub ◌>>=◌ : {A B : Type 0} → Result A CommandFault → (A → Result B CommandFault) → Result B CommandFault
-(Ok x) >>= f = f x
-(Err e) >>= f = Err e
+(Ok value) >>= next = next value
+(Err fault) >>= next = Err fault
 
 -- What a call that found this fault was to find: this fault, but out of memory may come at any text.
 abbrev pub IsFault : {A : Type 0} → CommandFault → Result A CommandFault → Type 0
@@ -17,7 +17,7 @@ IsFault NoMemory read = Unit {0}
 
 -- What a call answered is what reading gives, but out of memory may come at any text.
 abbrev pub Gives : {A : Type 0} → Result A CommandFault → Result A CommandFault → Type 0
-Gives (Ok x) read = read ≡ Ok x
+Gives (Ok value) read = read ≡ Ok value
 Gives (Err fault) read = IsFault fault read
 
 -- the same of a text that the call answered by reference

@@ -9,7 +9,9 @@ use Rattle.ps_lines.specs.declared.command.CommandFault.{CommandFault}
 use Rattle.ps_lines.specs.declared.command.CommandFault.TheVariants.{BadArgs}
 use Rattle.ps_lines.specs.declared.command.Parsed.{Parsed}
 use Rattle.ps_lines.specs.declared.command.Parsed.TheVariants.{Hall}
-use Rattle.ps_lines.specs.declared.command.HallCmd.TheVariants.{Name, Team, Search, CancelSearch, Challenge, CancelChallenge, Reject, Accept, Whisper, Block, Unblock, Rank}
+use Rattle.ps_lines.specs.declared.command.HallCmd.TheVariants.{Name, Team, Search, CancelSearch, Challenge, CancelChallenge, Reject}
+use Rattle.ps_lines.specs.declared.command.HallCmd.TheVariants.{Accept, Whisper, Block, Unblock, Rank}
+use Rattle.ps_base.specs.Characters as characters
 
 -- the parts round a comma that may not be missing
 abbrev pub comma : ℕ → Option (List ℕ × List ℕ) → Result (List ℕ × List ℕ) CommandFault
@@ -20,8 +22,8 @@ comma which (Some parts) = Ok parts
 abbrev pub trn : Option (List ℕ) → Result Parsed CommandFault
 trn rest = do
   text ← argument rest
-  name ← comma 1 (at_first 44 text)
-  zero ← comma 2 (at_first 44 name.1)
+  name ← comma 1 (at_first characters.comma text)
+  zero ← comma 2 (at_first characters.comma name.1)
   if bytes_eq zero.0 (codes "0") then Ok (Hall (Name name.0 zero.1)) else Err (BadArgs 2)
 
 -- `/utm TEAM`, `/utm null` and `/utm`

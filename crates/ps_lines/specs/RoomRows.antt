@@ -9,7 +9,9 @@ use Rattle.ps_lines.specs.declared.command.CommandFault.{CommandFault}
 use Rattle.ps_lines.specs.declared.command.CommandFault.TheVariants.{BadArgs}
 use Rattle.ps_lines.specs.declared.command.Parsed.{Parsed}
 use Rattle.ps_lines.specs.declared.command.Parsed.TheVariants.{Room}
-use Rattle.ps_lines.specs.declared.command.Command.TheVariants.{Join, Leave, Say, Announce, Modnote, Warn, Mute, Unmute, Ban, Unban, Promote, Modchat, Choose, Undo, Forfeit}
+use Rattle.ps_lines.specs.declared.command.Command.TheVariants.{Join, Leave, Say, Announce, Modnote, Warn, Mute, Unmute, Ban, Unban}
+use Rattle.ps_lines.specs.declared.command.Command.TheVariants.{Promote, Modchat, Choose, Undo, Forfeit}
+use Rattle.ps_base.specs.Characters as characters
 
 -- `/join ROOM`
 abbrev pub join : Option (List ℕ) → Result Parsed CommandFault
@@ -103,7 +105,7 @@ chosen choice (Some parts) = numbered parts.0 (number_in parts.1)
 abbrev pub choose : Option (List ℕ) → Result Parsed CommandFault
 choose rest = do
   text ← argument rest
-  chosen text (at_last 124 text)
+  chosen text (at_last characters.bar text)
 
 -- `/undo`
 abbrev pub undo : Option (List ℕ) → Result Parsed CommandFault

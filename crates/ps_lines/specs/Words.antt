@@ -3,7 +3,9 @@ use Rattle.std.specs.Prelude.{ℕ, List, codes, Option, Some, None, if◌then◌
 use Rattle.std.specs.Option.{option_or}
 use Rattle.std.specs.Str.{bytes_eq}
 use Rattle.ps_lines.specs.declared.word.Word.{Word}
-use Rattle.ps_lines.specs.declared.word.Word.TheVariants.{Join, Leave, Announce, Modnote, Warn, Mute, Unmute, Ban, Unban, Promote, Modchat, Choose, Undo, Forfeit, Name, Team, Search, CancelSearch, Challenge, CancelChallenge, Reject, Accept, Whisper, Block, Unblock, Rank}
+use Rattle.ps_lines.specs.declared.word.Word.TheVariants.{Join, Leave, Announce, Modnote, Warn, Mute, Unmute, Ban, Unban, Promote}
+use Rattle.ps_lines.specs.declared.word.Word.TheVariants.{Modchat, Choose, Undo, Forfeit, Name, Team, Search, CancelSearch, Challenge}
+use Rattle.ps_lines.specs.declared.word.Word.TheVariants.{CancelChallenge, Reject, Accept, Whisper, Block, Unblock, Rank}
 
 -- who comes and goes, and who speaks
 unfoldable pub speaking_word : List ℕ → Option Word

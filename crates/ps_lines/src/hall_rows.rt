@@ -1,7 +1,8 @@
 //! The rows of the hall table: a function for each, from what follows the command's word.
 ghost use Rattle.std.specs.Option.{option_copied};
 ghost use Rattle.ps_lines.specs.Faults.{Gives};
-ghost use Rattle.ps_lines.specs.HallRows.{trn, utm, search_for, cancel_search, challenge, cancel_challenge, reject, accept, whisper, block, unblock, rank};
+ghost use Rattle.ps_lines.specs.HallRows.{trn, utm, search_for, cancel_search, challenge, cancel_challenge, reject, accept, whisper};
+ghost use Rattle.ps_lines.specs.HallRows.{block, unblock, rank};
 
 use crate::argument::{argument, id_at, nothing, one_id, second, two, user_and_format};
 use crate::command::{CommandFault, HallCmd, Parsed};

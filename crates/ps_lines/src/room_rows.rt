@@ -1,7 +1,8 @@
 //! The rows of the room table: a function for each, from what follows the command's word.
 ghost use Rattle.std.specs.Option.{option_copied};
 ghost use Rattle.ps_lines.specs.Faults.{Gives};
-ghost use Rattle.ps_lines.specs.RoomRows.{join, leave, say, announce, modnote, warn, mute, unmute, ban, unban, level, promote, modchat, choose, undo, forfeit};
+ghost use Rattle.ps_lines.specs.RoomRows.{join, leave, say, announce, modnote, warn, mute, unmute, ban, unban, level, promote};
+ghost use Rattle.ps_lines.specs.RoomRows.{modchat, choose, undo, forfeit};
 
 use crate::argument::{argument, id_at, nothing, one_id, second, symbol_at, two, user_and_reason};
 use crate::command::{Command, CommandFault, Parsed};

@@ -1,6 +1,7 @@
 //! The words of the commands.
 ghost use Rattle.std.specs.Prelude.{◌≡◌};
-ghost use Rattle.ps_lines.specs.Words.{speaking_word, staff_word, rank_or_battle_word, own_word, challenge_word, user_word, room_word, hall_word, word_of};
+ghost use Rattle.ps_lines.specs.Words.{speaking_word, staff_word, rank_or_battle_word, own_word, challenge_word, user_word};
+ghost use Rattle.ps_lines.specs.Words.{room_word, hall_word, word_of};
 
 /// The commands that a text can stand for, but for Say, in the order of the two tables.
 #[derive(Clone, Copy, Debug, PartialEq, Eq)]

@@ -11,12 +11,12 @@ module _ {T : Type 0} where
   -- the posts with this number, in order
   abbrev pub posts_of : ℕ → List (Numbered T) → List T
   posts_of number [] = []
-  posts_of number (x ∷ xs) = if x.number == number then x.post ∷ posts_of number xs else posts_of number xs
+  posts_of number (first ∷ xs) = if first.number == number then first.post ∷ posts_of number xs else posts_of number xs
 
   -- of each of these tickets the first so many posts were taken, in order
   abbrev pub AreTakenInOrder : List (Numbered T) → List (Met T) → Type 0
-  AreTakenInOrder taken met = All (λ (m : Met T). IsPrefix (posts_of m.number taken) m.posted) met
+  AreTakenInOrder taken met = All (λ (ticket : Met T). IsPrefix (posts_of ticket.number taken) ticket.posted) met
 
   -- of each of these tickets all posts were taken, in order
   abbrev pub AreAllTaken : List (Numbered T) → List (Met T) → Type 0
-  AreAllTaken taken met = All (λ (m : Met T). posts_of m.number taken ≡ m.posted) met
+  AreAllTaken taken met = All (λ (ticket : Met T). posts_of ticket.number taken ≡ ticket.posted) met

@@ -35,40 +35,41 @@ module _ {T : Type 0} where
 
   -- the view of a ticket with this number, these numbers to give away, and so many posts
   abbrev pub IsPoster : ℕ → ℕ → ℕ → View T → Type 0
-  IsPoster number end posts v = (v ≡ poster number end v.posted) × (number < end) × (posts ≡ length v.posted) × (posts ≤ MOST_POSTS)
+  IsPoster number end posts view = (view ≡ poster number end view.posted) × (number < end) × (posts ≡ length view.posted)
+      × (posts ≤ MOST_POSTS)
 
   -- the view of a drain
   abbrev pub IsTaker : View T → Type 0
-  IsTaker v = v ≡ taker v.taken v.met v.empties
+  IsTaker view = view ≡ taker view.taken view.met view.empties
 
   -- what contracts see of a ticket and of a drain with this view
   abbrev pub sender_of : SegId Global → ℕ → ℕ → View T → Sender T
-  sender_of mailbox number end v = record { mailbox = mailbox; number = number; end = end; posted = v.posted }
+  sender_of mailbox number end view = record { mailbox = mailbox; number = number; end = end; posted = view.posted }
 
   abbrev pub receiver_of : SegId Global → View T → Receiver T
-  receiver_of mailbox v = record { mailbox = mailbox; taken = v.taken; met = v.met; empties = v.empties }
+  receiver_of mailbox view = record { mailbox = mailbox; taken = view.taken; met = view.met; empties = view.empties }
 
   -- The number of a ticket that is split off. With it goes a 65,536th part of the numbers, and one at least, from their end
   abbrev pub number_of_new : View T → ℕ
-  number_of_new v = v.end - ((v.end - v.number - 1) / 65536 + 1)
+  number_of_new view = view.end - ((view.end - view.number - 1) / 65536 + 1)
 
   -- the two views after a split
   abbrev pub kept : View T → View T
-  kept v = record v { end = number_of_new v }
+  kept view = record view { end = number_of_new view }
 
   abbrev pub given : View T → View T
-  given v = poster (number_of_new v) v.end []
+  given view = poster (number_of_new view) view.end []
 
   abbrev pub posting : View T → T → View T
-  posting v post = record v { posted = v.posted ++ post ∷ [] }
+  posting view post = record view { posted = view.posted ++ post ∷ [] }
 
   abbrev pub taking : View T → Numbered T → View T
-  taking v x = record v { taken = v.taken ++ x ∷ [] }
+  taking view post = record view { taken = view.taken ++ post ∷ [] }
 
   -- it has found nothing
   abbrev pub counting : View T → View T
-  counting v = record v { empties = v.empties + 1 }
+  counting view = record view { empties = view.empties + 1 }
 
-  -- v has met the ticket of w
+  -- the drain has met a ticket
   abbrev pub meeting : View T → View T → View T
-  meeting v w = record v { met = v.met ++ record { number = w.number; posted = w.posted } ∷ [] }
+  meeting drain ticket = record drain { met = drain.met ++ record { number = ticket.number; posted = ticket.posted } ∷ [] }

@@ -16,10 +16,10 @@ use Rattle.ps_mon.specs.Orders.{is_order}
 
 -- a side is asked for its order, in a turn, and where it must send in another member
 abbrev pub is_asked : Phase → ℕ → Bool
-is_asked phases.Preview s = true
-is_asked phases.Turn s = true
-is_asked (phases.Replace p1 p2) s = replaces (phases.Replace p1 p2) s
-is_asked other s = false
+is_asked phases.Preview side = true
+is_asked phases.Turn side = true
+is_asked (phases.Replace first second) side = replaces (phases.Replace first second) side
+is_asked other side = false
 
 -- an order is for Team Preview alone
 abbrev pub wrong_for_order : Phase → Bool
@@ -32,7 +32,7 @@ wrong_for_switch other = false
 
 abbrev pub wrong_for_act : Phase → Bool
 wrong_for_act phases.Preview = true
-wrong_for_act (phases.Replace p1 p2) = true
+wrong_for_act (phases.Replace first second) = true
 wrong_for_act other = false
 
 -- a side that is asked passes, a move is chosen where a member must come in, something else than an order where one is asked for, or
@@ -50,22 +50,22 @@ is_locked side = is_some side.vol.lock || side.vol.recharge
 -- in a turn, who is locked into a move doesn't go on, or who isn't does
 abbrev pub locked : Phase → SideState → Choice → Bool
 locked phases.Preview side choice = false
-locked (phases.Replace p1 p2) side choice = false
+locked (phases.Replace first second) side choice = false
 locked phase side choices.Continue = not (is_locked side)
 locked phase side choice = is_locked side
 
 -- there is no such slot, or Struggle is chosen while a slot is usable
 abbrev pub no_such_move : SideState → Choice → Bool
-no_such_move side (choices.Move n) = n == 0 || nat_lt (slot_count_now side) n
+no_such_move side (choices.Move number) = number == 0 || nat_lt (slot_count_now side) number
 no_such_move side choices.Struggle = has_usable side
 no_such_move side choice = false
 
 abbrev pub no_pp : SideState → Choice → Bool
-no_pp side (choices.Move n) = (slot_now side (n - 1)).pp == 0
+no_pp side (choices.Move number) = (slot_now side (number - 1)).pp == 0
 no_pp side choice = false
 
 abbrev pub disabled : SideState → Choice → Bool
-disabled side (choices.Move n) = is_disabled side.vol.disabled (n - 1)
+disabled side (choices.Move number) = is_disabled side.vol.disabled (number - 1)
 disabled side choice = false
 
 -- there is no such position, or what should be an order isn't one
@@ -89,8 +89,8 @@ unless false fault more = more
 
 -- the first fault of a choice, or none. It looks at the phase and the side alone
 unfoldable pub fault_of : Phase → ℕ → SideState → Choice → Option ChoiceFault
-fault_of phase s side choice =
-    unless (not (is_asked phase s)) faults.NotYourTurn
+fault_of phase side_number side choice =
+    unless (not (is_asked phase side_number)) faults.NotYourTurn
     (unless (wrong_phase phase choice) faults.WrongPhase
     (unless (locked phase side choice) faults.Locked
     (unless (no_such_move side choice) faults.NoSuchMove
@@ -101,19 +101,19 @@ fault_of phase s side choice =
     (unless (fainted side choice) faults.Fainted None))))))))
 
 abbrev pub legal : Battle → ℕ → Choice → Option ChoiceFault
-legal b s choice = fault_of b.phase s (side_of b s) choice
+legal battle side choice = fault_of battle.phase side (side_of battle side) choice
 
 -- a choice that a side may be committed with: a legal one where it is asked, else Pass
 abbrev pub IsChoice : Bool → Battle → ℕ → Choice → Type 0
-IsChoice true b s choice = legal b s choice ≡ None
-IsChoice false b s choice = choice ≡ choices.Pass
+IsChoice true battle side choice = legal battle side choice ≡ None
+IsChoice false battle side choice = choice ≡ choices.Pass
 
 abbrev pub IsChoiceOf : Battle → ℕ → Choice → Type 0
-IsChoiceOf b s choice = IsChoice (is_asked b.phase s) b s choice
+IsChoiceOf battle side choice = IsChoice (is_asked battle.phase side) battle side choice
 
 -- the slot, the position or the order that a choice names is there
 abbrev pub IsThere : SideState → Choice → Type 0
-IsThere side (choices.Move n) = (1 ≤ n) × (n ≤ slot_count_now side)
+IsThere side (choices.Move number) = (1 ≤ number) × (number ≤ slot_count_now side)
 IsThere side (choices.Switch position) = (1 ≤ position) × (position ≤ side.count)
 IsThere side (choices.Team numbers) = is_order side.count numbers ≡ true
 IsThere side choice = Unit {0}

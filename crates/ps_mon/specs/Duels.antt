@@ -23,65 +23,100 @@ is_frz other = false
 
 -- whether a standing member sleeps, and not by Rest
 abbrev pub sleeps : Member → Bool
-sleeps m = is_slp m.status && nat_lt 0 m.hp && not m.rested
+sleeps member = is_slp member.status && nat_lt 0 member.hp && not member.rested
 
 -- whether a standing member is frozen
 abbrev pub freezes : Member → Bool
-freezes m = is_frz m.status && nat_lt 0 m.hp
+freezes member = is_frz member.status && nat_lt 0 member.hp
 
 -- whether some member beside the active one is so
 abbrev pub bench_has : (Member → Bool) → SideState → Bool
-bench_has test side = list_any (λ k. test (member_of side k)) (drop 1 (take side.count side.order))
+bench_has test side = list_any (λ index. test (member_of side index)) (drop 1 (take side.count side.order))
 
 -- which slots in force have PP left
 abbrev pub ready_of : SideState → List Bool
 ready_of side = is_ready side 0 ∷ is_ready side 1 ∷ is_ready side 2 ∷ is_ready side 3 ∷ []
 
--- the active member of side s
+-- the active member of a side
 unfoldable pub fighter_of : ℕ → SideState → Fighter
-fighter_of s side =
-    let m = active_of side in
-    record { side = s; member = active_index side; level = m.level; types = m.types; stats = m.stats; base_speed = m.base_speed; hp = m.hp; max = m.max; status = m.status; counter = m.counter; rested = m.rested; vol = side.vol }
+fighter_of side_number side =
+    let active = active_of side in
+    record {
+      side = side_number;
+      member = active_index side;
+      level = active.level;
+      types = active.types;
+      stats = active.stats;
+      base_speed = active.base_speed;
+      hp = active.hp;
+      max = active.max;
+      status = active.status;
+      counter = active.counter;
+      rested = active.rested;
+      vol = side.vol;
+    }
 
 -- a member with a fighter's numbers
 abbrev pub worn : Member → Fighter → Member
-worn m f = record m { level = f.level; types = f.types; stats = f.stats; base_speed = f.base_speed; hp = f.hp; max = f.max; status = f.status; counter = f.counter; rested = f.rested }
+worn member fighter = record member {
+  level = fighter.level;
+  types = fighter.types;
+  stats = fighter.stats;
+  base_speed = fighter.base_speed;
+  hp = fighter.hp;
+  max = fighter.max;
+  status = fighter.status;
+  counter = fighter.counter;
+  rested = fighter.rested;
+}
 
 -- the side with its active member as in the duel; its slots, and what changed them, stay
 unfoldable pub with_fighter : SideState → Fighter → SideState
-with_fighter side f =
-    record side { members = slice_set side.members (active_index side) (worn (active_of side) f); vol = record f.vol { slots = side.vol.slots } }
+with_fighter side fighter =
+    record side {
+      members = slice_set side.members (active_index side) (worn (active_of side) fighter);
+      vol = record fighter.vol { slots = side.vol.slots };
+    }
 
--- the duel of side s against the other
+-- the duel of a side against the other
 unfoldable pub duel_of : Battle → ℕ → Duel
-duel_of b s =
-    let theirs = side_of b (1 - s) in
-    record { user = fighter_of s (side_of b s); foe = fighter_of (1 - s) theirs; clauses = b.clauses; asleep = bench_has sleeps theirs; frozen = bench_has freezes theirs; ready = ready_of theirs; slot_count = slot_count_now theirs; rng = b.rng }
+duel_of battle side =
+    let theirs = side_of battle (1 - side) in
+    record {
+      user = fighter_of side (side_of battle side);
+      foe = fighter_of (1 - side) theirs;
+      clauses = battle.clauses;
+      asleep = bench_has sleeps theirs;
+      frozen = bench_has freezes theirs;
+      ready = ready_of theirs;
+      slot_count = slot_count_now theirs;
+      rng = battle.rng;
+    }
 
--- the battle with the duel of side s put back
+-- the battle with the duel of a side put back
 unfoldable pub with_duel : Battle → ℕ → Duel → Battle
-with_duel b s d =
-    let mine = with_fighter (side_of b s) d.user in
-    let theirs = with_fighter (side_of b (1 - s)) d.foe in
-    record b { sides = slice_set (slice_set b.sides s mine) (1 - s) theirs; rng = d.rng }
+with_duel battle side duel =
+    let mine = with_fighter (side_of battle side) duel.user in
+    let theirs = with_fighter (side_of battle (1 - side)) duel.foe in
+    record battle { sides = slice_set (slice_set battle.sides side mine) (1 - side) theirs; rng = duel.rng }
 
 -- a fighter's numbers are in their ranges
-pub record IsFighter (f : Fighter) : Type 0 where
-  pub level : 1 ≤ f.level
-  pub level_high : f.level ≤ 100
-  pub types : AreTypes f.types
-  pub stats : AreStats f.stats
-  pub hp : f.hp ≤ f.max
-  pub max : 1 ≤ f.max
-  pub max_high : f.max ≤ 713
-  pub counter : f.counter ≤ 7
-  pub vol : AreVolatiles f.vol
+pub record IsFighter (fighter : Fighter) : Type 0 where
+  pub level : 1 ≤ fighter.level
+  pub level_high : fighter.level ≤ 100
+  pub types : AreTypes fighter.types
+  pub stats : AreStats fighter.stats
+  pub hp : fighter.hp ≤ fighter.max
+  pub max : 1 ≤ fighter.max
+  pub max_high : fighter.max ≤ 713
+  pub counter : fighter.counter ≤ 7
+  pub vol : AreVolatiles fighter.vol
 
-pub record IsFit (d : Duel) : Type 0 where
-  pub user : IsFighter d.user
-  pub foe : IsFighter d.foe
+pub record IsFit (duel : Duel) : Type 0 where
+  pub user : IsFighter duel.user
+  pub foe : IsFighter duel.foe
 
 -- the moves of a duel are among so many
-pub record IsDuelKnown (moves : ℕ) (d : Duel) : Type 0 where
-  pub user : AreNamed moves d.user.vol
-  pub foe : AreNamed moves d.foe.vol
+pub record IsDuelKnown (moves : ℕ) (duel : Duel) : Type 0 where
+  pub user : AreNamed moves duel.user.vol
+  pub foe : AreNamed moves duel.foe.vol

@@ -1,5 +1,6 @@
 -- What is known of moves and types, and when it is fair.
-use Rattle.std.specs.Prelude.{◌≡◌, ◌≢◌, ◌⊎◌, ℕ, pos, negsuc, ◌<◌, ◌≤◌, ◌≤ℤ◌, Bool, false, List, [], All, length, slice_index, slice_index_or}
+use Rattle.std.specs.Prelude.{◌≡◌, ◌≢◌, ◌⊎◌, ℕ, pos, negsuc, ◌<◌, ◌≤◌, ◌≤ℤ◌, Bool, false, List, [], All, length, slice_index}
+use Rattle.std.specs.Prelude.{slice_index_or}
 use Rattle.ps_mon.specs.declared.status.Status.TheVariants.{Healthy}
 use Rattle.ps_mon.specs.declared.effect.Effect.{Effect}
 use Rattle.ps_mon.specs.declared.effect.Effect.TheVariants as effects
@@ -21,7 +22,17 @@ figures facts = record { moves = facts.moves.now; factors = facts.factors.now; s
 
 -- the built-in move: a strike of type 0 with power 50 and accuracy 100, half of what it dealt as recoil
 abbrev pub struggle : Bool → Bool → MoveData
-struggle special contact = record { kind = 0; special = special; contact = contact; power = 50; accuracy = 100; pp = 1; priority = pos 0; high = false; effect = effects.Recoil 2 }
+struggle special contact = record {
+  kind = 0;
+  special = special;
+  contact = contact;
+  power = 50;
+  accuracy = 100;
+  pp = 1;
+  priority = pos 0;
+  high = false;
+  effect = effects.Recoil 2;
+}
 
 -- the fields of an effect are in their ranges: a chance is out of 256, and a status is one of the six that a move can give
 abbrev pub IsFairEffect : Effect → Type 0
@@ -35,15 +46,15 @@ IsFairEffect (effects.Double status chance) = (status ≢ Healthy) × (chance �
 IsFairEffect other = Unit {0}
 
 -- the numbers of a move are in their ranges
-pub record IsFairMove (m : MoveData) : Type 0 where
-  pub kind : m.kind < 32
-  pub power : m.power ≤ 255
-  pub accuracy : m.accuracy ≤ 100
-  pub pp_low : 1 ≤ m.pp
-  pub pp_high : m.pp ≤ 64
-  pub priority_low : negsuc 0 ≤ℤ m.priority
-  pub priority_high : m.priority ≤ℤ pos 1
-  pub effect : IsFairEffect m.effect
+pub record IsFairMove (move : MoveData) : Type 0 where
+  pub kind : move.kind < 32
+  pub power : move.power ≤ 255
+  pub accuracy : move.accuracy ≤ 100
+  pub pp_low : 1 ≤ move.pp
+  pub pp_high : move.pp ≤ 64
+  pub priority_low : negsuc 0 ≤ℤ move.priority
+  pub priority_high : move.priority ≤ℤ pos 1
+  pub effect : IsFairEffect move.effect
 
 -- none, a half, one or two, in tenths
 abbrev pub IsFactor : ℕ → Type 0

@@ -12,31 +12,31 @@ use Rattle.ps_mon.specs.Reading.{side_of, member_of, slot_of, no_slot}
 
 -- the moves of its slots are among so many
 abbrev pub AreOwnKnown : ℕ → Member → Type 0
-AreOwnKnown moves m = (j : ℕ) → j < m.slot_count → (slot_of m j).mv < moves
+AreOwnKnown moves member = (slot : ℕ) → slot < member.slot_count → (slot_of member slot).mv < moves
 
 abbrev pub AreCopiedKnown : ℕ → CopiedSlots → Type 0
-AreCopiedKnown moves c = (j : ℕ) → j < c.count → (slice_index_or c.slots j no_slot).mv < moves
+AreCopiedKnown moves copied = (slot : ℕ) → slot < copied.count → (slice_index_or copied.slots slot no_slot).mv < moves
 
 pub record AreChangedKnown (moves : ℕ) (slots : ChangedSlots) : Type 0 where
-  pub mimic : (j : ℕ) → IfSome (slice_index_or slots.mimic j None) (λ mv. mv < moves)
+  pub mimic : (slot : ℕ) → IfSome (slice_index_or slots.mimic slot None) (λ mv. mv < moves)
   pub copied : IfSome slots.copied (AreCopiedKnown moves)
 
 -- a lock has a move of the dex; the last move, and the move of the last damage, may be Struggle
-pub record AreNamed (moves : ℕ) (v : Volatiles) : Type 0 where
-  pub slots : AreChangedKnown moves v.slots
-  pub lock : IfSome v.lock (λ l. l.mv < moves)
-  pub last : IfSome v.last (IsNamed moves)
-  pub taken : IfSome v.taken (λ t. IsNamed moves t.mv)
+pub record AreNamed (moves : ℕ) (volatiles : Volatiles) : Type 0 where
+  pub slots : AreChangedKnown moves volatiles.slots
+  pub lock : IfSome volatiles.lock (λ hold. hold.mv < moves)
+  pub last : IfSome volatiles.last (IsNamed moves)
+  pub taken : IfSome volatiles.taken (λ loss. IsNamed moves loss.mv)
 
 pub record IsSideKnown (moves : ℕ) (side : SideState) : Type 0 where
-  pub members : (k : ℕ) → k < side.count → AreOwnKnown moves (member_of side k)
+  pub members : (index : ℕ) → index < side.count → AreOwnKnown moves (member_of side index)
   pub vol : AreNamed moves side.vol
 
 -- the moves of a battle are among so many
-pub record AreKnown (moves : ℕ) (b : Battle) : Type 0 where
-  pub sides : (s : ℕ) → s < 2 → IsSideKnown moves (side_of b s)
+pub record AreKnown (moves : ℕ) (battle : Battle) : Type 0 where
+  pub sides : (side : ℕ) → side < 2 → IsSideKnown moves (side_of battle side)
 
 -- the facts are fair for a battle
-pub record AreFairFor (facts : Figures) (b : Battle) : Type 0 where
+pub record AreFairFor (facts : Figures) (battle : Battle) : Type 0 where
   pub ranges : AreFair facts
-  pub known : AreKnown (move_count facts) b
+  pub known : AreKnown (move_count facts) battle

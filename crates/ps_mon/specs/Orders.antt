@@ -6,15 +6,16 @@ use Rattle.ps_mon.specs.declared.record.SideState.{SideState}
 use Rattle.ps_mon.specs.Reading.{side_of}
 
 abbrev pub has_number : ℕ → List ℕ → Bool
-has_number n numbers = list_any (λ m. m == n) numbers
+has_number number numbers = list_any (λ one. one == number) numbers
 
--- The place k of so many that are named: it has the position of one of so many members, which no place before it has. A place behind
+-- One place of so many that are named: it has the position of one of so many members, which no place before it has. A place behind
 -- those has 0.
 unfoldable pub is_place : ℕ → ℕ → List ℕ → ℕ → Bool
-is_place count named numbers k =
-    if nat_lt k named
-    then nat_lt 0 (slice_index numbers k) && nat_le (slice_index numbers k) count && not (has_number (slice_index numbers k) (take k numbers))
-    else slice_index numbers k == 0
+is_place count named numbers place =
+    if nat_lt place named
+    then nat_lt 0 (slice_index numbers place) && nat_le (slice_index numbers place) count
+    && not (has_number (slice_index numbers place) (take place numbers))
+    else slice_index numbers place == 0
 
 -- so many different positions of so many members, and 0 behind them
 unfoldable pub are_positions : ℕ → ℕ → List ℕ → Bool
@@ -41,6 +42,6 @@ reordered side numbers = record side {
       ∷ index_at side.order (slice_index numbers 4) ∷ index_at side.order (slice_index numbers 5) ∷ [];
 }
 
--- side s stands in this order
+-- a side stands in this order
 unfoldable pub with_order : Battle → ℕ → List ℕ → Battle
-with_order b s numbers = record b { sides = slice_set b.sides s (reordered (side_of b s) numbers) }
+with_order battle side numbers = record battle { sides = slice_set battle.sides side (reordered (side_of battle side) numbers) }

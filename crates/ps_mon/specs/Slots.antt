@@ -14,33 +14,33 @@ mimicked (Some mv) slot = record slot { mv = mv }
 
 -- how many slots are in force
 abbrev pub count_in_force : Option CopiedSlots → Member → ℕ
-count_in_force None m = m.slot_count
-count_in_force (Some copied) m = copied.count
+count_in_force None member = member.slot_count
+count_in_force (Some copied) member = copied.count
 
 unfoldable pub slot_count_now : SideState → ℕ
 slot_count_now side = count_in_force side.vol.slots.copied (active_of side)
 
 -- a slot in force
 abbrev pub slot_in_force : Option CopiedSlots → Option ℕ → Member → ℕ → MoveSlot
-slot_in_force None mimic m j = mimicked mimic (slot_of m j)
-slot_in_force (Some copied) mimic m j = slice_index_or copied.slots j no_slot
+slot_in_force None mimic member slot = mimicked mimic (slot_of member slot)
+slot_in_force (Some copied) mimic member slot = slice_index_or copied.slots slot no_slot
 
 unfoldable pub slot_now : SideState → ℕ → MoveSlot
-slot_now side j =
-    slot_in_force side.vol.slots.copied (slice_index_or side.vol.slots.mimic j None) (active_of side) j
+slot_now side slot =
+    slot_in_force side.vol.slots.copied (slice_index_or side.vol.slots.mimic slot None) (active_of side) slot
 
 -- whether a slot is disabled
 abbrev pub is_disabled : Option Disabled → ℕ → Bool
-is_disabled None j = false
-is_disabled (Some disabled) j = disabled.slot == j
+is_disabled None slot = false
+is_disabled (Some disabled) slot = disabled.slot == slot
 
 -- whether a slot is there and has PP left
 unfoldable pub is_ready : SideState → ℕ → Bool
-is_ready side j = nat_lt j (slot_count_now side) && nat_lt 0 (slot_now side j).pp
+is_ready side slot = nat_lt slot (slot_count_now side) && nat_lt 0 (slot_now side slot).pp
 
 -- whether a slot can be chosen
 unfoldable pub is_usable : SideState → ℕ → Bool
-is_usable side j = is_ready side j && not (is_disabled side.vol.disabled j)
+is_usable side slot = is_ready side slot && not (is_disabled side.vol.disabled slot)
 
 unfoldable pub has_usable : SideState → Bool
 has_usable side = is_usable side 0 || is_usable side 1 || is_usable side 2 || is_usable side 3

@@ -11,21 +11,21 @@ abbrev pub spent : MoveSlot → MoveSlot
 spent slot = record slot { pp = slot.pp - 1 }
 
 abbrev pub with_use : Member → ℕ → Member
-with_use m j = record m { slots = slice_set m.slots j (spent (slot_of m j)) }
+with_use member slot = record member { slots = slice_set member.slots slot (spent (slot_of member slot)) }
 
 abbrev pub copied_after_use : CopiedSlots → ℕ → CopiedSlots
-copied_after_use copied j = record copied { slots = slice_set copied.slots j (spent (slice_index_or copied.slots j no_slot)) }
+copied_after_use copied slot = record copied { slots = slice_set copied.slots slot (spent (slice_index_or copied.slots slot no_slot)) }
 
 -- PP falls in the copied slots alone where there are such, else in the member's own
 abbrev pub use_in_force : Option CopiedSlots → SideState → ℕ → SideState
-use_in_force None side j =
-    record side { members = slice_set side.members (active_index side) (with_use (active_of side) j) }
-use_in_force (Some copied) side j =
-    record side { vol = record side.vol { slots = record side.vol.slots { copied = Some (copied_after_use copied j) } } }
+use_in_force None side slot =
+    record side { members = slice_set side.members (active_index side) (with_use (active_of side) slot) }
+use_in_force (Some copied) side slot =
+    record side { vol = record side.vol { slots = record side.vol.slots { copied = Some (copied_after_use copied slot) } } }
 
 unfoldable pub side_after_use : SideState → ℕ → SideState
-side_after_use side j = use_in_force side.vol.slots.copied side j
+side_after_use side slot = use_in_force side.vol.slots.copied side slot
 
--- the active member of side s has used slot j
+-- the active member of a side has used a slot
 unfoldable pub after_use : Battle → ℕ → ℕ → Battle
-after_use b s j = record b { sides = slice_set b.sides s (side_after_use (side_of b s) j) }
+after_use battle side slot = record battle { sides = slice_set battle.sides side (side_after_use (side_of battle side) slot) }

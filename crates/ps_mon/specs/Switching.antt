@@ -18,12 +18,16 @@ milder Tox = Psn
 milder status = status
 
 abbrev pub left : Member → Member
-left m = record m { status = milder m.status }
+left member = record member { status = milder member.status }
 
 -- the member at a position, which counts from 1, comes in
 unfoldable pub came_in : SideState → ℕ → SideState
 came_in side position =
-    record side { order = swap side.order 0 (position - 1); members = slice_set side.members (active_index side) (left (active_of side)); vol = calm }
+    record side {
+      order = swap side.order 0 (position - 1);
+      members = slice_set side.members (active_index side) (left (active_of side));
+      vol = calm;
+    }
 
 -- a trap's lock ends, no other
 abbrev pub let_go : LockKind → Lock → Option Lock
@@ -37,7 +41,10 @@ without_trap (Some lock) = let_go lock.kind lock
 unfoldable pub released : SideState → SideState
 released side = record side { vol = record side.vol { lock = without_trap side.vol.lock } }
 
--- side s has sent in the member at a position, which the foe's trap kept in no more
+-- a side has sent in the member at a position, which the foe's trap kept in no more
 unfoldable pub with_switch : Battle → ℕ → ℕ → Battle
-with_switch b s position =
-    record b { sides = slice_set (slice_set b.sides s (came_in (side_of b s) position)) (1 - s) (released (side_of b (1 - s))) }
+with_switch battle side position =
+    record battle {
+      sides = slice_set (slice_set battle.sides side (came_in (side_of battle side) position)) (1 - side)
+          (released (side_of battle (1 - side)));
+    }

@@ -10,22 +10,22 @@ use Rattle.ps_mon.specs.Valid.{IsMember}
 use Rattle.ps_mon.specs.Known.{AreOwnKnown}
 
 -- a member that nothing has happened to
-pub record IsFreshMember (m : Member) : Type 0 where
-  pub ranges : IsMember m
-  pub healthy : m.status ≡ Healthy
-  pub counter : m.counter ≡ 0
-  pub rested : m.rested ≡ false
-  pub full : m.hp ≡ m.max
-  pub pp : (j : ℕ) → j < m.slot_count → 1 ≤ (slot_of m j).pp
+pub record IsFreshMember (member : Member) : Type 0 where
+  pub ranges : IsMember member
+  pub healthy : member.status ≡ Healthy
+  pub counter : member.counter ≡ 0
+  pub rested : member.rested ≡ false
+  pub full : member.hp ≡ member.max
+  pub pp : (slot : ℕ) → slot < member.slot_count → 1 ≤ (slot_of member slot).pp
 
-pub record IsFresh (t : BattleTeam) : Type 0 where
-  pub count : 1 ≤ t.count
-  pub count_high : t.count ≤ 6
-  pub members : (k : ℕ) → k < t.count → IsFreshMember (slice_index_or t.members k no_member)
+pub record IsFresh (team : BattleTeam) : Type 0 where
+  pub count : 1 ≤ team.count
+  pub count_high : team.count ≤ 6
+  pub members : (index : ℕ) → index < team.count → IsFreshMember (slice_index_or team.members index no_member)
 
 -- the moves of a team are among so many
 abbrev pub IsTeamKnown : ℕ → BattleTeam → Type 0
-IsTeamKnown moves t = (k : ℕ) → k < t.count → AreOwnKnown moves (slice_index_or t.members k no_member)
+IsTeamKnown moves team = (index : ℕ) → index < team.count → AreOwnKnown moves (slice_index_or team.members index no_member)
 
 -- what a member has when it comes in
 abbrev pub calm : Volatiles
@@ -33,4 +33,4 @@ calm = record no_volatiles { slots = record { mimic = None ∷ None ∷ None ∷
 
 -- the members in the team's order, the first one active
 abbrev pub opened : BattleTeam → SideState
-opened t = record { members = t.members; count = t.count; order = 0 ∷ 1 ∷ 2 ∷ 3 ∷ 4 ∷ 5 ∷ []; vol = calm }
+opened team = record { members = team.members; count = team.count; order = 0 ∷ 1 ∷ 2 ∷ 3 ∷ 4 ∷ 5 ∷ []; vol = calm }

@@ -5,7 +5,8 @@ ghost use Rattle.ps_mon.specs.Known.{AreKnown, IsSideKnown, AreNamed};
 ghost use Rattle.ps_mon.specs.Reading.{side_of, member_of};
 ghost use Rattle.ps_mon.specs.Slots.{slot_count_now, is_ready};
 ghost use Rattle.ps_mon.specs.Keeping.{StillStands, Keeps};
-ghost use Rattle.ps_mon.specs.Duels.{IsFit, IsFighter, IsDuelKnown, sleeps, freezes, bench_has, ready_of, fighter_of, with_fighter, duel_of, with_duel};
+ghost use Rattle.ps_mon.specs.Duels.{IsFit, IsFighter, IsDuelKnown, sleeps, freezes, bench_has, ready_of, fighter_of, with_fighter};
+ghost use Rattle.ps_mon.specs.Duels.{duel_of, with_duel};
 
 use crate::record::{Battle, SideState, Volatiles};
 use crate::status::Status;

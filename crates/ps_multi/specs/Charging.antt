@@ -20,7 +20,7 @@ new_lock kind mv turns damage = record { kind = kind; mv = mv; turns = turns; da
 
 -- the user has that lock, or none, from now on
 abbrev pub lock_user : Option Lock → Play (Unit {0})
-lock_user lock = change (λ d. record d { user = record d.user { vol = record d.user.vol { lock = lock } } })
+lock_user lock = change (λ duel. record duel { user = record duel.user { vol = record duel.user.vol { lock = lock } } })
 
 abbrev pub is_charge : LockKind → Bool
 is_charge (Charge away) = true
@@ -34,8 +34,8 @@ has_prepared (Some lock) = is_charge lock.kind
 -- the act before the strike
 unfoldable pub prepare : Bool → ℕ → Play (Unit {0})
 prepare away mv = do
-  d ← duel_now
-  tell (events.Prepare (who_of d.user) mv)
+  duel ← duel_now
+  tell (events.Prepare (who_of duel.user) mv)
   lock_user (Some (new_lock (Charge away) mv 1 0))
 
 -- the strike that was prepared; the lock ends, whatever came of it
@@ -47,8 +47,8 @@ charged_strike facts mv = do
 -- charge: first Prepare and a lock, out of reach if the move says so; then the strike, and the lock ends
 unfoldable pub charge_row : Bool → Figures → ℕ → Play (Unit {0})
 charge_row away facts mv = do
-  d ← duel_now
-  choose (has_prepared d.user.vol.lock) (charged_strike facts mv) (prepare away mv)
+  duel ← duel_now
+  choose (has_prepared duel.user.vol.lock) (charged_strike facts mv) (prepare away mv)
 
 -- what the call does for a move of that kind; for another kind nothing
 abbrev pub charge_effect : Effect → Figures → ℕ → Play (Unit {0})
@@ -57,20 +57,20 @@ charge_effect other facts mv = give tt
 
 -- whether a strike wears its user out: it hit, the foe stands, and no substitute ended
 abbrev pub wears_out : Struck → Duel → Bool
-wears_out NoEffect d = false
-wears_out Missed d = false
-wears_out (Hit dealt) d = nat_lt 0 d.foe.hp && not dealt.ended
+wears_out NoEffect duel = false
+wears_out Missed duel = false
+wears_out (Hit dealt) duel = nat_lt 0 duel.foe.hp && not dealt.ended
 
 -- the user must recharge in its next act
 unfoldable pub tire : Play (Unit {0})
 tire = do
-  change (λ d. record d { user = record d.user { vol = record d.user.vol { recharge = true } } })
-  d ← duel_now
-  tell (events.MustRecharge (who_of d.user))
+  change (λ duel. record duel { user = record duel.user { vol = record duel.user.vol { recharge = true } } })
+  duel ← duel_now
+  tell (events.MustRecharge (who_of duel.user))
 
 -- recharge: a strike; the user must recharge where it hit, the foe stands and no substitute ended
 unfoldable pub recharge_row : Figures → ℕ → Play (Unit {0})
 recharge_row facts mv = do
   struck ← strike_with facts mv false
-  d ← duel_now
-  choose (wears_out struck d) tire (give tt)
+  duel ← duel_now
+  choose (wears_out struck duel) tire (give tt)

@@ -42,21 +42,21 @@ one_act_less lock = record lock { turns = lock.turns - 1 }
 abbrev pub lock_or_new : LockKind → ℕ → ℕ → Option Lock → Play Lock
 lock_or_new kind fewest mv (Some lock) = give lock
 lock_or_new kind fewest mv None = do
-  n ← draw 2
-  give (new_lock kind mv (fewest + n) 0)
+  drawn ← draw 2
+  give (new_lock kind mv (fewest + drawn) 0)
 
 -- a strike of that damage that left the foe standing traps it, for one act less than so many
 unfoldable pub trap_foe : ℕ → Dealt → Play (Unit {0})
 trap_foe mv dealt = do
-  n ← draw 8
-  lock_user (Some (new_lock Trap mv (hits_by n - 1) dealt.damage))
+  drawn ← draw 8
+  lock_user (Some (new_lock Trap mv (hits_by drawn - 1) dealt.damage))
 
 unfoldable pub trap_after : ℕ → Struck → Play (Unit {0})
 trap_after mv NoEffect = give tt
 trap_after mv Missed = give tt
 trap_after mv (Hit dealt) = do
-  d ← duel_now
-  choose (d.foe.hp == 0) (give tt) (trap_foe mv dealt)
+  duel ← duel_now
+  choose (duel.foe.hp == 0) (give tt) (trap_foe mv dealt)
 
 -- a trap begins: a strike, and the foe is trapped
 unfoldable pub trap_begins : Figures → ℕ → Play (Unit {0})
@@ -67,8 +67,8 @@ trap_begins facts mv = do
 -- a trap ends with its last act, and where the foe has fainted
 unfoldable pub trap_wears_off : Lock → Play (Unit {0})
 trap_wears_off lock = do
-  d ← duel_now
-  choose (lock.turns == 0 || d.foe.hp == 0) (lock_user None) (lock_user (Some lock))
+  duel ← duel_now
+  choose (lock.turns == 0 || duel.foe.hp == 0) (lock_user None) (lock_user (Some lock))
 
 -- a trap goes on: the damage of its strike is dealt again
 unfoldable pub trap_goes_on : ℕ → Lock → Play (Unit {0})
@@ -83,17 +83,17 @@ trap_by (Some lock) facts mv = trap_goes_on mv lock
 -- trap: a strike that traps the foe; then its damage again in each act, without a test
 unfoldable pub trap_row : Figures → ℕ → Play (Unit {0})
 trap_row facts mv = do
-  d ← duel_now
-  trap_by (own_lock is_trap d.user.vol.lock) facts mv
+  duel ← duel_now
+  trap_by (own_lock is_trap duel.user.vol.lock) facts mv
 
 -- the user is confused for 2 to 5 acts, where it can be
 unfoldable pub grow_dizzy : Play (Unit {0})
 grow_dizzy = do
-  d ← duel_now
-  choose (stays_sane d.user) (give tt) do
-    n ← draw 4
-    change (λ d. record d { user = confused (2 + n) d.user })
-    tell (events.VolStart (who_of d.user) effect_confusion None)
+  duel ← duel_now
+  choose (stays_sane duel.user) (give tt) do
+    drawn ← draw 4
+    change (λ duel. record duel { user = confused (2 + drawn) duel.user })
+    tell (events.VolStart (who_of duel.user) effect_confusion None)
 
 -- after the last act the lock ends, and the user is confused
 unfoldable pub thrash_wears_off : Lock → Play (Unit {0})
@@ -104,8 +104,8 @@ thrash_wears_off lock = choose (lock.turns == 0) (do
 -- thrash: a strike in each of 3 or 4 acts, of which this may be the first; it goes on though the strike misses
 unfoldable pub thrash_row : Figures → ℕ → Play (Unit {0})
 thrash_row facts mv = do
-  d ← duel_now
-  lock ← lock_or_new Thrash 3 mv (own_lock is_thrash d.user.vol.lock)
+  duel ← duel_now
+  lock ← lock_or_new Thrash 3 mv (own_lock is_thrash duel.user.vol.lock)
   struck ← strike_with facts mv false
   thrash_wears_off (one_act_less lock)
 
@@ -113,22 +113,22 @@ thrash_row facts mv = do
 unfoldable pub bide_on : Lock → Play (Unit {0})
 bide_on lock = do
   lock_user (Some (one_act_less lock))
-  d ← duel_now
-  tell (events.Activate (who_of d.user) effect_bide None)
+  duel ← duel_now
+  tell (events.Activate (who_of duel.user) effect_bide None)
 
 -- the act after the last: the lock ends, and twice of what it has stored is dealt, without a test; Fail where that is nothing
 unfoldable pub bide_ends : ℕ → Lock → Play (Unit {0})
 bide_ends mv lock = do
   lock_user None
-  d ← duel_now
-  tell (events.VolEnd (who_of d.user) effect_bide)
-  choose (lock.stored == 0) (tell (events.Fail (who_of d.user))) (deal_alone mv (2 * lock.stored))
+  duel ← duel_now
+  tell (events.VolEnd (who_of duel.user) effect_bide)
+  choose (lock.stored == 0) (tell (events.Fail (who_of duel.user))) (deal_alone mv (2 * lock.stored))
 
 -- bide: 2 or 3 acts, of which this may be the first, and then the release
 unfoldable pub bide_row : ℕ → Play (Unit {0})
 bide_row mv = do
-  d ← duel_now
-  lock ← lock_or_new Bide 2 mv (own_lock is_bide d.user.vol.lock)
+  duel ← duel_now
+  lock ← lock_or_new Bide 2 mv (own_lock is_bide duel.user.vol.lock)
   choose (lock.turns == 0) (bide_ends mv lock) (bide_on lock)
 
 -- rage: a strike, and a lock without end, whatever came of it

@@ -18,35 +18,35 @@ use Rattle.ps_status.specs.Afflicting.{status_second}
 
 -- how many hits, by a draw below 8
 abbrev pub hits_by : ℕ → ℕ
-hits_by n = slice_index (2 ∷ 2 ∷ 2 ∷ 3 ∷ 3 ∷ 3 ∷ 4 ∷ 5 ∷ []) n
+hits_by drawn = slice_index (2 ∷ 2 ∷ 2 ∷ 3 ∷ 3 ∷ 3 ∷ 4 ∷ 5 ∷ []) drawn
 
 -- no hit comes after one that ended the foe's substitute, and none where the foe has fainted
 abbrev pub is_last : Dealt → Duel → Bool
-is_last dealt d = dealt.ended || d.foe.hp == 0
+is_last dealt duel = dealt.ended || duel.foe.hp == 0
 
 -- after a hit up to so many others of the same damage; the answer is how many came
 unfoldable pub further_hits : ℕ → ℕ → Dealt → Play ℕ
 further_hits zero mv dealt = give 0
-further_hits (suc n) mv dealt = do
-  d ← duel_now
-  choose (is_last dealt d) (give 0) do
+further_hits (suc left) mv dealt = do
+  duel ← duel_now
+  choose (is_last dealt duel) (give 0) do
     again ← deal mv dealt.damage
-    more ← further_hits n mv again
+    more ← further_hits left mv again
     give (1 + more)
 
 -- up to so many hits, of which the first has come, and then how many there were
 unfoldable pub hits_in_all : ℕ → ℕ → Dealt → Play (Unit {0})
-hits_in_all n mv first = do
-  more ← further_hits (n - 1) mv first
-  d ← duel_now
-  tell (events.HitCount (who_of d.foe) (1 + more))
+hits_in_all hits mv first = do
+  more ← further_hits (hits - 1) mv first
+  duel ← duel_now
+  tell (events.HitCount (who_of duel.foe) (1 + more))
 
 unfoldable pub multi_after : ℕ → Struck → Play (Unit {0})
 multi_after mv NoEffect = give tt
 multi_after mv Missed = give tt
 multi_after mv (Hit dealt) = do
-  n ← draw 8
-  hits_in_all (hits_by n) mv dealt
+  drawn ← draw 8
+  hits_in_all (hits_by drawn) mv dealt
 
 -- multi: a strike; where it hit, two to five hits of its damage in all, by a draw that is made after the first whatever came of it
 unfoldable pub multi_row : Figures → ℕ → Play (Unit {0})

@@ -9,7 +9,8 @@ ghost use Rattle.ps_mon.specs.Valid.{IsSound, IsValid, IsLock};
 ghost use Rattle.ps_mon.specs.Duels.{IsFit, IsDuelKnown};
 ghost use Rattle.ps_hits.specs.Scenes.{scene};
 ghost use Rattle.ps_hits.specs.Courses.{played, course};
-ghost use Rattle.ps_multi.specs.Charging.{new_lock, is_charge, has_prepared, prepare, charged_strike, charge_row, charge_effect, wears_out, tire, recharge_row};
+ghost use Rattle.ps_multi.specs.Charging.{new_lock, is_charge, has_prepared, prepare, charged_strike, charge_row, charge_effect};
+ghost use Rattle.ps_multi.specs.Charging.{wears_out, tire, recharge_row};
 
 use ps_event::event::{Event, Events};
 use ps_hits::scene::who;
@@ -98,7 +99,8 @@ pub fn charge(battle: &mut Battle, facts: Facts<'_>, user: u8, mv: u16, out: &mu
     requires fair { AreFair (figures facts) }
     requires user { user < 2 }
     requires room { array_vec_len out.old + 20 ≤ 160 }
-    ensures effect { course battle.new out.new ≡ played (charge_effect (move_of (figures facts.entry) mv).effect (figures facts.entry) mv) user (course battle.old out.old) }
+    ensures effect { course battle.new out.new
+        ≡ played (charge_effect (move_of (figures facts.entry) mv).effect (figures facts.entry) mv) user (course battle.old out.old) }
     ensures sound { IsSound battle.new }
     ensures whole { IsValid battle.old → StillStands battle.old battle.new → IsValid battle.new }
     ensures known { (moves : ℕ) → mv < moves → AreKnown moves battle.old → AreKnown moves battle.new }

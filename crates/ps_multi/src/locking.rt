@@ -10,7 +10,9 @@ ghost use Rattle.ps_mon.specs.Duels.{IsFit, IsDuelKnown};
 ghost use Rattle.ps_hits.specs.Scenes.{Scene, scene};
 ghost use Rattle.ps_hits.specs.Courses.{played, course};
 ghost use Rattle.ps_hits.specs.Strikes.{IsStruck};
-ghost use Rattle.ps_multi.specs.Locking.{is_trap, is_thrash, is_bide, own_lock, one_act_less, lock_or_new, trap_foe, trap_after, trap_begins, trap_wears_off, trap_goes_on, trap_by, trap_row, grow_dizzy, thrash_wears_off, thrash_row, bide_on, bide_ends, bide_row, rage_row};
+ghost use Rattle.ps_multi.specs.Locking.{is_trap, is_thrash, is_bide, own_lock, one_act_less, lock_or_new, trap_foe, trap_after};
+ghost use Rattle.ps_multi.specs.Locking.{trap_begins, trap_wears_off, trap_goes_on, trap_by, trap_row, grow_dizzy, thrash_wears_off};
+ghost use Rattle.ps_multi.specs.Locking.{thrash_row, bide_on, bide_ends, bide_row, rage_row};
 
 use crate::charging::first_lock;
 use crate::several::hit_number;

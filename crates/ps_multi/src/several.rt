@@ -9,7 +9,8 @@ ghost use Rattle.ps_mon.specs.Valid.{IsSound, IsValid};
 ghost use Rattle.ps_mon.specs.Duels.{IsFit, IsDuelKnown};
 ghost use Rattle.ps_hits.specs.Scenes.{scene};
 ghost use Rattle.ps_hits.specs.Courses.{played, course};
-ghost use Rattle.ps_multi.specs.Several.{hits_by, is_last, further_hits, hits_in_all, multi_after, multi_row, double_after, double_row, double_effect};
+ghost use Rattle.ps_multi.specs.Several.{hits_by, is_last, further_hits, hits_in_all, multi_after, multi_row, double_after};
+ghost use Rattle.ps_multi.specs.Several.{double_row, double_effect};
 
 use ps_event::event::{Event, Events};
 use ps_hits::scene::{draw, who};
@@ -175,7 +176,8 @@ pub fn double(battle: &mut Battle, facts: Facts<'_>, user: u8, mv: u16, out: &mu
     requires fair { AreFair (figures facts) }
     requires user { user < 2 }
     requires room { array_vec_len out.old + 20 ≤ 160 }
-    ensures effect { course battle.new out.new ≡ played (double_effect (move_of (figures facts.entry) mv).effect (figures facts.entry) mv) user (course battle.old out.old) }
+    ensures effect { course battle.new out.new
+        ≡ played (double_effect (move_of (figures facts.entry) mv).effect (figures facts.entry) mv) user (course battle.old out.old) }
     ensures sound { IsSound battle.new }
     ensures whole { IsValid battle.old → StillStands battle.old battle.new → IsValid battle.new }
     ensures known { (moves : ℕ) → IsNamed moves mv → AreKnown moves battle.old → AreKnown moves battle.new }

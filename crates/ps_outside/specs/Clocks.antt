@@ -13,11 +13,11 @@ later (moment, next ∷ rest) = (next, rest)
 -- the moments that are left after so many were told
 abbrev pub after_calls : ℕ × List ℕ → ℕ → ℕ × List ℕ
 after_calls hours zero = hours
-after_calls hours (suc n) = after_calls (later hours) n
+after_calls hours (suc calls) = after_calls (later hours) calls
 
 -- the moment that is told after so many others
 abbrev pub moment_at : ℕ × List ℕ → ℕ → ℕ
-moment_at hours n = now_of (after_calls hours n)
+moment_at hours calls = now_of (after_calls hours calls)
 
 -- where the moments are known, the first of them
 abbrev pub IsNow : Option (ℕ × List ℕ) → ℕ → Type 0

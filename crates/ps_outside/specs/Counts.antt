@@ -5,7 +5,7 @@ use Rattle.ps_outside.specs.Causes.{Rose}
 
 -- one more, or the last value of a u64
 abbrev pub one_more : ℕ → ℕ
-one_more n = min (n + 1) (2 ^ 64 - 1)
+one_more count = min (count + 1) (2 ^ 64 - 1)
 
 -- a count didn't fall, and rose or stands at its last value
 pub record HasRisen (before now : ℕ) : Type 0 where
@@ -19,4 +19,4 @@ CountsErr before now (Err error) = HasRisen before now
 
 -- whether the call behind so many others is one of those that fail
 abbrev pub is_listed : ℕ → List ℕ → Bool
-is_listed calls failing = list_any (λ k. k == one_more calls) failing
+is_listed calls failing = list_any (λ call. call == one_more calls) failing

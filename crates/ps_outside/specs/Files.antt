@@ -1,5 +1,6 @@
 -- Files by their names, and when a call on them may answer what.
-use Rattle.std.specs.Prelude.{◌≡◌, ℕ, ◌<◌, ◌≤◌, List, [], ◌∷◌, length, Option, Some, None, Result, Ok, Err, IfSome, Bool, true, false, if◌then◌else◌}
+use Rattle.std.specs.Prelude.{◌≡◌, ℕ, ◌<◌, ◌≤◌, List, [], ◌∷◌, length, Option, Some, None, Result, Ok, Err, IfSome, Bool, true, false}
+use Rattle.std.specs.Prelude.{if◌then◌else◌}
 use Rattle.std.specs.Option.{IsSomeAnd}
 use Rattle.std.specs.Str.{bytes_eq}
 use Rattle.ps_outside.specs.Causes.{Rose}
@@ -19,7 +20,7 @@ no_counts = record { missing = 0; long = 0; faults = 0 }
 -- the bytes of the first file of this name
 abbrev pub lookup : List NamedFile → List ℕ → Option (List ℕ)
 lookup [] name = None
-lookup (f ∷ fs) name = if bytes_eq f.name name then Some f.bytes else lookup fs name
+lookup (file ∷ files) name = if bytes_eq file.name name then Some file.bytes else lookup files name
 
 -- the file of this name has these bytes, within the limit
 pub record IsFile (name : List ℕ) (limit : ℕ) (bytes : List ℕ) (lookup : List ℕ → Option (List ℕ)) : Type 0 where

@@ -108,7 +108,7 @@ pub record SureTalk : Type 0 where
 
 -- it has no faults
 abbrev pub sure_counts : SureTalk → LinkCounts
-sure_counts l = record { faults = 0; quiets = l.quiets; ends = l.ends }
+sure_counts link = record { faults = 0; quiets = link.quiets; ends = link.ends }
 
 -- what a link in memory holds, how often each call was made, and the calls that fail
 pub record MemTalk : Type 0 where

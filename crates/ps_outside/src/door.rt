@@ -70,13 +70,31 @@ impl<L: Link> Model for MemDoor<L> {
 
     ghost Value = { MemEntry L };
 
-    ghost view = { λ d. record { links = d.links.items; is_shut = d.is_shut; given = d.given; faults = d.faults; open_calls = d.open_calls; accept_calls = d.accept_calls; failing_open = d.failing_open.items; failing_accept = d.failing_accept.items } };
+    ghost view = { λ d. record {
+      links = d.links.items;
+      is_shut = d.is_shut;
+      given = d.given;
+      faults = d.faults;
+      open_calls = d.open_calls;
+      accept_calls = d.accept_calls;
+      failing_open = d.failing_open.items;
+      failing_accept = d.failing_accept.items;
+    } };
 }
 
 impl<L: Link> MemDoor<L> {
     /// A door that hands out these links. Takes no memory.
     pub fn new(links: Vec<L>, failing_open: Vec<u64>, failing_accept: Vec<u64>) -> MemDoor<L>
-        ensures { result ≡ record { links = links.items; is_shut = false; given = 0; faults = 0; open_calls = 0; accept_calls = 0; failing_open = failing_open.items; failing_accept = failing_accept.items } }
+        ensures { result ≡ record {
+          links = links.items;
+          is_shut = false;
+          given = 0;
+          faults = 0;
+          open_calls = 0;
+          accept_calls = 0;
+          failing_open = failing_open.items;
+          failing_accept = failing_accept.items;
+        } }
     {
         MemDoor {
             links: VecDeque::from_vec(links),
@@ -118,7 +136,8 @@ impl<L: Link> Door for MemDoor<L> {
         ensures count { self.new.given ≡ given_after result self.old.given }
         ensures cause { HasAcceptCause self.old.faults self.new.faults result }
         ensures links { self.old.links ≡ links_of result ++ self.new.links }
-        ensures fails { is_err result ≡ (is_listed self.old.accept_calls self.old.failing_accept || (self.old.is_shut || length self.old.links == 0)) }
+        ensures fails { is_err result ≡ (is_listed self.old.accept_calls self.old.failing_accept
+            || (self.old.is_shut || length self.old.links == 0)) }
         ensures calls { self.new.accept_calls ≡ one_more self.old.accept_calls }
         ensures shut { self.old.is_shut ≡ true → IsErr result }
     {

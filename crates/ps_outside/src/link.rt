@@ -3,7 +3,8 @@ ghost use Rattle.std.specs.Prelude.{◌≡◌, ℕ, List, Option, Some};
 ghost use Rattle.std.specs.Option.{option_copied};
 ghost use Rattle.ps_base.specs.Messages.{text_of};
 ghost use Rattle.ps_outside.specs.Counts.{is_listed, one_more};
-ghost use Rattle.ps_outside.specs.Links.{Talk, LinkCounts, IsNext, after_next, after_send, HasNextCause, HasSendCause, has_failed, has_send_failed, new_talk, no_link_counts, sure_counts};
+ghost use Rattle.ps_outside.specs.Links.{Talk, LinkCounts, IsNext, after_next, after_send, HasNextCause, HasSendCause, has_failed};
+ghost use Rattle.ps_outside.specs.Links.{has_send_failed, new_talk, no_link_counts, sure_counts};
 ghost use Rattle.ps_outside.specs.Inboxes.{IsTaken};
 
 use ps_base::list::List;
@@ -183,7 +184,11 @@ impl Model for SureLink {
 
     ghost Value = { SureTalk };
 
-    ghost view = { λ l. record { talk = record { inbox = l.inbox.items; answers = l.answers; sent = l.sent.items }; quiets = l.quiets; ends = l.ends } };
+    ghost view = { λ l. record {
+      talk = record { inbox = l.inbox.items; answers = l.answers; sent = l.sent.items };
+      quiets = l.quiets;
+      ends = l.ends;
+    } };
 
     ghost invariant = { λ l. l.answers + length l.inbox.items < 2 ^ 64 };
 }
@@ -288,7 +293,14 @@ impl Model for MemLink {
 
     ghost Value = { MemTalk };
 
-    ghost view = { λ l. record { talk = l.inner.talk; counts = record { faults = l.faults; quiets = l.inner.quiets; ends = l.inner.ends }; next_calls = l.next_calls; send_calls = l.send_calls; failing_next = l.failing_next.items; failing_send = l.failing_send.items } };
+    ghost view = { λ l. record {
+      talk = l.inner.talk;
+      counts = record { faults = l.faults; quiets = l.inner.quiets; ends = l.inner.ends };
+      next_calls = l.next_calls;
+      send_calls = l.send_calls;
+      failing_next = l.failing_next.items;
+      failing_send = l.failing_send.items;
+    } };
 }
 
 impl MemLink {
@@ -299,7 +311,14 @@ impl MemLink {
         failing_next: Vec<u64>,
         failing_send: Vec<u64>,
     ) -> MemLink
-        ensures { result ≡ record { talk = new_talk inbox.items; counts = no_link_counts; next_calls = 0; send_calls = 0; failing_next = failing_next.items; failing_send = failing_send.items } }
+        ensures { result ≡ record {
+          talk = new_talk inbox.items;
+          counts = no_link_counts;
+          next_calls = 0;
+          send_calls = 0;
+          failing_next = failing_next.items;
+          failing_send = failing_send.items;
+        } }
     {
         MemLink {
             inner: SureLink::new(alloc, inbox),

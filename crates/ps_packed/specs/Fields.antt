@@ -1,7 +1,8 @@
 -- The number of each field of a set, from 0.
 use Rattle.std.specs.Prelude.{ℕ}
 use Rattle.ps_packed.specs.declared.field.Field.{Field}
-use Rattle.ps_packed.specs.declared.field.Field.TheVariants.{Nick, Species, Item, Ability, Moves, Nature, Evs, Gender, Ivs, Shiny, Level, Misc}
+use Rattle.ps_packed.specs.declared.field.Field.TheVariants.{Nick, Species, Item, Ability, Moves, Nature, Evs, Gender, Ivs, Shiny}
+use Rattle.ps_packed.specs.declared.field.Field.TheVariants.{Level, Misc}
 
 abbrev pub field_index : Field → ℕ
 field_index Nick = 0

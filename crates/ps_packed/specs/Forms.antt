@@ -1,11 +1,13 @@
 -- What the fields of a packed team may say. A text here is the list of its characters.
-use Rattle.std.specs.Prelude.{ℕ, zero, suc, ◌+◌, ◌-◌, ◌*◌, ◌==◌, ◌&&◌, ◌||◌, List, [], ◌∷◌, length, map, filter, Bool, true, false, not, nat_le}
+use Rattle.std.specs.Prelude.{ℕ, zero, suc, ◌+◌, ◌-◌, ◌*◌, ◌==◌, ◌&&◌, ◌||◌, List, [], ◌∷◌, length, map, filter, Bool, true, false}
+use Rattle.std.specs.Prelude.{not, nat_le}
 use Rattle.std.specs.List.{list_all, list_any, slice_split}
 use Rattle.ps_base.specs.Ids.{id_of, is_id_byte, lower}
+use Rattle.ps_base.specs.Characters as characters
 
 -- no bar, no bracket and nothing below U+0020
 abbrev pub is_field_char : ℕ → Bool
-is_field_char c = nat_le 32 c && not (c == 124) && not (c == 93)
+is_field_char char = nat_le characters.space char && not (char == characters.bar) && not (char == characters.close_bracket)
 
 -- what a field asks of its text
 pub data Form : Type 0 where
@@ -23,79 +25,80 @@ pub data Form : Type 0 where
 -- ---- numbers
 
 abbrev pub are_digits : List ℕ → Bool
-are_digits w = list_all (λ c. nat_le 48 c && nat_le c 57) w
+are_digits word = list_all (λ char. nat_le characters.digit_zero char && nat_le char characters.digit_nine) word
 
 -- the number that digits spell, after one before them
 abbrev pub number_after : ℕ → List ℕ → ℕ
-number_after n [] = n
-number_after n (c ∷ cs) = number_after (10 * n + (c - 48)) cs
+number_after number [] = number
+number_after number (digit ∷ digits) = number_after (10 * number + (digit - characters.digit_zero)) digits
 
 -- leading zeros count for nothing, and no digit is 0
 abbrev pub number_of : List ℕ → ℕ
-number_of w = number_after 0 w
+number_of word = number_after 0 word
 
 -- up to three digits of a number that isn't above this one
 abbrev pub is_number : ℕ → List ℕ → Bool
-is_number most p = are_digits p && nat_le (length p) 3 && nat_le (number_of p) most
+is_number most digits = are_digits digits && nat_le (length digits) 3 && nat_le (number_of digits) most
 
 -- ---- parts between commas
 
 abbrev pub parts : List ℕ → List (List ℕ)
-parts w = slice_split (λ c. c == 44) w
+parts word = slice_split (λ char. char == characters.comma) word
 
 -- a character that an id keeps
 abbrev pub is_id_letter : ℕ → Bool
-is_id_letter c = is_id_byte (lower c)
+is_id_letter char = is_id_byte (lower char)
 
 -- whether the part's id isn't empty
 unfoldable pub has_id : List ℕ → Bool
-has_id p = list_any is_id_letter p
+has_id part = list_any is_id_letter part
 
 -- the ids of the parts that have one
 abbrev pub ids_of : List ℕ → List (List ℕ)
-ids_of w = map id_of (filter has_id (parts w))
+ids_of word = map id_of (filter has_id (parts word))
 
 -- no part has more than 32 characters
 unfoldable pub are_short : List ℕ → Bool
-are_short w = list_all (λ p. nat_le (length p) 32) (parts w)
+are_short word = list_all (λ part. nat_le (length part) 32) (parts word)
 
 unfoldable pub id_count : List ℕ → ℕ
-id_count w = length (filter has_id (parts w))
+id_count word = length (filter has_id (parts word))
 
 abbrev pub is_spread_char : ℕ → Bool
-is_spread_char c = (nat_le 48 c && nat_le c 57) || c == 44
+is_spread_char char = (nat_le characters.digit_zero char && nat_le char characters.digit_nine) || char == characters.comma
 
 -- numbers between commas, an empty part among them
 unfoldable pub are_numbers : ℕ → List ℕ → Bool
-are_numbers most w = list_all is_spread_char w && list_all (is_number most) (parts w)
+are_numbers most word = list_all is_spread_char word && list_all (is_number most) (parts word)
 
 -- the text `0`
 abbrev pub is_zero : List ℕ → Bool
 is_zero [] = false
-is_zero (c ∷ []) = c == 48
-is_zero (c ∷ d ∷ w) = false
+is_zero (char ∷ []) = char == characters.digit_zero
+is_zero (char ∷ next ∷ rest) = false
 
 -- ---- the forms
 
 abbrev pub is_spread : Bool → ℕ → List ℕ → Bool
 is_spread zero_alone most [] = true
-is_spread zero_alone most (c ∷ w) = (zero_alone && is_zero (c ∷ w)) || (are_numbers most (c ∷ w) && length (parts (c ∷ w)) == 6)
+is_spread zero_alone most (char ∷ rest) = (zero_alone && is_zero (char ∷ rest))
+    || (are_numbers most (char ∷ rest) && length (parts (char ∷ rest)) == 6)
 
 abbrev pub is_letter : List ℕ → List ℕ → Bool
 is_letter letters [] = true
-is_letter letters (c ∷ []) = list_any (λ l. c == l) letters
-is_letter letters (c ∷ d ∷ w) = false
+is_letter letters (char ∷ []) = list_any (λ known. char == known) letters
+is_letter letters (char ∷ next ∷ rest) = false
 
 abbrev pub is_level : List ℕ → Bool
 is_level [] = true
-is_level (c ∷ w) = is_number 100 (c ∷ w) && nat_le 1 (number_of (c ∷ w))
+is_level (char ∷ rest) = is_number 100 (char ∷ rest) && nat_le 1 (number_of (char ∷ rest))
 
 unfoldable pub in_form : Form → List ℕ → Bool
-in_form (words most) w = list_all is_field_char w && nat_le (length w) most
-in_form moves w = list_all is_field_char w && are_short w && nat_le (id_count w) 4
-in_form (spread zero_alone most) w = is_spread zero_alone most w
-in_form (letter letters) w = is_letter letters w
-in_form level w = is_level w
+in_form (words most) word = list_all is_field_char word && nat_le (length word) most
+in_form moves word = list_all is_field_char word && are_short word && nat_le (id_count word) 4
+in_form (spread zero_alone most) word = is_spread zero_alone most word
+in_form (letter letters) word = is_letter letters word
+in_form level word = is_level word
 
 -- ---- the twelve fields, from 0
 
@@ -147,4 +150,4 @@ form_of (suc (suc (suc (suc (suc (suc (suc zero))))))) = gender
 form_of (suc (suc (suc (suc (suc (suc (suc (suc zero)))))))) = ivs
 form_of (suc (suc (suc (suc (suc (suc (suc (suc (suc zero))))))))) = shiny
 form_of (suc (suc (suc (suc (suc (suc (suc (suc (suc (suc zero)))))))))) = level
-form_of (suc (suc (suc (suc (suc (suc (suc (suc (suc (suc (suc k))))))))))) = misc
+form_of (suc (suc (suc (suc (suc (suc (suc (suc (suc (suc (suc more))))))))))) = misc

@@ -1,5 +1,6 @@
 -- Packed teams: sets joined by `]`, of fields joined by `|`. A text here is the list of its characters.
-use Rattle.std.specs.Prelude.{◌≡◌, ℕ, suc, ◌-◌, ◌<◌, ◌≤◌, ◌==◌, ◌&&◌, ◌||◌, ◌⊎◌, List, [], ◌∷◌, ◌++◌, length, map, take, get_or, slice_get, Option, Some, None, Bool, true, false, not, nat_lt, if◌then◌else◌}
+use Rattle.std.specs.Prelude.{◌≡◌, ℕ, suc, ◌-◌, ◌<◌, ◌≤◌, ◌==◌, ◌&&◌, ◌||◌, ◌⊎◌, List, [], ◌∷◌, ◌++◌, length, map, take, get_or}
+use Rattle.std.specs.Prelude.{slice_get, Option, Some, None, Bool, true, false, not, nat_lt, if◌then◌else◌}
 use Rattle.std.specs.List.{AllByRecursion, slice_split, join_with_byte}
 use Rattle.std.specs.Str.{all_scalars, encode_utf8_all}
 use Rattle.ps_base.specs.declared.pack_kind.PackKind.{PackKind}
@@ -7,46 +8,48 @@ use Rattle.ps_base.specs.declared.pack_kind.PackKind.TheVariants.{Bars, Number, 
 use Rattle.ps_packed.specs.declared.fault.PackFault.{PackFault}
 use Rattle.ps_packed.specs.declared.fault.PackFault.TheVariants as faults
 use Rattle.ps_packed.specs.declared.set.Set.{Set}
-use Rattle.ps_packed.specs.Forms.{Form, words, moves, spread, letter, level, in_form, form_of, last, parts, number_of, ids_of, id_count, is_zero}
+use Rattle.ps_packed.specs.Forms.{Form, words, moves, spread, letter, level, in_form, form_of, last, parts, number_of, ids_of}
+use Rattle.ps_packed.specs.Forms.{id_count, is_zero}
+use Rattle.ps_base.specs.Characters as characters
 
 -- ---- what the fields stand for
 
 abbrev pub is_nil : List ℕ → Bool
 is_nil [] = true
-is_nil (c ∷ w) = false
+is_nil (char ∷ rest) = false
 
 -- an empty nickname is the species, and an empty species the nickname
 abbrev pub or_other : List ℕ → List ℕ → List ℕ
 or_other [] other = other
-or_other (c ∷ w) other = c ∷ w
+or_other (char ∷ rest) other = char ∷ rest
 
 abbrev pub six : ℕ → List ℕ
-six n = n ∷ n ∷ n ∷ n ∷ n ∷ n ∷ []
+six number = number ∷ number ∷ number ∷ number ∷ number ∷ number ∷ []
 
 -- an empty part is 0, and so is `0` alone
 abbrev pub evs_of : List ℕ → List ℕ
 evs_of [] = six 252
-evs_of (c ∷ w) = if is_zero (c ∷ w) then six 0 else map number_of (parts (c ∷ w))
+evs_of (char ∷ rest) = if is_zero (char ∷ rest) then six 0 else map number_of (parts (char ∷ rest))
 
 abbrev pub iv_of : List ℕ → ℕ
 iv_of [] = 31
-iv_of (c ∷ p) = number_of (c ∷ p)
+iv_of (char ∷ rest) = number_of (char ∷ rest)
 
 abbrev pub ivs_of : List ℕ → List ℕ
 ivs_of [] = six 31
-ivs_of (c ∷ w) = map iv_of (parts (c ∷ w))
+ivs_of (char ∷ rest) = map iv_of (parts (char ∷ rest))
 
 abbrev pub gender_of : List ℕ → Option ℕ
 gender_of [] = None
-gender_of (c ∷ w) = Some c
+gender_of (char ∷ rest) = Some char
 
 abbrev pub level_of : List ℕ → ℕ
 level_of [] = 100
-level_of (c ∷ w) = number_of (c ∷ w)
+level_of (char ∷ rest) = number_of (char ∷ rest)
 
 -- the text of a field
 abbrev pub field : List (List ℕ) → ℕ → List ℕ
-field ws k = get_or ws k []
+field ws index = get_or ws index []
 
 -- what the texts of a set's fields stand for
 abbrev pub set_of : List (List ℕ) → Set
@@ -67,24 +70,24 @@ set_of ws = record {
 
 -- ---- teams
 
--- the texts are those of the fields from the k-th on
+-- the texts are those of the fields from one on
 abbrev pub AreFields : ℕ → List (List ℕ) → Type 0
-AreFields k [] = ⊥
-AreFields k (w ∷ []) = (in_form (form_of k) w ≡ true) × (k ≡ last)
-AreFields k (w ∷ x ∷ ws) = (in_form (form_of k) w ≡ true) × (k < last) × AreFields (suc k) (x ∷ ws)
+AreFields index [] = ⊥
+AreFields index (word ∷ []) = (in_form (form_of index) word ≡ true) × (index ≡ last)
+AreFields index (word ∷ next ∷ rest) = (in_form (form_of index) word ≡ true) × (index < last) × AreFields (suc index) (next ∷ rest)
 
 -- the first two of a set's fields, as far as they are there, are empty
 abbrev pub is_nameless : List (List ℕ) → Bool
 is_nameless [] = true
-is_nameless (n ∷ []) = is_nil n
-is_nameless (n ∷ s ∷ ws) = is_nil n && is_nil s
+is_nameless (nick ∷ []) = is_nil nick
+is_nameless (nick ∷ species ∷ species_left) = is_nil nick && is_nil species
 
 -- the texts are the twelve fields of a set
 abbrev pub AreFieldTexts : List (List ℕ) → Type 0
 AreFieldTexts ws = AreFields 0 ws × (is_nameless ws ≡ false)
 
 abbrev pub team_text : List (List (List ℕ)) → List ℕ
-team_text team_texts = join_with_byte 93 (map (join_with_byte 124) team_texts)
+team_text team_texts = join_with_byte characters.close_bracket (map (join_with_byte characters.bar) team_texts)
 
 -- how many bytes the characters have
 abbrev pub bytes_of : List ℕ → ℕ
@@ -125,19 +128,20 @@ IsFreePrefix front = (rest : List ℕ) × (team_texts : List (List (List ℕ))) 
 pub record IsLongest (text : List ℕ) (count : ℕ) : Type 0 where
   pub within : count ≤ length text
   pub begins : IsPrefix (take count text)
-  pub most : (n : ℕ) → count < n → n ≤ length text → ¬ (IsPrefix (take n text))
+  pub most : (longer : ℕ) → count < longer → longer ≤ length text → ¬ (IsPrefix (take longer text))
 
 -- the limit of bytes is at fault
 abbrev pub IsLong : List ℕ → ℕ → Type 0
-IsLong text count = (bytes_of (take count text) ≡ 4096) ⊎ ((n : ℕ) × (count < n) × (n ≤ length text) × IsFreePrefix (take n text))
+IsLong text count = (bytes_of (take count text) ≡ 4096)
+    ⊎ ((longer : ℕ) × (count < longer) × (longer ≤ length text) × IsFreePrefix (take longer text))
 
 -- the fields of each set of a front, the last as far as it goes
 abbrev pub team_texts_of : List ℕ → List (List (List ℕ))
-team_texts_of text = map (slice_split (λ c. c == 124)) (slice_split (λ c. c == 93) text)
+team_texts_of text = map (slice_split (λ char. char == characters.bar)) (slice_split (λ char. char == characters.close_bracket) text)
 
 abbrev pub end_of : {A : Type 0} → A → List A → A
-end_of d [] = d
-end_of d (x ∷ xs) = end_of x xs
+end_of default [] = default
+end_of default (first ∷ rest) = end_of first rest
 
 -- the sets before the one that a front ends in, that one's fields so far, the number of the last of these and its text so far
 abbrev pub sets_done : List ℕ → ℕ
@@ -154,13 +158,14 @@ word_at_end front = end_of [] (field_texts_at_end front)
 
 -- the character or the end stands out of place
 abbrev pub is_out : ℕ → Option ℕ → Bool
-is_out k None = true
-is_out k (Some c) = (c == 93 && not (k == last)) || (c == 124 && k == last)
+is_out index None = true
+is_out index (Some char) = (char == characters.close_bracket && not (index == last)) || (char == characters.bar && index == last)
 
 -- a seventh set, or a fifth move
 abbrev pub is_too_many : ℕ → ℕ → List ℕ → Option ℕ → Bool
-is_too_many sets k word None = false
-is_too_many sets k word (Some c) = (c == 93 && sets == 5) || (k == 4 && nat_lt 4 (id_count (word ++ c ∷ [])))
+is_too_many sets index word None = false
+is_too_many sets index word (Some char) = (char == characters.close_bracket && sets == 5)
+    || (index == 4 && nat_lt 4 (id_count (word ++ char ∷ [])))
 
 -- EVs, gender, IVs, the shiny mark or the level
 abbrev pub is_numeric : Form → Bool
@@ -172,11 +177,11 @@ is_numeric level = true
 
 -- where the limit of bytes isn't at fault
 unfoldable pub kind_of : Bool → ℕ → ℕ → List ℕ → Option ℕ → PackKind
-kind_of nameless sets k word next =
+kind_of nameless sets index word next =
     if nameless then EmptySet
-    else (if is_out k next then Bars
-    else (if is_too_many sets k word next then Count
-    else (if is_numeric (form_of k) then Number else Text)))
+    else (if is_out index next then Bars
+    else (if is_too_many sets index word next then Count
+    else (if is_numeric (form_of index) then Number else Text)))
 
 -- that of the front and of what stands after it
 abbrev pub kind_at : List ℕ → ℕ → PackKind

@@ -2,7 +2,8 @@
 ghost use Rattle.std.specs.Prelude.{◌≡◌, ◌==◌, ◌≤◌, ◌-◌, ◌&&◌, true, length, map, filter, nat_le, IfOk};
 ghost use Rattle.std.specs.List.{list_all, slice_split};
 ghost use Rattle.ps_packed.specs.Fields.{field_index};
-ghost use Rattle.ps_packed.specs.Forms.{is_field_char, are_digits, number_of, is_number, parts, is_id_letter, has_id, id_count, is_spread_char, are_numbers, is_zero, spread, letter, words, moves, level, in_form, form_of};
+ghost use Rattle.ps_packed.specs.Forms.{is_field_char, are_digits, number_of, is_number, parts, is_id_letter, has_id, id_count};
+ghost use Rattle.ps_packed.specs.Forms.{is_spread_char, are_numbers, is_zero, spread, letter, words, moves, level, in_form, form_of};
 ghost use Rattle.ps_packed.specs.Scan.{prefix_ok, need};
 
 use crate::field::Field;

@@ -4,7 +4,8 @@ ghost use Rattle.std.specs.List.{slice_split, AllByRecursion};
 ghost use Rattle.std.specs.Str.{chars, encode_utf8_all};
 ghost use Rattle.ps_base.specs.Ids.{id_of};
 ghost use Rattle.ps_packed.specs.Forms.{has_id, ids_of, is_number, number_of, in_form, evs, ivs, level};
-ghost use Rattle.ps_packed.specs.Packed.{or_other, evs_of, iv_of, ivs_of, gender_of, level_of, is_nil, AreFieldTexts, set_of, team_texts_of};
+ghost use Rattle.ps_packed.specs.Packed.{or_other, evs_of, iv_of, ivs_of, gender_of, level_of, is_nil, AreFieldTexts, set_of};
+ghost use Rattle.ps_packed.specs.Packed.{team_texts_of};
 ghost use Rattle.ps_packed.specs.Scan.{team_of};
 
 use crate::forms::{has_id, is_zero, number, pieces};

@@ -158,7 +158,8 @@ impl Scan {
     /// What is wrong where no step is made.
     #[tactic(auto, unfolding(crate::specs::Packed::kind_of))]
     fn kind(&self, alloc: Global, next: Option<char>) -> Result<PackKind, AllocError>
-        ensures { IfOk result (λ k. k ≡ kind_of (nameless_at self.now.bare self.now.field self.now.word) self.now.sets self.now.field self.now.word next) }
+        ensures { IfOk result (λ k. k ≡ kind_of (nameless_at self.now.bare self.now.field self.now.word) self.now.sets self.now.field
+            self.now.word next) }
     {
         if is_nameless(self.bare, self.field, self.word.as_slice()) {
             return Ok(PackKind::EmptySet);

@@ -1,5 +1,6 @@
 //! The text of a field, as far as it was gone through.
-ghost use Rattle.std.specs.Prelude.{◌≡◌, ◌==◌, ◌+◌, ◌<◌, ◌≤◌, ◌^◌, ◌&&◌, [], ◌∷◌, ◌++◌, not, true, List, ℕ, length, drop, nat_le, IfOk, if◌then◌else◌};
+ghost use Rattle.std.specs.Prelude.{◌≡◌, ◌==◌, ◌+◌, ◌<◌, ◌≤◌, ◌^◌, ◌&&◌, [], ◌∷◌, ◌++◌, not, true, List, ℕ, length, drop, nat_le};
+ghost use Rattle.std.specs.Prelude.{IfOk, if◌then◌else◌};
 ghost use Rattle.ps_packed.specs.Fields.{field_index};
 ghost use Rattle.ps_packed.specs.Forms.{is_field_char, form_of, is_id_letter, has_id};
 ghost use Rattle.ps_packed.specs.Scan.{prefix_ok, CountsOf, gives_id, Grows};

@@ -2,7 +2,8 @@
 ghost use Rattle.std.specs.Prelude.{◌≡◌, ◌==◌, ◌<◌, [], ◌∷◌, length, map, IfOk, chars, nat_le};
 ghost use Rattle.std.specs.List.{join_with_byte, list_all};
 ghost use Rattle.ps_packed.specs.Packed.{IsTeam};
-ghost use Rattle.ps_packed.specs.Canon.{nick_text, species_text, moves_text, are_all, ev_text, evs_text, iv_text, ivs_text, gender_text, shiny_text, level_text, set_fields, canon};
+ghost use Rattle.ps_packed.specs.Canon.{nick_text, species_text, moves_text, are_all, ev_text, evs_text, iv_text, ivs_text};
+ghost use Rattle.ps_packed.specs.Canon.{gender_text, shiny_text, level_text, set_fields, canon};
 
 use crate::set::Set;
 use crate::team::Team;

@@ -28,35 +28,35 @@ abbrev pub without_block : ById (ById (Unit {0})) → List ℕ → List ℕ → 
 without_block blocks owner target = without_target blocks owner target (get blocks owner)
 
 abbrev pub after_block : Record → List ℕ → List ℕ → Record
-after_block r actor user = record r { blocks = with_block r.blocks actor user }
+after_block pms actor user = record pms { blocks = with_block pms.blocks actor user }
 
 abbrev pub after_unblock : Record → List ℕ → List ℕ → Record
-after_unblock r actor user = record r { blocks = without_block r.blocks actor user }
+after_unblock pms actor user = record pms { blocks = without_block pms.blocks actor user }
 
 -- ---- challenges
 
 abbrev pub after_challenge : Record → List ℕ → List ℕ → List ℕ → Record
-after_challenge r actor user format = record r { asked = r.asked ++ record { by = actor; to = user; format = format } ∷ [] }
+after_challenge pms actor user format = record pms { asked = pms.asked ++ record { by = actor; to = user; format = format } ∷ [] }
 
 -- what the actor made is gone
 abbrev pub after_cancel : Record → List ℕ → Record
-after_cancel r actor = record r { asked = filter (λ a. not (is_by actor a)) r.asked }
+after_cancel pms actor = record pms { asked = filter (λ challenge. not (is_by actor challenge)) pms.asked }
 
 -- what the user made to the actor is gone
 abbrev pub after_answer : Record → List ℕ → List ℕ → Record
-after_answer r actor user = record r { asked = filter (λ a. not (is_of user actor a)) r.asked }
+after_answer pms actor user = record pms { asked = filter (λ challenge. not (is_of user actor challenge)) pms.asked }
 
 -- what the actor made or got is gone; its blocks stay
 abbrev pub after_quit : Record → List ℕ → Record
-after_quit r actor = record r { asked = filter (λ a. not (is_with actor a)) r.asked }
+after_quit pms actor = record pms { asked = filter (λ challenge. not (is_with actor challenge)) pms.asked }
 
 -- the record after the actor's command, where it is applied
 abbrev pub after : Record → List ℕ → HallCmd → Record
-after r actor Quit = after_quit r actor
-after r actor (Challenge user format) = after_challenge r actor user format
-after r actor CancelChallenge = after_cancel r actor
-after r actor (Reject user) = after_answer r actor user
-after r actor (Accept user) = after_answer r actor user
-after r actor (Block user) = after_block r actor user
-after r actor (Unblock user) = after_unblock r actor user
-after r actor other = r
+after pms actor Quit = after_quit pms actor
+after pms actor (Challenge user format) = after_challenge pms actor user format
+after pms actor CancelChallenge = after_cancel pms actor
+after pms actor (Reject user) = after_answer pms actor user
+after pms actor (Accept user) = after_answer pms actor user
+after pms actor (Block user) = after_block pms actor user
+after pms actor (Unblock user) = after_unblock pms actor user
+after pms actor other = pms

@@ -16,43 +16,43 @@ has_target (Some targets) target = contains_key targets target
 
 -- whether the owner blocks the target
 abbrev pub blocks : Record → List ℕ → List ℕ → Bool
-blocks r owner target = has_target (get r.blocks owner) target
+blocks pms owner target = has_target (get pms.blocks owner) target
 
 -- ---- one challenge
 
 -- whether a user made it
 abbrev pub is_by : List ℕ → Asked → Bool
-is_by user a = bytes_eq a.by user
+is_by user challenge = bytes_eq challenge.by user
 
 -- whether a user got it
 abbrev pub is_to : List ℕ → Asked → Bool
-is_to user a = bytes_eq a.to user
+is_to user challenge = bytes_eq challenge.to user
 
 -- whether the one made it and the other got it
 abbrev pub is_of : List ℕ → List ℕ → Asked → Bool
-is_of by to a = is_by by a && is_to to a
+is_of by to challenge = is_by by challenge && is_to to challenge
 
 -- whether a user made it or got it
 abbrev pub is_with : List ℕ → Asked → Bool
-is_with user a = is_by user a || is_to user a
+is_with user challenge = is_by user challenge || is_to user challenge
 
 -- with whom a user has it
 abbrev pub partner : List ℕ → Asked → Option (List ℕ)
-partner user a = if is_by user a then Some a.to else (if is_to user a then Some a.by else None)
+partner user challenge = if is_by user challenge then Some challenge.to else (if is_to user challenge then Some challenge.by else None)
 
 -- ---- the list of challenges
 
 -- the challenge that a user made
 abbrev pub asked_by : Record → List ℕ → Option Asked
-asked_by r by = find (is_by by) r.asked
+asked_by pms by = find (is_by by) pms.asked
 
 -- the challenge that the one user made to the other
 abbrev pub asked_of : Record → List ℕ → List ℕ → Option Asked
-asked_of r by to = find (is_of by to) r.asked
+asked_of pms by to = find (is_of by to) pms.asked
 
 -- all challenges that a user got, in order
 abbrev pub asked_to : Record → List ℕ → List Asked
-asked_to r to = filter (is_to to) r.asked
+asked_to pms to = filter (is_to to) pms.asked
 
 abbrev pub has_id : List (List ℕ) → List ℕ → Bool
 has_id ids id = list_any (λ other. bytes_eq other id) ids
@@ -65,8 +65,8 @@ with_new ids (Some id) = if has_id ids id then ids else ids ++ id ∷ []
 -- with whom a user has these challenges, each once, behind those who were found before
 abbrev pub partners_of : List ℕ → List (List ℕ) → List Asked → List (List ℕ)
 partners_of user found [] = found
-partners_of user found (a ∷ more) = partners_of user (with_new found (partner user a)) more
+partners_of user found (challenge ∷ more) = partners_of user (with_new found (partner user challenge)) more
 
 -- with whom a user has a challenge, each once, in the order of the challenges
 abbrev pub partners : Record → List ℕ → List (List ℕ)
-partners r user = partners_of user [] r.asked
+partners pms user = partners_of user [] pms.asked

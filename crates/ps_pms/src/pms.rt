@@ -3,7 +3,8 @@ ghost use Rattle.std.specs.Prelude.{◌≡◌, IfOk, OnOk, OnErr};
 ghost use Rattle.std.specs.Option.{option_copied};
 ghost use Rattle.ps_pms.specs.Records.{nothing};
 ghost use Rattle.ps_pms.specs.Lookups.{blocks, asked_by, asked_of, asked_to, partners};
-ghost use Rattle.ps_pms.specs.Refusals.{refusal_of_asking, refusal_of_challenge, refusal_of_cancel, refusal_of_answer, refusal_of_whisper, refusal_of_block, refusal_of_unblock, refusal};
+ghost use Rattle.ps_pms.specs.Refusals.{refusal_of_asking, refusal_of_challenge, refusal_of_cancel, refusal_of_answer};
+ghost use Rattle.ps_pms.specs.Refusals.{refusal_of_whisper, refusal_of_block, refusal_of_unblock, refusal};
 ghost use Rattle.ps_pms.specs.Changes.{after, after_answer};
 
 use crate::asked::Asked;

@@ -11,7 +11,7 @@ use Rattle.program_commands.specs.Words.{Options}
 use Rattle.program_commands.specs.Steps.{dex_in, config_in}
 use Rattle.program_commands.specs.Setups.{Stands, IsSetUp, IsStopOf, Stops, IsOption, StepCause, Ended}
 use Rattle.program_commands.proofs.SetupLemmas.{step_settles}
-use Rattle.ps_replay.specs.Outcomes.{IsReplayed, HasOneEntryEachText, HasHistories, LosesNothing, HasEqualWorlds, IsTranscript, KeepsInput, WritesPrefix, WritesOfInput, ReplayCause, Settles, IsOfInput, InputCause, SettlesInput}
+use Rattle.ps_replay.specs.Outcomes.{IsReplayed, HasOneEntryEachText, HasHistories, HallLosesNothing, HasEqualWorlds, IsTranscript, KeepsInput, WritesPrefix, WritesOfInput, ReplayCause, Settles, IsOfInput, InputCause, SettlesInput}
 use Rattle.ps_replay.specs.Commands.{Met, IsReplay, FilesFailed, InputFailed, OutputFailed}
 use Rattle.ps_replay.proofs.InputLemmas.{config_settles, input_settles, input_cause}
 use Rattle.ps_replay.proofs.CommandLemmas.{keeps_input, few_read, no_usage}
@@ -181,7 +181,7 @@ input_ends o m config dex status s of ended played wrote few caused read_failed 
       transcript = λ done. (config, dex, s, whole_of (IsTranscript config dex m.written m.written_after) (λ bytes r. r.transcript) done);
       one_entry = λ done. (config, dex, s, whole_of (HasOneEntryEachText config dex) (λ bytes r. r.one_entry) done);
       histories = λ done. (config, dex, s, whole_of (HasHistories config dex) (λ bytes r. r.histories) done);
-      hall = λ done. (config, dex, s, whole_of (LosesNothing config dex) (λ bytes r. r.hall) done);
+      hall = λ done. (config, dex, s, whole_of (HallLosesNothing config dex) (λ bytes r. r.hall) done);
       two_worlds = λ done. (config, dex, s, whole_of (HasEqualWorlds config dex) (λ bytes r. r.two_worlds) done);
       prefix = input_prefix m.contents o m.left m.written m.written_after config dex status s of wrote;
       bounded = few;

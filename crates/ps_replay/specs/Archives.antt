@@ -31,28 +31,28 @@ abbrev pub IsRoomFor : List Note → List Note → Type 0
 IsRoomFor loaded more = length loaded + length more ≤ most_notes
 
 -- all of it: they are kept, and the whole transcript was written
-pub record IsArchived (config : Settings) (dex : Tables) (loaded : List Note) (d : Dealings) (bytes : List ℕ) : Type 0 where
-  pub transcript : IsTranscript config dex d.written d.written_after bytes
+pub record IsArchived (config : Settings) (dex : Tables) (loaded : List Note) (dealings : Dealings) (bytes : List ℕ) : Type 0 where
+  pub transcript : IsTranscript config dex dealings.written dealings.written_after bytes
   pub items : List Item
   pub script : IsScript (symbols_of config.groups) bytes items
   pub room : IsRoomFor loaded (notes (setup_of config dex items) items)
-  pub noted : d.kept_after ≡ after_notes (notes (setup_of config dex items) items) d.kept
+  pub noted : dealings.kept_after ≡ after_notes (notes (setup_of config dex items) items) dealings.kept
 
 -- they are kept, and a front of the transcript was written
-pub record IsNoted (config : Settings) (dex : Tables) (loaded : List Note) (d : Dealings) (bytes : List ℕ) : Type 0 where
+pub record IsNoted (config : Settings) (dex : Tables) (loaded : List Note) (dealings : Dealings) (bytes : List ℕ) : Type 0 where
   pub items : List Item
   pub script : IsScript (symbols_of config.groups) bytes items
   pub room : IsRoomFor loaded (notes (setup_of config dex items) items)
-  pub noted : d.kept_after ≡ after_notes (notes (setup_of config dex items) items) d.kept
-  pub front : AppendsFront d.written d.written_after (output (setup_of config dex items) items)
+  pub noted : dealings.kept_after ≡ after_notes (notes (setup_of config dex items) items) dealings.kept
+  pub front : AppendsFront dealings.written dealings.written_after (output (setup_of config dex items) items)
 
 -- some first ones of them are kept, or none, and nothing was written
-pub record IsNotedInPart (config : Settings) (dex : Tables) (loaded : List Note) (d : Dealings) (bytes : List ℕ) : Type 0 where
+pub record IsNotedInPart (config : Settings) (dex : Tables) (loaded : List Note) (dealings : Dealings) (bytes : List ℕ) : Type 0 where
   pub items : List Item
   pub script : IsScript (symbols_of config.groups) bytes items
   pub room : IsRoomFor loaded (notes (setup_of config dex items) items)
-  pub noted : AppendsSome d.kept d.kept_after (notes (setup_of config dex items) items)
-  pub nothing : Keeps d.written d.written_after
+  pub noted : AppendsSome dealings.kept dealings.kept_after (notes (setup_of config dex items) items)
+  pub nothing : Keeps dealings.written dealings.written_after
 
 -- with the loaded ones they would be more than there may be, and this is their number, or the greatest that a count has
 pub record IsOver (config : Settings) (dex : Tables) (loaded : List Note) (count : ℕ) (bytes : List ℕ) : Type 0 where
@@ -63,28 +63,31 @@ pub record IsOver (config : Settings) (dex : Tables) (loaded : List Note) (count
 
 -- how an archive ends whose files are good and whose notes were loaded, by what is left of the input, where it is known
 abbrev pub InputEnds : Settings → Tables → List Note → Option (List ℕ) → Type 0 → Dealings → Status → Type 0
-InputEnds config dex loaded left read_fault d Done = IfSome left (IsArchived config dex loaded d)
-InputEnds config dex loaded left read_fault d (Usage word) = ⊥
-InputEnds config dex loaded left read_fault d (FileMissing name) = ⊥
-InputEnds config dex loaded left read_fault d (FileFault name) = ⊥
-InputEnds config dex loaded left read_fault d (FileLong name) = ⊥
-InputEnds config dex loaded left read_fault d (BadDex path kind) = ⊥
-InputEnds config dex loaded left read_fault d (BadConfig path kind) = ⊥
-InputEnds config dex loaded left read_fault d (BadScript line kind) = IsQuiet d × IfSome left (IsBadScript config.groups line kind)
-InputEnds config dex loaded left read_fault d (ScriptLong count) = IsQuiet d × IfSome left (λ bytes. long_of bytes ≡ Some count)
-InputEnds config dex loaded left read_fault d ReadFault = IsQuiet d × read_fault
-InputEnds config dex loaded left read_fault d WriteFault = IfSome left (IsNoted config dex loaded d) × WriteFailed d
-InputEnds config dex loaded left read_fault d (BadTeam set rule subject) = ⊥
-InputEnds config dex loaded left read_fault d NoMemory = IsQuiet d
-    ⊎ (IfSome left (IsNotedInPart config dex loaded d) ⊎ IfSome left (IsNoted config dex loaded d))
-InputEnds config dex loaded left read_fault d DoorFault = ⊥
-InputEnds config dex loaded left read_fault d (UnknownFormat id) = ⊥
-InputEnds config dex loaded left read_fault d (BadPack at kind) = ⊥
-InputEnds config dex loaded left read_fault d NoTour = ⊥
-InputEnds config dex loaded left read_fault d KeepFault = IfSome left (IsNotedInPart config dex loaded d) × KeeperFailed d
-InputEnds config dex loaded left read_fault d (KeepFull count) = IsQuiet d × IfSome left (IsOver config dex loaded count)
-InputEnds config dex loaded left read_fault d (BadExport line) = ⊥
-InputEnds config dex loaded left read_fault d (NoExport set) = ⊥
+InputEnds config dex loaded left read_fault dealings Done = IfSome left (IsArchived config dex loaded dealings)
+InputEnds config dex loaded left read_fault dealings (Usage word) = ⊥
+InputEnds config dex loaded left read_fault dealings (FileMissing name) = ⊥
+InputEnds config dex loaded left read_fault dealings (FileFault name) = ⊥
+InputEnds config dex loaded left read_fault dealings (FileLong name) = ⊥
+InputEnds config dex loaded left read_fault dealings (BadDex path kind) = ⊥
+InputEnds config dex loaded left read_fault dealings (BadConfig path kind) = ⊥
+InputEnds config dex loaded left read_fault dealings (BadScript line kind) = IsQuiet dealings
+    × IfSome left (IsBadScript config.groups line kind)
+InputEnds config dex loaded left read_fault dealings (ScriptLong count) = IsQuiet dealings
+    × IfSome left (λ bytes. long_of bytes ≡ Some count)
+InputEnds config dex loaded left read_fault dealings ReadFault = IsQuiet dealings × read_fault
+InputEnds config dex loaded left read_fault dealings WriteFault = IfSome left (IsNoted config dex loaded dealings) × WriteFailed dealings
+InputEnds config dex loaded left read_fault dealings (BadTeam set rule subject) = ⊥
+InputEnds config dex loaded left read_fault dealings NoMemory = IsQuiet dealings
+    ⊎ (IfSome left (IsNotedInPart config dex loaded dealings) ⊎ IfSome left (IsNoted config dex loaded dealings))
+InputEnds config dex loaded left read_fault dealings DoorFault = ⊥
+InputEnds config dex loaded left read_fault dealings (UnknownFormat id) = ⊥
+InputEnds config dex loaded left read_fault dealings (BadPack at kind) = ⊥
+InputEnds config dex loaded left read_fault dealings NoTour = ⊥
+InputEnds config dex loaded left read_fault dealings KeepFault = IfSome left (IsNotedInPart config dex loaded dealings)
+    × KeeperFailed dealings
+InputEnds config dex loaded left read_fault dealings (KeepFull count) = IsQuiet dealings × IfSome left (IsOver config dex loaded count)
+InputEnds config dex loaded left read_fault dealings (BadExport line) = ⊥
+InputEnds config dex loaded left read_fault dealings (NoExport set) = ⊥
 
 -- ---- all of it
 
@@ -95,46 +98,49 @@ pub record IsLoaded (kept : Option (List Note)) (loaded : List Note) : Type 0 wh
 
 -- the files are good, and notes were loaded
 abbrev pub LoadedEnds : Options → MetWithKeeper → Status → Type 0
-LoadedEnds o m status = (loaded : List Note) × IsLoaded m.dealings.kept loaded
-    × HasSetup m.contents o (λ config dex. InputEnds config dex loaded m.left (ReadFailed m) m.dealings status)
+LoadedEnds options run status = (loaded : List Note) × IsLoaded run.dealings.kept loaded
+    × HasSetup run.contents options (λ config dex. InputEnds config dex loaded run.left (ReadFailed run) run.dealings status)
 
 -- a file stopped it, as it stops a replay
 abbrev pub StoppedBy : Options → MetWithKeeper → Status → Type 0
-StoppedBy o m status = IsUntouched m × ReplayCause m.contents o m.left m.counts m.counts_after status
+StoppedBy options run status = IsUntouched run × ReplayCause run.contents options run.left run.counts run.counts_after status
 
 -- Each status, with what has shown it, what was written, and which notes are kept. The keeper is asked once the files are good, and
 -- before the input is read.
 abbrev pub ArchiveEnds : Options → MetWithKeeper → Status → Type 0
-ArchiveEnds o m Done = LoadedEnds o m Done
-ArchiveEnds o m (Usage word) = ⊥
-ArchiveEnds o m (FileMissing name) = StoppedBy o m (FileMissing name)
-ArchiveEnds o m (FileFault name) = StoppedBy o m (FileFault name)
-ArchiveEnds o m (FileLong name) = StoppedBy o m (FileLong name)
-ArchiveEnds o m (BadDex path kind) = StoppedBy o m (BadDex path kind)
-ArchiveEnds o m (BadConfig path kind) = StoppedBy o m (BadConfig path kind)
-ArchiveEnds o m (BadScript line kind) = LoadedEnds o m (BadScript line kind)
-ArchiveEnds o m (ScriptLong count) = LoadedEnds o m (ScriptLong count)
-ArchiveEnds o m ReadFault = LoadedEnds o m ReadFault
-ArchiveEnds o m WriteFault = LoadedEnds o m WriteFault
-ArchiveEnds o m (BadTeam set rule subject) = ⊥
-ArchiveEnds o m NoMemory = IsUntouched m ⊎ LoadedEnds o m NoMemory
-ArchiveEnds o m DoorFault = ⊥
-ArchiveEnds o m (UnknownFormat id) = ⊥
-ArchiveEnds o m (BadPack at kind) = ⊥
-ArchiveEnds o m NoTour = ⊥
-ArchiveEnds o m KeepFault = (IsUntouched m × KeeperFailed m.dealings × HasSetup m.contents o IsGood) ⊎ LoadedEnds o m KeepFault
-ArchiveEnds o m (KeepFull count) = (IsFullAlone m count × HasSetup m.contents o IsGood) ⊎ LoadedEnds o m (KeepFull count)
-ArchiveEnds o m (BadExport line) = ⊥
-ArchiveEnds o m (NoExport set) = ⊥
+ArchiveEnds options run Done = LoadedEnds options run Done
+ArchiveEnds options run (Usage word) = ⊥
+ArchiveEnds options run (FileMissing name) = StoppedBy options run (FileMissing name)
+ArchiveEnds options run (FileFault name) = StoppedBy options run (FileFault name)
+ArchiveEnds options run (FileLong name) = StoppedBy options run (FileLong name)
+ArchiveEnds options run (BadDex path kind) = StoppedBy options run (BadDex path kind)
+ArchiveEnds options run (BadConfig path kind) = StoppedBy options run (BadConfig path kind)
+ArchiveEnds options run (BadScript line kind) = LoadedEnds options run (BadScript line kind)
+ArchiveEnds options run (ScriptLong count) = LoadedEnds options run (ScriptLong count)
+ArchiveEnds options run ReadFault = LoadedEnds options run ReadFault
+ArchiveEnds options run WriteFault = LoadedEnds options run WriteFault
+ArchiveEnds options run (BadTeam set rule subject) = ⊥
+ArchiveEnds options run NoMemory = IsUntouched run ⊎ LoadedEnds options run NoMemory
+ArchiveEnds options run DoorFault = ⊥
+ArchiveEnds options run (UnknownFormat id) = ⊥
+ArchiveEnds options run (BadPack at kind) = ⊥
+ArchiveEnds options run NoTour = ⊥
+ArchiveEnds options run KeepFault = (IsUntouched run × KeeperFailed run.dealings × HasSetup run.contents options IsGood)
+    ⊎ LoadedEnds options run KeepFault
+ArchiveEnds options run (KeepFull count) = (IsFullAlone run count × HasSetup run.contents options IsGood)
+    ⊎ LoadedEnds options run (KeepFull count)
+ArchiveEnds options run (BadExport line) = ⊥
+ArchiveEnds options run (NoExport set) = ⊥
 
 -- ---- completeness
 
 -- the loaded and the new notes together are too many
 abbrev pub IsOverFull : Options → MetWithKeeper → Status → Type 0
-IsOverFull o m status = (count : ℕ) × (status ≡ KeepFull count) × LoadedEnds o m (KeepFull count)
+IsOverFull options run status = (count : ℕ) × (status ≡ KeepFull count) × LoadedEnds options run (KeepFull count)
 
 -- What settles a replay, with a keeper that neither fails nor has too many notes already, settles an archive, unless the notes become
 -- too many.
 abbrev pub SettlesArchive : Options → MetWithKeeper → Status → Type 0
-SettlesArchive o m status = IsReadied m.contents o m.left → (FileFailed m → ⊥) → (ReadFailed m → ⊥) → (WriteFailed m.dealings → ⊥)
-    → (KeeperFailed m.dealings → ⊥) → (KeeperWasFull m.dealings → ⊥) → IsSettled status ⊎ IsOverFull o m status
+SettlesArchive options run status = IsReadied run.contents options run.left → (FileFailed run → ⊥) → (ReadFailed run → ⊥)
+    → (WriteFailed run.dealings → ⊥)
+    → (KeeperFailed run.dealings → ⊥) → (KeeperWasFull run.dealings → ⊥) → IsSettled status ⊎ IsOverFull options run status

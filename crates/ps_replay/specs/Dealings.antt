@@ -36,40 +36,40 @@ pub record MetWithKeeper : Type 0 where
   pub dealings : Dealings
 
 abbrev pub FileFailed : MetWithKeeper → Type 0
-FileFailed m = Rose m.counts.faults m.counts_after.faults
+FileFailed run = Rose run.counts.faults run.counts_after.faults
 
 abbrev pub ReadFailed : MetWithKeeper → Type 0
-ReadFailed m = Rose m.reads m.reads_after
+ReadFailed run = Rose run.reads run.reads_after
 
 abbrev pub WriteFailed : Dealings → Type 0
-WriteFailed d = Rose d.writes d.writes_after
+WriteFailed dealings = Rose dealings.writes dealings.writes_after
 
 abbrev pub KeeperFailed : Dealings → Type 0
-KeeperFailed d = Rose d.keeps.faults d.keeps_after.faults
+KeeperFailed dealings = Rose dealings.keeps.faults dealings.keeps_after.faults
 
 abbrev pub KeeperWasFull : Dealings → Type 0
-KeeperWasFull d = Rose d.keeps.full d.keeps_after.full
+KeeperWasFull dealings = Rose dealings.keeps.full dealings.keeps_after.full
 
 -- nothing was written or noted
-pub record IsQuiet (d : Dealings) : Type 0 where
-  pub output : Keeps d.written d.written_after
-  pub notes : d.kept_after ≡ d.kept
+pub record IsQuiet (dealings : Dealings) : Type 0 where
+  pub output : Keeps dealings.written dealings.written_after
+  pub notes : dealings.kept_after ≡ dealings.kept
 
 -- nor read
-pub record IsUntouched (m : MetWithKeeper) : Type 0 where
-  pub input : m.left_after ≡ m.left
-  pub quiet : IsQuiet m.dealings
+pub record IsUntouched (run : MetWithKeeper) : Type 0 where
+  pub input : run.left_after ≡ run.left
+  pub quiet : IsQuiet run.dealings
 
 -- as many notes as there are at the most; a ladder has as many results
 abbrev pub most_notes : ℕ
 most_notes = 65536
 
 -- More are kept already, and this is their number, or the greatest that a count has. Nothing came of it.
-pub record IsFullAlone (m : MetWithKeeper) (count : ℕ) : Type 0 where
-  pub untouched : IsUntouched m
-  pub rose : KeeperWasFull m.dealings
+pub record IsFullAlone (run : MetWithKeeper) (count : ℕ) : Type 0 where
+  pub untouched : IsUntouched run
+  pub rose : KeeperWasFull run.dealings
   pub over : most_notes < count
-  pub count_is : IfSome m.dealings.kept (λ notes. count ≡ counted (length notes))
+  pub count_is : IfSome run.dealings.kept (λ notes. count ≡ counted (length notes))
 
 -- ---- for the code: how a command ends whose keeper ended a call so
 

@@ -27,15 +27,16 @@ use Rattle.program_commands.specs.Words.{Options, Drilled}
 use Rattle.program_commands.specs.Steps.{IsFaultOf, dex_in, config_in}
 use Rattle.program_commands.specs.Setups.{HasSetup, IsOption, AreGood, IsSettled, Then}
 use Rattle.ps_replay.specs.Outcomes.{symbols_of}
+use Rattle.ps_base.specs.Characters as characters
 
 -- ---- the summary
 
 abbrev pub number_line : List ℕ → ℕ → List ℕ
-number_line name n = name ++ codes " " ++ decimal n ++ 10 ∷ []
+number_line name number = name ++ codes " " ++ decimal number ++ characters.newline ∷ []
 
 -- in lower hex
 abbrev pub digest_line : List ℕ → List ℕ
-digest_line digest = codes "sha256 " ++ encode_lower digest ++ 10 ∷ []
+digest_line digest = codes "sha256 " ++ encode_lower digest ++ characters.newline ∷ []
 
 -- the six lines of a drill
 unfoldable pub summary_lines : ℕ → ℕ → ℕ → ℕ → ℕ → List ℕ → List ℕ
@@ -50,8 +51,8 @@ summary_lines all made refusals messages bytes digest =
 -- Of a script's text and its transcript: the lines of the script, the entries that they make and those of them that are refused,
 -- the messages of the transcript, and the bytes and the digest of the script with the transcript behind it.
 abbrev pub summary_of : List ℕ → Setup → List Item → List ℕ
-summary_of text s items = summary_lines (length (lines text)) (length (entries s items)) (refused s items)
-    (messages_in (output s items)) (length (text ++ output s items)) (sha256 (text ++ output s items))
+summary_of text setup items = summary_lines (length (lines text)) (length (entries setup items)) (refused setup items)
+    (messages_in (output setup items)) (length (text ++ output setup items)) (sha256 (text ++ output setup items))
 
 -- what a drill of so many steps tells: the one script that its text is, is run
 pub record IsSummary (config : Settings) (dex : Tables) (steps : ℕ) (summary : List ℕ) : Type 0 where

@@ -13,12 +13,12 @@ use Rattle.ps_replay.specs.Archives.{ArchiveEnds, SettlesArchive}
 use Rattle.ps_replay.specs.StandingsEnds.{StandingsEnd, SettlesStandings}
 
 -- all that an archive with these options has shown
-pub record IsArchive (o : Options) (m : MetWithKeeper) (status : Status) : Type 0 where
+pub record IsArchive (options : Options) (run : MetWithKeeper) (status : Status) : Type 0 where
   pub usage : usage_reported status ≡ None
-  pub ends : ArchiveEnds o m status
-  pub whole : status ≡ Done → IsAtEnd m.left_after
-  pub bounded : ReadsFew m.left m.left_after
-  pub complete : SettlesArchive o m status
+  pub ends : ArchiveEnds options run status
+  pub whole : status ≡ Done → IsAtEnd run.left_after
+  pub bounded : ReadsFew run.left run.left_after
+  pub complete : SettlesArchive options run status
 
 -- where the words ask for nothing
 abbrev pub IfNothing : Result AskedKept ℕ → Type 0 → Type 0
@@ -26,12 +26,12 @@ IfNothing (Ok asked) holds = Unit {0}
 IfNothing (Err at) holds = holds
 
 -- all that a run has, over what was asked
-pub record IsRunKept (asked : Result AskedKept ℕ) (m : MetWithKeeper) (status : Status) : Type 0 where
+pub record IsRunKept (asked : Result AskedKept ℕ) (run : MetWithKeeper) (status : Status) : Type 0 where
   pub usage : usage_reported status ≡ usage_in asked
-  pub untouched : IfNothing asked (IsUntouched m)
-  pub archived : IfArchive asked (λ words. ArchiveEnds words.options m status)
-  pub whole : IfArchive asked (λ _. status ≡ Done → IsAtEnd m.left_after)
-  pub stand : IfStandings asked (λ words. StandingsEnd words.format m status)
-  pub bounded : ReadsFew m.left m.left_after
-  pub complete_archive : IfArchive asked (λ words. SettlesArchive words.options m status)
-  pub complete_standings : IfStandings asked (λ _. SettlesStandings m.dealings status)
+  pub untouched : IfNothing asked (IsUntouched run)
+  pub archived : IfArchive asked (λ words. ArchiveEnds words.options run status)
+  pub whole : IfArchive asked (λ _. status ≡ Done → IsAtEnd run.left_after)
+  pub stand : IfStandings asked (λ words. StandingsEnd words.format run status)
+  pub bounded : ReadsFew run.left run.left_after
+  pub complete_archive : IfArchive asked (λ words. SettlesArchive words.options run status)
+  pub complete_standings : IfStandings asked (λ _. SettlesStandings run.dealings status)

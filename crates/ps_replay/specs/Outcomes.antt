@@ -31,7 +31,7 @@ use Rattle.program_commands.specs.Setups.{HasSetup, IsGood, Stops, IsOption, IsS
 
 -- the symbols that the `G` lines of a script may have
 abbrev pub symbols_of : List Group → List ℕ
-symbols_of groups = map (λ g. g.symbol) groups
+symbols_of groups = map (λ group. group.symbol) groups
 
 -- the input is within its limits, and some script
 pub record IsReadable (groups : List Group) (bytes : List ℕ) : Type 0 where
@@ -91,8 +91,8 @@ HasHistories config dex bytes = (items : List Item) → IsScript (symbols_of con
     → AreHistories (setup_of config dex items) items
 
 -- in the hall each match started its battle, and each won report of a rated battle counts
-abbrev pub LosesNothing : Settings → Tables → List ℕ → Type 0
-LosesNothing config dex bytes = (items : List Item) → IsScript (symbols_of config.groups) bytes items → HasWholeHall config dex items
+abbrev pub HallLosesNothing : Settings → Tables → List ℕ → Type 0
+HallLosesNothing config dex bytes = (items : List Item) → IsScript (symbols_of config.groups) bytes items → HasWholeHall config dex items
 
 -- a connection's block from the hall or a room is the same for every script whose world there is the same to it
 abbrev pub HasEqualWorlds : Settings → Tables → List ℕ → Type 0
@@ -103,17 +103,17 @@ pub record IsReplayed (config : Settings) (dex : Tables) (old new : Option (List
   pub transcript : IsTranscript config dex old new bytes
   pub one_entry : HasOneEntryEachText config dex bytes
   pub histories : HasHistories config dex bytes
-  pub hall : LosesNothing config dex bytes
+  pub hall : HallLosesNothing config dex bytes
   pub two_worlds : HasEqualWorlds config dex bytes
 
 -- of the dex and the configuration that a replay with these options ran under, and of its input, if it is known, this holds at Done
-abbrev pub Plays : Option (List ℕ → Option (List ℕ)) → Option (List ℕ) → Status → Options → (Settings → Tables → List ℕ → Type 0) → Type 0
-Plays contents left status options Says = status ≡ Done → HasSetup contents options (λ config dex. IfSome left (Says config dex))
+abbrev pub AtDone : Option (List ℕ → Option (List ℕ)) → Option (List ℕ) → Status → Options → (Settings → Tables → List ℕ → Type 0) → Type 0
+AtDone contents left status options Says = status ≡ Done → HasSetup contents options (λ config dex. IfSome left (Says config dex))
 
 -- the same of these words, if they ask for a replay
 abbrev pub AtDoneOfReplay : List (List ℕ) → Option (List ℕ → Option (List ℕ)) → Option (List ℕ) → Status
     → (Settings → Tables → List ℕ → Type 0) → Type 0
-AtDoneOfReplay words contents left status Says = IfReplay (words_in words) (λ options. Plays contents left status options Says)
+AtDoneOfReplay words contents left status Says = IfReplay (words_in words) (λ options. AtDone contents left status options Says)
 
 -- a front of the transcript
 pub record WritesFront (config : Settings) (dex : Tables) (old new : Option (List ℕ)) (bytes : List ℕ) : Type 0 where
@@ -129,55 +129,59 @@ FrontOf config dex left old new = IfSome left (WritesFront config dex old new)
 
 abbrev pub WritesPrefix : Option (List ℕ → Option (List ℕ)) → Options → Option (List ℕ) → Option (List ℕ) → Option (List ℕ) → Status
     → Type 0
-WritesPrefix contents o left old new Done = Unit {0}
-WritesPrefix contents o left old new (Usage word) = Keeps old new
-WritesPrefix contents o left old new (FileMissing name) = Keeps old new
-WritesPrefix contents o left old new (FileFault name) = Keeps old new
-WritesPrefix contents o left old new (FileLong name) = Keeps old new
-WritesPrefix contents o left old new (BadDex path kind) = Keeps old new
-WritesPrefix contents o left old new (BadConfig path kind) = Keeps old new
-WritesPrefix contents o left old new (BadScript line kind) = Keeps old new
-WritesPrefix contents o left old new (ScriptLong count) = Keeps old new
-WritesPrefix contents o left old new ReadFault = Keeps old new
-WritesPrefix contents o left old new WriteFault = HasSetup contents o (λ config dex. FrontOf config dex left old new)
-WritesPrefix contents o left old new (BadTeam set rule subject) = Keeps old new
-WritesPrefix contents o left old new NoMemory = Keeps old new ⊎ HasSetup contents o (λ config dex. FrontOf config dex left old new)
-WritesPrefix contents o left old new DoorFault = Keeps old new
-WritesPrefix contents o left old new (UnknownFormat id) = Keeps old new
-WritesPrefix contents o left old new (BadPack at kind) = Keeps old new
-WritesPrefix contents o left old new NoTour = Keeps old new
-WritesPrefix contents o left old new KeepFault = Keeps old new
-WritesPrefix contents o left old new (KeepFull count) = Keeps old new
-WritesPrefix contents o left old new (BadExport line) = Keeps old new
-WritesPrefix contents o left old new (NoExport set) = Keeps old new
+WritesPrefix contents options left old new Done = Unit {0}
+WritesPrefix contents options left old new (Usage word) = Keeps old new
+WritesPrefix contents options left old new (FileMissing name) = Keeps old new
+WritesPrefix contents options left old new (FileFault name) = Keeps old new
+WritesPrefix contents options left old new (FileLong name) = Keeps old new
+WritesPrefix contents options left old new (BadDex path kind) = Keeps old new
+WritesPrefix contents options left old new (BadConfig path kind) = Keeps old new
+WritesPrefix contents options left old new (BadScript line kind) = Keeps old new
+WritesPrefix contents options left old new (ScriptLong count) = Keeps old new
+WritesPrefix contents options left old new ReadFault = Keeps old new
+WritesPrefix contents options left old new WriteFault = HasSetup contents options (λ config dex. FrontOf config dex left old new)
+WritesPrefix contents options left old new (BadTeam set rule subject) = Keeps old new
+WritesPrefix contents options left old new NoMemory = Keeps old new
+    ⊎ HasSetup contents options (λ config dex. FrontOf config dex left old new)
+WritesPrefix contents options left old new DoorFault = Keeps old new
+WritesPrefix contents options left old new (UnknownFormat id) = Keeps old new
+WritesPrefix contents options left old new (BadPack at kind) = Keeps old new
+WritesPrefix contents options left old new NoTour = Keeps old new
+WritesPrefix contents options left old new KeepFault = Keeps old new
+WritesPrefix contents options left old new (KeepFull count) = Keeps old new
+WritesPrefix contents options left old new (BadExport line) = Keeps old new
+WritesPrefix contents options left old new (NoExport set) = Keeps old new
 
 -- ---- the cause of a status of a replay
 
 -- what has shown each. A status of a file names one of the files of the words, and its count rose.
 abbrev pub ReplayCause : Option (List ℕ → Option (List ℕ)) → Options → Option (List ℕ) → FileCounts → FileCounts → Status → Type 0
-ReplayCause contents o left old new Done = HasSetup contents o IsGood
-ReplayCause contents o left old new (Usage word) = ⊥
-ReplayCause contents o left old new (FileMissing name) = Stops contents o (FileMissing name) × IsOption o name
+ReplayCause contents options left old new Done = HasSetup contents options IsGood
+ReplayCause contents options left old new (Usage word) = ⊥
+ReplayCause contents options left old new (FileMissing name) = Stops contents options (FileMissing name) × IsOption options name
     × Rose old.missing new.missing
-ReplayCause contents o left old new (FileFault name) = Stops contents o (FileFault name) × IsOption o name × Rose old.faults new.faults
-ReplayCause contents o left old new (FileLong name) = Stops contents o (FileLong name) × IsOption o name × Rose old.long new.long
-ReplayCause contents o left old new (BadDex path kind) = Stops contents o (BadDex path kind)
-ReplayCause contents o left old new (BadConfig path kind) = Stops contents o (BadConfig path kind)
-ReplayCause contents o left old new (BadScript line kind) = HasSetup contents o
+ReplayCause contents options left old new (FileFault name) = Stops contents options (FileFault name) × IsOption options name
+    × Rose old.faults new.faults
+ReplayCause contents options left old new (FileLong name) = Stops contents options (FileLong name) × IsOption options name
+    × Rose old.long new.long
+ReplayCause contents options left old new (BadDex path kind) = Stops contents options (BadDex path kind)
+ReplayCause contents options left old new (BadConfig path kind) = Stops contents options (BadConfig path kind)
+ReplayCause contents options left old new (BadScript line kind) = HasSetup contents options
     (λ config dex. IfSome left (IsBadScript config.groups line kind))
-ReplayCause contents o left old new (ScriptLong count) = HasSetup contents o IsGood × IfSome left (λ bytes. long_of bytes ≡ Some count)
-ReplayCause contents o left old new ReadFault = HasSetup contents o IsGood
-ReplayCause contents o left old new WriteFault = HasSetup contents o IsGood
-ReplayCause contents o left old new (BadTeam set rule subject) = ⊥
-ReplayCause contents o left old new NoMemory = Unit {0}
-ReplayCause contents o left old new DoorFault = ⊥
-ReplayCause contents o left old new (UnknownFormat id) = ⊥
-ReplayCause contents o left old new (BadPack at kind) = ⊥
-ReplayCause contents o left old new NoTour = ⊥
-ReplayCause contents o left old new KeepFault = ⊥
-ReplayCause contents o left old new (KeepFull count) = ⊥
-ReplayCause contents o left old new (BadExport line) = ⊥
-ReplayCause contents o left old new (NoExport set) = ⊥
+ReplayCause contents options left old new (ScriptLong count) = HasSetup contents options IsGood
+    × IfSome left (λ bytes. long_of bytes ≡ Some count)
+ReplayCause contents options left old new ReadFault = HasSetup contents options IsGood
+ReplayCause contents options left old new WriteFault = HasSetup contents options IsGood
+ReplayCause contents options left old new (BadTeam set rule subject) = ⊥
+ReplayCause contents options left old new NoMemory = Unit {0}
+ReplayCause contents options left old new DoorFault = ⊥
+ReplayCause contents options left old new (UnknownFormat id) = ⊥
+ReplayCause contents options left old new (BadPack at kind) = ⊥
+ReplayCause contents options left old new NoTour = ⊥
+ReplayCause contents options left old new KeepFault = ⊥
+ReplayCause contents options left old new (KeepFull count) = ⊥
+ReplayCause contents options left old new (BadExport line) = ⊥
+ReplayCause contents options left old new (NoExport set) = ⊥
 
 -- ---- completeness
 

@@ -11,10 +11,10 @@ use Rattle.ps_replay.specs.declared.drill.Run.{Run}
 use Rattle.ps_replay.specs.Drills.{summary_lines}
 
 -- it is of these lines from a state on, behind a text with this tally
-pub record SummarizesRun (tally : Tally) (s : Desk) (items : List Item) (run : Run) : Type 0 where
-  pub tallies : (text : List ℕ) → Tallies tally text → Tallies run.tally (text ++ text_from s items)
-  pub counter : Counts run.counter (text_from s items)
-  pub counts : run.counts ≡ (ledger_from s items blank).counts
+pub record SummarizesRun (tally : Tally) (desk : Desk) (items : List Item) (run : Run) : Type 0 where
+  pub tallies : (text : List ℕ) → Tallies tally text → Tallies run.tally (text ++ text_from desk items)
+  pub counter : Counts run.counter (text_from desk items)
+  pub counts : run.counts ≡ (ledger_from desk items blank).counts
 
 -- this is its summary, for a script of so many lines, whatever text it was that was tallied, with which transcript
 pub record HasRun (run : Run) (all : ℕ) (summary : List ℕ) : Type 0 where

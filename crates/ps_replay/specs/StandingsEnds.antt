@@ -17,9 +17,10 @@ use Rattle.program_commands.specs.declared.status.Status.TheVariants.{KeepFault,
 use Rattle.program_commands.specs.Setups.{IsSettled}
 use Rattle.ps_replay.specs.Dealings.{Dealings, MetWithKeeper, WriteFailed, KeeperFailed, KeeperWasFull, IsUntouched, most_notes}
 use Rattle.ps_replay.specs.Dealings.{IsFullAlone}
+use Rattle.ps_base.specs.Characters as characters
 
 abbrev pub place_line : Place → List ℕ
-place_line p = place_text p ++ 10 ∷ []
+place_line place = place_text place ++ characters.newline ∷ []
 
 -- a line for each user that won or lost a rated battle of the format, by falling rating and then by id
 pub record AreLines (format : List ℕ) (notes : List Note) (text : List ℕ) : Type 0 where
@@ -28,51 +29,53 @@ pub record AreLines (format : List ℕ) (notes : List Note) (text : List ℕ) : 
   pub text_is : text ≡ flat_map place_line places
 
 -- these lines were written, and nothing else
-pub record WritesStandings (format : List ℕ) (d : Dealings) (notes : List Note) : Type 0 where
+pub record WritesStandings (format : List ℕ) (dealings : Dealings) (notes : List Note) : Type 0 where
   pub few : length notes ≤ most_notes
   pub text : List ℕ
   pub lines : AreLines format notes text
-  pub wrote : Appends d.written d.written_after text
+  pub wrote : Appends dealings.written dealings.written_after text
 
 -- a front of them
-pub record WritesSomeStandings (format : List ℕ) (d : Dealings) (notes : List Note) : Type 0 where
+pub record WritesSomeStandings (format : List ℕ) (dealings : Dealings) (notes : List Note) : Type 0 where
   pub few : length notes ≤ most_notes
   pub text : List ℕ
   pub lines : AreLines format notes text
-  pub front : AppendsFront d.written d.written_after text
+  pub front : AppendsFront dealings.written dealings.written_after text
 
 -- the input and the notes are as they were
-pub record IsOnlyRead (m : MetWithKeeper) : Type 0 where
-  pub input : m.left_after ≡ m.left
-  pub notes : m.dealings.kept_after ≡ m.dealings.kept
+pub record IsOnlyRead (run : MetWithKeeper) : Type 0 where
+  pub input : run.left_after ≡ run.left
+  pub notes : run.dealings.kept_after ≡ run.dealings.kept
 
 -- Each status, with what has shown it and what was written. The notes that are kept are known only where the keeper tells them.
 abbrev pub StandingsEnd : List ℕ → MetWithKeeper → Status → Type 0
-StandingsEnd format m Done = IsOnlyRead m × IfSome m.dealings.kept (WritesStandings format m.dealings)
-StandingsEnd format m (Usage word) = ⊥
-StandingsEnd format m (FileMissing name) = ⊥
-StandingsEnd format m (FileFault name) = ⊥
-StandingsEnd format m (FileLong name) = ⊥
-StandingsEnd format m (BadDex path kind) = ⊥
-StandingsEnd format m (BadConfig path kind) = ⊥
-StandingsEnd format m (BadScript line kind) = ⊥
-StandingsEnd format m (ScriptLong count) = ⊥
-StandingsEnd format m ReadFault = ⊥
-StandingsEnd format m WriteFault = IsOnlyRead m × IfSome m.dealings.kept (WritesSomeStandings format m.dealings) × WriteFailed m.dealings
-StandingsEnd format m (BadTeam set rule subject) = ⊥
-StandingsEnd format m NoMemory = IsUntouched m
-StandingsEnd format m DoorFault = ⊥
-StandingsEnd format m (UnknownFormat id) = ⊥
-StandingsEnd format m (BadPack at kind) = ⊥
-StandingsEnd format m NoTour = ⊥
-StandingsEnd format m KeepFault = IsUntouched m × KeeperFailed m.dealings
-StandingsEnd format m (KeepFull count) = IsFullAlone m count
-StandingsEnd format m (BadExport line) = ⊥
-StandingsEnd format m (NoExport set) = ⊥
+StandingsEnd format run Done = IsOnlyRead run × IfSome run.dealings.kept (WritesStandings format run.dealings)
+StandingsEnd format run (Usage word) = ⊥
+StandingsEnd format run (FileMissing name) = ⊥
+StandingsEnd format run (FileFault name) = ⊥
+StandingsEnd format run (FileLong name) = ⊥
+StandingsEnd format run (BadDex path kind) = ⊥
+StandingsEnd format run (BadConfig path kind) = ⊥
+StandingsEnd format run (BadScript line kind) = ⊥
+StandingsEnd format run (ScriptLong count) = ⊥
+StandingsEnd format run ReadFault = ⊥
+StandingsEnd format run WriteFault = IsOnlyRead run × IfSome run.dealings.kept (WritesSomeStandings format run.dealings)
+    × WriteFailed run.dealings
+StandingsEnd format run (BadTeam set rule subject) = ⊥
+StandingsEnd format run NoMemory = IsUntouched run
+StandingsEnd format run DoorFault = ⊥
+StandingsEnd format run (UnknownFormat id) = ⊥
+StandingsEnd format run (BadPack at kind) = ⊥
+StandingsEnd format run NoTour = ⊥
+StandingsEnd format run KeepFault = IsUntouched run × KeeperFailed run.dealings
+StandingsEnd format run (KeepFull count) = IsFullAlone run count
+StandingsEnd format run (BadExport line) = ⊥
+StandingsEnd format run (NoExport set) = ⊥
 
 -- a sink without a fault, and a keeper that neither fails nor has too many notes, settle it
 abbrev pub SettlesStandings : Dealings → Status → Type 0
-SettlesStandings d status = (WriteFailed d → ⊥) → (KeeperFailed d → ⊥) → (KeeperWasFull d → ⊥) → IsSettled status
+SettlesStandings dealings status = (WriteFailed dealings → ⊥) → (KeeperFailed dealings → ⊥) → (KeeperWasFull dealings → ⊥)
+    → IsSettled status
 
 -- ---- for the code: how the printing of these notes' standings ends
 

@@ -32,17 +32,17 @@ use Rattle.program_commands.specs.Fields.{HasField, HasNoField}
 
 -- how a battle ends at a line: with the side that won it, or a tie, or not at all
 abbrev pub end_of : Run → Item → Option (Option ℕ)
-end_of r i = option_map (λ e. e.winner) (end_at (state_of r) i)
+end_of run item = option_map (λ ending. ending.winner) (end_at (state_of run) item)
 
 -- a line, and what follows it, which `later` says
 abbrev pub line_with : (Tour → Run → List Item) → Tour → Run → Option Item → List Item
-line_with later t r None = []
-line_with later t r (Some i) = i ∷ later (past (end_of r i) t) (run_after r i)
+line_with later tour run None = []
+line_with later tour run (Some item) = item ∷ later (past (end_of run item) tour) (run_after run item)
 
 -- at most so many lines, whose battles are of this format
 abbrev pub lines_from : ℕ → List ℕ → Tour → Run → List Item
-lines_from zero format t r = []
-lines_from (suc most) format t r = line_with (lines_from most format) t r (next_line format t)
+lines_from zero format tour run = []
+lines_from (suc most) format tour run = line_with (lines_from most format) tour run (next_line format tour)
 
 -- Far more than there are: a battle has a thousand turns at the most.
 unfoldable pub most_lines : ℕ
@@ -68,8 +68,8 @@ tour_script config dex fight words = entering config fight.team words.users ++ m
 
 -- a tournament after these lines
 abbrev pub played : Tour → Run → List Item → Tour
-played t r [] = t
-played t r (i ∷ is) = played (past (end_of r i) t) (run_after r i) is
+played tour run [] = tour
+played tour run (item ∷ items) = played (past (end_of run item) tour) (run_after run item) items
 
 -- after all of them
 abbrev pub tour_end : Settings → Tables → Fight → Toured → Tour
@@ -195,16 +195,19 @@ pub record SettlesTour (contents : Option (List ℕ → Option (List ℕ))) (fil
 -- ---- for the code alone
 
 -- From a state on these lines were played, and then those of the tournament, which is over.
-pub record PlaysLines (items : List Item) (most : ℕ) (format : List ℕ) (before after : Tour) (d : Desk)
+pub record PlaysLines (items : List Item) (most : ℕ) (format : List ℕ) (before after : Tour) (desk : Desk)
     (old new : Option (List ℕ)) : Type 0 where
-  pub wrote : (r : Run) → d ≡ desk_of r → Appends old new (text_from d (items ++ lines_from most format before (run_past r items)))
-  pub after_is : (r : Run) → d ≡ desk_of r
-      → after ≡ played before (run_past r items) (lines_from most format before (run_past r items))
+  pub wrote : (run : Run) → desk ≡ desk_of run
+      → Appends old new (text_from desk (items ++ lines_from most format before (run_past run items)))
+  pub after_is : (run : Run) → desk ≡ desk_of run
+      → after ≡ played before (run_past run items) (lines_from most format before (run_past run items))
   pub over : open_match after.round ≡ None
 
 -- a front of their transcript was written
-pub record PlaysFront (items : List Item) (most : ℕ) (format : List ℕ) (before : Tour) (d : Desk) (old new : Option (List ℕ)) : Type 0 where
-  pub front : (r : Run) → d ≡ desk_of r → AppendsFront old new (text_from d (items ++ lines_from most format before (run_past r items)))
+pub record PlaysFront (items : List Item) (most : ℕ) (format : List ℕ) (before : Tour) (desk : Desk)
+    (old new : Option (List ℕ)) : Type 0 where
+  pub front : (run : Run) → desk ≡ desk_of run
+      → AppendsFront old new (text_from desk (items ++ lines_from most format before (run_past run items)))
 
 -- a status that the files have no part in: what it says of the configuration and the dex, and what was written at it
 abbrev pub PlaysTour : Toured → Option (List ℕ) → Option (List ℕ) → Settings → Tables → Status → Type 0

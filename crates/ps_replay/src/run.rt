@@ -13,7 +13,7 @@ ghost use Rattle.program_commands.specs.Checks.{legal_line, CheckEnds, IsNamed, 
 ghost use Rattle.program_commands.specs.Conversions.{HasExport, MakesPacked, ExportCause, ImportCause, WritesExport, WritesPacked};
 ghost use Rattle.program_commands.specs.Conversions.{SettlesConversion};
 ghost use Rattle.ps_replay.specs.Outcomes.{symbols_of, IsOfInput, KeepsInput, IsTranscript, HasOneEntryEachText, HasHistories};
-ghost use Rattle.ps_replay.specs.Outcomes.{LosesNothing, HasEqualWorlds, IsReplayed, WritesOfInput, ReplayCause, InputCause, Settles};
+ghost use Rattle.ps_replay.specs.Outcomes.{HallLosesNothing, HasEqualWorlds, IsReplayed, WritesOfInput, ReplayCause, InputCause, Settles};
 ghost use Rattle.ps_replay.specs.Outcomes.{SettlesInput, AtDoneOfReplay};
 ghost use Rattle.ps_replay.specs.Drills.{DrillEnds, DrillCause, WritesSummary, SettlesDrill};
 ghost use Rattle.ps_replay.specs.Tours.{IsTour, TourEnds, TourCause, SettlesTour};
@@ -262,7 +262,7 @@ pub fn run<F: Files, S: Source, K: Sink>(
 
     // In its hall each match started its battle, and the ladder of each format is made of all won reports of rated battles.
     ensures hall { AtDoneOfReplay (map string_bytes words.now) (F.contents files.old) (S.left input.old) result
-        (λ config dex. LosesNothing config dex) }
+        (λ config dex. HallLosesNothing config dex) }
 
     // A connection's block from the hall or a room is the same for every script whose world there is the same to it.
     ensures two_worlds { AtDoneOfReplay (map string_bytes words.now) (F.contents files.old) (S.left input.old) result

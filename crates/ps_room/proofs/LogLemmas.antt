@@ -34,7 +34,7 @@ use Rattle.ps_room.specs.Tolds as logs
 use Rattle.ps_room.specs.Tolds.{Logged}
 use Rattle.ps_room.specs.Records.{Record, opened, presents_of, cast_in, logged_events}
 use Rattle.ps_room.specs.Roles.{role_of_member}
-use Rattle.ps_room.specs.Rooms.{verdict, sender_of, told, after, allowed_events, allowed_lines, chat_lines, events_by, lines_by, outcome_by, refused_line, logged_lines, logged_of, is_join, joiner_of, joined, joined_if, joined_or, shown_events, shown_item, shown_items, kept_back, seen_texts, message, role}
+use Rattle.ps_room.specs.Rooms.{verdict, sender_of, told, after, allowed_events, allowed_lines, chat_lines, events_by, lines_by, outcome_by, refused_line, logged_lines, logged_of, is_join, joiner_of, joined, joined_if, joined_or, shown_events, shown_item, shown_items, backlog_items, seen_texts, message, role}
 use Rattle.ps_room.specs.Logs.{stored_in, backlog_size, join_of, kept_of, opened_log}
 use Rattle.ps_room.proofs.AnswerLemmas.{after_allowed, after_refused}
 use Rattle.ps_room.proofs.StoredLemmas.{stored_shown, stored_logged, row_logged, logs-append, requests_logged, events_logged, Logs, shown_of}
@@ -180,17 +180,17 @@ hundred items is = rw is.1 (
     all_texts [] = refl
     all_texts (text ∷ texts) = ap (λ ls. as_stored text ∷ ls) (all_texts texts)
 
-last_are : (cast : Option Cast) (items : List Logged) → (cast ≡ None → AreTexts items) → last_of (backlog_size cast) (filter_map (stored_logged cast) items) ≡ filter_map (stored_logged cast) (kept_back cast items)
+last_are : (cast : Option Cast) (items : List Logged) → (cast ≡ None → AreTexts items) → last_of (backlog_size cast) (filter_map (stored_logged cast) items) ≡ filter_map (stored_logged cast) (backlog_items cast items)
 last_are None items texts = hundred items (texts refl)
 last_are (Some c) items texts = refl
 
 backlog_shown : (conn : ℕ) (role : Role) (r : Record) (entries : List LogEntry) → IsLogOf r entries → has_role audiences.All role ≡ true
-    → shown_lines conn role (last_of (backlog_size (cast_in r.battle)) (log.logged_lines entries)) ≡ shown_items (cast_in r.battle) role (kept_back (cast_in r.battle) (take (length r.logged) r.logged))
+    → shown_lines conn role (last_of (backlog_size (cast_in r.battle)) (log.logged_lines entries)) ≡ shown_items (cast_in r.battle) role (backlog_items (cast_in r.battle) (take (length r.logged) r.logged))
 backlog_shown conn role r entries is inside =
     ap (λ ls. shown_lines conn role (last_of (backlog_size (cast_in r.battle)) ls)) is.lines_are
     ∙ ap (shown_lines conn role) (last_are (cast_in r.battle) r.logged is.texts)
-    ∙ items_shown conn role (cast_in r.battle) inside (kept_back (cast_in r.battle) r.logged)
-    ∙ ap (λ items. shown_items (cast_in r.battle) role (kept_back (cast_in r.battle) items)) (sym (take-length r.logged))
+    ∙ items_shown conn role (cast_in r.battle) inside (backlog_items (cast_in r.battle) r.logged)
+    ∙ ap (λ items. shown_items (cast_in r.battle) role (backlog_items (cast_in r.battle) items)) (sym (take-length r.logged))
 
 -- ---- the message of an entry
 

@@ -15,7 +15,7 @@ title_line title = codes "|title|" ++ title
 
 -- a comma, and the symbol and name of one member
 abbrev pub users_part : List Group → Present → List ℕ
-users_part groups p = 44 ∷ shown_name groups p.rank p.badge.name
+users_part groups present = 44 ∷ shown_name groups present.rank present.badge.name
 
 -- how many members there are, and each of them in join order
 abbrev pub users_line : List Group → List Present → List ℕ

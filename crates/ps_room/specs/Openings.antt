@@ -33,48 +33,60 @@ pub record Opening : Type 0 where
 
 abbrev pub name_of_format : Option Format → List ℕ
 name_of_format None = []
-name_of_format (Some f) = f.name
+name_of_format (Some format) = format.name
 
 -- the clauses that are on, each by its bit
 abbrev pub clauses_of_format : Option Format → ℕ
 clauses_of_format None = 0
-clauses_of_format (Some f) = f.table.clauses
+clauses_of_format (Some format) = format.table.clauses
 
 -- the format that is played
 abbrev pub format_in : Settings → Start → Option Format
-format_in config s = format_of s.format config.formats.formats
+format_in config start = format_of start.format config.formats.formats
 
 abbrev pub team_of_legal : Legal → BattleTeam
-team_of_legal l = l.team
+team_of_legal legal = legal.team
 
 abbrev pub nicks_of_legal : Legal → List (List ℕ)
-nicks_of_legal l = l.nicks
+nicks_of_legal legal = legal.nicks
 
 -- whether HP Percentage Mod is on
 abbrev pub in_percent : Option Format → Bool
 in_percent format = has_clause (clauses_of_format format) (bit_of Percentage)
 
 abbrev pub names_of : Settings → Start → Names
-names_of config s = record { players = s.players; nicks = map nicks_of_legal s.teams; format = name_of_format (format_in config s); percent = in_percent (format_in config s) }
+names_of config start = record {
+  players = start.players;
+  nicks = map nicks_of_legal start.teams;
+  format = name_of_format (format_in config start);
+  percent = in_percent (format_in config start);
+}
 
 abbrev pub cast_with : Settings → Tables → Start → Cast
-cast_with config dex s = record { names = names_of config s; dex = dex }
+cast_with config dex start = record { names = names_of config start; dex = dex }
 
 -- the battle at its opening, with the events of that
 abbrev pub bout_with : Settings → Start → Outcome
-bout_with config s = opened (map team_of_legal s.teams) (clauses_of_format (format_in config s)) s.seed
+bout_with config start = opened (map team_of_legal start.teams) (clauses_of_format (format_in config start)) start.seed
 
 abbrev pub fight_with : Settings → Tables → Start → Fight
-fight_with config dex s = record { number = s.number; cast = cast_with config dex s; bout = (bout_with config s).bout }
+fight_with config dex start = record { number = start.number; cast = cast_with config dex start; bout = (bout_with config start).bout }
 
 -- whether an opening can be a room's: where it has a battle, that can start under its configuration and its dex
 abbrev pub IsFitOpening : Opening → Type 0
-IsFitOpening o = IfSome o.battle (λ s. IsFit s o.config o.dex)
+IsFitOpening opening = IfSome opening.battle (λ start. IsFit start opening.config opening.dex)
 
 -- ---- for the code: the parts of an opening
 
 abbrev pub of_parts : Parts → Opening
-of_parts p = record { no = p.no; id = p.id; title = p.title; config = arc_value p.config; dex = arc_value p.dex; battle = p.battle }
+of_parts parts = record {
+  no = parts.no;
+  id = parts.id;
+  title = parts.title;
+  config = arc_value parts.config;
+  dex = arc_value parts.dex;
+  battle = parts.battle;
+}
 
 -- ---- the rooms of a server
 

@@ -23,7 +23,12 @@ pub record Record : Type 0 where
   pub battle : Option Fight
 
 abbrev pub chat_opening : Opening → ChatOpening
-chat_opening o = record { title = o.title; battle = is_some o.battle; groups = o.config.groups; staff = o.config.staff }
+chat_opening opening = record {
+  title = opening.title;
+  battle = is_some opening.battle;
+  groups = opening.config.groups;
+  staff = opening.config.staff;
+}
 
 abbrev pub logged_event : Event → Option Logged
 logged_event event = if is_logged event then Some (logs.Event event) else None
@@ -35,17 +40,22 @@ logged_events events = filter_map logged_event events
 -- what the opening of a battle logs
 abbrev pub logged_with : Settings → Option Start → List Logged
 logged_with config None = []
-logged_with config (Some s) = logged_events (bout_with config s).told
+logged_with config (Some start) = logged_events (bout_with config start).told
 
 -- the record of an opening: nobody is there, and a battle is open
 abbrev pub opened : Opening → Record
-opened o = record { opening = chat_opening o; chat = nobody; logged = logged_with o.config o.battle; battle = option_map (fight_with o.config o.dex) o.battle }
+opened opening = record {
+  opening = chat_opening opening;
+  chat = nobody;
+  logged = logged_with opening.config opening.battle;
+  battle = option_map (fight_with opening.config opening.dex) opening.battle;
+}
 
 -- the members, each with its rank
 abbrev pub presents_of : Record → List Present
-presents_of r = presents r.opening r.chat
+presents_of room = presents room.opening room.chat
 
 -- what the lines of its battle name
 abbrev pub cast_in : Option Fight → Option Cast
 cast_in None = None
-cast_in (Some f) = Some f.cast
+cast_in (Some fight) = Some fight.cast

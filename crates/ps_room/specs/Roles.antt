@@ -11,18 +11,18 @@ use Rattle.battle_rounds.specs.Casts.{Cast, side_with_id, role_with}
 
 -- what a member is: a spectator, or the player of a side where its id is that of one
 abbrev pub role_of_member : Option Cast → Present → Role
-role_of_member None p = Spectator p.rank
-role_of_member (Some c) p = role_with c.names (id_of p.badge.name) p.rank
+role_of_member None present = Spectator present.rank
+role_of_member (Some cast) present = role_with cast.names (id_of present.badge.name) present.rank
 
 -- by the connection's member
 abbrev pub role_of : Option Cast → Option Present → Role
 role_of cast None = Outside
-role_of cast (Some p) = role_of_member cast p
+role_of cast (Some present) = role_of_member cast present
 
 -- the side that a connection's member plays
 abbrev pub side_of_member : Cast → Option Present → Option ℕ
-side_of_member c None = None
-side_of_member c (Some p) = side_with_id c.names (id_of p.badge.name)
+side_of_member cast None = None
+side_of_member cast (Some present) = side_with_id cast.names (id_of present.badge.name)
 
 -- a line for one connection is seen by it, member or not; each other line by who has its audience
 abbrev pub sees : ℕ → Role → Audience → Bool

@@ -1,5 +1,6 @@
 -- What an entry does to a room, and what each connection is sent at it.
-use Rattle.std.specs.Prelude.{◌≡◌, ℕ, ◌-◌, Bool, true, false, List, [], ◌∷◌, ◌++◌, length, take, drop, Option, Some, None, ◌==◌, if◌then◌else◌}
+use Rattle.std.specs.Prelude.{◌≡◌, ℕ, ◌-◌, Bool, true, false, List, [], ◌∷◌, ◌++◌, length, take, drop, Option, Some, None, ◌==◌}
+use Rattle.std.specs.Prelude.{if◌then◌else◌}
 use Rattle.std.specs.List.{filter_map}
 use Rattle.std.specs.Option.{option_to_list}
 use Rattle.ps_base.specs.declared.why.Why.{Why}
@@ -36,12 +37,12 @@ use Rattle.ps_room.specs.Roles.{role_of, role_of_member, side_of_member, sees}
 
 -- the member that makes an entry
 abbrev pub sender_of : Record → Entry → Option Present
-sender_of r e = member e.conn (presents_of r)
+sender_of room entry = member entry.conn (presents_of room)
 
 -- why the battle refuses an entry, after the chat has allowed it
 abbrev pub refusal_by_battle : Option Fight → Option Present → Command → Option Why
 refusal_by_battle None me cmd = None
-refusal_by_battle (Some f) me cmd = refusal_in f.cast.dex f.bout (side_of_member f.cast me) cmd
+refusal_by_battle (Some fight) me cmd = refusal_in fight.cast.dex fight.bout (side_of_member fight.cast me) cmd
 
 abbrev pub or_else : Option Why → Option Why → Option Why
 or_else (Some why) other = Some why
@@ -49,7 +50,8 @@ or_else None other = other
 
 -- why an entry is refused; None where it is allowed
 unfoldable pub verdict : Record → Entry → Option Why
-verdict r e = or_else (chat_verdict r.opening r.chat e.conn e.badge e.moment e.cmd) (refusal_by_battle r.battle (sender_of r e) e.cmd)
+verdict room entry = or_else (chat_verdict room.opening room.chat entry.conn entry.badge entry.moment entry.cmd)
+    (refusal_by_battle room.battle (sender_of room entry) entry.cmd)
 
 -- ---- what an entry gives
 
@@ -59,66 +61,75 @@ refused_line conn why = record { audience = One conn; logged = false; text = err
 
 -- the chat's lines of an allowed one
 abbrev pub chat_lines : Record → Entry → List Line
-chat_lines r e = lines r.opening r.chat e.conn e.badge e.moment e.cmd
+chat_lines room entry = lines room.opening room.chat entry.conn entry.badge entry.moment entry.cmd
 
 -- what an allowed one makes of the battle
 abbrev pub outcome_by : Fight → Option Present → Command → Outcome
-outcome_by f me cmd = outcome_in f.cast.dex f.bout (side_of_member f.cast me) cmd
+outcome_by fight me cmd = outcome_in fight.cast.dex fight.bout (side_of_member fight.cast me) cmd
 
 -- the events of it
 abbrev pub events_by : Option Fight → Option Present → Command → List Event
 events_by None me cmd = []
-events_by (Some f) me cmd = (outcome_by f me cmd).told
+events_by (Some fight) me cmd = (outcome_by fight me cmd).told
 
 -- the lines of the chat, and the requests that follow the battle's events
 abbrev pub lines_by : Option Fight → Option Present → Command → List Line → List Line
 lines_by None me cmd ls = ls
-lines_by (Some f) me cmd ls = let after = outcome_by f me cmd in ls ++ requests f.cast after.bout after.told
+lines_by (Some fight) me cmd ls = let after = outcome_by fight me cmd in ls ++ requests fight.cast after.bout after.told
 
 abbrev pub allowed_events : Record → Entry → List Event
-allowed_events r e = events_by r.battle (sender_of r e) e.cmd
+allowed_events room entry = events_by room.battle (sender_of room entry) entry.cmd
 
 -- the lines of an allowed one
 abbrev pub allowed_lines : Record → Entry → List Line
-allowed_lines r e = lines_by r.battle (sender_of r e) e.cmd (chat_lines r e)
+allowed_lines room entry = lines_by room.battle (sender_of room entry) entry.cmd (chat_lines room entry)
 
 -- the member that the sender becomes by a Join
 abbrev pub joiner_of : Record → Entry → Present
-joiner_of r e = joiner (room_of r.opening r.chat) e.conn e.badge
+joiner_of room entry = joiner (room_of room.opening room.chat) entry.conn entry.badge
 
 -- what a room with these members tells who joins, before what was logged
 abbrev pub head : Record → List Present → List (List ℕ)
-head r ps = kind_line r.opening.battle ∷ title_line r.opening.title ∷ users_line r.opening.groups ps ∷ []
+head room ps = kind_line room.opening.battle ∷ title_line room.opening.title ∷ users_line room.opening.groups ps ∷ []
 
 -- the request of the open round for a member who joins
 abbrev pub request_for : Option Fight → Present → Option (List ℕ)
-request_for None p = None
-request_for (Some f) p = open_request f (side_of_member f.cast (Some p))
+request_for None present = None
+request_for (Some fight) present = open_request fight (side_of_member fight.cast (Some present))
 
 -- the room with the joiner itself, what was logged before, and what the joiner is shown of it
 abbrev pub joined : Record → Entry → Joined
-joined r e = record { head = head r (presents_of r ++ joiner_of r e ∷ []); logged = length r.logged; role = role_of_member (cast_in r.battle) (joiner_of r e); request = request_for r.battle (joiner_of r e) }
+joined room entry = record {
+  head = head room (presents_of room ++ joiner_of room entry ∷ []);
+  logged = length room.logged;
+  role = role_of_member (cast_in room.battle) (joiner_of room entry);
+  request = request_for room.battle (joiner_of room entry);
+}
 
 abbrev pub is_join : Command → Bool
 is_join (Join room) = true
 is_join other = false
 
 abbrev pub joined_if : Bool → Record → Entry → Option Joined
-joined_if true r e = Some (joined r e)
-joined_if false r e = None
+joined_if true room entry = Some (joined room entry)
+joined_if false room entry = None
 
 abbrev pub told_by : Option Why → Record → Entry → Told
-told_by (Some why) r e = record { events = []; lines = refused_line e.conn why ∷ []; joined = None }
-told_by None r e = record { events = allowed_events r e; lines = allowed_lines r e; joined = joined_if (is_join e.cmd) r e }
+told_by (Some why) room entry = record { events = []; lines = refused_line entry.conn why ∷ []; joined = None }
+told_by None room entry = record {
+  events = allowed_events room entry;
+  lines = allowed_lines room entry;
+  joined = joined_if (is_join entry.cmd) room entry;
+}
 
 -- all that an entry gives
 unfoldable pub told : Record → Entry → Told
-told r e = told_by (verdict r e) r e
+told room entry = told_by (verdict room entry) room entry
 
 -- ---- the step
 
 abbrev pub logged_line : Line → Option Logged
-logged_line l = if l.logged then Some (logs.Text l.text) else None
+logged_line line = if line.logged then Some (logs.Text line.text) else None
 
 -- the texts of the lines that are logged
 abbrev pub logged_lines : List Line → List Logged
@@ -131,82 +142,84 @@ logged_of events ls = logged_events events ++ logged_lines ls
 -- the battle after an entry that is applied
 abbrev pub battle_after : Option Fight → Option Present → Command → Option Fight
 battle_after None me cmd = None
-battle_after (Some f) me cmd = Some (record f { bout = (outcome_by f me cmd).bout })
+battle_after (Some fight) me cmd = Some (record fight { bout = (outcome_by fight me cmd).bout })
 
 -- ---- for the code: a battle with other rounds
 
 abbrev pub with_bout : Option Fight → Option Bout → Option Fight
-with_bout None b = None
-with_bout (Some f) None = Some f
-with_bout (Some f) (Some b) = Some (record f { bout = b })
+with_bout None bout = None
+with_bout (Some fight) None = Some fight
+with_bout (Some fight) (Some bout) = Some (record fight { bout = bout })
 
 abbrev pub CanGoOn : Option Fight → Option Bout → Type 0
-CanGoOn (Some f) (Some b) = IsBout (figures_of f.cast.dex) b
-CanGoOn other b = Unit {0}
+CanGoOn (Some fight) (Some bout) = IsBout (figures_of fight.cast.dex) bout
+CanGoOn other bout = Unit {0}
 
 -- a room without a battle has none
 abbrev pub IsIdle : Option Fight → Option Bout → Type 0
-IsIdle None b = b ≡ None
-IsIdle (Some f) b = Unit {0}
+IsIdle None bout = bout ≡ None
+IsIdle (Some fight) bout = Unit {0}
 
 -- ---- for the code: what an entry gives, by what its command comes to at the battle
 
 -- the command comes to this, and it can be done
 abbrev pub IsDecided : Option Fight → Option Present → Command → Decision → Type 0
-IsDecided None me cmd d = Unit {0}
-IsDecided (Some f) me cmd d = CanDecide f.bout d × (outcome_of f.cast.dex f.bout d ≡ outcome_by f me cmd)
+IsDecided None me cmd decision = Unit {0}
+IsDecided (Some fight) me cmd decision = CanDecide fight.bout decision
+    × (outcome_of fight.cast.dex fight.bout decision ≡ outcome_by fight me cmd)
 
 abbrev pub CanDecideIn : Option Fight → Decision → Type 0
-CanDecideIn None d = Unit {0}
-CanDecideIn (Some f) d = CanDecide f.bout d
+CanDecideIn None decision = Unit {0}
+CanDecideIn (Some fight) decision = CanDecide fight.bout decision
 
 abbrev pub events_from : Option Fight → Decision → List Event
-events_from None d = []
-events_from (Some f) d = (outcome_of f.cast.dex f.bout d).told
+events_from None decision = []
+events_from (Some fight) decision = (outcome_of fight.cast.dex fight.bout decision).told
 
 abbrev pub lines_from : Option Fight → Decision → List Line → List Line
-lines_from None d ls = ls
-lines_from (Some f) d ls = let after = outcome_of f.cast.dex f.bout d in ls ++ requests f.cast after.bout after.told
+lines_from None decision ls = ls
+lines_from (Some fight) decision ls = let after = outcome_of fight.cast.dex fight.bout decision in ls
+    ++ requests fight.cast after.bout after.told
 
 abbrev pub battle_from : Option Fight → Decision → Option Fight
-battle_from None d = None
-battle_from (Some f) d = Some (record f { bout = (outcome_of f.cast.dex f.bout d).bout })
+battle_from None decision = None
+battle_from (Some fight) decision = Some (record fight { bout = (outcome_of fight.cast.dex fight.bout decision).bout })
 
 -- ---- the record after
 
 -- the record after an entry that is applied
 abbrev pub applied : Record → Entry → Record
-applied r e = record {
-  opening = r.opening;
-  chat = record_after r.opening.groups r.chat e.conn e.badge e.moment e.cmd;
-  logged = r.logged ++ logged_of (allowed_events r e) (allowed_lines r e);
-  battle = battle_after r.battle (sender_of r e) e.cmd;
+applied room entry = record {
+  opening = room.opening;
+  chat = record_after room.opening.groups room.chat entry.conn entry.badge entry.moment entry.cmd;
+  logged = room.logged ++ logged_of (allowed_events room entry) (allowed_lines room entry);
+  battle = battle_after room.battle (sender_of room entry) entry.cmd;
 }
 
 abbrev pub after_by : Option Why → Record → Entry → Record
-after_by (Some why) r e = r
-after_by None r e = applied r e
+after_by (Some why) room entry = room
+after_by None room entry = applied room entry
 
 -- the record after an entry; a refused one leaves it as it was
 unfoldable pub after : Record → Entry → Record
-after r e = after_by (verdict r e) r e
+after room entry = after_by (verdict room entry) room entry
 
 -- the record after a history
 abbrev pub run_record : Record → List Entry → Record
-run_record r [] = r
-run_record r (e ∷ es) = run_record (after r e) es
+run_record room [] = room
+run_record room (entry ∷ entries) = run_record (after room entry) entries
 
 -- ---- what a connection is sent
 
 -- what a connection is to a room, by its member
 unfoldable pub role_in : ℕ → Option Cast → ChatOpening → ChatRecord → Role
-role_in conn cast o chat = role_of cast (member conn (presents o chat))
+role_in conn cast opening chat = role_of cast (member conn (presents opening chat))
 
 abbrev pub role : ℕ → Record → Role
-role conn r = role_in conn (cast_in r.battle) r.opening r.chat
+role conn room = role_in conn (cast_in room.battle) room.opening room.chat
 
 abbrev pub seen_text : ℕ → Role → Line → Option (List ℕ)
-seen_text conn role l = if sees conn role l.audience then Some l.text else None
+seen_text conn role line = if sees conn role line.audience then Some line.text else None
 
 -- the texts of the lines that a connection in this role sees
 abbrev pub seen_texts : ℕ → Role → List Line → List (List ℕ)
@@ -215,7 +228,7 @@ seen_texts conn role ls = filter_map (seen_text conn role) ls
 -- the lines of events that a role is shown
 abbrev pub shown_events : Option Cast → Role → List Event → List (List ℕ)
 shown_events None role events = []
-shown_events (Some c) role events = event_texts c role events
+shown_events (Some cast) role events = event_texts cast role events
 
 -- ---- the backlog
 
@@ -223,39 +236,40 @@ shown_events (Some c) role events = event_texts c role events
 abbrev pub shown_item : Option Cast → Role → Logged → Option (List ℕ)
 shown_item cast role (logs.Text text) = Some text
 shown_item None role (logs.Event event) = None
-shown_item (Some c) role (logs.Event event) = event_text c role event
+shown_item (Some cast) role (logs.Event event) = event_text cast role event
 
 abbrev pub shown_items : Option Cast → Role → List Logged → List (List ℕ)
 shown_items cast role items = filter_map (shown_item cast role) items
 
 -- of a chat the last hundred, of a battle all
-abbrev pub kept_back : Option Cast → List Logged → List Logged
-kept_back None items = drop (length items - 100) items
-kept_back (Some c) items = items
+abbrev pub backlog_items : Option Cast → List Logged → List Logged
+backlog_items None items = drop (length items - 100) items
+backlog_items (Some cast) items = items
 
 -- the backlog of who joined when so much was logged
 abbrev pub backlog_of : Option Cast → Joined → List Logged → List (List ℕ)
-backlog_of cast j items = shown_items cast j.role (kept_back cast (take j.logged items))
+backlog_of cast join items = shown_items cast join.role (backlog_items cast (take join.logged items))
 
 -- ---- messages
 
 abbrev pub joined_for : ℕ → ℕ → Told → Option Joined
-joined_for conn sender t = if conn == sender then t.joined else None
+joined_for conn sender telling = if conn == sender then telling.joined else None
 
 abbrev pub joined_or : Option Joined → Option Cast → List Logged → List (List ℕ) → List (List ℕ)
 joined_or None cast items texts = texts
-joined_or (Some j) cast items texts = j.head ++ backlog_of cast j items ++ option_to_list j.request
+joined_or (Some join) cast items texts = join.head ++ backlog_of cast join items ++ option_to_list join.request
 
 -- What a connection in this role is sent of what an entry of `sender` gives: who joins is sent the room in the place of the
 -- lines, and everybody else the lines that it sees, those of events first.
 abbrev pub message_of : ℕ → Role → ℕ → Told → Option Cast → List Logged → List (List ℕ)
-message_of conn role sender t cast items = joined_or (joined_for conn sender t) cast items (shown_events cast role t.events ++ seen_texts conn role t.lines)
+message_of conn role sender telling cast items = joined_or (joined_for conn sender telling) cast items
+    (shown_events cast role telling.events ++ seen_texts conn role telling.lines)
 
 -- what a connection is sent at an entry, by its role before it
 abbrev pub message : ℕ → Record → Entry → List (List ℕ)
-message conn r e = message_of conn (role conn r) e.conn (told r e) (cast_in r.battle) r.logged
+message conn room entry = message_of conn (role conn room) entry.conn (told room entry) (cast_in room.battle) room.logged
 
 -- all that a connection is sent over a history, message by message
 abbrev pub view : ℕ → Record → List Entry → List (List (List ℕ))
-view conn r [] = []
-view conn r (e ∷ es) = sent (message conn r e) ++ view conn (after r e) es
+view conn room [] = []
+view conn room (entry ∷ entries) = sent (message conn room entry) ++ view conn (after room entry) entries

@@ -11,16 +11,16 @@ pub record Story : Type 0 where
   pub history : List Entry
 
 abbrev pub story : Opening → List Entry → Story
-story o h = record { opening = o; history = h }
+story opening history = record { opening = opening; history = history }
 
 -- the record before the first entry
 abbrev pub begun : Story → Record
-begun s = opened s.opening
+begun world = opened world.opening
 
 -- all that a connection is sent, message by message
 abbrev pub view_of : ℕ → Story → List (List (List ℕ))
-view_of conn s = view conn (begun s) s.history
+view_of conn world = view conn (begun world) world.history
 
 -- the room after it
 abbrev pub seen_of : Story → Seen
-seen_of s = run_seen (seen_opened s.opening) s.history
+seen_of world = run_seen (seen_opened world.opening) world.history

@@ -37,7 +37,14 @@ impl Model for Opening {
 
     ghost Value = { Opened };
 
-    ghost view = { λ o. record { no = o.no; id = o.id; title = o.title; config = arc_value o.config; dex = arc_value o.dex; battle = o.battle } };
+    ghost view = { λ o. record {
+      no = o.no;
+      id = o.id;
+      title = o.title;
+      config = arc_value o.config;
+      dex = arc_value o.dex;
+      battle = o.battle;
+    } };
 }
 
 /// The parts of an opening.

@@ -86,7 +86,7 @@ impl Room {
     ghost use Rattle.ps_room.specs.Rooms.{verdict, role};
     ghost use Rattle.ps_room.specs.Logs.{record_in, given, seen_opened, seen_after, out_of, Goes, MakesNone};
     ghost use Rattle.ps_splitlog.specs.Reads.{cursor_past, read_past};
-    ghost use Rattle.ps_splitlog.specs.Pieces.{without_last, fewest_left, IsShort, IsFull};
+    ghost use Rattle.ps_splitlog.specs.Pieces.{without_last, fewest_left, HadRoomBeforeLast, IsFull};
     ghost use Rattle.ps_base.specs.Messages.{msg_lines};
 
     /// Whether a room can have this opening: where it has a battle, that can start under the configuration and the dex. Takes
@@ -245,7 +245,7 @@ impl Room {
         ensures high { IfOk result (λ p. p.left ≤ most) }
         ensures low { IfOk result (λ p. fewest_left least cursor.old self.now.log ≤ p.left) }
         ensures onward { IfOk result (λ p. p.left ≤ length self.now.log - cursor.old.at) }
-        ensures short { IfOk result (λ p. IsShort (map msg_lines p.messages.items) ⊎ (p.left ≡ most)) }
+        ensures short { IfOk result (λ p. HadRoomBeforeLast (map msg_lines p.messages.items) ⊎ (p.left ≡ most)) }
         ensures whole { IfOk result (λ p. (p.left ≡ fewest_left least cursor.old self.now.log) ⊎ IsFull (map msg_lines p.messages.items)) }
         ensures err { OnErr result (cursor.new ≡ cursor.old) }
     {

@@ -99,7 +99,12 @@ fn names_with(
     players: [Name; 2],
     teams: &[Legal; 2],
 ) -> Result<Names, AllocError>
-    ensures { IfOk result (λ n. n ≡ record { players = players; nicks = map nicks_of_legal teams.now; format = name_of_format (option_copied format.entry); percent = in_percent (option_copied format.entry) }) }
+    ensures { IfOk result (λ n. n ≡ record {
+      players = players;
+      nicks = map nicks_of_legal teams.now;
+      format = name_of_format (option_copied format.entry);
+      percent = in_percent (option_copied format.entry);
+    }) }
 {
     let percent = in_percent(format);
     let format = name_of_format(alloc, format)?;

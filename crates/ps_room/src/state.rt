@@ -6,9 +6,11 @@ ghost use Rattle.battle_rounds.specs.Rounds.{outcome, ended as bout_ended};
 ghost use Rattle.ps_splitlog.specs.Lines.{stored_of_line};
 ghost use Rattle.ps_room.specs.Records.{presents_of, cast_in};
 ghost use Rattle.ps_room.specs.Roles.{role_of_member, side_of_member};
-ghost use Rattle.ps_room.specs.Rooms.{is_join, role_in, sender_of, refused_line, refusal_by_battle, with_bout, CanGoOn, IsIdle, IsDecided, CanDecideIn, events_from, lines_from, battle_from, request_for};
+ghost use Rattle.ps_room.specs.Rooms.{is_join, role_in, sender_of, refused_line, refusal_by_battle, with_bout, CanGoOn, IsIdle};
+ghost use Rattle.ps_room.specs.Rooms.{IsDecided, CanDecideIn, events_from, lines_from, battle_from, request_for};
 ghost use Rattle.battle_rounds.specs.Fights.{outcome_of, CanDecide, bout_or, requests as requested};
-ghost use Rattle.ps_room.specs.Logs.{conns_with, touched_by, change_in, changed_conn, backlog_size, stored_in, join_if, ending_of, ending_from};
+ghost use Rattle.ps_room.specs.Logs.{conns_with, touched_by, change_in, changed_conn, backlog_size, stored_in, join_if, ending_of};
+ghost use Rattle.ps_room.specs.Logs.{ending_from};
 ghost use Rattle.ps_room.specs.declared.outcome.Verdict.TheVariants.{Applied};
 
 use crate::entry::Entry;
@@ -165,7 +167,8 @@ fn set_roles(chat: &Chat, cast: Option<&Cast>, changes: &mut [(ConnNo, Role)])
 
 // The same of a vector.
 fn set_all_roles(chat: &Chat, cast: Option<&Cast>, changes: &mut Vec<(ConnNo, Role)>)
-    ensures { changes.new.items ≡ map (λ c. change_in (option_copied cast.entry) chat.now.opening chat.now.state (changed_conn c)) changes.old.items }
+    ensures { changes.new.items ≡ map (λ c. change_in (option_copied cast.entry) chat.now.opening chat.now.state (changed_conn c))
+        changes.old.items }
 {
     set_roles(chat, cast, changes.as_mut_slice());
 }
@@ -220,7 +223,8 @@ fn rounds_by(
 ) -> Result<Option<BoutBox>, AllocError>
     requires can { CanDecide battle.now.bout decision }
     requires empty { out.old.items ≡ [] }
-    ensures after { IfOk result (λ next. outcome (bout_or battle.now.bout next) out.new ≡ outcome_of battle.now.cast.dex battle.now.bout decision) }
+    ensures after { IfOk result (λ next. outcome (bout_or battle.now.bout next) out.new
+        ≡ outcome_of battle.now.cast.dex battle.now.bout decision) }
     ensures bout { IfOk result (λ next. CanGoOn (Some battle.now) next) }
 {
     let next = battle.after(alloc, decision, out)?;
@@ -260,7 +264,12 @@ fn request_for(
 
 // What a refused entry gives: its line, which goes to its sender alone.
 fn refused_log_entry(alloc: Global, conn: ConnNo, why: Why) -> Result<LogEntry, AllocError>
-    ensures { IfOk result (λ h. h ≡ record { conn = conn; lines = map stored_of_line (refused_line conn why ∷ []); join = None; roles = [] }) }
+    ensures { IfOk result (λ h. h ≡ record {
+      conn = conn;
+      lines = map stored_of_line (refused_line conn why ∷ []);
+      join = None;
+      roles = [];
+    }) }
 {
     let line = ChatLine {
         audience: Audience::One(conn.0),
@@ -343,7 +352,14 @@ fn prepared_with(
 ) -> Result<Prepared, AllocError>
     requires { CanDecide battle.now.bout decision }
     ensures out { IfOk result (λ p. p.out ≡ record { verdict = Applied; ended = ending_from (Some battle.now) decision }) }
-    ensures log_entry { IfOk result (λ p. p.log_entry ≡ record { conn = conn; lines = stored_in (Some battle.now.cast) (events_from (Some battle.now) decision) (lines_from (Some battle.now) decision lines.items); join = join; roles = [] }) }
+    ensures log_entry { IfOk result (λ p. p.log_entry
+        ≡ record {
+          conn = conn;
+          lines = stored_in (Some battle.now.cast) (events_from (Some battle.now) decision)
+              (lines_from (Some battle.now) decision lines.items);
+          join = join;
+          roles = [];
+        }) }
     ensures after { IfOk result (λ p. with_bout (Some battle.now) p.bout ≡ battle_from (Some battle.now) decision) }
     ensures bout { IfOk result (λ p. CanGoOn (Some battle.now) p.bout) }
 {
@@ -374,7 +390,14 @@ fn prepared_by(
 ) -> Result<Prepared, AllocError>
     requires { CanDecideIn (option_copied battle) decision }
     ensures out { IfOk result (λ p. p.out ≡ record { verdict = Applied; ended = ending_from (option_copied battle.entry) decision }) }
-    ensures log_entry { IfOk result (λ p. p.log_entry ≡ record { conn = conn; lines = stored_in (cast_in (option_copied battle.entry)) (events_from (option_copied battle.entry) decision) (lines_from (option_copied battle.entry) decision lines.items); join = join; roles = [] }) }
+    ensures log_entry { IfOk result (λ p. p.log_entry
+        ≡ record {
+          conn = conn;
+          lines = stored_in (cast_in (option_copied battle.entry))
+              (events_from (option_copied battle.entry) decision) (lines_from (option_copied battle.entry) decision lines.items);
+          join = join;
+          roles = [];
+        }) }
     ensures after { IfOk result (λ p. with_bout (option_copied battle.entry) p.bout ≡ battle_from (option_copied battle.entry) decision) }
     ensures bout { IfOk result (λ p. CanGoOn (option_copied battle.entry) p.bout) }
     ensures idle { IfOk result (λ p. IsIdle (option_copied battle.entry) p.bout) }
@@ -403,7 +426,8 @@ fn set_bout(battle: &mut Option<RoomBattle>, bout: Option<BoutBox>)
 impl RoomState {
     ghost use Rattle.ps_room.specs.Openings.{IsFitOpening};
     ghost use Rattle.ps_room.specs.Rooms.{verdict, role, head};
-    ghost use Rattle.ps_room.specs.Logs.{record_in, given, kept_of, opened_log, unlogged, seen_opened, state_after, out_of, Goes, MakesNone};
+    ghost use Rattle.ps_room.specs.Logs.{record_in, given, kept_of, opened_log, unlogged, seen_opened, state_after, out_of, Goes};
+    ghost use Rattle.ps_room.specs.Logs.{MakesNone};
 
     /// A room with nobody in it; where the opening has a battle, that is open.
     pub fn open(alloc: Global, opening: Opening) -> Result<OpenedRoom, AllocError>

@@ -13,4 +13,4 @@ walk_fault (Contradiction id) = Some (Contradiction id)
 
 -- What was found, or the first fault of the walk. Out of memory may come in the place of either.
 abbrev pub Finds : {A : Type 0} → Result A RuleFault → Result A RuleFault → Type 0
-Finds result found = Returns (λ x. x) walk_fault result found
+Finds result found = Returns (λ value. value) walk_fault result found

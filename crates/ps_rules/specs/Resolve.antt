@@ -13,11 +13,11 @@ no_formats version = record { version = version; rulesets = []; formats = [] }
 
 -- the index of the format with an id
 unfoldable pub format_index : List ℕ → List Format → Option ℕ
-format_index id formats = position (λ f. bytes_eq f.id id) formats
+format_index id formats = position (λ format. bytes_eq format.id id) formats
 
 abbrev pub at_its_index : Option ℕ → List Format → Option Format
 at_its_index None formats = None
-at_its_index (Some i) formats = slice_get formats i
+at_its_index (Some index) formats = slice_get formats index
 
 -- the format with an id
 abbrev pub format_of : List ℕ → List Format → Option Format
@@ -32,7 +32,7 @@ unfoldable pub alone : Said → List ℕ → Result RuleTable RuleFault
 alone said id = clauses_of said.version said.rulesets (record { id = id; repeals = false } ∷ []) >>> λ clauses. Ok (plain clauses)
 
 abbrev pub table_or : Result RuleTable RuleFault → Option Format → Result RuleTable RuleFault
-table_or other (Some f) = Ok f.table
+table_or other (Some format) = Ok format.table
 table_or other None = other
 
 -- the table of the format with the id; an id that no format has is taken as a rule

@@ -26,38 +26,38 @@ frame_at index = record { index = index; next = 0; tally = nothing }
 
 -- one text more has been walked
 abbrev pub further : Frame → Tally → Frame
-further f t = record { index = f.index; next = f.next + 1; tally = t }
+further frame tally = record { index = frame.index; next = frame.next + 1; tally = tally }
 
 -- a text that names the ruleset with a mark
 abbrev pub by_mark : List ℕ → Frame → ℕ → Option Mark → Result Turn RuleFault
-by_mark id f index None = Err (Cycle id)
-by_mark id f index (Some New) = Ok (Inner index)
-by_mark id f index (Some Open) = Err (Cycle id)
-by_mark id f index (Some (Done clauses)) = Ok (Further (further f (with_inner f.tally clauses)))
+by_mark id frame index None = Err (Cycle id)
+by_mark id frame index (Some New) = Ok (Inner index)
+by_mark id frame index (Some Open) = Err (Cycle id)
+by_mark id frame index (Some (Done clauses)) = Ok (Further (further frame (with_inner frame.tally clauses)))
 
 abbrev pub by_index : List Mark → List ℕ → Frame → Option ℕ → Result Turn RuleFault
-by_index marks id f None = Err (UnknownRule id)
-by_index marks id f (Some index) = by_mark id f index (slice_get marks index)
+by_index marks id frame None = Err (UnknownRule id)
+by_index marks id frame (Some index) = by_mark id frame index (slice_get marks index)
 
 -- a text that names a clause
 abbrev pub by_own : List ℕ → Frame → Option Tally → Result Turn RuleFault
-by_own id f None = Err (Contradiction id)
-by_own id f (Some t) = Ok (Further (further f t))
+by_own id frame None = Err (Contradiction id)
+by_own id frame (Some tally) = Ok (Further (further frame tally))
 
 abbrev pub by_name : List Ruleset → List Mark → Frame → Rule → Option Clause → Result Turn RuleFault
-by_name sets marks f r (Some clause) = by_own r.id f (own f.tally (bit_of clause) r.repeals)
-by_name sets marks f r None = by_index marks r.id f (set_named sets r)
+by_name sets marks frame rule (Some clause) = by_own rule.id frame (own frame.tally (bit_of clause) rule.repeals)
+by_name sets marks frame rule None = by_index marks rule.id frame (set_named sets rule)
 
 unfoldable pub heard : List Ruleset → List Mark → Frame → Rule → Result Turn RuleFault
-heard sets marks f r = by_name sets marks f r (clause_of r.id)
+heard sets marks frame rule = by_name sets marks frame rule (clause_of rule.id)
 
 abbrev pub at_text : List Ruleset → List Mark → Frame → Option Rule → Result Turn RuleFault
-at_text sets marks f None = Ok (Over (left_on f.tally))
-at_text sets marks f (Some r) = heard sets marks f r
+at_text sets marks frame None = Ok (Over (left_on frame.tally))
+at_text sets marks frame (Some rule) = heard sets marks frame rule
 
 -- the next step in a list
 unfoldable pub turn_in : List Ruleset → List Mark → List Rule → Frame → Result Turn RuleFault
-turn_in sets marks first f = at_text sets marks f (slice_get (rules_in sets first f.index) f.next)
+turn_in sets marks first frame = at_text sets marks frame (slice_get (rules_in sets first frame.index) frame.next)
 
 -- the ruleset of a list leaves these clauses on from now on
 abbrev pub closed : List Mark → Option ℕ → ℕ → List Mark

@@ -10,11 +10,11 @@ use Rattle.ps_rules.specs.declared.version.Version.TheVariants.{First, Second}
 use Rattle.ps_rules.specs.Clauses.{bit_of}
 
 abbrev pub version_of : ℕ → Version
-version_of n = if n == 2 then Second else First
+version_of number = if number == 2 then Second else First
 
 -- 1 or 2, and 1 where the key is missing
 unfoldable pub version_in : Data → Result Version Fault
-version_in d = optional (codes "version") 1 (number_in 1 2) d >>= λ n. Ok (version_of n)
+version_in value = optional (codes "version") 1 (number_in 1 2) value >>= λ number. Ok (version_of number)
 
 -- the clauses that are on whatever a rule list says
 abbrev pub always_on : Version → ℕ

@@ -2,7 +2,8 @@
 --
 -- A list is walked in order, and a ruleset where it stands depth first. The result is the clauses of the inner lists and
 -- those that the list names itself, less those that it repeals itself.
-use Rattle.std.specs.Prelude.{ℕ, ◌==◌, Bool, List, [], ◌∷◌, slice_get, Option, Some, None, Result, Ok, Err, bit_and, bit_or, bit_xor, if◌then◌else◌}
+use Rattle.std.specs.Prelude.{ℕ, ◌==◌, Bool, List, [], ◌∷◌, slice_get, Option, Some, None, Result, Ok, Err, bit_and, bit_or, bit_xor}
+use Rattle.std.specs.Prelude.{if◌then◌else◌}
 use Rattle.std.specs.List.{list_any}
 use Rattle.ps_rules.specs.declared.clause.Clause.{Clause}
 use Rattle.ps_rules.specs.declared.table.Rule.{Rule}
@@ -23,67 +24,70 @@ nothing = record { inner = 0; named = 0; repealed = 0 }
 
 -- the clauses of the inner lists and the list's own, less the list's repeals
 abbrev pub left_on : Tally → ℕ
-left_on t = bit_and (bit_or t.inner t.named) (bit_xor 255 t.repealed)
+left_on tally = bit_and (bit_or tally.inner tally.named) (bit_xor 255 tally.repealed)
 
 -- the list names a clause; None where it repeals it too
 abbrev pub naming : Tally → ℕ → Option Tally
-naming t bit = if has_clause t.repealed bit then None else Some (record { inner = t.inner; named = bit_or t.named bit; repealed = t.repealed })
+naming tally bit = if has_clause tally.repealed bit then None else Some
+    (record { inner = tally.inner; named = bit_or tally.named bit; repealed = tally.repealed })
 
 -- the list repeals a clause; None where it names it too
 abbrev pub repealing : Tally → ℕ → Option Tally
-repealing t bit = if has_clause t.named bit then None else Some (record { inner = t.inner; named = t.named; repealed = bit_or t.repealed bit })
+repealing tally bit = if has_clause tally.named bit then None else Some
+    (record { inner = tally.inner; named = tally.named; repealed = bit_or tally.repealed bit })
 
 unfoldable pub own : Tally → ℕ → Bool → Option Tally
-own t bit repeals = if repeals then repealing t bit else naming t bit
+own tally bit repeals = if repeals then repealing tally bit else naming tally bit
 
 -- an inner list leaves these on
 abbrev pub with_inner : Tally → ℕ → Tally
-with_inner t clauses = record { inner = bit_or t.inner clauses; named = t.named; repealed = t.repealed }
+with_inner tally clauses = record { inner = bit_or tally.inner clauses; named = tally.named; repealed = tally.repealed }
 
 -- ---- the walk
 
 -- the ruleset that a text names; a ruleset can't be repealed
 unfoldable pub set_named : List Ruleset → Rule → Option ℕ
-set_named sets r = if r.repeals then None else index_of r.id sets
+set_named sets rule = if rule.repeals then None else index_of rule.id sets
 
 abbrev pub rules_of : Option Ruleset → List Rule
 rules_of None = []
-rules_of (Some s) = s.rules
+rules_of (Some rule_set) = rule_set.rules
 
 -- one step after another: the first fault is the fault of both
 infixl 10 ◌>>>◌
 abbrev pub ◌>>>◌ : {A B : Type 0} → Result A RuleFault → (A → Result B RuleFault) → Result B RuleFault
-(Ok x) >>> next = next x
+(Ok value) >>> next = next value
 (Err fault) >>> next = Err fault
 
 abbrev pub is_open : ℕ → List ℕ → Bool
-is_open index within = list_any (λ p. p == index) within
+is_open index within = list_any (λ outer. outer == index) within
 
 -- a text that names a clause
 abbrev pub or_contradiction : List ℕ → Option Tally → Result Tally RuleFault
 or_contradiction id None = Err (Contradiction id)
-or_contradiction id (Some t) = Ok t
+or_contradiction id (Some tally) = Ok tally
 
 -- a text that names a ruleset, where `inside` says what a ruleset leaves on
 abbrev pub or_unknown : (List ℕ → ℕ → Result ℕ RuleFault) → List ℕ → Tally → Option ℕ → Result Tally RuleFault
-or_unknown inside id t None = Err (UnknownRule id)
-or_unknown inside id t (Some index) = inside id index >>> λ clauses. Ok (with_inner t clauses)
+or_unknown inside id tally None = Err (UnknownRule id)
+or_unknown inside id tally (Some index) = inside id index >>> λ clauses. Ok (with_inner tally clauses)
 
 abbrev pub by_clause : List Ruleset → (List ℕ → ℕ → Result ℕ RuleFault) → Tally → Rule → Option Clause → Result Tally RuleFault
-by_clause sets inside t r (Some clause) = or_contradiction r.id (own t (bit_of clause) r.repeals)
-by_clause sets inside t r None = or_unknown inside r.id t (set_named sets r)
+by_clause sets inside tally rule (Some clause) = or_contradiction rule.id (own tally (bit_of clause) rule.repeals)
+by_clause sets inside tally rule None = or_unknown inside rule.id tally (set_named sets rule)
 
 -- the texts of one list in order
 abbrev pub texts : List Ruleset → (List ℕ → ℕ → Result ℕ RuleFault) → Tally → List Rule → Result ℕ RuleFault
-texts sets inside t [] = Ok (left_on t)
-texts sets inside t (r ∷ rules) = by_clause sets inside t r (clause_of r.id) >>> λ u. texts sets inside u rules
+texts sets inside tally [] = Ok (left_on tally)
+texts sets inside tally (rule ∷ rules) = by_clause sets inside tally rule (clause_of rule.id) >>> λ next. texts sets inside next rules
 
 -- What the ruleset at an index leaves on, inside the rulesets at the indices `within`: a ruleset met inside itself is a
 -- cycle. `deeper` has an item for each list that may still be entered. At first these are as many as there are
 -- rulesets; so where none is left each ruleset is open already, and the first case says no more than the test in the second.
 abbrev pub set_at : List Ruleset → List Ruleset → List ℕ → List ℕ → ℕ → Result ℕ RuleFault
 set_at [] sets within id index = Err (Cycle id)
-set_at (d ∷ deeper) sets within id index = if is_open index within then Err (Cycle id) else texts sets (set_at deeper sets (index ∷ within)) nothing (rules_of (slice_get sets index))
+set_at (item ∷ deeper) sets within id index = if is_open index within then Err (Cycle id) else texts sets
+    (set_at deeper sets (index ∷ within)) nothing (rules_of (slice_get sets index))
 
 -- the clauses that a rule list leaves on by itself
 unfoldable pub walk : List Ruleset → List Rule → Result ℕ RuleFault

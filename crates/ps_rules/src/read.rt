@@ -5,7 +5,8 @@ ghost use Rattle.ps_data.specs.OwnIds.{IsNew};
 ghost use Rattle.ps_data.specs.Reading.{Gives, GivesBy, optional};
 ghost use Rattle.ps_data.specs.Forms.{number_in};
 ghost use Rattle.ps_rules.specs.Versions.{always_on};
-ghost use Rattle.ps_rules.specs.Reading.{clauses_in, has_ban, is_known, ban_in, bans_in, two_levels_in, level_in, levels_of, levels_in, table_in, format_in, formats_in, said_in};
+ghost use Rattle.ps_rules.specs.Reading.{clauses_in, has_ban, is_known, ban_in, bans_in, two_levels_in, level_in, levels_of};
+ghost use Rattle.ps_rules.specs.Reading.{levels_in, table_in, format_in, formats_in, said_in};
 
 use crate::list::{read_clauses, rulesets_at};
 use crate::name::{Named, read_name};

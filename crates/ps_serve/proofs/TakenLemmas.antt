@@ -17,7 +17,7 @@ use Rattle.ps_serve.specs.declared.closed.End.TheVariants as ends
 use Rattle.ps_serve.specs.Steps.{Hours}
 use Rattle.ps_serve.specs.declared.closed.End.{End}
 use Rattle.ps_serve.specs.Ends.{Account, is_short, IsOpen, TellsMoments, Served}
-use Rattle.ps_serve.specs.Names.{IfTaken, HallName, RoomName, HasOwnNames}
+use Rattle.ps_serve.specs.Names.{IfTaken, HallName, RoomName, HasOwnNumber}
 use Rattle.ps_serve.specs.Rests.{HasExtraAt}
 
 moments_too : (conn : ℕ) (t : Account) (hall : Option HallPass) (old new : Hours) → TellsMoments ends.NoMemory conn t hall old new → TellsMoments ends.Taken conn t hall old new
@@ -72,7 +72,7 @@ at_hall P None each = tt
 at_hall P (Some h) each = each h refl
 
 -- of passes that hold the hall, or hold nothing
-pub own_names : (hub : Hub) (conn : ℕ) (passes : Passes) → passes.conn ≡ conn → (IsSome passes.hall → AreOf hub passes) → All (λ (k : RoomPass). IsRoomPass hub conn k) passes.rooms.items → HasOwnNames conn passes
+pub own_names : (hub : Hub) (conn : ℕ) (passes : Passes) → passes.conn ≡ conn → (IsSome passes.hall → AreOf hub passes) → All (λ (k : RoomPass). IsRoomPass hub conn k) passes.rooms.items → HasOwnNumber conn passes
 own_names hub conn passes same of rooms = record {
   hall = at_hall (HallName conn) passes.hall (λ h is. subst (λ (c : ℕ). HallName c h) same (hall_name hub passes h (of (subst IsSome (sym is) refl)) is));
   rooms = λ i d lt. room_name hub conn _ (rooms i d lt);
@@ -84,7 +84,7 @@ rooms_are hub conn t passes (Some h) is of short open_so = (of (subst IsSome (sy
 rooms_are hub conn t passes None is of true open_so = subst (All (IsRoomPass hub passes.conn)) (sym open_so.0) (All-nil (IsRoomPass hub passes.conn))
 rooms_are hub conn t passes None is of false open_so = absurd open_so
 
-pub own_names_of : (end : End) (hub : Hub) (conn : ℕ) (t : Account) (passes : Passes) (old_talk talk : Option Talk) (old_counts counts : LinkCounts) (old_hours hours : Hours) → Served end hub conn t passes old_talk talk old_counts counts old_hours hours → HasOwnNames conn passes
+pub own_names_of : (end : End) (hub : Hub) (conn : ℕ) (t : Account) (passes : Passes) (old_talk talk : Option Talk) (old_counts counts : LinkCounts) (old_hours hours : Hours) → Served end hub conn t passes old_talk talk old_counts counts old_hours hours → HasOwnNumber conn passes
 own_names_of end hub conn t passes old_talk talk old_counts counts old_hours hours s =
     let rooms = rooms_are hub conn t passes passes.hall refl s.of.of (is_short end) s.opened in
     own_names hub conn passes s.history.conn_is s.of.of (subst (λ (c : ℕ). All (IsRoomPass hub c) passes.rooms.items) s.history.conn_is rooms)

@@ -15,7 +15,7 @@ use Rattle.server_places.specs.StoryLaws.{one_story}
 use Rattle.ps_hub.specs.Hubs.{Hub, site_of}
 use Rattle.ps_hub.specs.Passes.{HallPass, RoomPass}
 use Rattle.ps_serve.specs.Sendings.{texts_from, message_texts}
-use Rattle.ps_serve.specs.Ends.{Account, HallSent, RoomSent, hall_seen, LosesNothing, hall_world, HallElsewhere, RoomElsewhere}
+use Rattle.ps_serve.specs.Ends.{Account, HallSent, RoomSent, hall_seen, HallLosesNothing, hall_world, HallElsewhere, RoomElsewhere}
 
 pub hall_elsewhere : (b : Bool) (hub : Hub) (conn : ℕ) (t : Account) (h : HallPass) → HallSent b hub conn t h → HallElsewhere b hub conn t h
 hall_elsewhere false hub conn t h s = λ (other : HallStory) (same : AreHallsSame conn (hall_world hub h) other). s.2 ∙ ap (message_texts None) (s.1 ∙ hall_views_are_equal conn (hall_world hub h) other same)
@@ -35,6 +35,6 @@ room_elsewhere false hub conn t k sent = λ (s other : Story) (tells : Tells (si
 room_elsewhere true hub conn t k sent = λ (s other : Story) (tells : Tells (site_of hub k.number) (take k.at (commands k.pass.1.seen)) (Some s)) (same : AreSame conn s other).
     subst (λ (v : List (List (List ℕ))). IsPrefix (texts_from (Some k.number) t.sendings) (message_texts k.id v)) (same_view conn hub k sent.0 sent.1 s other tells same) sent.2
 
-pub loses_nothing : (hub : Hub) (hall : Option HallPass) → IfSome hall (LosesNothing hub)
+pub loses_nothing : (hub : Hub) (hall : Option HallPass) → IfSome hall (HallLosesNothing hub)
 loses_nothing hub None = tt
 loses_nothing hub (Some h) = hall_whole (hall_seen hub h)

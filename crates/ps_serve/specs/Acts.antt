@@ -42,37 +42,37 @@ order_in (in_room number id cmd badge ended) = Room id cmd
 order_in (nowhere asked id cmd) = Room id cmd
 
 abbrev pub with_given : Option Badge → Record → Record
-with_given None r = r
-with_given (Some badge) r = with_badge badge r
+with_given None session = session
+with_given (Some badge) session = with_badge badge session
 
 -- what is known of the connection after it
 abbrev pub after_made : Record → Made → Record
-after_made r (in_hall cmd badge start) = with_given badge (counted None r)
-after_made r (in_room number id cmd badge ended) = counted (Some id) r
-after_made r (nowhere asked id cmd) = after_no_room (counted (Some id) r)
+after_made session (in_hall cmd badge start) = with_given badge (counted None session)
+after_made session (in_room number id cmd badge ended) = counted (Some id) session
+after_made session (nowhere asked id cmd) = after_no_room (counted (Some id) session)
 
 abbrev pub after_act : Record → Act → Record
-after_act r quiet = r
-after_act r (heard bytes moment made) = after_made r made
+after_act session quiet = session
+after_act session (heard bytes moment made) = after_made session made
 
 abbrev pub after_acts : Record → List Act → Record
-after_acts r [] = r
-after_acts r (a ∷ rest) = after_acts (after_act r a) rest
+after_acts session [] = session
+after_acts session (act ∷ rest) = after_acts (after_act session act) rest
 
 -- an entry of a room brings the badge that the connection has, and a Bad needs that the hall takes a further text
 abbrev pub IsMadeBy : Record → Made → Type 0
-IsMadeBy r (in_hall cmd badge start) = Unit {0}
-IsMadeBy r (in_room number id cmd badge ended) = r.badge ≡ Some badge
-IsMadeBy r (nowhere asked id cmd) = is_full None (counted (Some id) r) ≡ false
+IsMadeBy session (in_hall cmd badge start) = Unit {0}
+IsMadeBy session (in_room number id cmd badge ended) = session.badge ≡ Some badge
+IsMadeBy session (nowhere asked id cmd) = is_full None (counted (Some id) session) ≡ false
 
 -- the text was taken for that order
 abbrev pub IsAct : Record → Act → Type 0
-IsAct r quiet = Unit {0}
-IsAct r (heard bytes moment made) = (taken r bytes ≡ Ok (order_in made)) × IsMadeBy r made
+IsAct session quiet = Unit {0}
+IsAct session (heard bytes moment made) = (taken session bytes ≡ Ok (order_in made)) × IsMadeBy session made
 
 abbrev pub AreActs : Record → List Act → Type 0
-AreActs r [] = Unit {0}
-AreActs r (a ∷ rest) = IsAct r a × AreActs (after_act r a) rest
+AreActs session [] = Unit {0}
+AreActs session (act ∷ rest) = IsAct session act × AreActs (after_act session act) rest
 
 -- what the link gave
 abbrev pub arrival_of : Act → Arrival
@@ -140,7 +140,7 @@ is_at number (heard bytes moment made) = joins_made number made
 -- the acts from the first entry of the room on
 abbrev pub since : ℕ → List Act → List Act
 since number [] = []
-since number (a ∷ rest) = if is_at number a then a ∷ rest else since number rest
+since number (act ∷ rest) = if is_at number act then act ∷ rest else since number rest
 
 -- ---- asking for rooms that aren't there
 

@@ -52,6 +52,7 @@ use Rattle.ps_serve.specs.Sittings.{IsSent, HasOpen, IsPartSent, AreAlmostAnswer
 use Rattle.ps_serve.specs.Sittings.{AreApart}
 use Rattle.ps_serve.specs.Steps.{Hours, Asked}
 use Rattle.ps_serve.specs.Names.{AreLooksFresh}
+use Rattle.ps_base.specs.Characters as characters
 
 -- What a session did and sent: of each answer of the link, in order, what came of it; what was sent; the text that ended the
 -- session and became nothing, if there was one; and the moments of its Open, of such a text, if one was asked for it, and of its
@@ -83,23 +84,23 @@ abbrev pub text_item : List ℕ → Arrival
 text_item bytes = arrivals.Text bytes
 
 -- where the link tells its talk: the acts are what it gave, in order and each once, and the sendings what it was sent
-pub record IsTalk (t : Account) (old new : Talk) : Type 0 where
-  pub given : old.inbox ≡ map arrival_of t.acts ++ (map text_item t.rest ++ new.inbox)
-  pub answers : new.answers ≡ old.answers + (length t.acts + length t.rest)
-  pub sent : new.sent ≡ old.sent ++ map (sent_text old.answers) t.sendings
+pub record IsTalk (account : Account) (old new : Talk) : Type 0 where
+  pub given : old.inbox ≡ map arrival_of account.acts ++ (map text_item account.rest ++ new.inbox)
+  pub answers : new.answers ≡ old.answers + (length account.acts + length account.rest)
+  pub sent : new.sent ≡ old.sent ++ map (sent_text old.answers) account.sendings
 
 abbrev pub AreOfLink : Account → Option Talk → Option Talk → Type 0
-AreOfLink t None None = Unit {0}
-AreOfLink t (Some old) (Some new) = IsTalk t old new
-AreOfLink t old new = ⊥
+AreOfLink account None None = Unit {0}
+AreOfLink account (Some old) (Some new) = IsTalk account old new
+AreOfLink account old new = ⊥
 
 -- each text became what the way of texts makes of it
 abbrev pub AreOfWay : ℕ → Account → Type 0
-AreOfWay conn t = AreActs (begun conn) t.acts
+AreOfWay conn account = AreActs (begun conn) account.acts
 
 -- the session of a connection over a link
 abbrev pub IsAccount : ℕ → Account → Option Talk → Option Talk → Type 0
-IsAccount conn t old new = AreOfLink t old new × AreOfWay conn t
+IsAccount conn account old new = AreOfLink account old new × AreOfWay conn account
 
 -- of some account of the connection and what its link says, this holds
 abbrev pub SomeAccount : ℕ → Option Talk → Option Talk → (Account → Type 0) → Type 0
@@ -115,15 +116,17 @@ module _ {C : Type 0} (shows : List C → List (List (List ℕ)) → Type 0) whe
   IsSentSo false cmds at room place ss = IsSent shows cmds at room place ss
 
 abbrev pub HallSent : Bool → Hub → ℕ → Account → HallPass → Type 0
-HallSent broken hub conn t h = IsSentSo (HallShows conn (root_of hub)) broken (commands h.pass.1.seen) h.at None None t.sendings
+HallSent broken hub conn account hall = IsSentSo (HallShows conn (root_of hub)) broken (commands hall.pass.1.seen) hall.at None None
+    account.sendings
 
 abbrev pub RoomSent : Bool → Hub → ℕ → Account → RoomPass → Type 0
-RoomSent broken hub conn t k = IsSentSo (Shows conn (site_of hub k.number)) broken (commands k.pass.1.seen) k.at k.id (Some k.number)
-    t.sendings
+RoomSent broken hub conn account room = IsSentSo (Shows conn (site_of hub room.number)) broken (commands room.pass.1.seen) room.at
+    room.id (Some room.number)
+    account.sendings
 
-pub record SentIsView (end : End) (hub : Hub) (conn : ℕ) (t : Account) (passes : Passes) : Type 0 where
-  pub hall : IfSome passes.hall (HallSent (is_broken end) hub conn t)
-  pub rooms : All (RoomSent (is_broken end) hub conn t) passes.rooms.items
+pub record SentIsView (end : End) (hub : Hub) (conn : ℕ) (account : Account) (passes : Passes) : Type 0 where
+  pub hall : IfSome passes.hall (HallSent (is_broken end) hub conn account)
+  pub rooms : All (RoomSent (is_broken end) hub conn account) passes.rooms.items
 
 -- ---- labels
 
@@ -136,18 +139,18 @@ pub record IsOfRoom (hub : Hub) (rooms : List RoomPass) (number : ℕ) (text : L
   pub held : pass.id ≡ Some id
   pub named : Names hub.config id number
   pub lines : List (List ℕ)
-  pub text_is : text ≡ (62 ∷ id) ++ behind lines
+  pub text_is : text ≡ (characters.greater_than ∷ id) ++ behind lines
 
 -- one that was sent from the hall begins with `|`
 abbrev pub IsOfHall : List ℕ → Type 0
-IsOfHall text = (rest : List ℕ) × (text ≡ 124 ∷ rest)
+IsOfHall text = (rest : List ℕ) × (text ≡ characters.bar ∷ rest)
 
 abbrev pub IsLabelledBy : Option ℕ → Hub → List RoomPass → List ℕ → Type 0
 IsLabelledBy None hub rooms text = IsOfHall text
 IsLabelledBy (Some number) hub rooms text = IsOfRoom hub rooms number text
 
 abbrev pub IsLabelled : Hub → List RoomPass → Sending → Type 0
-IsLabelled hub rooms s = IsLabelledBy s.place hub rooms s.text
+IsLabelled hub rooms sending = IsLabelledBy sending.place hub rooms sending.text
 
 -- ---- entries of the texts
 
@@ -168,104 +171,107 @@ AllOrPart false made all = made ≡ all
 
 -- The pass of the hall has made the entries of the texts, in order and each once, and then one Quit.
 abbrev pub HallMade : Bool → ℕ → Account → HallPass → Type 0
-HallMade short conn t h = AllThenQuit short (commands h.pass.1.mine) (hall_entries conn t.acts) (hall_quit conn t.left)
+HallMade short conn account hall = AllThenQuit short (commands hall.pass.1.mine) (hall_entries conn account.acts)
+    (hall_quit conn account.left)
 
 -- so has the pass of a place that is held, the Quit with the badge that is kept; at one that isn't there are Begins alone
 abbrev pub RoomMadeBy : Option (List ℕ) → Bool → ℕ → Option Badge → Account → RoomPass → Type 0
-RoomMadeBy None short conn badge t k = AllOrPart short (commands k.pass.1.mine) (room_cmds conn k.number t.acts)
-RoomMadeBy (Some id) short conn badge t k = (b : Badge) × (badge ≡ Some b)
-    × AllThenQuit short (commands k.pass.1.mine) (room_cmds conn k.number t.acts) (room_quit conn b t.left)
+RoomMadeBy None short conn badge account room = AllOrPart short (commands room.pass.1.mine) (room_cmds conn room.number account.acts)
+RoomMadeBy (Some id) short conn badge account room = (kept : Badge) × (badge ≡ Some kept)
+    × AllThenQuit short (commands room.pass.1.mine) (room_cmds conn room.number account.acts) (room_quit conn kept account.left)
 
 abbrev pub RoomMade : Bool → ℕ → Option Badge → Account → RoomPass → Type 0
-RoomMade short conn badge t k = RoomMadeBy k.id short conn badge t k
+RoomMade short conn badge account room = RoomMadeBy room.id short conn badge account room
 
 -- all but the Quit stand among what was handed out
 abbrev pub HallGiven : Bool → ℕ → Account → HallPass → Type 0
-HallGiven true conn t h = Unit {0}
-HallGiven false conn t h = commands (entries_of h.pass.1.number (take h.at h.pass.1.seen)) ≡ hall_entries conn t.acts
+HallGiven true conn account hall = Unit {0}
+HallGiven false conn account hall = commands (entries_of hall.pass.1.number (take hall.at hall.pass.1.seen))
+    ≡ hall_entries conn account.acts
 
 abbrev pub RoomGivenBy : Option (List ℕ) → Bool → ℕ → Account → RoomPass → Type 0
-RoomGivenBy (Some id) false conn t k = commands (entries_of k.pass.1.number (take k.at k.pass.1.seen)) ≡ room_cmds conn k.number t.acts
-RoomGivenBy id broken conn t k = Unit {0}
+RoomGivenBy (Some id) false conn account room = commands (entries_of room.pass.1.number (take room.at room.pass.1.seen))
+    ≡ room_cmds conn room.number account.acts
+RoomGivenBy id broken conn account room = Unit {0}
 
 abbrev pub RoomGiven : Bool → ℕ → Account → RoomPass → Type 0
-RoomGiven broken conn t k = RoomGivenBy k.id broken conn t k
+RoomGiven broken conn account room = RoomGivenBy room.id broken conn account room
 
-pub record EntriesAreMade (end : End) (conn : ℕ) (t : Account) (passes : Passes) : Type 0 where
-  pub hall : IfSome passes.hall (HallMade (is_short end) conn t)
-  pub hall_given : IfSome passes.hall (HallGiven (is_broken end) conn t)
-  pub rooms : All (RoomMade (is_short end) conn passes.badge t) passes.rooms.items
-  pub rooms_given : All (RoomGiven (is_broken end) conn t) passes.rooms.items
+pub record EntriesAreMade (end : End) (conn : ℕ) (account : Account) (passes : Passes) : Type 0 where
+  pub hall : IfSome passes.hall (HallMade (is_short end) conn account)
+  pub hall_given : IfSome passes.hall (HallGiven (is_broken end) conn account)
+  pub rooms : All (RoomMade (is_short end) conn passes.badge account) passes.rooms.items
+  pub rooms_given : All (RoomGiven (is_broken end) conn account) passes.rooms.items
   -- the badge that is kept is that of the connection's own Name
-  pub badge : passes.badge ≡ (after_acts (begun conn) t.acts).badge
+  pub badge : passes.badge ≡ (after_acts (begun conn) account.acts).badge
 
 -- ---- answers
 
 -- What each act made is what its place answered: the badge of the connection's own Name, the battle that an entry started, the end
 -- of a battle, and that no such room was there. If memory ran out the last act may say of no answer.
 abbrev pub AreAnswers : Bool → Hub → ℕ → Account → List RoomPass → HallPass → Type 0
-AreAnswers true hub conn t rooms h = (sure : List Act) × AreAlmostGiven hub conn sure t.acts h rooms
-AreAnswers false hub conn t rooms h = AreGiven hub conn [] t.acts h rooms
+AreAnswers true hub conn account rooms hall = (sure : List Act) × AreAlmostGiven hub conn sure account.acts hall rooms
+AreAnswers false hub conn account rooms hall = AreGiven hub conn [] account.acts hall rooms
 
 -- A place that isn't held took one turn for each text that asked for it in vain, and one for each battle that was begun there.
 abbrev pub IsAskedBy : Option (List ℕ) → Hub → Account → RoomPass → Type 0
-IsAskedBy None hub t k = RoomWaits hub t.acts k
-IsAskedBy (Some id) hub t k = Unit {0}
+IsAskedBy None hub account room = RoomWaits hub account.acts room
+IsAskedBy (Some id) hub account room = Unit {0}
 
 abbrev pub IsAsked : End → Hub → Account → RoomPass → Type 0
-IsAsked ends.NoMemory hub t k = Unit {0}
-IsAsked ends.Taken hub t k = Unit {0}
-IsAsked (ends.OwnLimit room) hub t k = Unit {0}
-IsAsked end hub t k = IsAskedBy k.id hub t k
+IsAsked ends.NoMemory hub account pass = Unit {0}
+IsAsked ends.Taken hub account pass = Unit {0}
+IsAsked (ends.OwnLimit room) hub account pass = Unit {0}
+IsAsked end hub account pass = IsAskedBy pass.id hub account pass
 
 -- A text with this id, behind the acts `done`, rightly became Bad(NoSuchRoom): no chat room has the id; no place that is held by it
 -- was joined before; and it isn't that of a battle which the session had begun, where it was that Begin that opened the place's room.
 pub record IsRightlyNowhere (hub : Hub) (done : List Act) (id : List ℕ) (rooms : List RoomPass) : Type 0 where
   pub no_chat : IsNoChat hub.config id
-  pub not_held : All (λ (k : RoomPass). k.id ≡ Some id → since k.number done ≡ []) rooms
-  pub not_own : All (λ (k : RoomPass). (start : Start) (history : List Entry) → Contains (begins k.number done) start
-      → Tells (site_of hub k.number) (commands k.pass.1.seen) (Some (story (battle_at (site_of hub k.number) start) history))
-      → (battle_at (site_of hub k.number) start).id ≢ id) rooms
+  pub not_held : All (λ (room : RoomPass). room.id ≡ Some id → since room.number done ≡ []) rooms
+  pub not_own : All (λ (room : RoomPass). (start : Start) (history : List Entry) → Contains (begins room.number done) start
+      → Tells (site_of hub room.number) (commands room.pass.1.seen) (Some (story (battle_at (site_of hub room.number) start) history))
+      → (battle_at (site_of hub room.number) start).id ≢ id) rooms
 
 abbrev pub IsRightly : Hub → List Act → Act → List RoomPass → Type 0
 IsRightly hub done (heard bytes moment (nowhere asked id cmd)) rooms = IsRightlyNowhere hub done id rooms
-IsRightly hub done a rooms = Unit {0}
+IsRightly hub done act rooms = Unit {0}
 
 -- so did each of these acts that is such a text
 abbrev pub AreRightly : Hub → List Act → List Act → List RoomPass → Type 0
 AreRightly hub done [] rooms = Unit {0}
-AreRightly hub done (a ∷ rest) rooms = IsRightly hub done a rooms × AreRightly hub (done ++ a ∷ []) rest rooms
+AreRightly hub done (act ∷ rest) rooms = IsRightly hub done act rooms × AreRightly hub (done ++ act ∷ []) rest rooms
 
-pub record AnswersAreKept (end : End) (hub : Hub) (conn : ℕ) (t : Account) (passes : Passes) : Type 0 where
-  pub made : IfSome passes.hall (AreAnswers (is_short end) hub conn t passes.rooms.items)
-  pub rightly : AreRightly hub [] t.acts passes.rooms.items
-  pub asked : All (IsAsked end hub t) passes.rooms.items
+pub record AnswersAreKept (end : End) (hub : Hub) (conn : ℕ) (account : Account) (passes : Passes) : Type 0 where
+  pub made : IfSome passes.hall (AreAnswers (is_short end) hub conn account passes.rooms.items)
+  pub rightly : AreRightly hub [] account.acts passes.rooms.items
+  pub asked : All (IsAsked end hub account) passes.rooms.items
 
 -- The hall is held, and the Open stands in it. If memory ran out for the Open, nothing is held, and nothing came of the link.
 abbrev pub IsOpen : Bool → ℕ → Account → Passes → Option HallPass → Type 0
-IsOpen short conn t passes (Some h) = HasOpen conn t.opened h
-IsOpen true conn t passes None = (passes.rooms.items ≡ []) × (t.acts ≡ []) × (t.rest ≡ []) × (t.sendings ≡ [])
-IsOpen false conn t passes None = ⊥
+IsOpen short conn account passes (Some hall) = HasOpen conn account.opened hall
+IsOpen true conn account passes None = (passes.rooms.items ≡ []) × (account.acts ≡ []) × (account.rest ≡ []) × (account.sendings ≡ [])
+IsOpen false conn account passes None = ⊥
 
 -- ---- moments
 
 -- the clock told one moment for the Open, one for each text that became an order, and one for the Quits
 abbrev pub moments_in : Account → List ℕ
-moments_in t = t.opened ∷ (moments_of t.acts ++ (t.extra ++ t.left ∷ []))
+moments_in account = account.opened ∷ (moments_of account.acts ++ (account.extra ++ account.left ∷ []))
 
 -- a text that is no act has a moment only where it was taken for an order
 abbrev pub HasExtra : ℕ → Account → Type 0
-HasExtra conn t = (t.extra ≡ []) ⊎ ((bytes : List ℕ) × (order : Order) × (t.rest ≡ bytes ∷ [])
-    × (taken (after_acts (begun conn) t.acts) bytes ≡ Ok order) × (length t.extra ≡ 1))
+HasExtra conn account = (account.extra ≡ []) ⊎ ((bytes : List ℕ) × (order : Order) × (account.rest ≡ bytes ∷ [])
+    × (taken (after_acts (begun conn) account.acts) bytes ≡ Ok order) × (length account.extra ≡ 1))
 
 -- if out of memory, also for the Open alone, if that wasn't made
 abbrev pub TellsMoments : End → ℕ → Account → Option HallPass → Hours → Hours → Type 0
-TellsMoments ends.NoMemory conn t None old new = Asked old (t.opened ∷ []) new
-TellsMoments ends.NoMemory conn t (Some h) old new = HasExtra conn t × Asked old (moments_in t) new
-TellsMoments ends.Taken conn t None old new = Asked old (t.opened ∷ []) new
-TellsMoments ends.Taken conn t (Some h) old new = HasExtra conn t × Asked old (moments_in t) new
-TellsMoments (ends.OwnLimit room) conn t hall old new = HasExtra conn t × Asked old (moments_in t) new
-TellsMoments end conn t hall old new = (t.extra ≡ []) × Asked old (moments_in t) new
+TellsMoments ends.NoMemory conn account None old new = Asked old (account.opened ∷ []) new
+TellsMoments ends.NoMemory conn account (Some hall) old new = HasExtra conn account × Asked old (moments_in account) new
+TellsMoments ends.Taken conn account None old new = Asked old (account.opened ∷ []) new
+TellsMoments ends.Taken conn account (Some hall) old new = HasExtra conn account × Asked old (moments_in account) new
+TellsMoments (ends.OwnLimit room) conn account hall old new = HasExtra conn account × Asked old (moments_in account) new
+TellsMoments end conn account hall old new = (account.extra ≡ []) × Asked old (moments_in account) new
 
 -- ---- looks are answered
 
@@ -275,25 +281,28 @@ module _ {C : Type 0} (shows : List C → List (List (List ℕ)) → Type 0) whe
   abbrev pub AreLooksSo : Bool → List C → ℕ → Option (List ℕ) → Option ℕ → List Sending → ℕ → ℕ → List ℕ → Type 0
   AreLooksSo true cmds at room place ss first count looks = AreAlmostAnswered shows cmds room place ss first (count - 1) count looks
   AreLooksSo false cmds at room place ss first count looks = (length looks ≡ count)
-      × AreLooksAnswered shows cmds room place ss first looks × All (λ n. n ≤ at) looks
+      × AreLooksAnswered shows cmds room place ss first looks × All (λ look. look ≤ at) looks
 
 abbrev pub HallLooks : Bool → Hub → ℕ → Account → HallPass → Type 0
-HallLooks broken hub conn t h = AreLooksSo (HallShows conn (root_of hub)) broken (commands h.pass.1.seen) h.at None None t.sendings 1
-    (length t.acts) h.pass.1.looks
+HallLooks broken hub conn account hall = AreLooksSo (HallShows conn (root_of hub)) broken (commands hall.pass.1.seen) hall.at None
+    None account.sendings 1
+    (length account.acts) hall.pass.1.looks
 
 -- a place that isn't held has no look
 abbrev pub RoomLooksBy : Option (List ℕ) → Bool → Hub → ℕ → Account → RoomPass → Type 0
-RoomLooksBy None broken hub conn t k = k.pass.1.looks ≡ []
-RoomLooksBy (Some id) broken hub conn t k = AreLooksSo (Shows conn (site_of hub k.number)) broken (commands k.pass.1.seen) k.at
-    (Some id) (Some k.number) t.sendings (length t.acts - length (since k.number t.acts) + 1) (length (since k.number t.acts))
-    k.pass.1.looks
+RoomLooksBy None broken hub conn account room = room.pass.1.looks ≡ []
+RoomLooksBy (Some id) broken hub conn account room = AreLooksSo (Shows conn (site_of hub room.number)) broken
+    (commands room.pass.1.seen) room.at
+    (Some id) (Some room.number) account.sendings (length account.acts - length (since room.number account.acts) + 1)
+    (length (since room.number account.acts))
+    room.pass.1.looks
 
 abbrev pub RoomLooks : Bool → Hub → ℕ → Account → RoomPass → Type 0
-RoomLooks broken hub conn t k = RoomLooksBy k.id broken hub conn t k
+RoomLooks broken hub conn account room = RoomLooksBy room.id broken hub conn account room
 
-pub record LooksAreAnswered (end : End) (hub : Hub) (conn : ℕ) (t : Account) (passes : Passes) : Type 0 where
-  pub hall : IfSome passes.hall (HallLooks (is_broken end) hub conn t)
-  pub rooms : All (RoomLooks (is_broken end) hub conn t) passes.rooms.items
+pub record LooksAreAnswered (end : End) (hub : Hub) (conn : ℕ) (account : Account) (passes : Passes) : Type 0 where
+  pub hall : IfSome passes.hall (HallLooks (is_broken end) hub conn account)
+  pub rooms : All (RoomLooks (is_broken end) hub conn account) passes.rooms.items
   pub fresh : AreLooksFresh passes
 
 -- ---- of the hub
@@ -305,7 +314,7 @@ ComeFrom hub passes = IsSome passes.hall → AreOf hub passes
 -- so they do, and each id by which a place is held names it
 pub record AreOfHub (hub : Hub) (passes : Passes) : Type 0 where
   pub of : ComeFrom hub passes
-  pub named : All (λ (k : RoomPass). IfSome k.id (λ id. Names hub.config id k.number)) passes.rooms.items
+  pub named : All (λ (room : RoomPass). IfSome room.id (λ id. Names hub.config id room.number)) passes.rooms.items
 
 -- ---- one history
 
@@ -318,10 +327,11 @@ pub record IsOfLock {O C : Type 0} (IsResting : View O C → Type 0) (lock : Tab
   pub at_rest : IsResting pass.1
 
 abbrev pub IsHallOf : Hub → HallPass → Type 0
-IsHallOf hub h = IsOfLock IsAtRestInHall hub.hall (root_of hub) h.pass
+IsHallOf hub hall = IsOfLock IsAtRestInHall hub.hall (root_of hub) hall.pass
 
 abbrev pub IsRoomOf : Hub → RoomPass → Type 0
-IsRoomOf hub k = (lock : TableId) × (lock_of hub k.number ≡ Some lock) × IsOfLock IsAtRestInRoom lock (site_of hub k.number) k.pass
+IsRoomOf hub room = (lock : TableId) × (lock_of hub room.number ≡ Some lock)
+    × IsOfLock IsAtRestInRoom lock (site_of hub room.number) room.pass
 
 pub record OneHistory (hub : Hub) (conn : ℕ) (passes : Passes) : Type 0 where
   pub conn_is : passes.conn ≡ conn
@@ -333,7 +343,7 @@ pub record OneHistory (hub : Hub) (conn : ℕ) (passes : Passes) : Type 0 where
 
 abbrev pub start_in : RoomCmd → Option Start
 start_in (Begin start) = Some start
-start_in (Play e) = None
+start_in (Play entry) = None
 
 -- the battles that these commands begin
 abbrev pub starts_in : List RoomCmd → List Start
@@ -352,27 +362,27 @@ AreSure true sure acts = (last : List Act) × (acts ≡ sure ++ last) × (length
 AreSure false sure acts = sure ≡ acts
 
 -- it was started by an entry of the connection, and has the number of the place
-pub record IsOwnStart (t : Account) (number : ℕ) (start : Start) : Type 0 where
-  pub started : Contains (all_begun t.acts) start
+pub record IsOwnStart (account : Account) (number : ℕ) (start : Start) : Type 0 where
+  pub started : Contains (all_begun account.acts) start
   pub place : number ≡ room_of_battle start.number
 
 -- Each battle that an entry of the connection started was begun, once, and no pass has another Begin. If memory ran out, the
 -- last Begin may be missing.
-pub record OneBegin (end : End) (t : Account) (rooms : List RoomPass) : Type 0 where
+pub record OneBegin (end : End) (account : Account) (rooms : List RoomPass) : Type 0 where
   pub sure : List Act
-  pub are_sure : AreSure (is_short end) sure t.acts
+  pub are_sure : AreSure (is_short end) sure account.acts
   pub begun : All (IsBegunBy rooms) (all_begun sure)
-  pub own : All (λ (k : RoomPass). All (IsOwnStart t k.number) (starts_in (commands k.pass.1.mine))) rooms
+  pub own : All (λ (room : RoomPass). All (IsOwnStart account room.number) (starts_in (commands room.pass.1.mine))) rooms
 
 -- ---- the hall's battles
 
 -- the hall with all entries that a pass saw
 abbrev pub hall_seen : Hub → HallPass → HallStory
-hall_seen hub h = hall_story (record { config = hub.config; dex = hub.dex; ranks = empty }) (commands h.pass.1.seen)
+hall_seen hub hall = hall_story (record { config = hub.config; dex = hub.dex; ranks = empty }) (commands hall.pass.1.seen)
 
 -- in it each match started its battle, and the ladder of each format is made of all won reports of rated battles
-abbrev pub LosesNothing : Hub → HallPass → Type 0
-LosesNothing hub h = IsHallWhole (hall_seen hub h)
+abbrev pub HallLosesNothing : Hub → HallPass → Type 0
+HallLosesNothing hub hall = IsHallWhole (hall_seen hub hall)
 
 -- ---- two worlds
 
@@ -382,20 +392,21 @@ IsTextsOf false room place ss view = texts_from place ss ≡ message_texts room 
 
 -- the world of the hall after the entries that were handed out
 abbrev pub hall_world : Hub → HallPass → HallStory
-hall_world hub h = hall_story (record { config = hub.config; dex = hub.dex; ranks = empty }) (take h.at (commands h.pass.1.seen))
+hall_world hub hall = hall_story (record { config = hub.config; dex = hub.dex; ranks = empty }) (take hall.at (commands hall.pass.1.seen))
 
 -- what was sent from a place is the view over every world that is the same to the connection
 abbrev pub HallElsewhere : Bool → Hub → ℕ → Account → HallPass → Type 0
-HallElsewhere broken hub conn t h = (other : HallStory) → AreHallsSame conn (hall_world hub h) other
-    → IsTextsOf broken None None t.sendings (hall_view_of conn other)
+HallElsewhere broken hub conn account hall = (other : HallStory) → AreHallsSame conn (hall_world hub hall) other
+    → IsTextsOf broken None None account.sendings (hall_view_of conn other)
 
 abbrev pub RoomElsewhere : Bool → Hub → ℕ → Account → RoomPass → Type 0
-RoomElsewhere broken hub conn t k = (s other : Story) → Tells (site_of hub k.number) (take k.at (commands k.pass.1.seen)) (Some s)
-    → AreSame conn s other → IsTextsOf broken k.id (Some k.number) t.sendings (view_of conn other)
+RoomElsewhere broken hub conn account room = (one other : Story)
+    → Tells (site_of hub room.number) (take room.at (commands room.pass.1.seen)) (Some one)
+    → AreSame conn one other → IsTextsOf broken room.id (Some room.number) account.sendings (view_of conn other)
 
-pub record TwoWorlds (end : End) (hub : Hub) (conn : ℕ) (t : Account) (passes : Passes) : Type 0 where
-  pub hall : IfSome passes.hall (HallElsewhere (is_broken end) hub conn t)
-  pub rooms : All (RoomElsewhere (is_broken end) hub conn t) passes.rooms.items
+pub record TwoWorlds (end : End) (hub : Hub) (conn : ℕ) (account : Account) (passes : Passes) : Type 0 where
+  pub hall : IfSome passes.hall (HallElsewhere (is_broken end) hub conn account)
+  pub rooms : All (RoomElsewhere (is_broken end) hub conn account) passes.rooms.items
 
 -- ---- the ends
 
@@ -415,28 +426,29 @@ HasEmptyInbox end talk = Unit {0}
 
 -- A text more than its place takes, where the place is that of the order, or the hall since no such room was there.
 abbrev pub IsTooMany : Option (List ℕ) → Hub → ℕ → Account → List RoomPass → List ℕ → Type 0
-IsTooMany room hub conn t rooms bytes =
-    ((taken (after_acts (begun conn) t.acts) bytes ≡ Err (take_faults.Limit room)) × (t.extra ≡ []))
+IsTooMany room hub conn account rooms bytes =
+    ((taken (after_acts (begun conn) account.acts) bytes ≡ Err (take_faults.Limit room)) × (account.extra ≡ []))
     ⊎ ((room ≡ None) × (id : List ℕ) × (cmd : Command) × (asked : Option ℕ)
-    × (taken (after_acts (begun conn) t.acts) bytes ≡ Ok (Room id cmd))
-    × (is_full None (counted (Some id) (after_acts (begun conn) t.acts)) ≡ true) × IsNowhere hub conn t.acts asked id rooms
-    × (length t.extra ≡ 1))
+    × (taken (after_acts (begun conn) account.acts) bytes ≡ Ok (Room id cmd))
+    × (is_full None (counted (Some id) (after_acts (begun conn) account.acts)) ≡ true) × IsNowhere hub conn account.acts asked id rooms
+    × (length account.extra ≡ 1))
 
 -- BadText and OwnLimit only by the text that came last, and what it is taken for after the acts; at the other ends but out of memory
 -- each text that came is an act.
 abbrev pub HasTextCause : End → Hub → ℕ → Account → List RoomPass → Type 0
-HasTextCause (ends.BadText bytes) hub conn t rooms = (t.rest ≡ bytes.items ∷ [])
-    × (taken (after_acts (begun conn) t.acts) bytes.items ≡ Err take_faults.BadText)
-HasTextCause (ends.OwnLimit room) hub conn t rooms = (bytes : List ℕ) × (t.rest ≡ bytes ∷ []) × IsTooMany room hub conn t rooms bytes
-HasTextCause ends.NoMemory hub conn t rooms = length t.rest ≤ 1
-HasTextCause ends.Taken hub conn t rooms = length t.rest ≤ 1
-HasTextCause end hub conn t rooms = t.rest ≡ []
+HasTextCause (ends.BadText bytes) hub conn account rooms = (account.rest ≡ bytes.items ∷ [])
+    × (taken (after_acts (begun conn) account.acts) bytes.items ≡ Err take_faults.BadText)
+HasTextCause (ends.OwnLimit room) hub conn account rooms = (bytes : List ℕ) × (account.rest ≡ bytes ∷ [])
+    × IsTooMany room hub conn account rooms bytes
+HasTextCause ends.NoMemory hub conn account rooms = length account.rest ≤ 1
+HasTextCause ends.Taken hub conn account rooms = length account.rest ≤ 1
+HasTextCause end hub conn account rooms = account.rest ≡ []
 
-pub record HasCause (end : End) (hub : Hub) (conn : ℕ) (t : Account) (rooms : List RoomPass) (talk : Option Talk)
+pub record HasCause (end : End) (hub : Hub) (conn : ℕ) (account : Account) (rooms : List RoomPass) (talk : Option Talk)
     (old new : LinkCounts) : Type 0 where
   pub counts : HasCountCause end old new
   pub inbox : HasEmptyInbox end talk
-  pub text : HasTextCause end hub conn t rooms
+  pub text : HasTextCause end hub conn account rooms
 
 -- ---- completeness
 
@@ -461,13 +473,13 @@ EndsWell other = ⊥
 
 -- The texts are within the limits: each that the link holds can be read, and the one that came last, if it is no act, wasn't one
 -- more than its place takes. The limit is a place's: where the acts before it went counts, and not how many there were in all.
-pub record IsWithin (hub : Hub) (conn : ℕ) (t : Account) (rooms : List RoomPass) (inbox : List Arrival) : Type 0 where
+pub record IsWithin (hub : Hub) (conn : ℕ) (account : Account) (rooms : List RoomPass) (inbox : List Arrival) : Type 0 where
   pub readable : All IsReadable (texts_in inbox)
-  pub few : All (λ (bytes : List ℕ). (room : Option (List ℕ)) → IsTooMany room hub conn t rooms bytes → ⊥) t.rest
+  pub few : All (λ (bytes : List ℕ). (room : Option (List ℕ)) → IsTooMany room hub conn account rooms bytes → ⊥) account.rest
 
 -- where the link tells its talk, holds texts within the limits, and doesn't fail
 abbrev pub EndsWellWithin : End → Hub → ℕ → Account → List RoomPass → Option Talk → LinkCounts → LinkCounts → Type 0
-EndsWellWithin end hub conn t rooms told old new = (talk : Talk) → told ≡ Some talk → IsWithin hub conn t rooms talk.inbox
+EndsWellWithin end hub conn account rooms told old new = (talk : Talk) → told ≡ Some talk → IsWithin hub conn account rooms talk.inbox
     → (Rose old.faults new.faults → ⊥) → EndsWell end
 
 -- so few texts in all that whatever becomes of them no place is given too many, and each can be read
@@ -477,19 +489,19 @@ pub record AreFew (inbox : List Arrival) : Type 0 where
 
 -- ---- all of it
 
-pub record Served (end : End) (hub : Hub) (conn : ℕ) (t : Account) (passes : Passes) (old_talk talk : Option Talk)
+pub record Served (end : End) (hub : Hub) (conn : ℕ) (account : Account) (passes : Passes) (old_talk talk : Option Talk)
     (old_counts counts : LinkCounts) (old_hours hours : Hours) : Type 0 where
-  pub told : IsAccount conn t old_talk talk
-  pub sent : SentIsView end hub conn t passes
-  pub labels : All (IsLabelled hub passes.rooms.items) t.sendings
-  pub entries : EntriesAreMade end conn t passes
-  pub answers : AnswersAreKept end hub conn t passes
-  pub opened : IsOpen (is_short end) conn t passes passes.hall
-  pub moments : TellsMoments end conn t passes.hall old_hours hours
-  pub looks : LooksAreAnswered end hub conn t passes
+  pub told : IsAccount conn account old_talk talk
+  pub sent : SentIsView end hub conn account passes
+  pub labels : All (IsLabelled hub passes.rooms.items) account.sendings
+  pub entries : EntriesAreMade end conn account passes
+  pub answers : AnswersAreKept end hub conn account passes
+  pub opened : IsOpen (is_short end) conn account passes passes.hall
+  pub moments : TellsMoments end conn account passes.hall old_hours hours
+  pub looks : LooksAreAnswered end hub conn account passes
   pub of : AreOfHub hub passes
   pub history : OneHistory hub conn passes
-  pub begin : OneBegin end t passes.rooms.items
-  pub worlds : TwoWorlds end hub conn t passes
-  pub cause : HasCause end hub conn t passes.rooms.items talk old_counts counts
-  pub complete : EndsWellWithin end hub conn t passes.rooms.items old_talk old_counts counts
+  pub begin : OneBegin end account passes.rooms.items
+  pub worlds : TwoWorlds end hub conn account passes
+  pub cause : HasCause end hub conn account passes.rooms.items talk old_counts counts
+  pub complete : EndsWellWithin end hub conn account passes.rooms.items old_talk old_counts counts

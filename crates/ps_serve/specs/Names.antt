@@ -26,28 +26,28 @@ IfTaken other P = Unit {0}
 -- Under the number of the connection stands an entry in the hall, which the pass that was to make its Open met; or one in a room,
 -- which its pass there hasn't made.
 abbrev pub IsTaken : Hub → ℕ → Passes → Option HallPass → Type 0
-IsTaken hub conn passes refused = ((h : HallPass) × (refused ≡ Some h) × IsStranger hub conn h)
+IsTaken hub conn passes refused = ((hall : HallPass) × (refused ≡ Some hall) × IsStranger hub conn hall)
     ⊎ IsShutOutAmong conn passes.rooms.items quit_faults.Taken
 
 -- Of all that the pass knows of the hall, what stands under the number of the connection is its Open and its own entries, in order.
 abbrev pub HallName : ℕ → HallPass → Type 0
-HallName conn h = (opened : Entry HallEntry) × ((moment : ℕ) × (opened.cmd ≡ hall_entry conn moment Open))
-    × (signed hall_signer conn (commands h.pass.1.known) ≡ signed hall_signer conn (commands (opened ∷ h.pass.1.mine)))
+HallName conn hall = (opened : Entry HallEntry) × ((moment : ℕ) × (opened.cmd ≡ hall_entry conn moment Open))
+    × (signed hall_signer conn (commands hall.pass.1.known) ≡ signed hall_signer conn (commands (opened ∷ hall.pass.1.mine)))
 
 -- the same of a room where it has made an entry
 abbrev pub RoomName : ℕ → RoomPass → Type 0
-RoomName conn k = Speaks room_signer conn k.pass.1.mine
-    → signed room_signer conn (commands k.pass.1.known) ≡ signed room_signer conn (commands k.pass.1.mine)
+RoomName conn room = Speaks room_signer conn room.pass.1.mine
+    → signed room_signer conn (commands room.pass.1.known) ≡ signed room_signer conn (commands room.pass.1.mine)
 
 -- nobody else has spoken under the number of the connection
-pub record HasOwnNames (conn : ℕ) (passes : Passes) : Type 0 where
+pub record HasOwnNumber (conn : ℕ) (passes : Passes) : Type 0 where
   pub hall : IfSome passes.hall (HallName conn)
   pub rooms : All (RoomName conn) passes.rooms.items
 
 -- no look of a pass shows less than one before it, or than what the pass knew then
 abbrev pub LooksFreshly : {O C : Type 0} → View O C → Type 0
-LooksFreshly v = NeverFalls v.looks × HasLooked v
+LooksFreshly view = NeverFalls view.looks × HasLooked view
 
 pub record AreLooksFresh (passes : Passes) : Type 0 where
-  pub hall : IfSome passes.hall (λ h. LooksFreshly h.pass.1)
-  pub rooms : All (λ (k : RoomPass). LooksFreshly k.pass.1) passes.rooms.items
+  pub hall : IfSome passes.hall (λ hall_pass. LooksFreshly hall_pass.pass.1)
+  pub rooms : All (λ (room : RoomPass). LooksFreshly room.pass.1) passes.rooms.items

@@ -75,20 +75,20 @@ TellsNowhereIf false hub moment old stop new = MakesOnly hub (bad_order NoSuchRo
 
 -- the hall's Bad, where the hall takes a text more
 abbrev pub TellsNowhere : Hub → ℕ → Record → Passes → Option TakeFault → Passes → Type 0
-TellsNowhere hub moment r old stop new = TellsNowhereIf (is_full None r) hub moment old stop new
+TellsNowhere hub moment session old stop new = TellsNowhereIf (is_full None session) hub moment old stop new
 
 -- ---- all of an order
 
 -- the session and the passes before, and after it
 abbrev pub Obeys : Hub → Order → ℕ → Record → Passes → Option TakeFault → Record → Passes → Type 0
-Obeys hub order moment r old stop after new =
-    ((out : HubOut) × (mid : Passes) × Makes hub order moment old (Ok out) mid × (after ≡ with_given out.badge r)
+Obeys hub order moment session old stop after new =
+    ((out : HubOut) × (mid : Passes) × Makes hub order moment old (Ok out) mid × (after ≡ with_given out.badge session)
     × Follows hub moment out.start out.ended mid stop new)
-    ⊎ ((mid : Passes) × Makes hub order moment old (Err unmade.NoSuchRoom) mid × (after ≡ after_no_room r)
-    × TellsNowhere hub moment r mid stop new)
+    ⊎ ((mid : Passes) × Makes hub order moment old (Err unmade.NoSuchRoom) mid × (after ≡ after_no_room session)
+    × TellsNowhere hub moment session mid stop new)
     ⊎ ((stop ≡ Some take_faults.NoMemory) × Makes hub order moment old (Err unmade.NoMemory) new)
 
 -- the order is for the room of the text that was counted last, if it is for a room
 abbrev pub IsLast : Order → Record → Type 0
-IsLast (Hall cmd) r = Unit {0}
-IsLast (Room id cmd) r = r.last ≡ Some id
+IsLast (Hall cmd) session = Unit {0}
+IsLast (Room id cmd) session = session.last ≡ Some id

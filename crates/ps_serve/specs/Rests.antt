@@ -39,52 +39,53 @@ GoesOn hub conn open_at session passes old_talk talk old_counts counts old_hours
 
 -- ---- before the Quits
 
-pub record HallRests (broken short : Bool) (hub : Hub) (conn : ℕ) (t : Account) (h : HallPass) : Type 0 where
-  pub entries : AllOrPart short (commands h.pass.1.mine) (hall_entries conn t.acts)
-  pub given : HallGiven broken conn t h
-  pub looks : HallLooks broken hub conn t h
-  pub sent : HallSent broken hub conn t h
+pub record HallRests (broken short : Bool) (hub : Hub) (conn : ℕ) (account : Account) (hall : HallPass) : Type 0 where
+  pub entries : AllOrPart short (commands hall.pass.1.mine) (hall_entries conn account.acts)
+  pub given : HallGiven broken conn account hall
+  pub looks : HallLooks broken hub conn account hall
+  pub sent : HallSent broken hub conn account hall
 
-pub record RoomRests (broken short : Bool) (hub : Hub) (conn : ℕ) (t : Account) (k : RoomPass) : Type 0 where
-  pub entries : AllOrPart short (commands k.pass.1.mine) (room_cmds conn k.number t.acts)
-  pub given : RoomGiven broken conn t k
-  pub looks : RoomLooks broken hub conn t k
-  pub sent : RoomSent broken hub conn t k
-  pub named : IfSome k.id (λ id. Names hub.config id k.number)
+pub record RoomRests (broken short : Bool) (hub : Hub) (conn : ℕ) (account : Account) (room : RoomPass) : Type 0 where
+  pub entries : AllOrPart short (commands room.pass.1.mine) (room_cmds conn room.number account.acts)
+  pub given : RoomGiven broken conn account room
+  pub looks : RoomLooks broken hub conn account room
+  pub sent : RoomSent broken hub conn account room
+  pub named : IfSome room.id (λ id. Names hub.config id room.number)
 
 -- the moments that were asked for a text which is no act; before its Quits no session ends by a number that is taken
 abbrev pub HasExtraAt : End → ℕ → Account → Type 0
-HasExtraAt ends.NoMemory conn t = HasExtra conn t
-HasExtraAt ends.Taken conn t = ⊥
-HasExtraAt (ends.OwnLimit room) conn t = HasExtra conn t
-HasExtraAt end conn t = t.extra ≡ []
+HasExtraAt ends.NoMemory conn account = HasExtra conn account
+HasExtraAt ends.Taken conn account = ⊥
+HasExtraAt (ends.OwnLimit room) conn account = HasExtra conn account
+HasExtraAt end conn account = account.extra ≡ []
 
 -- what a session did, sent and has at this end, before its Quits
-pub record Rests (end : End) (hub : Hub) (conn : ℕ) (t : Account) (passes : Passes) (old_talk talk : Option Talk)
+pub record Rests (end : End) (hub : Hub) (conn : ℕ) (account : Account) (passes : Passes) (old_talk talk : Option Talk)
     (old_counts counts : LinkCounts) (old_hours hours : Hours) : Type 0 where
   pub are : AreOf hub passes
   pub conn_is : passes.conn ≡ conn
-  pub told : IsAccount conn t old_talk talk
+  pub told : IsAccount conn account old_talk talk
   pub hall_pass : HallPass
   pub hall : passes.hall ≡ Some hall_pass
-  pub hall_rests : HallRests (is_broken end) (is_short end) hub conn t hall_pass
-  pub rooms : All (RoomRests (is_broken end) (is_short end) hub conn t) passes.rooms.items
-  pub asked : All (IsAsked end hub t) passes.rooms.items
+  pub hall_rests : HallRests (is_broken end) (is_short end) hub conn account hall_pass
+  pub rooms : All (RoomRests (is_broken end) (is_short end) hub conn account) passes.rooms.items
+  pub asked : All (IsAsked end hub account) passes.rooms.items
   pub apart : AreApart passes.rooms.items
-  pub from : All (IsFrom passes.rooms.items) t.sendings
-  pub named : All (λ k. IsSome k.id → IsSome passes.badge) passes.rooms.items
-  pub badge : passes.badge ≡ (after_acts (begun conn) t.acts).badge
-  pub gave : AreAnswers (is_short end) hub conn t passes.rooms.items hall_pass
+  pub from : All (IsFrom passes.rooms.items) account.sendings
+  pub named : All (λ room. IsSome room.id → IsSome passes.badge) passes.rooms.items
+  pub badge : passes.badge ≡ (after_acts (begun conn) account.acts).badge
+  pub gave : AreAnswers (is_short end) hub conn account passes.rooms.items hall_pass
   pub sure : List Act
-  pub are_sure : AreSure (is_short end) sure t.acts
+  pub are_sure : AreSure (is_short end) sure account.acts
   pub begun : All (IsBegun passes.rooms.items) (all_begun sure)
-  pub early : All (λ (k : RoomPass). IsPrefix (room_cmds conn k.number sure) (commands k.pass.1.mine)) passes.rooms.items
-  pub opened : HasOpen conn t.opened hall_pass
-  pub cause : HasCause end hub conn t passes.rooms.items talk old_counts counts
-  pub extra : HasExtraAt end conn t
-  pub asked_for : Asked old_hours (moments_of t.acts ++ t.extra) hours
+  pub early : All (λ (room : RoomPass). IsPrefix (room_cmds conn room.number sure) (commands room.pass.1.mine)) passes.rooms.items
+  pub opened : HasOpen conn account.opened hall_pass
+  pub cause : HasCause end hub conn account passes.rooms.items talk old_counts counts
+  pub extra : HasExtraAt end conn account
+  pub asked_for : Asked old_hours (moments_of account.acts ++ account.extra) hours
 
 -- with any moment for the Quits
 abbrev pub ComesToRest : End → Hub → ℕ → ℕ → ℕ → Passes → Option Talk → Option Talk → LinkCounts → LinkCounts → Hours → Hours → Type 0
-ComesToRest end hub conn open_at left passes old_talk talk old_counts counts old_hours hours = (t : Account) × (t.opened ≡ open_at)
-    × (t.left ≡ left) × Rests end hub conn t passes old_talk talk old_counts counts old_hours hours
+ComesToRest end hub conn open_at left passes old_talk talk old_counts counts old_hours hours = (account : Account)
+    × (account.opened ≡ open_at)
+    × (account.left ≡ left) × Rests end hub conn account passes old_talk talk old_counts counts old_hours hours

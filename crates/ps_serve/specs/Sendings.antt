@@ -15,7 +15,7 @@ pub record Sending : Type 0 where
 
 -- as the link keeps it, of which so many answers were before the session
 abbrev pub sent_text : ℕ → Sending → SentText
-sent_text base s = record { text = s.text; after = base + s.after }
+sent_text base sending = record { text = sending.text; after = base + sending.after }
 
 abbrev pub is_place : Option ℕ → Option ℕ → Bool
 is_place None None = true
@@ -23,12 +23,12 @@ is_place (Some one) (Some two) = one == two
 is_place one two = false
 
 abbrev pub text_if : Bool → Sending → Option (List ℕ)
-text_if true s = Some s.text
-text_if false s = None
+text_if true sending = Some sending.text
+text_if false sending = None
 
 -- the text of a sending, where it is from this place
 abbrev pub text_from : Option ℕ → Sending → Option (List ℕ)
-text_from place s = text_if (is_place place s.place) s
+text_from place sending = text_if (is_place place sending.place) sending
 
 -- the texts that were sent from a place, in order
 abbrev pub texts_from : Option ℕ → List Sending → List (List ℕ)
@@ -36,10 +36,10 @@ texts_from place ss = filter_map (text_from place) ss
 
 -- those that were sent before the link had answered more often
 abbrev pub text_before : Option ℕ → ℕ → Sending → Option (List ℕ)
-text_before place n s = if nat_le s.after n then text_from place s else None
+text_before place answers sending = if nat_le sending.after answers then text_from place sending else None
 
 abbrev pub texts_before : Option ℕ → ℕ → List Sending → List (List ℕ)
-texts_before place n ss = filter_map (text_before place n) ss
+texts_before place answers ss = filter_map (text_before place answers) ss
 
 -- the text of a message, from the room with an id or from the hall
 abbrev pub message_text : Option (List ℕ) → List (List ℕ) → List ℕ
@@ -51,12 +51,12 @@ message_texts room ms = map (message_text room) ms
 -- ---- looks
 
 module _ {C : Type 0} (shows : List C → List (List (List ℕ)) → Type 0) where
-  -- A look that showed n entries was answered: what was sent from the place before the link answered again holds the whole view of
-  -- at least the first n entries.
-  pub record IsLookAnswered (cmds : List C) (room : Option (List ℕ)) (sent : List (List ℕ)) (n : ℕ) : Type 0 where
-    pub within : n ≤ length cmds
+  -- A look that showed so many entries was answered: what was sent from the place before the link answered again holds the whole view of
+  -- at least the first of them.
+  pub record IsLookAnswered (cmds : List C) (room : Option (List ℕ)) (sent : List (List ℕ)) (least : ℕ) : Type 0 where
+    pub within : least ≤ length cmds
     pub entries : ℕ
-    pub enough : n ≤ entries
+    pub enough : least ≤ entries
     pub there : entries ≤ length cmds
     pub view : List (List (List ℕ))
     pub shown : shows (take entries cmds) view
@@ -65,5 +65,5 @@ module _ {C : Type 0} (shows : List C → List (List (List ℕ)) → Type 0) whe
   -- The looks of a place in order, the first at the answer with the number `first`.
   abbrev pub AreLooksAnswered : List C → Option (List ℕ) → Option ℕ → List Sending → ℕ → List ℕ → Type 0
   AreLooksAnswered cmds room place ss first [] = Unit {0}
-  AreLooksAnswered cmds room place ss first (n ∷ looks) = IsLookAnswered cmds room (texts_before place first ss) n
+  AreLooksAnswered cmds room place ss first (look ∷ looks) = IsLookAnswered cmds room (texts_before place first ss) look
       × AreLooksAnswered cmds room place ss (first + 1) looks

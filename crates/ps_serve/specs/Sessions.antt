@@ -16,7 +16,7 @@ use Rattle.ps_hub.specs.declared.passes.Passes.{Passes}
 use Rattle.ps_serve.specs.declared.closed.Closed.{Closed}
 use Rattle.ps_serve.specs.Steps.{Hours}
 use Rattle.ps_serve.specs.Ends.{Account, Served}
-use Rattle.ps_serve.specs.Names.{IfTaken, IsTaken, HasOwnNames}
+use Rattle.ps_serve.specs.Names.{IfTaken, IsTaken, HasOwnNumber}
 
 -- The end of a session of the connection with this number: of an account of it, over some link and some clock, all holds that a
 -- session promises.
@@ -30,16 +30,16 @@ pub record IsSession (hub : Hub) (conn : ℕ) (closed : Closed) : Type 0 where
   pub hours : Hours
   pub served : Served closed.end hub conn account closed.passes talk_before talk counts_before counts hours_before hours
   pub taken : IfTaken closed.end (IsTaken hub conn closed.passes closed.refused)
-  pub names : HasOwnNames conn closed.passes
+  pub names : HasOwnNumber conn closed.passes
 
 -- ---- sessions that met
 
 -- What the second has seen in the hall under the number of the first is a beginning of this: the Open of the first, and the entries
 -- that the first made, in order.
 abbrev pub IsHeardInHall : ℕ → HallPass → HallPass → Type 0
-IsHeardInHall conn h k =
+IsHeardInHall conn first second =
     (opened : Entry HallEntry) × ((moment : ℕ) × (opened.cmd ≡ hall_entry conn moment Open))
-    × IsPrefix (signed hall_signer conn (commands k.pass.1.seen)) (signed hall_signer conn (commands (opened ∷ h.pass.1.mine)))
+    × IsPrefix (signed hall_signer conn (commands second.pass.1.seen)) (signed hall_signer conn (commands (opened ∷ first.pass.1.mine)))
 
 -- What two connections have seen of the hall begins one and the same history, with the same numbers, commands and moments; and what
 -- each has seen there as said by the other was said by the other.
@@ -55,8 +55,8 @@ pub record AgreeInHall (one other : Passes) : Type 0 where
 -- the same of a room where the first has made an entry: what the second has seen there under its number are its entries, in order
 -- and with nothing left out before them
 abbrev pub IsHeardInRoom : ℕ → RoomPass → RoomPass → Type 0
-IsHeardInRoom conn h k = Speaks room_signer conn h.pass.1.mine
-    → IsPrefix (signed room_signer conn (commands k.pass.1.seen)) (signed room_signer conn (commands h.pass.1.mine))
+IsHeardInRoom conn first second = Speaks room_signer conn first.pass.1.mine
+    → IsPrefix (signed room_signer conn (commands second.pass.1.seen)) (signed room_signer conn (commands first.pass.1.mine))
 
 pub record AgreeInRoom (number : ℕ) (one other : Passes) : Type 0 where
   pub at : ℕ

@@ -38,12 +38,12 @@ pub record Hears (hub : Hub) (conn open_at : ℕ) (acts : List Act) (ss : List S
 
 -- it wasn't: it is no text; it is one more than its place takes, where the place may be that of the order, or the hall since no
 -- such room was there; or memory ran out, and its entries may be there in part
-pub record StopsFull (hub : Hub) (conn open_at : ℕ) (acts : List Act) (ss : List Sending) (bytes : List ℕ) (r : Record)
+pub record StopsFull (hub : Hub) (conn open_at : ℕ) (acts : List Act) (ss : List Sending) (bytes : List ℕ) (session : Record)
     (old_passes : Passes) (old new : Hours) (passes : Passes) : Type 0 where
   pub id : List ℕ
   pub cmd : Command
-  pub taken_is : taken r bytes ≡ Ok (Room id cmd)
-  pub full : is_full None (counted (Some id) r) ≡ true
+  pub taken_is : taken session bytes ≡ Ok (Room id cmd)
+  pub full : is_full None (counted (Some id) session) ≡ true
   pub place : Option ℕ
   pub unfound : IsNowhere hub conn acts place id passes.rooms.items
   pub moment : ℕ
@@ -52,42 +52,46 @@ pub record StopsFull (hub : Hub) (conn open_at : ℕ) (acts : List Act) (ss : Li
   pub badge_is : passes.badge ≡ old_passes.badge
   pub up : IsUpToDate old_passes → IsUpToDate passes
 
-pub record StopsShort (hub : Hub) (conn open_at : ℕ) (acts : List Act) (ss : List Sending) (bytes : List ℕ) (r : Record)
+pub record StopsShort (hub : Hub) (conn open_at : ℕ) (acts : List Act) (ss : List Sending) (bytes : List ℕ) (session : Record)
     (old new : Hours) (passes : Passes) : Type 0 where
   pub last : List Act
   pub last_is : (last ≡ []) ⊎ ((moment : ℕ) × (made : Made) × (last ≡ heard bytes moment made ∷ []))
   pub moments : List ℕ
-  pub of_order : (moments ≡ []) ⊎ ((order : Order) × (taken r bytes ≡ Ok order) × (length moments ≡ 1))
+  pub of_order : (moments ≡ []) ⊎ ((order : Order) × (taken session bytes ≡ Ok order) × (length moments ≡ 1))
   pub asked : Asked old moments new
   pub agree : (last ≡ []) ⊎ (moments ≡ moments_of last)
   pub left : Left false hub conn open_at acts (acts ++ last) ss passes
 
 abbrev pub Stops : TakeFault → Hub → ℕ → ℕ → List Act → List Sending → List ℕ → Record → Passes → Hours → Hours → Passes → Type 0
-Stops take_faults.BadText hub conn open_at acts ss bytes r old_passes old new passes = (taken r bytes ≡ Err take_faults.BadText)
+Stops take_faults.BadText hub conn open_at acts ss bytes session old_passes old new passes = (taken session bytes ≡ Err take_faults.BadText)
     × (passes ≡ old_passes) × (new ≡ old)
-Stops (take_faults.Limit room) hub conn open_at acts ss bytes r old_passes old new passes =
-    ((taken r bytes ≡ Err (take_faults.Limit room)) × (passes ≡ old_passes) × (new ≡ old))
-    ⊎ ((room ≡ None) × StopsFull hub conn open_at acts ss bytes r old_passes old new passes)
-Stops take_faults.NoMemory hub conn open_at acts ss bytes r old_passes old new passes = StopsShort hub conn open_at acts ss bytes r
+Stops (take_faults.Limit room) hub conn open_at acts ss bytes session old_passes old new passes =
+    ((taken session bytes ≡ Err (take_faults.Limit room)) × (passes ≡ old_passes) × (new ≡ old))
+    ⊎ ((room ≡ None) × StopsFull hub conn open_at acts ss bytes session old_passes old new passes)
+Stops take_faults.NoMemory hub conn open_at acts ss bytes session old_passes old new passes = StopsShort hub conn open_at acts ss
+    bytes session
     old new passes
 
 -- ---- telling
 
 -- the texts of these sendings are behind those that the link was sent, where it tells them
 abbrev pub with_sendings : List Sending → Talk → Talk
-with_sendings ss talk = record talk { sent = talk.sent ++ map (λ (s : Sending). record { text = s.text; after = talk.answers }) ss }
+with_sendings ss talk = record talk {
+  sent = talk.sent
+      ++ map (λ (sending : Sending). record { text = sending.text; after = talk.answers }) ss;
+}
 
 abbrev pub after_sendings : List Sending → Option Talk → Option Talk
 after_sendings ss None = None
 after_sendings ss (Some talk) = Some (with_sendings ss talk)
 
 -- all that is held was looked at, and all that the looks showed and wasn't told yet was sent
-pub record Tells (hub : Hub) (conn open_at : ℕ) (acts : List Act) (a : Act) (ss : List Sending) (session : Record)
+pub record Tells (hub : Hub) (conn open_at : ℕ) (acts : List Act) (act : Act) (ss : List Sending) (session : Record)
     (old new : Option Talk) (passes : Passes) : Type 0 where
   pub more : List Sending
-  pub now : All (λ (s : Sending). s.after ≡ length acts + 1) more
+  pub now : All (λ (sending : Sending). sending.after ≡ length acts + 1) more
   pub sent : new ≡ after_sendings more old
-  pub sits : Sits hub conn open_at (acts ++ a ∷ []) (length acts + 1) (ss ++ more) session passes
+  pub sits : Sits hub conn open_at (acts ++ act ∷ []) (length acts + 1) (ss ++ more) session passes
   pub up : IsUpToDate passes
 
 abbrev pub is_fault : End → Bool
@@ -95,12 +99,12 @@ is_fault ends.LinkFault = true
 is_fault other = false
 
 -- the link failed, or memory ran out: what wasn't told yet was sent in part
-pub record TellsPart (end : End) (hub : Hub) (conn open_at : ℕ) (acts : List Act) (a : Act) (ss : List Sending)
+pub record TellsPart (end : End) (hub : Hub) (conn open_at : ℕ) (acts : List Act) (act : Act) (ss : List Sending)
     (old new : Option Talk) (passes : Passes) : Type 0 where
   pub more : List Sending
-  pub now : All (λ (s : Sending). s.after ≡ length acts + 1) more
+  pub now : All (λ (sending : Sending). sending.after ≡ length acts + 1) more
   pub sent : new ≡ after_sendings more old
-  pub left : Left (is_fault end) hub conn open_at acts (acts ++ a ∷ []) (ss ++ more) passes
+  pub left : Left (is_fault end) hub conn open_at acts (acts ++ act ∷ []) (ss ++ more) passes
 
 -- the end by a send that failed, or if out of memory
 abbrev pub IsBreak : End → LinkCounts → LinkCounts → Type 0

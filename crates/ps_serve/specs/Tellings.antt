@@ -56,14 +56,14 @@ pub record SendsOfRoom (hub : Hub) (place : ℕ) (old new : Passes) (was is : Op
 
 -- A look, turns without an entry, if any, and messages that were handed out for them.
 module _ {O C : Type 0} (shows : List C → List (List (List ℕ)) → Type 0) where
-  pub record LooksAndTells (shown : ℕ) (v : View O C) (at : ℕ) (msgs : List Msg) (w : View O C) (now : ℕ) : Type 0 where
-    pub seen : length v.seen ≤ shown
-    pub fresh : IsFresh v shown
-    pub read : Rereads (after_look v shown) w
-    pub out : HandsOut shows (commands v.seen) at msgs (commands w.seen) now
+  pub record LooksAndTells (shown : ℕ) (old : View O C) (at : ℕ) (msgs : List Msg) (new : View O C) (now : ℕ) : Type 0 where
+    pub seen : length old.seen ≤ shown
+    pub fresh : IsFresh old shown
+    pub read : Rereads (after_look old shown) new
+    pub out : HandsOut shows (commands old.seen) at msgs (commands new.seen) now
 
 abbrev pub RoomTells : Hub → ℕ → ℕ → List Msg → RoomPass → RoomPass → Type 0
-RoomTells hub conn shown msgs h k = LooksAndTells (Shows conn (site_of hub h.number)) shown h.pass.1 h.at msgs k.pass.1 k.at
+RoomTells hub conn shown msgs old new = LooksAndTells (Shows conn (site_of hub old.number)) shown old.pass.1 old.at msgs new.pass.1 new.at
 
 -- the place isn't held, and nothing was done
 pub record PassesBy (place : ℕ) (old new : Passes) (was is : Option Talk) : Type 0 where

@@ -8,9 +8,9 @@ ghost use Rattle.ps_serve.specs.Sendings.{Sending};
 ghost use Rattle.ps_serve.specs.Sittings.{Sits};
 ghost use Rattle.ps_serve.specs.Steps.{Hours, Stands};
 ghost use Rattle.ps_serve.specs.Ends.{Account, SomeAccount, SentIsView, IsLabelled, EntriesAreMade, AnswersAreKept, IsOpen};
-ghost use Rattle.ps_serve.specs.Ends.{TellsMoments, LooksAreAnswered, AreOfHub, OneHistory, OneBegin, LosesNothing, TwoWorlds};
+ghost use Rattle.ps_serve.specs.Ends.{TellsMoments, LooksAreAnswered, AreOfHub, OneHistory, OneBegin, HallLosesNothing, TwoWorlds};
 ghost use Rattle.ps_serve.specs.Ends.{HasCause, EndsWell, EndsWellWithin, AreFew, Served, is_short};
-ghost use Rattle.ps_serve.specs.Names.{IfTaken, IsTaken, HasOwnNames};
+ghost use Rattle.ps_serve.specs.Names.{IfTaken, IsTaken, HasOwnNumber};
 ghost use Rattle.ps_serve.specs.Sessions.{IsSession};
 ghost use Rattle.ps_serve.specs.Rests.{end_after, IsSitting, GoesOn, ComesToRest};
 
@@ -234,7 +234,7 @@ pub fn serve_session<R: Wait, L: Link, C: Clock>(
     // and the ladder of each format is the fold over all won reports of its rated battles.
     ensures one_begin { SomeAccount conn (L.talk link.old) (L.talk link.new) (λ account.
         OneBegin result.end account result.passes.rooms.items) }
-    ensures hall { IfSome result.passes.hall (LosesNothing hub.now) }
+    ensures hall { IfSome result.passes.hall (HallLosesNothing hub.now) }
 
     // What was sent from a place is also the view over every world there that is the same to the connection.
     ensures two_worlds { SomeAccount conn (L.talk link.old) (L.talk link.new) (λ account.
@@ -251,7 +251,7 @@ pub fn serve_session<R: Wait, L: Link, C: Clock>(
 
     // Taken comes only where an entry stood under its number before its own first one; else all that stands under it is its own.
     ensures taken { IfTaken result.end (IsTaken hub.now conn result.passes result.refused) }
-    ensures own_names { HasOwnNames conn result.passes }
+    ensures own_names { HasOwnNumber conn result.passes }
 
     // All of it once more, as what two sessions of a hub that meet are compared by (`Closed::meet_in_hall`, `meet_in_room`).
     ensures session { IsSession hub.now conn result }

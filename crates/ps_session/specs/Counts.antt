@@ -44,5 +44,9 @@ joined_left (suc count) joined = joined
 
 -- the counts without the text that was counted last, if it was one for a room
 abbrev pub without_last : Option (List ℕ) → Counts → Counts
-without_last None c = c
-without_last (Some id) c = record { rooms = lowered id c.rooms; joined = joined_left (count_in id c.rooms - 1) c.joined; last = None }
+without_last None counts = counts
+without_last (Some id) counts = record {
+  rooms = lowered id counts.rooms;
+  joined = joined_left (count_in id counts.rooms - 1) counts.joined;
+  last = None;
+}

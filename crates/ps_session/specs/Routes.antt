@@ -34,15 +34,15 @@ room_named room cmd = room
 
 -- why a text can't go to a room, from a connection with this badge or none
 abbrev pub room_refusal : Option Badge → Record → List ℕ → Option BadWhy
-room_refusal None r id = Some bad.NotNamed
-room_refusal (Some badge) r id = if is_past_rooms id r then Some bad.RoomLimit else None
+room_refusal None session id = Some bad.NotNamed
+room_refusal (Some badge) session id = if is_past_rooms id session then Some bad.RoomLimit else None
 
 abbrev pub unless_refused : Option BadWhy → List ℕ → Command → Order
 unless_refused (Some why) id cmd = bad_order why
 unless_refused None id cmd = Room id cmd
 
 abbrev pub to_room : Option Badge → Record → List ℕ → Command → Order
-to_room badge r id cmd = unless_refused (room_refusal badge r id) id cmd
+to_room badge session id cmd = unless_refused (room_refusal badge session id) id cmd
 
 abbrev pub fault_why : CommandFault → BadWhy
 fault_why command_faults.UnknownCommand = bad.UnknownCommand
@@ -50,20 +50,20 @@ fault_why other = bad.BadArgs
 
 -- a command of the hall goes to the hall, whatever room the message names
 abbrev pub by_command : Option Badge → Record → List ℕ → Result Parsed CommandFault → Order
-by_command badge r room (Err fault) = bad_order (fault_why fault)
-by_command badge r room (Ok (parsed.Hall cmd)) = Hall cmd
-by_command badge r room (Ok (parsed.Room cmd)) = to_room badge r (room_named room cmd) cmd
+by_command badge session room (Err fault) = bad_order (fault_why fault)
+by_command badge session room (Ok (parsed.Hall cmd)) = Hall cmd
+by_command badge session room (Ok (parsed.Room cmd)) = to_room badge session (room_named room cmd) cmd
 
 -- bytes that are too many or no UTF-8 are no text
 abbrev pub by_client : Option Badge → Record → Result (List ℕ × List ℕ) ClientFault → Option Order
-by_client badge r (Err client_faults.NoBar) = Some (bad_order bad.NoBar)
-by_client badge r (Err other) = None
-by_client badge r (Ok message) = Some (by_command badge r message.0 (command message.1))
+by_client badge session (Err client_faults.NoBar) = Some (bad_order bad.NoBar)
+by_client badge session (Err other) = None
+by_client badge session (Ok message) = Some (by_command badge session message.0 (command message.1))
 
 -- where a text goes, from a connection with this badge or none that has given texts to the rooms of this record; None
 -- where the bytes are no text
 unfoldable pub order_of : Option Badge → Record → List ℕ → Option Order
-order_of badge r bytes = by_client badge r (client bytes)
+order_of badge session bytes = by_client badge session (client bytes)
 
 -- ---- the limit of texts
 
@@ -78,12 +78,12 @@ limited true order = Err (Limit (place_of order))
 limited false order = Ok order
 
 abbrev pub within_limit : Record → Option Order → Result Order TakeFault
-within_limit r None = Err BadText
-within_limit r (Some order) = limited (is_full (place_of order) r) order
+within_limit session None = Err BadText
+within_limit session (Some order) = limited (is_full (place_of order) session) order
 
 -- what a text is taken for
 abbrev pub taken : Record → List ℕ → Result Order TakeFault
-taken r bytes = within_limit r (order_of r.badge r bytes)
+taken session bytes = within_limit session (order_of session.badge session bytes)
 
 -- What a call that found this fault was to find: this fault, but out of memory may come at any text.
 abbrev pub IsTakeFault : TakeFault → Result Order TakeFault → Type 0
@@ -93,18 +93,18 @@ IsTakeFault NoMemory take = Unit {0}
 
 -- the record after a text was taken for this
 abbrev pub after_take : Result Order TakeFault → Record → Record
-after_take (Ok order) r = counted (place_of order) r
-after_take (Err fault) r = r
+after_take (Ok order) session = counted (place_of order) session
+after_take (Err fault) session = session
 
 -- ---- a room that isn't there
 
 -- the order in the place of one for a room that isn't there, while the hall takes a text
 abbrev pub no_room : Record → Option Order
-no_room r = if is_full None r then None else Some (bad_order bad.NoSuchRoom)
+no_room session = if is_full None session then None else Some (bad_order bad.NoSuchRoom)
 
 -- the text counts to the hall, and no more to its room
 abbrev pub after_no_room : Record → Record
-after_no_room r = if is_full None r then r else counted None (uncounted r.last r)
+after_no_room session = if is_full None session then session else counted None (uncounted session.last session)
 
 -- ---- for the code alone
 
@@ -115,8 +115,8 @@ parts_of (Err fault) = Err fault
 
 -- an order for a room leaves a connection with no more rooms than it may have
 abbrev pub Fits : Record → Order → Type 0
-Fits r (Hall cmd) = Unit {0}
-Fits r (Room id cmd) = is_past_rooms id r ≡ false
+Fits session (Hall cmd) = Unit {0}
+Fits session (Room id cmd) = is_past_rooms id session ≡ false
 
 -- the text that was read has no control character
 abbrev pub HasCleanText : Result (List ℕ × List ℕ) ClientFault → Type 0

@@ -24,12 +24,12 @@ begun conn = record { conn = conn; badge = None; hall = 0; rooms = empty; joined
 
 -- how many texts were given to a place: the hall, or the room with an id
 abbrev pub texts_at : Option (List ℕ) → Record → ℕ
-texts_at None r = r.hall
-texts_at (Some id) r = count_in id r.rooms
+texts_at None session = session.hall
+texts_at (Some id) session = count_in id session.rooms
 
 -- whether these are as many as may be given
 abbrev pub is_full : Option (List ℕ) → Record → Bool
-is_full place r = nat_le MOST_TEXTS (texts_at place r)
+is_full place session = nat_le MOST_TEXTS (texts_at place session)
 
 abbrev pub is_none : Option ℕ → Bool
 is_none None = true
@@ -37,24 +37,59 @@ is_none (Some count) = false
 
 -- whether a room would be one more than a connection may have
 abbrev pub is_past_rooms : List ℕ → Record → Bool
-is_past_rooms id r = if nat_lt r.joined MOST_ROOMS then false else is_none (get r.rooms id)
+is_past_rooms id session = if nat_lt session.joined MOST_ROOMS then false else is_none (get session.rooms id)
 
 -- ---- counting
 
 -- the record after a text for a place
 abbrev pub counted : Option (List ℕ) → Record → Record
-counted None r = record { conn = r.conn; badge = r.badge; hall = r.hall + 1; rooms = r.rooms; joined = r.joined; last = None }
-counted (Some id) r = record { conn = r.conn; badge = r.badge; hall = r.hall; rooms = raised id r.rooms; joined = joined_with (get r.rooms id) r.joined; last = Some id }
+counted None session = record {
+  conn = session.conn;
+  badge = session.badge;
+  hall = session.hall + 1;
+  rooms = session.rooms;
+  joined = session.joined;
+  last = None;
+}
+counted (Some id) session = record {
+  conn = session.conn;
+  badge = session.badge;
+  hall = session.hall;
+  rooms = raised id session.rooms;
+  joined = joined_with (get session.rooms id) session.joined;
+  last = Some id;
+}
 
 -- the record without a text that was counted to a room; one that is left without a text isn't there any more
 abbrev pub uncounted : Option (List ℕ) → Record → Record
-uncounted None r = r
-uncounted (Some id) r = record { conn = r.conn; badge = r.badge; hall = r.hall; rooms = lowered id r.rooms; joined = joined_left (count_in id r.rooms - 1) r.joined; last = None }
+uncounted None session = session
+uncounted (Some id) session = record {
+  conn = session.conn;
+  badge = session.badge;
+  hall = session.hall;
+  rooms = lowered id session.rooms;
+  joined = joined_left (count_in id session.rooms - 1) session.joined;
+  last = None;
+}
 
 -- the record once a badge is known
 abbrev pub with_badge : Badge → Record → Record
-with_badge badge r = record { conn = r.conn; badge = Some badge; hall = r.hall; rooms = r.rooms; joined = r.joined; last = r.last }
+with_badge badge session = record {
+  conn = session.conn;
+  badge = Some badge;
+  hall = session.hall;
+  rooms = session.rooms;
+  joined = session.joined;
+  last = session.last;
+}
 
 -- and while it is lent out
 abbrev pub without_badge : Record → Record
-without_badge r = record { conn = r.conn; badge = None; hall = r.hall; rooms = r.rooms; joined = r.joined; last = r.last }
+without_badge session = record {
+  conn = session.conn;
+  badge = None;
+  hall = session.hall;
+  rooms = session.rooms;
+  joined = session.joined;
+  last = session.last;
+}

@@ -165,7 +165,11 @@ impl RoomCounts {
         requires so_far { so_far ≡ get self.old.rooms id.now }
         requires few { count_in id.now self.old.rooms + 1 < 2 ^ 32 }
         requires fit { get self.old.rooms id.now ≡ None → self.old.joined + 1 < 2 ^ 32 }
-        ensures ok { OnOk result (self.new ≡ record { rooms = raised id.now self.old.rooms; joined = joined_with (get self.old.rooms id.now) self.old.joined; last = Some id.now }) }
+        ensures ok { OnOk result (self.new ≡ record {
+          rooms = raised id.now self.old.rooms;
+          joined = joined_with (get self.old.rooms id.now) self.old.joined;
+          last = Some id.now;
+        }) }
         ensures err { OnErr result (self.new ≡ self.old) }
     {
         let count = so_far.unwrap_or(0) + 1;

@@ -5,7 +5,8 @@ ghost use Rattle.ps_lines.specs.CleanTexts.{IsClean};
 ghost use Rattle.ps_lines.specs.Commands.{has_control, command};
 ghost use Rattle.ps_lines.specs.Faults.{IsFault};
 ghost use Rattle.ps_session.specs.Sessions.{begun, is_full, is_past_rooms, counted, with_badge, without_badge};
-ghost use Rattle.ps_session.specs.Routes.{bad_order, room_named, room_refusal, to_room, by_command, by_client, parts_of, place_of, within_limit, taken, IsTakeFault, no_room, after_no_room, Fits, HasCleanText};
+ghost use Rattle.ps_session.specs.Routes.{bad_order, room_named, room_refusal, to_room, by_command, by_client, parts_of, place_of};
+ghost use Rattle.ps_session.specs.Routes.{within_limit, taken, IsTakeFault, no_room, after_no_room, Fits, HasCleanText};
 ghost use Rattle.ps_base.specs.Messages.{texts_of};
 ghost use Rattle.ps_session.specs.declared.session.TakeFault.TheVariants.{Limit, NoMemory};
 
@@ -80,7 +81,14 @@ impl Model for Session {
 
     ghost coded = { Prim.hlevel (codes, by_id_code coded_ℕ) };
 
-    ghost view = { λ s. record { conn = s.conn; badge = s.badge; hall = s.hall; rooms = s.rooms.rooms; joined = s.rooms.joined; last = s.rooms.last } };
+    ghost view = { λ s. record {
+      conn = s.conn;
+      badge = s.badge;
+      hall = s.hall;
+      rooms = s.rooms.rooms;
+      joined = s.rooms.joined;
+      last = s.rooms.last;
+    } };
 }
 
 fn bad_order(why: BadWhy) -> Order

@@ -12,7 +12,7 @@ use Rattle.ps_splitlog.specs.declared.cursor.Cursor.{Cursor}
 use Rattle.ps_splitlog.specs.Entries.{changed, first_message, message_at}
 use Rattle.ps_splitlog.specs.Reads.{messages_of, role_past, cursor_past, read_past}
 use Rattle.ps_splitlog.specs.Firsts.{is_named, IsUnnamed}
-use Rattle.ps_splitlog.specs.Pieces.{most_messages, most_bytes, bytes_in, bytes_of, IsFull, without_last, IsShort, fewest_left, IsOpen}
+use Rattle.ps_splitlog.specs.Pieces.{most_messages, most_bytes, bytes_in, bytes_of, IsFull, without_last, HadRoomBeforeLast, fewest_left, IsOpen}
 use Rattle.ps_splitlog.specs.Pieces.{IsWalked, ReadsOn}
 use Rattle.ps_splitlog.proofs.ReadLemmas.{reads_compose}
 use Rattle.ps_splitlog.proofs.FirstLemmas.{none_in_front, messages_behind, role_behind}
@@ -68,10 +68,10 @@ front_bytes n messages =
     omega (arith, parts)
 
 -- what is not full is short with a further message
-then_short : (messages : List (List (List ℕ))) (lines : List (List ℕ)) → IsOpen messages → IsShort (messages ++ sent lines)
+then_short : (messages : List (List (List ℕ))) (lines : List (List ℕ)) → IsOpen messages → HadRoomBeforeLast (messages ++ sent lines)
 then_short messages [] o =
     let same : messages ++ [] ≡ messages = append-nil messages in
-    subst IsShort (sym same) (record {
+    subst HadRoomBeforeLast (sym same) (record {
       few = let few : length messages < most_messages = o.few in omega (arith, few);
       fits =
           let fits : bytes_of messages < most_bytes = o.fits in
@@ -93,7 +93,7 @@ pub record IsWalking (c : Cursor) (log : List LogEntry) (most : ℕ) (messages :
   pub read : messages ≡ read_past c (take i log)
   pub stands : role ≡ (cursor_past c (take i log)).role
   pub room_is : room ≡ most_bytes - bytes_of messages
-  pub short : IsShort messages ⊎ (most ≤ length log - i)
+  pub short : HadRoomBeforeLast messages ⊎ (most ≤ length log - i)
 
 pub walking_starts : (c : Cursor) (log : List LogEntry) (most : ℕ) → IsWalking c log most [] most_bytes c.role c.at
 walking_starts c log most =
@@ -126,7 +126,7 @@ next_walking c log most messages more room left role next i d le lt w on is rest
       omega (arith, rest, before, bytes);
   short = elim on [
     | inl many ↦ inr (omega (arith, many))
-    | inr o ↦ inl (subst IsShort (sym is) (then_short messages (message_at c.conn role log i) o))
+    | inr o ↦ inl (subst HadRoomBeforeLast (sym is) (then_short messages (message_at c.conn role log i) o))
   ];
 }
 

@@ -6,4 +6,4 @@ use Rattle.ps_splitlog.specs.declared.entry.Joined.{Joined}
 
 abbrev pub in_box : Option (Box Joined Global) → Option Joined
 in_box None = None
-in_box (Some b) = Some b.value
+in_box (Some boxed) = Some boxed.value

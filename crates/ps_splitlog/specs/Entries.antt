@@ -24,12 +24,12 @@ log_entry_of_lines conn ls join = record { conn = conn; lines = map stored_of_li
 -- the role after these changes: the first that names the connection counts
 abbrev pub changed : ℕ → List (ℕ × Role) → Role → Role
 changed conn [] role = role
-changed conn (c ∷ cs) role = if c.0 == conn then c.1 else changed conn cs role
+changed conn (change ∷ changes) role = if change.0 == conn then change.1 else changed conn changes role
 
 -- ---- the backlog
 
 abbrev pub logged_in : LogEntry → List Stored
-logged_in h = filter is_logged_line h.lines
+logged_in entry = filter is_logged_line entry.lines
 
 -- all lines of these entries that are logged, in order
 abbrev pub logged_lines : List LogEntry → List Stored
@@ -46,20 +46,21 @@ last_of keep ls = if keep == all_of_them then ls else drop (length ls - keep) ls
 
 -- what who joins is sent in the place of the entry's lines, where this connection is the one
 abbrev pub join_for : ℕ → LogEntry → Option Joined
-join_for conn h = if conn == h.conn then h.join else None
+join_for conn entry = if conn == entry.conn then entry.join else None
 
 -- the head, the last lines that were logged before by the role of the join, and the tail
 abbrev pub joined_or : ℕ → Option Joined → List Stored → List (List ℕ) → List (List ℕ)
 joined_or conn None before texts = texts
-joined_or conn (Some j) before texts = j.head ++ shown_lines conn j.role (last_of j.keep before) ++ option_to_list j.tail
+joined_or conn (Some joined) before texts = joined.head ++ shown_lines conn joined.role (last_of joined.keep before)
+    ++ option_to_list joined.tail
 
 -- what a connection in this role is sent at an entry, before which these lines were logged
 abbrev pub message_of : ℕ → Role → List Stored → LogEntry → List (List ℕ)
-message_of conn role before h = joined_or conn (join_for conn h) before (shown_lines conn role h.lines)
+message_of conn role before entry = joined_or conn (join_for conn entry) before (shown_lines conn role entry.lines)
 
 abbrev pub first_message : ℕ → Role → List LogEntry → List LogEntry → List (List ℕ)
 first_message conn role earlier [] = []
-first_message conn role earlier (h ∷ hs) = message_of conn role (logged_lines earlier) h
+first_message conn role earlier (entry ∷ entries) = message_of conn role (logged_lines earlier) entry
 
 -- what it is sent at the entry at this index of the log; past the end there is none
 abbrev pub message_at : ℕ → Role → List LogEntry → ℕ → List (List ℕ)

@@ -35,7 +35,7 @@ joiner_by conn (Some joined) = Some conn
 
 -- the connection that joins by an entry, if one does
 abbrev pub joiner_of : LogEntry → Option ℕ
-joiner_of h = joiner_by h.conn h.join
+joiner_of entry = joiner_by entry.conn entry.join
 
 abbrev pub is_that : ℕ → Option ℕ → Bool
 is_that reader None = false
@@ -49,7 +49,7 @@ is_given reader change = change.0 == reader
 
 -- whether it joins by the entry, one of the lines is for it alone, or it is given a role
 abbrev pub is_named : ℕ → LogEntry → Bool
-is_named reader h = is_that reader (joiner_of h) || list_any (is_owner reader) h.lines || list_any (is_given reader) h.roles
+is_named reader entry = is_that reader (joiner_of entry) || list_any (is_owner reader) entry.lines || list_any (is_given reader) entry.roles
 
 -- ---- where
 

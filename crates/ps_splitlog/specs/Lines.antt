@@ -34,10 +34,12 @@ same_line audience logged None = None
 
 -- what is split by a side: its line for the player of the side, and that for a spectator; what isn't: that for a spectator
 abbrev pub stored_by : Audience → Names → Tables → Event → Option Stored
-stored_by (audiences.Split side) names dex event = split_line side (is_logged event) (line_of event (Player side 0) names dex) (line_of event (Spectator 0) names dex)
+stored_by (audiences.Split side) names dex event = split_line side (is_logged event) (line_of event (Player side 0) names dex)
+    (line_of event (Spectator 0) names dex)
 stored_by audiences.All names dex event = same_line audiences.All (is_logged event) (line_of event (Spectator 0) names dex)
 stored_by (audiences.Side side) names dex event = same_line (audiences.Side side) (is_logged event) (line_of event (Spectator 0) names dex)
-stored_by (audiences.Rank lowest) names dex event = same_line (audiences.Rank lowest) (is_logged event) (line_of event (Spectator 0) names dex)
+stored_by (audiences.Rank lowest) names dex event = same_line (audiences.Rank lowest) (is_logged event)
+    (line_of event (Spectator 0) names dex)
 stored_by (audiences.One conn) names dex event = same_line (audiences.One conn) (is_logged event) (line_of event (Spectator 0) names dex)
 
 -- what is stored of an event; of a request nothing
@@ -45,7 +47,7 @@ unfoldable pub stored_of_event : Names → Tables → Event → Option Stored
 stored_of_event names dex event = stored_by (audience_of event) names dex event
 
 abbrev pub stored_of_line : Line → Stored
-stored_of_line l = Same l.audience l.logged l.text
+stored_of_line line = Same line.audience line.logged line.text
 
 -- what is stored of an entry's events and lines, the events first
 abbrev pub stored_of : Names → Tables → List Event → List Line → List Stored
@@ -74,7 +76,7 @@ shown conn role (Split side logged secret public) = if is_member role then Some 
 
 abbrev pub shown_if : ℕ → Role → Option Stored → Option (List ℕ)
 shown_if conn role None = None
-shown_if conn role (Some s) = shown conn role s
+shown_if conn role (Some stored) = shown conn role stored
 
 -- of several
 abbrev pub shown_lines : ℕ → Role → List Stored → List (List ℕ)

@@ -28,7 +28,7 @@ abbrev pub without_last : {X : Type 0} → ℕ → List X → List X
 without_last count xs = take (length xs - count) xs
 
 -- no longer than it is with the message that made it full
-pub record IsShort (messages : List (List (List ℕ))) : Type 0 where
+pub record HadRoomBeforeLast (messages : List (List (List ℕ))) : Type 0 where
   pub few : length messages ≤ most_messages
   pub fits : bytes_of (without_last 1 messages) < most_bytes
 
@@ -36,7 +36,7 @@ pub record IsShort (messages : List (List (List ℕ))) : Type 0 where
 
 -- how many entries are left at the least: so many, or all behind a cursor that has fewer behind it
 abbrev pub fewest_left : ℕ → Cursor → List LogEntry → ℕ
-fewest_left least c log = min least (length log - c.at)
+fewest_left least cursor log = min least (length log - cursor.at)
 
 -- ---- for the code alone
 
@@ -46,19 +46,19 @@ pub record IsOpen (messages : List (List (List ℕ))) : Type 0 where
   pub fits : bytes_of messages < most_bytes
 
 -- a piece with these messages, behind which so many entries are left and this is the cursor
-pub record IsWalked (c : Cursor) (log : List LogEntry) (least most : ℕ) (messages : List (List (List ℕ))) (left : ℕ) (behind : Cursor)
+pub record IsWalked (cursor : Cursor) (log : List LogEntry) (least most : ℕ) (messages : List (List (List ℕ))) (left : ℕ) (behind : Cursor)
     : Type 0 where
-  pub messages_are : messages ≡ read_past c (without_last left log)
-  pub end : behind ≡ cursor_past c (without_last left log)
+  pub messages_are : messages ≡ read_past cursor (without_last left log)
+  pub end : behind ≡ cursor_past cursor (without_last left log)
   pub high : left ≤ most
-  pub low : fewest_left least c log ≤ left
-  pub onward : left ≤ length log - c.at
-  pub short : IsShort messages ⊎ (left ≡ most)
-  pub whole : (left ≡ fewest_left least c log) ⊎ IsFull messages
+  pub low : fewest_left least cursor log ≤ left
+  pub onward : left ≤ length log - cursor.at
+  pub short : HadRoomBeforeLast messages ⊎ (left ≡ most)
+  pub whole : (left ≡ fewest_left least cursor log) ⊎ IsFull messages
 
 -- a cursor further on, but not past the last so many, that reads the same
-pub record ReadsOn (c start : Cursor) (least : ℕ) (log : List LogEntry) : Type 0 where
-  pub onward : c.at ≤ start.at
+pub record ReadsOn (cursor start : Cursor) (least : ℕ) (log : List LogEntry) : Type 0 where
+  pub onward : cursor.at ≤ start.at
   pub within : start.at ≤ length log - least
-  pub messages : (n : ℕ) → start.at ≤ n → read_past start (take n log) ≡ read_past c (take n log)
-  pub end : (n : ℕ) → start.at ≤ n → cursor_past start (take n log) ≡ cursor_past c (take n log)
+  pub messages : (count : ℕ) → start.at ≤ count → read_past start (take count log) ≡ read_past cursor (take count log)
+  pub end : (count : ℕ) → start.at ≤ count → cursor_past start (take count log) ≡ cursor_past cursor (take count log)

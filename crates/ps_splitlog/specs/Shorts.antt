@@ -15,10 +15,10 @@ pub record Short : Type 0 where
   pub gone : ℕ
 
 -- what it has of a log
-pub record IsShortOf (log : List LogEntry) (s : Short) : Type 0 where
-  pub backlog : s.backlog ≡ last_of s.most (logged_lines (take s.gone log))
-  pub kept : s.kept ≡ drop s.gone log
-  pub gone : s.gone ≤ length log
+pub record IsShortOf (log : List LogEntry) (short : Short) : Type 0 where
+  pub backlog : short.backlog ≡ last_of short.most (logged_lines (take short.gone log))
+  pub kept : short.kept ≡ drop short.gone log
+  pub gone : short.gone ≤ length log
 
 -- with no entry
 abbrev pub started : ℕ → Short
@@ -26,24 +26,25 @@ started most = record { most = most; backlog = []; kept = []; gone = 0 }
 
 -- with a further entry
 abbrev pub with_entry : LogEntry → Short → Short
-with_entry h s = record { most = s.most; backlog = s.backlog; kept = s.kept ++ h ∷ []; gone = s.gone }
+with_entry entry short = record { most = short.most; backlog = short.backlog; kept = short.kept ++ entry ∷ []; gone = short.gone }
 
 -- without the last entry that isn't gone
 abbrev pub taken_back : Short → Short
-taken_back s = record { most = s.most; backlog = s.backlog; kept = take (length s.kept - 1) s.kept; gone = s.gone }
+taken_back short = record { most = short.most; backlog = short.backlog; kept = take (length short.kept - 1) short.kept; gone = short.gone }
 
 -- where these aren't gone: the first of them is
 abbrev pub gone_of : ℕ → List Stored → ℕ → List LogEntry → Short
 gone_of most backlog gone [] = record { most = most; backlog = backlog; kept = []; gone = gone }
-gone_of most backlog gone (h ∷ hs) = record { most = most; backlog = last_of most (backlog ++ logged_in h); kept = hs; gone = suc gone }
+gone_of most backlog gone (entry ∷ entries) = record
+    { most = most; backlog = last_of most (backlog ++ logged_in entry); kept = entries; gone = suc gone }
 
 -- with the first entry that isn't gone forgotten, but for its logged lines
 abbrev pub forgotten : Short → Short
-forgotten s = gone_of s.most s.backlog s.gone s.kept
+forgotten short = gone_of short.most short.backlog short.gone short.kept
 
 -- of what was logged before the next entry, what who joins by it may be sent
 abbrev pub lines_of : Short → List Stored
-lines_of s = last_of s.most (s.backlog ++ logged_lines s.kept)
+lines_of short = last_of short.most (short.backlog ++ logged_lines short.kept)
 
 -- ---- for the code: how many lines who joins is sent, and where they begin
 
@@ -63,14 +64,15 @@ skipped_of keep more = if keep == all_of_them then 0 else more - keep
 
 -- the next entry's message is that of the whole log, where who joins is sent no more lines than are kept
 abbrev pub IsFew : ℕ → LogEntry → Type 0
-IsFew most h = (conn : ℕ) (j : Joined) → join_for conn h ≡ Some j → fewer j.keep most ≡ j.keep
+IsFew most entry = (conn : ℕ) (joined : Joined) → join_for conn entry ≡ Some joined → fewer joined.keep most ≡ joined.keep
 
 -- What is short of a log stays so, as entries come and are forgotten; and who joins is sent what it is sent of the log.
-pub record StaysShort (log : List LogEntry) (s : Short) : Type 0 where
-  pub pushed : (h : LogEntry) → IsShortOf (log ++ h ∷ []) (with_entry h s)
-  pub forgotten : IsShortOf log (forgotten s)
-  pub message : (conn : ℕ) (role : Role) (h : LogEntry) → IsFew s.most h → message_of conn role (lines_of s) h ≡ message_of conn role (logged_lines log) h
+pub record StaysShort (log : List LogEntry) (short : Short) : Type 0 where
+  pub pushed : (entry : LogEntry) → IsShortOf (log ++ entry ∷ []) (with_entry entry short)
+  pub forgotten : IsShortOf log (forgotten short)
+  pub message : (conn : ℕ) (role : Role) (entry : LogEntry) → IsFew short.most entry
+      → message_of conn role (lines_of short) entry ≡ message_of conn role (logged_lines log) entry
 
 pub record AreShort : Type 0 where
   pub start : (most : ℕ) → IsShortOf [] (started most)
-  pub next : (log : List LogEntry) (s : Short) → IsShortOf log s → StaysShort log s
+  pub next : (log : List LogEntry) (short : Short) → IsShortOf log short → StaysShort log short

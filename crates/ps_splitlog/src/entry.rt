@@ -165,7 +165,8 @@ pub fn log_entry_of(
     dex: &Dex,
     entry: Entry<'_>,
 ) -> Result<LogEntry, AllocError>
-    ensures { IfOk result (λ h. h ≡ log_entry_of names.now dex.now entry.entry.conn entry.entry.events.now entry.entry.lines.items entry.entry.join entry.entry.roles.now) }
+    ensures { IfOk result (λ h. h ≡ log_entry_of names.now dex.now entry.entry.conn entry.entry.events.now entry.entry.lines.items
+        entry.entry.join entry.entry.roles.now) }
 {
     let lines = stored_of(alloc, names, dex, entry.events, entry.lines)?;
     let roles = entry.roles.to_vec(alloc)?;

@@ -110,7 +110,8 @@ pub(crate) fn note(index: &mut Index, entry: usize, lines: &[Stored]) -> Result<
 /// Forgets the last entry. Takes no memory.
 pub(crate) fn forget(index: &mut Index)
     ensures starts { index.new.starts.items ≡ take (length index.old.starts.items - 1) index.old.starts.items }
-    ensures line_indices { index.new.line_indices.items ≡ take (get_or index.old.starts.items (length index.old.starts.items - 1) 0) index.old.line_indices.items }
+    ensures line_indices { index.new.line_indices.items
+        ≡ take (get_or index.old.starts.items (length index.old.starts.items - 1) 0) index.old.line_indices.items }
 {
     let rest = index.starts.len().saturating_sub(1);
     let before = match index.starts.get(rest) {

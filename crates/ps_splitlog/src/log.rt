@@ -4,7 +4,7 @@ ghost use Rattle.std.specs.Prelude as prelude;
 ghost use Rattle.ps_splitlog.specs.declared.entry.LogEntry.{LogEntry};
 ghost use Rattle.ps_splitlog.specs.Entries.{log_entry_of, logged_lines, message_of};
 ghost use Rattle.ps_splitlog.specs.Reads.{cursor_past, read_past};
-ghost use Rattle.ps_splitlog.specs.Pieces.{without_last, fewest_left, IsShort, IsFull};
+ghost use Rattle.ps_splitlog.specs.Pieces.{without_last, fewest_left, HadRoomBeforeLast, IsFull};
 ghost use Rattle.ps_base.specs.Messages.{msg_lines};
 
 use crate::cursor::Cursor;
@@ -61,7 +61,8 @@ impl Model for SplitLog {
 
 // Gives the last entry these roles in place of its own.
 fn set_roles(entries: &mut Vec<LogEntry>, roles: List<(ConnNo, Role)>)
-    ensures last { (log : prelude.List LogEntry) (h : LogEntry) → entries.old.items ≡ log ++ h ∷ [] → entries.new.items ≡ log ++ record h { roles = roles } ∷ [] }
+    ensures last { (log : prelude.List LogEntry) (h : LogEntry) → entries.old.items ≡ log ++ h ∷ []
+        → entries.new.items ≡ log ++ record h { roles = roles } ∷ [] }
     ensures none { entries.old.items ≡ [] → entries.new.items ≡ [] }
 {
     let count = entries.len();
@@ -115,7 +116,9 @@ impl SplitLog {
         names: &Names,
         dex: &Dex,
     ) -> Result<(), AllocError>
-        ensures ok { OnOk result (self.new ≡ self.old ++ log_entry_of names.now dex.now entry.entry.conn entry.entry.events.now entry.entry.lines.items entry.entry.join entry.entry.roles.now ∷ []) }
+        ensures ok { OnOk result (self.new ≡ self.old
+            ++ log_entry_of names.now dex.now entry.entry.conn entry.entry.events.now entry.entry.lines.items entry.entry.join
+            entry.entry.roles.now ∷ []) }
         ensures err { OnErr result (self.new ≡ self.old) }
     {
         let log_entry = log_entry_of(alloc, names, dex, entry)?;
@@ -159,7 +162,8 @@ impl SplitLog {
     /// Gives the last entry, if there is one, these roles in place of its own: for who learns them by a change that comes after
     /// all memory was taken. Takes no memory.
     pub fn give_roles(&mut self, roles: List<(ConnNo, Role)>)
-        ensures last { (log : prelude.List LogEntry) (h : LogEntry) → self.old ≡ log ++ h ∷ [] → self.new ≡ log ++ record h { roles = roles } ∷ [] }
+        ensures last { (log : prelude.List LogEntry) (h : LogEntry) → self.old ≡ log ++ h ∷ []
+            → self.new ≡ log ++ record h { roles = roles } ∷ [] }
         ensures none { self.old ≡ [] → self.new ≡ [] }
     {
         set_roles(&mut self.entries, roles);
@@ -231,7 +235,7 @@ impl SplitLog {
         ensures high { IfOk result (λ p. p.left ≤ most) }
         ensures low { IfOk result (λ p. fewest_left least cursor.old self.now ≤ p.left) }
         ensures onward { IfOk result (λ p. p.left ≤ length self.now - cursor.old.at) }
-        ensures short { IfOk result (λ p. IsShort (map msg_lines p.messages.items) ⊎ (p.left ≡ most)) }
+        ensures short { IfOk result (λ p. HadRoomBeforeLast (map msg_lines p.messages.items) ⊎ (p.left ≡ most)) }
         ensures whole { IfOk result (λ p. (p.left ≡ fewest_left least cursor.old self.now) ⊎ IsFull (map msg_lines p.messages.items)) }
         ensures err { OnErr result (cursor.new ≡ cursor.old) }
     {

@@ -60,7 +60,8 @@ fn push_entry(
     room: usize,
 ) -> Result<usize, AllocError>
     requires { IsIndex entries.now index.now.starts.items index.now.line_indices.items }
-    ensures messages { OnOk result (map msg_lines messages.new.items ≡ map msg_lines messages.old.items ++ sent (message_at conn role entries.now entry_index)) }
+    ensures messages { OnOk result (map msg_lines messages.new.items ≡ map msg_lines messages.old.items
+        ++ sent (message_at conn role entries.now entry_index)) }
     ensures room { IfOk result (λ left. left ≡ room - bytes_in (message_at conn role entries.now entry_index)) }
 {
     let lines = message(alloc, entries, index, entry_index, conn, role)?;

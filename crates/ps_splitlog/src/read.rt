@@ -122,7 +122,8 @@ fn init(
     entries: &[LogEntry],
     before: &[LineIndex],
 ) -> Result<List<Text>, AllocError>
-    ensures { IfOk result (λ v. v ≡ joined.now.head ++ shown_at conn joined.now.role entries.now (last_of joined.now.keep before.now) ++ option_to_list joined.now.tail) }
+    ensures { IfOk result (λ v. v ≡ joined.now.head ++ shown_at conn joined.now.role entries.now (last_of joined.now.keep before.now)
+        ++ option_to_list joined.now.tail) }
 {
     let mut texts = Vec::new(alloc);
     push_copies(alloc, &mut texts, joined.head.as_slice())?;
@@ -228,7 +229,8 @@ pub(crate) fn push_messages(
     from: usize,
 ) -> Result<Role, AllocError>
     requires { IsIndex entries.now index.now.starts.items index.now.line_indices.items }
-    ensures messages { OnOk result (map msg_lines messages.new.items ≡ map msg_lines messages.old.items ++ messages_of conn first (take from entries.now) (drop from entries.now)) }
+    ensures messages { OnOk result (map msg_lines messages.new.items ≡ map msg_lines messages.old.items
+        ++ messages_of conn first (take from entries.now) (drop from entries.now)) }
     ensures role { IfOk result (λ role. role ≡ role_past conn first (drop from entries.now)) }
 {
     let mut role = first;

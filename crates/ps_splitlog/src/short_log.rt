@@ -180,7 +180,8 @@ fn push_or_skip(
     line: &Stored,
     skip: usize,
 ) -> Result<usize, AllocError>
-    ensures text { OnOk result (texts.new.items ≡ texts.old.items ++ shown_lines conn role (drop skip (filter is_logged_line (line.now ∷ [])))) }
+    ensures text { OnOk result (texts.new.items ≡ texts.old.items
+        ++ shown_lines conn role (drop skip (filter is_logged_line (line.now ∷ [])))) }
     ensures left { IfOk result (λ left. left ≡ skip - length (filter is_logged_line (line.now ∷ []))) }
 {
     if !is_logged_line(line) {
@@ -223,7 +224,8 @@ fn push_all_past(
     skip: usize,
 ) -> Result<(), AllocError>
     requires { upto ≤ deque_len kept.now }
-    ensures { OnOk result (texts.new.items ≡ texts.old.items ++ shown_lines conn role (drop skip (logged_lines (take upto kept.now.items)))) }
+    ensures { OnOk result (texts.new.items ≡ texts.old.items
+        ++ shown_lines conn role (drop skip (logged_lines (take upto kept.now.items)))) }
 {
     let mut left = skip;
     for i in 0..upto {
@@ -245,7 +247,8 @@ fn push_recent(
     upto: usize,
 ) -> Result<(), AllocError>
     requires { upto ≤ deque_len kept.now }
-    ensures { OnOk result (texts.new.items ≡ texts.old.items ++ shown_lines conn role (last_of keep (backlog.now.items ++ logged_lines (take upto kept.now.items)))) }
+    ensures { OnOk result (texts.new.items ≡ texts.old.items
+        ++ shown_lines conn role (last_of keep (backlog.now.items ++ logged_lines (take upto kept.now.items)))) }
 {
     let more = logged_count_of(kept, upto)?;
     let from = first_of(keep, backlog.len(), more);
@@ -265,7 +268,9 @@ fn init(
     upto: usize,
 ) -> Result<List<Text>, AllocError>
     requires { upto ≤ deque_len kept.now }
-    ensures { IfOk result (λ v. v ≡ joined.now.head ++ shown_lines conn joined.now.role (last_of keep (backlog.now.items ++ logged_lines (take upto kept.now.items))) ++ option_to_list joined.now.tail) }
+    ensures { IfOk result (λ v. v ≡ joined.now.head
+        ++ shown_lines conn joined.now.role (last_of keep (backlog.now.items ++ logged_lines (take upto kept.now.items)))
+        ++ option_to_list joined.now.tail) }
 {
     let mut texts = Vec::new(alloc);
     push_copies(alloc, &mut texts, joined.head.as_slice())?;
@@ -296,7 +301,8 @@ fn message_behind(
     log_entry: &LogEntry,
 ) -> Result<List<Text>, AllocError>
     requires { upto ≤ deque_len kept.now }
-    ensures { IfOk result (λ v. v ≡ message_of conn role (last_of most (backlog.now.items ++ logged_lines (take upto kept.now.items))) log_entry.now) }
+    ensures { IfOk result (λ v. v ≡ message_of conn role (last_of most (backlog.now.items ++ logged_lines (take upto kept.now.items)))
+        log_entry.now) }
 {
     match join_for(conn, log_entry) {
         None => shown_of(alloc, conn, role, log_entry.lines.as_slice()),

@@ -31,17 +31,17 @@ freeze_clause = 4
 
 -- a clause bars sleep where another standing member of the foe's side sleeps, and not by Rest, and frost where one is frozen
 abbrev pub is_barred_by_clause : Status → Duel → Bool
-is_barred_by_clause Slp d = has_clause d.clauses sleep_clause && d.asleep
-is_barred_by_clause Frz d = has_clause d.clauses freeze_clause && d.frozen
-is_barred_by_clause status d = false
+is_barred_by_clause Slp duel = has_clause duel.clauses sleep_clause && duel.asleep
+is_barred_by_clause Frz duel = has_clause duel.clauses freeze_clause && duel.frozen
+is_barred_by_clause status duel = false
 
 -- whether the foe has a substitute, or the move's type
 abbrev pub is_shielded : MoveData → Duel → Bool
-is_shielded used d = nat_lt 0 d.foe.vol.substitute || is_of_type d.foe used.kind
+is_shielded used duel = nat_lt 0 duel.foe.vol.substitute || is_of_type duel.foe used.kind
 
 -- as a secondary: a status, the clauses, a substitute and the move's type bar any status
 unfoldable pub is_barred_second : Status → MoveData → Duel → Bool
-is_barred_second status used d = not (is_healthy d.foe.status) || is_barred_by_clause status d || is_shielded used d
+is_barred_second status used duel = not (is_healthy duel.foe.status) || is_barred_by_clause status duel || is_shielded used duel
 
 -- what a substitute or the move's type bars with power 0
 abbrev pub is_by_touch : Status → Bool
@@ -58,16 +58,16 @@ has_no_effect factors = slice_index factors 0 == 0 || slice_index factors 1 == 0
 -- with power 0: a status and the clauses bar any; a special move to which a type is immune bars Par; a substitute and the move's type bar
 -- Psn, Tox, Brn and Frz
 unfoldable pub is_barred_alone : Status → MoveData → List ℕ → Duel → Bool
-is_barred_alone status used factors d =
-    not (is_healthy d.foe.status) || is_barred_by_clause status d
+is_barred_alone status used factors duel =
+    not (is_healthy duel.foe.status) || is_barred_by_clause status duel
     || (is_paralysed status && (used.special && has_no_effect factors))
-    || (is_by_touch status && is_shielded used d)
+    || (is_by_touch status && is_shielded used duel)
 
 -- how many acts a new status counts: sleep 1 to 7
 unfoldable pub counter_of : Status → Play ℕ
 counter_of status = choose (is_slp status) (do
-  n ← draw 7
-  give (1 + n)) (give 0)
+  drawn ← draw 7
+  give (1 + drawn)) (give 0)
 
 -- each new bad poison counts anew
 abbrev pub toxic_after : Status → ℕ → ℕ
@@ -76,22 +76,27 @@ toxic_after other toxic = toxic
 
 -- a fighter that has got a status
 unfoldable pub afflicted : Status → ℕ → Fighter → Fighter
-afflicted status counter f =
-    record f { status = status; counter = counter; rested = false; vol = record f.vol { toxic = toxic_after status f.vol.toxic } }
+afflicted status counter fighter =
+    record fighter {
+      status = status;
+      counter = counter;
+      rested = false;
+      vol = record fighter.vol { toxic = toxic_after status fighter.vol.toxic };
+    }
 
 -- the foe gets the status
 unfoldable pub afflict : Status → Play (Unit {0})
 afflict status = do
   counter ← counter_of status
-  change (λ d. record d { foe = afflicted status counter d.foe })
-  d ← duel_now
-  tell (events.Status (who_of d.foe) (status_number status))
+  change (λ duel. record duel { foe = afflicted status counter duel.foe })
+  duel ← duel_now
+  tell (events.Status (who_of duel.foe) (status_number status))
 
 -- a status as the secondary of a strike
 unfoldable pub status_second : Status → MoveData → Play (Unit {0})
 status_second status used = do
-  d ← duel_now
-  choose (is_barred_second status used d) (give tt) (afflict status)
+  duel ← duel_now
+  choose (is_barred_second status used duel) (give tt) (afflict status)
 
 -- a strike, and a status as its secondary
 unfoldable pub status_by_strike : Status → ℕ → Figures → ℕ → Play (Unit {0})
@@ -103,9 +108,10 @@ status_by_strike status chance facts mv = do
 unfoldable pub status_alone : Status → Figures → ℕ → Play (Unit {0})
 status_alone status facts mv = do
   lands ← accuracy_test (move_of facts mv).accuracy
-  d ← duel_now
+  duel ← duel_now
   choose lands
-      (choose (is_barred_alone status (move_of facts mv) (move_factors facts mv (types_now d.foe)) d) (tell (events.Fail (who_of d.user))) (afflict status))
+      (choose (is_barred_alone status (move_of facts mv) (move_factors facts mv (types_now duel.foe)) duel)
+      (tell (events.Fail (who_of duel.user))) (afflict status))
       (give tt)
 
 -- status: by strike and secondary, or with power 0

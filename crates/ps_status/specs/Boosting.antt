@@ -1,5 +1,6 @@
 -- Stages, with a strike or without one.
-use Rattle.std.specs.Prelude.{ℕ, ℤ, pos, negsuc, ◌+ℤ◌, ◌-ℤ◌, ◌≤ℤ◌, int_lt, unsigned_abs, Bool, false, ◌||◌, not, nat_lt, ◌==◌, if◌then◌else◌}
+use Rattle.std.specs.Prelude.{ℕ, ℤ, pos, negsuc, ◌+ℤ◌, ◌-ℤ◌, ◌≤ℤ◌, int_lt, unsigned_abs, Bool, false, ◌||◌, not, nat_lt, ◌==◌}
+use Rattle.std.specs.Prelude.{if◌then◌else◌}
 use Rattle.ps_event.specs.declared.event.Event.{Event}
 use Rattle.ps_event.specs.declared.event.Event.TheVariants as events
 use Rattle.ps_mon.specs.declared.duel.Fighter.{Fighter}
@@ -51,11 +52,14 @@ unfoldable pub is_at_end : ℤ → ℤ → Bool
 is_at_end stage by = if int_lt (pos 0) by then not (int_lt stage (pos 6)) else not (int_lt (negsuc 5) stage)
 
 abbrev pub stage_now : Stat → Fighter → ℤ
-stage_now stat f = stage_of stat f.vol.stages
+stage_now stat fighter = stage_of stat fighter.vol.stages
 
 abbrev pub boosted : Shift → Fighter → Fighter
-boosted shift f =
-    record f { vol = record f.vol { stages = with_stage shift.stat (moved (stage_now shift.stat f) shift.by) f.vol.stages } }
+boosted shift fighter =
+    record fighter {
+      vol = record fighter.vol
+          { stages = with_stage shift.stat (moved (stage_now shift.stat fighter) shift.by) fighter.vol.stages };
+    }
 
 -- a stage's index in the list of what has stages
 abbrev pub stat_number : Stat → ℕ
@@ -68,27 +72,27 @@ stat_number Eva = numbers.stat_eva
 
 -- by how many stages a fighter really changes
 unfoldable pub steps_of : Shift → Fighter → ℕ
-steps_of shift f = unsigned_abs (moved (stage_now shift.stat f) shift.by -ℤ stage_now shift.stat f)
+steps_of shift fighter = unsigned_abs (moved (stage_now shift.stat fighter) shift.by -ℤ stage_now shift.stat fighter)
 
 -- Boost or Unboost, by as many stages as really change
 unfoldable pub boost_event : Shift → Fighter → Event
-boost_event shift f =
-    if int_lt (pos 0) shift.by then events.Boost (who_of f) (stat_number shift.stat) (steps_of shift f)
-    else events.Unboost (who_of f) (stat_number shift.stat) (steps_of shift f)
+boost_event shift fighter =
+    if int_lt (pos 0) shift.by then events.Boost (who_of fighter) (stat_number shift.stat) (steps_of shift fighter)
+    else events.Unboost (who_of fighter) (stat_number shift.stat) (steps_of shift fighter)
 
 -- the user's stages change
 unfoldable pub boost_user : Shift → Play (Unit {0})
 boost_user shift = do
-  d ← duel_now
-  change (λ d. record d { user = boosted shift d.user })
-  tell (boost_event shift d.user)
+  duel ← duel_now
+  change (λ duel. record duel { user = boosted shift duel.user })
+  tell (boost_event shift duel.user)
 
 -- the foe's stages change
 unfoldable pub boost_foe : Shift → Play (Unit {0})
 boost_foe shift = do
-  d ← duel_now
-  change (λ d. record d { foe = boosted shift d.foe })
-  tell (boost_event shift d.foe)
+  duel ← duel_now
+  change (λ duel. record duel { foe = boosted shift duel.foe })
+  tell (boost_event shift duel.foe)
 
 abbrev pub boost_at : Aim → Shift → Play (Unit {0})
 boost_at User shift = boost_user shift
@@ -96,18 +100,18 @@ boost_at Foe shift = boost_foe shift
 
 -- the end of the range bars a change, and a foe's mist or substitute does
 abbrev pub is_barred_at : Aim → Shift → Duel → Bool
-is_barred_at User shift d = is_at_end (stage_now shift.stat d.user) shift.by
-is_barred_at Foe shift d =
-    is_at_end (stage_now shift.stat d.foe) shift.by || d.foe.vol.mist || nat_lt 0 d.foe.vol.substitute
+is_barred_at User shift duel = is_at_end (stage_now shift.stat duel.user) shift.by
+is_barred_at Foe shift duel =
+    is_at_end (stage_now shift.stat duel.foe) shift.by || duel.foe.vol.mist || nat_lt 0 duel.foe.vol.substitute
 
 unfoldable pub is_boost_barred : Shift → Duel → Bool
-is_boost_barred shift d = is_barred_at shift.who shift d
+is_boost_barred shift duel = is_barred_at shift.who shift duel
 
 -- a change as the secondary of a strike
 unfoldable pub boost_second : Shift → Play (Unit {0})
 boost_second shift = do
-  d ← duel_now
-  choose (is_boost_barred shift d) (give tt) (boost_at shift.who shift)
+  duel ← duel_now
+  choose (is_boost_barred shift duel) (give tt) (boost_at shift.who shift)
 
 -- a strike, and a change as its secondary
 unfoldable pub boost_by_strike : Shift → ℕ → Figures → ℕ → Play (Unit {0})
@@ -118,8 +122,8 @@ boost_by_strike shift chance facts mv = do
 -- a change, or Fail where it can't be
 unfoldable pub boost_or_fail : Shift → Play (Unit {0})
 boost_or_fail shift = do
-  d ← duel_now
-  choose (is_boost_barred shift d) (tell (events.Fail (who_of d.user))) (boost_at shift.who shift)
+  duel ← duel_now
+  choose (is_boost_barred shift duel) (tell (events.Fail (who_of duel.user))) (boost_at shift.who shift)
 
 -- with power 0: the accuracy test is for a foe alone
 abbrev pub boost_alone_at : Aim → Shift → Figures → ℕ → Play (Unit {0})

@@ -11,25 +11,36 @@ use Rattle.ps_status.specs.Afflicting.{is_healthy}
 
 -- a fighter without its status, and without what counted it
 abbrev pub cured : Fighter → Fighter
-cured f = record f { status = Healthy; counter = 0; rested = false }
+cured fighter = record fighter { status = Healthy; counter = 0; rested = false }
 
 -- stages, confusion, seed, screens, Mist, Focus Energy and a disabled slot end
 unfoldable pub cleared : Fighter → Fighter
-cleared f =
-    record f { vol = record f.vol { stages = no_stages; confusion = 0; seeded = false; reflect = false; light = false; mist = false; focus = false; disabled = None } }
+cleared fighter =
+    record fighter {
+      vol = record fighter.vol {
+        stages = no_stages;
+        confusion = 0;
+        seeded = false;
+        reflect = false;
+        light = false;
+        mist = false;
+        focus = false;
+        disabled = None;
+      };
+    }
 
 -- the foe's status ends, where it has one
 unfoldable pub cure_foe : Play (Unit {0})
 cure_foe = do
-  d ← duel_now
-  choose (is_healthy d.foe.status) (give tt) (do
-    change (λ d. record d { foe = cured d.foe })
-    tell (events.CureStatus (who_of d.foe) (status_number d.foe.status)))
+  duel ← duel_now
+  choose (is_healthy duel.foe.status) (give tt) (do
+    change (λ duel. record duel { foe = cured duel.foe })
+    tell (events.CureStatus (who_of duel.foe) (status_number duel.foe.status)))
 
 -- haze: both members lose what is above; the foe's status ends, and the user's bad poison becomes a plain one
 unfoldable pub haze_row : Play (Unit {0})
 haze_row = do
   tell events.ClearAll
-  change (λ d. record d { user = cleared d.user; foe = cleared d.foe })
+  change (λ duel. record duel { user = cleared duel.user; foe = cleared duel.foe })
   cure_foe
-  change (λ d. record d { user = record d.user { status = milder d.user.status } })
+  change (λ duel. record duel { user = record duel.user { status = milder duel.user.status } })

@@ -14,24 +14,24 @@ use Rattle.ps_status.specs.Seconds.{second}
 
 -- who is confused, or has a substitute, can't be confused
 abbrev pub stays_sane : Fighter → Bool
-stays_sane f = nat_lt 0 f.vol.confusion || nat_lt 0 f.vol.substitute
+stays_sane fighter = nat_lt 0 fighter.vol.confusion || nat_lt 0 fighter.vol.substitute
 
 abbrev pub confused : ℕ → Fighter → Fighter
-confused turns f = record f { vol = record f.vol { confusion = turns } }
+confused turns fighter = record fighter { vol = record fighter.vol { confusion = turns } }
 
 -- the foe is confused for 2 to 5 acts
 unfoldable pub daze : Play (Unit {0})
 daze = do
-  n ← draw 4
-  change (λ d. record d { foe = confused (2 + n) d.foe })
-  d ← duel_now
-  tell (events.VolStart (who_of d.foe) numbers.effect_confusion None)
+  drawn ← draw 4
+  change (λ duel. record duel { foe = confused (2 + drawn) duel.foe })
+  duel ← duel_now
+  tell (events.VolStart (who_of duel.foe) numbers.effect_confusion None)
 
 -- confusion as the secondary of a strike
 unfoldable pub confuse_second : Play (Unit {0})
 confuse_second = do
-  d ← duel_now
-  choose (stays_sane d.foe) (give tt) daze
+  duel ← duel_now
+  choose (stays_sane duel.foe) (give tt) daze
 
 -- a strike, and confusion as its secondary
 unfoldable pub confuse_by_strike : ℕ → Figures → ℕ → Play (Unit {0})
@@ -43,8 +43,8 @@ confuse_by_strike chance facts mv = do
 unfoldable pub confuse_alone : Figures → ℕ → Play (Unit {0})
 confuse_alone facts mv = do
   lands ← accuracy_test (move_of facts mv).accuracy
-  d ← duel_now
-  choose lands (choose (stays_sane d.foe) (tell (events.Fail (who_of d.user))) daze) (give tt)
+  duel ← duel_now
+  choose lands (choose (stays_sane duel.foe) (tell (events.Fail (who_of duel.user))) daze) (give tt)
 
 -- confuse: by strike and secondary, or with power 0
 unfoldable pub confuse_row : ℕ → Figures → ℕ → Play (Unit {0})
@@ -52,13 +52,13 @@ confuse_row chance facts mv =
     choose ((move_of facts mv).power == 0) (confuse_alone facts mv) (confuse_by_strike chance facts mv)
 
 abbrev pub flinching : Fighter → Fighter
-flinching f = record f { vol = record f.vol { flinch = true } }
+flinching fighter = record fighter { vol = record fighter.vol { flinch = true } }
 
 -- flinch: a strike and, as its secondary, the foe flinches
 unfoldable pub flinch_row : ℕ → Figures → ℕ → Play (Unit {0})
 flinch_row chance facts mv = do
   struck ← strike_with facts mv false
-  second chance struck (change (λ d. record d { foe = flinching d.foe }))
+  second chance struck (change (λ duel. record duel { foe = flinching duel.foe }))
 
 -- what the calls do for a move of that kind; for another kind nothing
 abbrev pub confuse_effect : Effect → Figures → ℕ → Play (Unit {0})

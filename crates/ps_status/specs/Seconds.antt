@@ -7,19 +7,19 @@ use Rattle.ps_hits.specs.Scenes.{Play, ◌>>=◌, give, duel_now, choose, draw}
 
 -- whether a strike took health from the foe itself, which stands
 abbrev pub has_hurt : Struck → Duel → Bool
-has_hurt NoEffect d = false
-has_hurt Missed d = false
-has_hurt (Hit dealt) d = dealt.own && nat_lt 0 d.foe.hp
+has_hurt NoEffect duel = false
+has_hurt Missed duel = false
+has_hurt (Hit dealt) duel = dealt.own && nat_lt 0 duel.foe.hp
 
 -- whether the secondary of a strike comes: the strike has hurt the foe, and a draw below 256 is below the chance. The draw is made at
 -- 0 and at 256 too
 unfoldable pub comes : ℕ → Struck → Play Bool
 comes chance struck = do
-  d ← duel_now
-  choose (has_hurt struck d)
+  duel ← duel_now
+  choose (has_hurt struck duel)
       (do
-        n ← draw 256
-        give (nat_lt n chance))
+        drawn ← draw 256
+        give (nat_lt drawn chance))
       (give false)
 
 -- the secondary of a strike

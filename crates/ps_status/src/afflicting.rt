@@ -12,7 +12,9 @@ ghost use Rattle.ps_hits.specs.Courses.{played, course};
 ghost use Rattle.ps_hits.specs.Scenes.{Scene};
 ghost use Rattle.ps_mon.specs.Duels.{IsFighter};
 ghost use Rattle.ps_mon.specs.Known.{AreNamed};
-ghost use Rattle.ps_status.specs.Afflicting.{is_barred_by_clause, is_shielded, is_barred_second, is_by_touch, has_no_effect, is_barred_alone, counter_of, toxic_after, afflicted, afflict, status_second, status_by_strike, status_alone, status_row, status_effect};
+ghost use Rattle.ps_status.specs.Afflicting.{is_barred_by_clause, is_shielded, is_barred_second, is_by_touch, has_no_effect};
+ghost use Rattle.ps_status.specs.Afflicting.{is_barred_alone, counter_of, toxic_after, afflicted, afflict, status_second};
+ghost use Rattle.ps_status.specs.Afflicting.{status_by_strike, status_alone, status_row, status_effect};
 ghost use Rattle.ps_mon.specs.Clauses.{has_clause};
 
 use crate::seconds::comes;
@@ -236,7 +238,8 @@ pub fn status(battle: &mut Battle, facts: Facts<'_>, user: u8, mv: u16, out: &mu
     requires fair { AreFair (figures facts) }
     requires user { user < 2 }
     requires room { array_vec_len out.old + 20 ≤ 160 }
-    ensures effect { course battle.new out.new ≡ played (status_effect (move_of (figures facts.entry) mv).effect (figures facts.entry) mv) user (course battle.old out.old) }
+    ensures effect { course battle.new out.new
+        ≡ played (status_effect (move_of (figures facts.entry) mv).effect (figures facts.entry) mv) user (course battle.old out.old) }
     ensures sound { IsSound battle.new }
     ensures whole { IsValid battle.old → StillStands battle.old battle.new → IsValid battle.new }
     ensures known { (moves : ℕ) → IsNamed moves mv → AreKnown moves battle.old → AreKnown moves battle.new }

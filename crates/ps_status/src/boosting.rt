@@ -12,7 +12,9 @@ ghost use Rattle.ps_hits.specs.Courses.{played, course};
 ghost use Rattle.ps_mon.specs.Duels.{IsFighter};
 ghost use Rattle.ps_mon.specs.Known.{AreNamed};
 ghost use Rattle.ps_mon.specs.Valid.{AreStages};
-ghost use Rattle.ps_status.specs.Boosting.{stat_number, IsShift, stage_of, with_stage, moved, is_at_end, boosted, steps_of, boost_event, boost_user, boost_foe, boost_at, is_boost_barred, boost_second, boost_by_strike, boost_or_fail, boost_alone, boost_row, boost_effect};
+ghost use Rattle.ps_status.specs.Boosting.{stat_number, IsShift, stage_of, with_stage, moved, is_at_end, boosted, steps_of};
+ghost use Rattle.ps_status.specs.Boosting.{boost_event, boost_user, boost_foe, boost_at, is_boost_barred, boost_second};
+ghost use Rattle.ps_status.specs.Boosting.{boost_by_strike, boost_or_fail, boost_alone, boost_row, boost_effect};
 
 use crate::seconds::comes;
 use ps_event::event::{Event, Events};
@@ -296,13 +298,15 @@ fn boost_duel(
     }
 }
 
-/// Changes stages of the user or of the foe: as the secondary of a strike or, with power 0, without one; then there is an accuracy test for the foe's alone. A move of another kind does nothing.
+/// Changes stages of the user or of the foe: as the secondary of a strike or, with power 0, without one; then there is an accuracy
+/// test for the foe's alone. A move of another kind does nothing.
 pub fn boost(battle: &mut Battle, facts: Facts<'_>, user: u8, mv: u16, out: &mut Events)
     requires sound { IsSound battle.old }
     requires fair { AreFair (figures facts) }
     requires user { user < 2 }
     requires room { array_vec_len out.old + 20 ≤ 160 }
-    ensures effect { course battle.new out.new ≡ played (boost_effect (move_of (figures facts.entry) mv).effect (figures facts.entry) mv) user (course battle.old out.old) }
+    ensures effect { course battle.new out.new
+        ≡ played (boost_effect (move_of (figures facts.entry) mv).effect (figures facts.entry) mv) user (course battle.old out.old) }
     ensures sound { IsSound battle.new }
     ensures whole { IsValid battle.old → StillStands battle.old battle.new → IsValid battle.new }
     ensures known { (moves : ℕ) → IsNamed moves mv → AreKnown moves battle.old → AreKnown moves battle.new }

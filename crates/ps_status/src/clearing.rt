@@ -101,7 +101,8 @@ fn haze_duel(duel: &mut Duel, out: &mut Events)
     duel.user.status = milder_status(duel.user.status);
 }
 
-/// Both members lose their stages, confusion, seed, screens, Mist, Focus Energy and disabled slot; the foe's status ends, and the user's bad poison becomes a plain one.
+/// Both members lose their stages, confusion, seed, screens, Mist, Focus Energy and disabled slot; the foe's status ends, and the
+/// user's bad poison becomes a plain one.
 pub fn haze(battle: &mut Battle, _facts: Facts<'_>, user: u8, mv: u16, out: &mut Events)
     requires sound { IsSound battle.old }
     requires fair { AreFair (figures _facts) }

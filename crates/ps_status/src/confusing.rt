@@ -9,7 +9,8 @@ ghost use Rattle.ps_mon.specs.Valid.{IsSound, IsValid};
 ghost use Rattle.ps_mon.specs.Duels.{IsFit, IsDuelKnown};
 ghost use Rattle.ps_hits.specs.Scenes.{scene};
 ghost use Rattle.ps_hits.specs.Courses.{played, course};
-ghost use Rattle.ps_status.specs.Confusing.{stays_sane, daze, confuse_second, confuse_by_strike, confuse_alone, confuse_row, flinch_row, confuse_effect, flinch_effect};
+ghost use Rattle.ps_status.specs.Confusing.{stays_sane, daze, confuse_second, confuse_by_strike, confuse_alone, confuse_row};
+ghost use Rattle.ps_status.specs.Confusing.{flinch_row, confuse_effect, flinch_effect};
 
 use crate::seconds::comes;
 use ps_event::event::{Event, Events};
@@ -118,13 +119,15 @@ fn confuse_duel(duel: &mut Duel, chance: u16, facts: Facts<'_>, mv: u16, out: &m
     }
 }
 
-/// Confuses the foe for 2 to 5 acts: as the secondary of a strike or, with power 0, after an accuracy test. A move of another kind does nothing.
+/// Confuses the foe for 2 to 5 acts: as the secondary of a strike or, with power 0, after an accuracy test. A move of another kind
+/// does nothing.
 pub fn confuse(battle: &mut Battle, facts: Facts<'_>, user: u8, mv: u16, out: &mut Events)
     requires sound { IsSound battle.old }
     requires fair { AreFair (figures facts) }
     requires user { user < 2 }
     requires room { array_vec_len out.old + 20 ≤ 160 }
-    ensures effect { course battle.new out.new ≡ played (confuse_effect (move_of (figures facts.entry) mv).effect (figures facts.entry) mv) user (course battle.old out.old) }
+    ensures effect { course battle.new out.new
+        ≡ played (confuse_effect (move_of (figures facts.entry) mv).effect (figures facts.entry) mv) user (course battle.old out.old) }
     ensures sound { IsSound battle.new }
     ensures whole { IsValid battle.old → StillStands battle.old battle.new → IsValid battle.new }
     ensures known { (moves : ℕ) → IsNamed moves mv → AreKnown moves battle.old → AreKnown moves battle.new }
@@ -161,7 +164,8 @@ pub fn flinch(battle: &mut Battle, facts: Facts<'_>, user: u8, mv: u16, out: &mu
     requires fair { AreFair (figures facts) }
     requires user { user < 2 }
     requires room { array_vec_len out.old + 20 ≤ 160 }
-    ensures effect { course battle.new out.new ≡ played (flinch_effect (move_of (figures facts.entry) mv).effect (figures facts.entry) mv) user (course battle.old out.old) }
+    ensures effect { course battle.new out.new
+        ≡ played (flinch_effect (move_of (figures facts.entry) mv).effect (figures facts.entry) mv) user (course battle.old out.old) }
     ensures sound { IsSound battle.new }
     ensures whole { IsValid battle.old → StillStands battle.old battle.new → IsValid battle.new }
     ensures known { (moves : ℕ) → IsNamed moves mv → AreKnown moves battle.old → AreKnown moves battle.new }

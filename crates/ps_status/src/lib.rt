@@ -1,4 +1,5 @@
-//! Effects on statuses, confusion, stages and health. Each kind is a call: the active member of a side uses a move on the other one. No call
+//! Effects on statuses, confusion, stages and health. Each kind is a call: the active member of a side uses a move on the other one.
+//! No call
 //! takes memory, and none refuses.
 #![tactic(auto)]
 

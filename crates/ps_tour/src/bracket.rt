@@ -1,7 +1,8 @@
 //! The bracket of a single elimination.
 ghost use Rattle.std.specs.Prelude.{◌≡◌, ◌≤◌, ◌-◌, ◌++◌, ◌∷◌, [], ◌↔◌, None, IsSome, take, drop, length};
 ghost use Rattle.std.specs.Option.{option_map};
-ghost use Rattle.ps_tour.specs.Brackets.{Round, size, order, first_with, first_round, next_round, going_on, after_win, open_match, first_pair, champion, champion_with, IsOneOf, IsRound};
+ghost use Rattle.ps_tour.specs.Brackets.{Round, size, order, first_with, first_round, next_round, going_on, after_win, open_match};
+ghost use Rattle.ps_tour.specs.Brackets.{first_pair, champion, champion_with, IsOneOf, IsRound};
 
 use crate::order::order;
 use arrayvec::ArrayVec;

@@ -10,7 +10,7 @@ ByConn X = FinMap nat_cmp X
 
 -- its code, by which a proof tells two of them apart
 abbrev pub by_conn_code : {X : Type 0} → Coded X → Coded (ByConn X)
-by_conn_code x = code coded_ℕ x
+by_conn_code coded = code coded_ℕ coded
 
 -- the map of a tree's entries
 abbrev pub by_conn : {X : Type 0} → List (ℕ × X) → ByConn X

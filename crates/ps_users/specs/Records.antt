@@ -18,7 +18,8 @@ pub record Record : Type 0 where
 
 -- nobody is connected
 abbrev pub nobody : List ℕ → ById Account → ById ℕ → ℕ → Record
-nobody nonce accounts ranks lowest = record { nonce = nonce; accounts = accounts; ranks = ranks; lowest = lowest; seats = empty; online = empty }
+nobody nonce accounts ranks lowest = record
+    { nonce = nonce; accounts = accounts; ranks = ranks; lowest = lowest; seats = empty; online = empty }
 
 -- the connections
 abbrev pub seated : Record → Seated
@@ -26,4 +27,4 @@ seated users = record { seats = users.seats; online = users.online }
 
 -- the same users with other connections
 abbrev pub with_seats : Record → Seated → Record
-with_seats users s = record users { seats = s.seats; online = s.online }
+with_seats users connections = record users { seats = connections.seats; online = connections.online }

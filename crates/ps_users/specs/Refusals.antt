@@ -30,7 +30,8 @@ abbrev pub is_taken : Record → List ℕ → Bool
 is_taken users id = is_some (get users.online id)
 
 abbrev pub refusal_of_id : Record → ℕ → List ℕ → List ℕ → Option HallWhy
-refusal_of_id users conn id assertion = if bytes_eq assertion (wanted users conn id) then (if is_taken users id then Some NameTaken else None) else Some BadAssertion
+refusal_of_id users conn id assertion = if bytes_eq assertion (wanted users conn id) then
+    (if is_taken users id then Some NameTaken else None) else Some BadAssertion
 
 abbrev pub refusal_of_read : Record → ℕ → Option (List ℕ) → List ℕ → Option HallWhy
 refusal_of_read users conn None assertion = Some BadName

@@ -22,16 +22,16 @@ is_seat seats conn = is_some (get seats conn)
 
 -- the badge of a connection, once it has a name
 abbrev pub badge_in : Seats → ℕ → Option Badge
-badge_in seats conn = option_and_then (λ b. b) (get seats conn)
+badge_in seats conn = option_and_then (λ seat. seat) (get seats conn)
 
 -- the id of a connection, once it has a name
 abbrev pub id_in : Seats → ℕ → Option (List ℕ)
-id_in seats conn = option_map (λ b. id_of b.name) (badge_in seats conn)
+id_in seats conn = option_map (λ badge. id_of badge.name) (badge_in seats conn)
 
 -- An id is online on a connection exactly where the badge of that open connection has the id.
-pub record Agrees (s : Seated) : Type 0 where
-  pub seated : (id : List ℕ) (conn : ℕ) → get s.online id ≡ Some conn → id_in s.seats conn ≡ Some id
-  pub found : (id : List ℕ) (conn : ℕ) → id_in s.seats conn ≡ Some id → get s.online id ≡ Some conn
+pub record Agrees (connections : Seated) : Type 0 where
+  pub seated : (id : List ℕ) (conn : ℕ) → get connections.online id ≡ Some conn → id_in connections.seats conn ≡ Some id
+  pub found : (id : List ℕ) (conn : ℕ) → id_in connections.seats conn ≡ Some id → get connections.online id ≡ Some conn
 
 -- a connection opens; one that is open stays as it is
 abbrev pub opened_by : Option (Option Badge) → Seats → ℕ → Seats
@@ -39,7 +39,7 @@ opened_by None seats conn = insert seats conn None
 opened_by (Some seat) seats conn = seats
 
 abbrev pub opened : Seated → ℕ → Seated
-opened s conn = record { seats = opened_by (get s.seats conn) s.seats conn; online = s.online }
+opened connections conn = record { seats = opened_by (get connections.seats conn) connections.seats conn; online = connections.online }
 
 -- the id of who leaves is online no more
 abbrev pub without : Option Badge → ById ℕ → ById ℕ
@@ -47,8 +47,14 @@ without None online = online
 without (Some badge) online = remove online (id_of badge.name)
 
 abbrev pub closed : Seated → ℕ → Seated
-closed s conn = record { seats = remove s.seats conn; online = without (badge_in s.seats conn) s.online }
+closed connections conn = record {
+  seats = remove connections.seats conn;
+  online = without (badge_in connections.seats conn) connections.online;
+}
 
 -- a connection takes its badge
 abbrev pub named : Seated → ℕ → Badge → Seated
-named s conn badge = record { seats = insert s.seats conn (Some badge); online = insert s.online (id_of badge.name) conn }
+named connections conn badge = record {
+  seats = insert connections.seats conn (Some badge);
+  online = insert connections.online (id_of badge.name) conn;
+}

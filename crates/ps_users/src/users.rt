@@ -58,7 +58,14 @@ impl Model for Users {
 
     ghost coded = { Prim.hlevel (codes, by_id_code, by_conn_code) };
 
-    ghost view = { λ u. record { nonce = u.nonce; accounts = u.accounts; ranks = u.ranks; lowest = u.lowest; seats = u.seating.seats; online = u.seating.online } };
+    ghost view = { λ u. record {
+      nonce = u.nonce;
+      accounts = u.accounts;
+      ranks = u.ranks;
+      lowest = u.lowest;
+      seats = u.seating.seats;
+      online = u.seating.online;
+    } };
 }
 
 impl Users {

@@ -1,7 +1,9 @@
 -- The rules of one move of a set, in their order. A set has its number from 1, and a move the id that the team has.
-use Rattle.std.specs.Prelude.{ℕ, pos, ◌==◌, ◌&&◌, Bool, true, false, not, List, [], ◌∷◌, ◌++◌, slice_get, Option, Some, None, Result, Ok, ⊤, int_lt}
+use Rattle.std.specs.Prelude.{ℕ, pos, ◌==◌, ◌&&◌, Bool, true, false, not, List, [], ◌∷◌, ◌++◌, slice_get, Option, Some, None, Result}
+use Rattle.std.specs.Prelude.{Ok, ⊤, int_lt}
 use Rattle.std.specs.List.{list_any}
-use Rattle.ps_base.specs.declared.team_rule.TeamRule.TheVariants.{UnknownMove, BannedMove, NotLearned, RepeatedMove, OhkoClause, EvasionClause}
+use Rattle.ps_base.specs.declared.team_rule.TeamRule.TheVariants.{UnknownMove, BannedMove, NotLearned, RepeatedMove, OhkoClause}
+use Rattle.ps_base.specs.declared.team_rule.TeamRule.TheVariants.{EvasionClause}
 use Rattle.ps_data.specs.Reading.{◌>>=◌}
 use Rattle.ps_mon.specs.declared.effect.Aim.TheVariants.{User}
 use Rattle.ps_mon.specs.declared.effect.Stat.TheVariants.{Eva}
@@ -58,10 +60,12 @@ unfoldable pub repeated_move : ℕ → List ℕ → List ℕ → ℕ → Result 
 repeated_move set before id mv = keeps set RepeatedMove id (not (has_number mv before))
 
 unfoldable pub ohko_clause : Tables → RuleTable → ℕ → List ℕ → ℕ → Result ⊤ Verdict
-ohko_clause dex rules set id mv = keeps set OhkoClause id (not (has_clause rules.clauses (bit_of Ohko) && is_ohko (effect_of (slice_get dex.moves mv))))
+ohko_clause dex rules set id mv = keeps set OhkoClause id
+    (not (has_clause rules.clauses (bit_of Ohko) && is_ohko (effect_of (slice_get dex.moves mv))))
 
 unfoldable pub evasion_clause : Tables → RuleTable → ℕ → List ℕ → ℕ → Result ⊤ Verdict
-evasion_clause dex rules set id mv = keeps set EvasionClause id (not (has_clause rules.clauses (bit_of Evasion) && raises_evasion (effect_of (slice_get dex.moves mv))))
+evasion_clause dex rules set id mv = keeps set EvasionClause id
+    (not (has_clause rules.clauses (bit_of Evasion) && raises_evasion (effect_of (slice_get dex.moves mv))))
 
 -- ---- one move, and all of a set: their numbers
 
@@ -78,4 +82,5 @@ move_in dex rules set species before id = do
 -- each move beside those before it
 abbrev pub each_move : Tables → RuleTable → ℕ → ℕ → List ℕ → List (List ℕ) → Result (List ℕ) Verdict
 each_move dex rules set species before [] = Ok before
-each_move dex rules set species before (id ∷ ids) = move_in dex rules set species before id >>= λ mv. each_move dex rules set species (before ++ mv ∷ []) ids
+each_move dex rules set species before (id ∷ ids) = move_in dex rules set species before id >>= λ mv.
+    each_move dex rules set species (before ++ mv ∷ []) ids

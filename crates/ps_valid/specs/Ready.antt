@@ -10,17 +10,17 @@ use Rattle.ps_valid.specs.declared.legal.Legal.{Legal}
 
 -- the species of a team are among so many
 abbrev pub AreSpeciesKnown : ℕ → BattleTeam → Type 0
-AreSpeciesKnown species t = (k : ℕ) → k < t.count → (slice_index_or t.members k no_member).species < species
+AreSpeciesKnown species team = (index : ℕ) → index < team.count → (slice_index_or team.members index no_member).species < species
 
 -- a team that can open a battle over the dex
-pub record IsReady (dex : Tables) (l : Legal) : Type 0 where
-  pub fresh : IsFresh l.team
-  pub moves : IsTeamKnown (length dex.moves) l.team
-  pub species : AreSpeciesKnown (length dex.species) l.team
-  pub nicks : length l.nicks ≡ l.team.count
+pub record IsReady (dex : Tables) (legal : Legal) : Type 0 where
+  pub fresh : IsFresh legal.team
+  pub moves : IsTeamKnown (length dex.moves) legal.team
+  pub species : AreSpeciesKnown (length dex.species) legal.team
+  pub nicks : length legal.nicks ≡ legal.team.count
 
 -- a member of such a team
-pub record IsReadyMember (dex : Tables) (m : Member) : Type 0 where
-  pub fresh : IsFreshMember m
-  pub moves : AreOwnKnown (length dex.moves) m
-  pub species : m.species < length dex.species
+pub record IsReadyMember (dex : Tables) (member : Member) : Type 0 where
+  pub fresh : IsFreshMember member
+  pub moves : AreOwnKnown (length dex.moves) member
+  pub species : member.species < length dex.species

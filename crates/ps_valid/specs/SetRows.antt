@@ -2,7 +2,8 @@
 use Rattle.std.specs.Prelude.{ℕ, Bool, not, List, [], ◌∷◌, length, slice_index, decimal, Result, Ok, ⊤, nat_le, nat_lt}
 use Rattle.std.specs.List.{list_any}
 use Rattle.ps_base.specs.Ids.{id_of}
-use Rattle.ps_base.specs.declared.team_rule.TeamRule.TheVariants.{UnknownSpecies, BannedSpecies, LevelTooLow, LevelTooHigh, NoMoves, EvTooHigh}
+use Rattle.ps_base.specs.declared.team_rule.TeamRule.TheVariants.{UnknownSpecies, BannedSpecies, LevelTooLow, LevelTooHigh, NoMoves}
+use Rattle.ps_base.specs.declared.team_rule.TeamRule.TheVariants.{EvTooHigh}
 use Rattle.ps_data.specs.Reading.{◌>>=◌}
 use Rattle.ps_mon.specs.declared.team.Member.{Member}
 use Rattle.ps_packed.specs.declared.set.Set.{Set}
@@ -44,12 +45,12 @@ ev_too_high number (ev ∷ evs) = keeps number EvTooHigh (decimal ev) (nat_le ev
 -- ---- one set: the member that it makes
 
 unfoldable pub member_in : Tables → RuleTable → ℕ → Set → Result Member Verdict
-member_in dex rules number s = do
-  species ← unknown_species dex number (id_of s.species)
-  _ ← banned_species dex rules number (id_of s.species) species
-  _ ← level_too_low rules number s.level
-  _ ← level_too_high rules number s.level
-  _ ← no_moves number (id_of s.species) s.moves
-  moves ← each_move dex rules number species [] s.moves
-  _ ← ev_too_high number s.evs
-  Ok (member_of dex species s moves)
+member_in dex rules number set = do
+  species ← unknown_species dex number (id_of set.species)
+  _ ← banned_species dex rules number (id_of set.species) species
+  _ ← level_too_low rules number set.level
+  _ ← level_too_high rules number set.level
+  _ ← no_moves number (id_of set.species) set.moves
+  moves ← each_move dex rules number species [] set.moves
+  _ ← ev_too_high number set.evs
+  Ok (member_of dex species set moves)

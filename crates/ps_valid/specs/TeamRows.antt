@@ -1,5 +1,6 @@
 -- The rules of a team as a whole, and the order of all.
-use Rattle.std.specs.Prelude.{ℕ, ◌+◌, ◌==◌, ◌&&◌, Bool, false, not, List, [], ◌∷◌, ◌++◌, length, map, decimal, bytes_eq, Option, Some, None, Result, Ok, ⊤, nat_le}
+use Rattle.std.specs.Prelude.{ℕ, ◌+◌, ◌==◌, ◌&&◌, Bool, false, not, List, [], ◌∷◌, ◌++◌, length, map, decimal, bytes_eq, Option, Some}
+use Rattle.std.specs.Prelude.{None, Result, Ok, ⊤, nat_le}
 use Rattle.std.specs.List.{list_any}
 use Rattle.ps_base.specs.Ids.{id_of}
 use Rattle.ps_base.specs.declared.team_rule.TeamRule.TheVariants.{TooFew, TooMany, SpeciesClause, NicknameClause}
@@ -30,47 +31,51 @@ too_many rules count = keeps 0 TooMany (decimal count) (nat_le count rules.max)
 
 abbrev pub each_member : Tables → RuleTable → List Member → List Set → Result (List Member) Verdict
 each_member dex rules before [] = Ok before
-each_member dex rules before (s ∷ sets) = member_in dex rules (length before + 1) s >>= λ m. each_member dex rules (before ++ m ∷ []) sets
+each_member dex rules before (set ∷ sets) = member_in dex rules (length before + 1) set >>= λ member.
+    each_member dex rules (before ++ member ∷ []) sets
 
 -- ---- each set beside those before it
 
 -- the species of a set: its number, by its id or by an alias
 unfoldable pub species_number : Tables → Set → Option ℕ
-species_number dex s = species_of (id_of s.species) dex
+species_number dex set = species_of (id_of set.species) dex
 
 abbrev pub is_same : Option ℕ → Option ℕ → Bool
-is_same None b = false
-is_same (Some a) None = false
-is_same (Some a) (Some b) = a == b
+is_same None two = false
+is_same (Some one) None = false
+is_same (Some one) (Some two) = one == two
 
 -- one of the sets has the species
 abbrev pub has_species : Tables → Option ℕ → List Set → Bool
-has_species dex number sets = list_any (λ s. is_same (species_number dex s) number) sets
+has_species dex number sets = list_any (λ set. is_same (species_number dex set) number) sets
 
 -- one of the sets has the nickname; nicknames are compared as texts
 abbrev pub has_nick : List ℕ → List Set → Bool
-has_nick nick sets = list_any (λ s. bytes_eq s.nick nick) sets
+has_nick nick sets = list_any (λ set. bytes_eq set.nick nick) sets
 
 unfoldable pub species_clause : Tables → RuleTable → ℕ → List Set → Set → Result ⊤ Verdict
-species_clause dex rules number before s = keeps number SpeciesClause (id_of s.species) (not (has_clause rules.clauses (bit_of Species) && has_species dex (species_number dex s) before))
+species_clause dex rules number before set = keeps number SpeciesClause (id_of set.species)
+    (not (has_clause rules.clauses (bit_of Species) && has_species dex (species_number dex set) before))
 
 unfoldable pub nickname_clause : RuleTable → ℕ → List Set → Set → Result ⊤ Verdict
-nickname_clause rules number before s = keeps number NicknameClause s.nick (not (has_clause rules.clauses (bit_of Nickname) && has_nick s.nick before))
+nickname_clause rules number before set = keeps number NicknameClause set.nick
+    (not (has_clause rules.clauses (bit_of Nickname) && has_nick set.nick before))
 
 unfoldable pub pair_in : Tables → RuleTable → ℕ → List Set → Set → Result ⊤ Verdict
-pair_in dex rules number before s = do
-  _ ← species_clause dex rules number before s
-  _ ← nickname_clause rules number before s
+pair_in dex rules number before set = do
+  _ ← species_clause dex rules number before set
+  _ ← nickname_clause rules number before set
   Ok tt
 
 abbrev pub each_later : Tables → RuleTable → List Set → List Set → Result ⊤ Verdict
 each_later dex rules before [] = Ok tt
-each_later dex rules before (s ∷ sets) = pair_in dex rules (length before + 1) before s >>= λ _. each_later dex rules (before ++ s ∷ []) sets
+each_later dex rules before (set ∷ sets) = pair_in dex rules (length before + 1) before set >>= λ _.
+    each_later dex rules (before ++ set ∷ []) sets
 
 -- ---- all of it
 
 abbrev pub nick_of : Set → List ℕ
-nick_of s = s.nick
+nick_of set = set.nick
 
 abbrev pub legal_of : List Set → List Member → Legal
 legal_of sets members = record { team = team_of members; nicks = map nick_of sets }

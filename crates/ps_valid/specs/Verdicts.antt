@@ -17,7 +17,7 @@ keeps set rule subject kept = if kept then Ok tt else breaks set rule subject
 -- the rule that there is something
 abbrev pub require_known : ℕ → TeamRule → List ℕ → Option ℕ → Result ℕ Verdict
 require_known set rule subject None = breaks set rule subject
-require_known set rule subject (Some n) = Ok n
+require_known set rule subject (Some number) = Ok number
 
 -- ---- What a function answered, beside the rules. Out of memory may come in the place of either.
 
@@ -26,7 +26,7 @@ verdict_of faults.NoMemory = None
 verdict_of (faults.Verdict verdict) = Some verdict
 
 abbrev pub Finds : {A : Type 0} → Result A TeamFault → Result A Verdict → Type 0
-Finds result found = Returns (λ x. x) verdict_of result found
+Finds result found = Returns (λ value. value) verdict_of result found
 
 -- the same, where what was answered is seen by view
 abbrev pub FindsBy : {A B : Type 0} → (A → B) → Result A TeamFault → Result B Verdict → Type 0

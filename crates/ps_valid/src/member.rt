@@ -2,7 +2,8 @@
 ghost use Rattle.std.specs.Prelude.{◌≡◌, ◌<◌, ◌≤◌, All, length, slice_get, IfOk};
 ghost use Rattle.ps_mon.specs.Valid.{AreStats};
 ghost use Rattle.ps_packed.specs.Ranges.{HasRanges};
-ghost use Rattle.ps_valid.specs.Members.{stats_of, types_of, pp_of, slot_of, slot_at, slots_of, numbers_of, member_of, blank_member, member_at, team_of};
+ghost use Rattle.ps_valid.specs.Members.{stats_of, types_of, pp_of, slot_of, slot_at, slots_of, numbers_of, member_of, blank_member};
+ghost use Rattle.ps_valid.specs.Members.{member_at, team_of};
 ghost use Rattle.ps_mon.specs.Reading.{no_slot};
 ghost use Rattle.ps_valid.specs.Ready.{IsReadyMember};
 

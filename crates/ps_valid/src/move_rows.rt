@@ -2,7 +2,8 @@
 ghost use Rattle.std.specs.Prelude.{◌≡◌, ◌<◌, [], All, length, slice_get, IfOk, map};
 ghost use Rattle.ps_mon.specs.declared.facts.MoveData.{MoveData};
 ghost use Rattle.ps_valid.specs.Verdicts.{Finds, FindsBy};
-ghost use Rattle.ps_valid.specs.MoveRows.{is_number, is_banned_move, effect_of, is_ohko, raises_evasion, unknown_move, banned_move, not_learned, repeated_move, ohko_clause, evasion_clause, move_in, each_move};
+ghost use Rattle.ps_valid.specs.MoveRows.{is_number, is_banned_move, effect_of, is_ohko, raises_evasion, unknown_move, banned_move};
+ghost use Rattle.ps_valid.specs.MoveRows.{not_learned, repeated_move, ohko_clause, evasion_clause, move_in, each_move};
 ghost use Rattle.ps_dex.specs.Species.{has_number};
 
 use crate::verdict::{TeamFault, keeps, require_known};

@@ -5,7 +5,8 @@ ghost use Rattle.ps_packed.specs.Ranges.{HasRanges};
 ghost use Rattle.ps_dex.specs.Lookups.{species_of};
 ghost use Rattle.ps_valid.specs.Verdicts.{Finds};
 ghost use Rattle.ps_valid.specs.Ready.{IsReadyMember};
-ghost use Rattle.ps_valid.specs.SetRows.{is_banned_species, unknown_species, banned_species, level_too_low, level_too_high, no_moves, ev_too_high, member_in};
+ghost use Rattle.ps_valid.specs.SetRows.{is_banned_species, unknown_species, banned_species, level_too_low, level_too_high, no_moves};
+ghost use Rattle.ps_valid.specs.SetRows.{ev_too_high, member_in};
 
 use crate::member::member_of;
 use crate::move_rows::{is_number, moves_of};

@@ -6,7 +6,8 @@ ghost use Rattle.ps_packed.specs.Ranges.{HasRanges};
 ghost use Rattle.ps_dex.specs.Lookups.{species_of};
 ghost use Rattle.ps_valid.specs.Verdicts.{Finds, FindsBy};
 ghost use Rattle.ps_valid.specs.Ready.{IsReadyMember};
-ghost use Rattle.ps_valid.specs.TeamRows.{too_few, too_many, species_number, is_same, has_species, has_nick, species_clause, nickname_clause, pair_in, each_later, each_member};
+ghost use Rattle.ps_valid.specs.TeamRows.{too_few, too_many, species_number, is_same, has_species, has_nick, species_clause};
+ghost use Rattle.ps_valid.specs.TeamRows.{nickname_clause, pair_in, each_later, each_member};
 
 use crate::set_rows::member_in;
 use crate::verdict::{TeamFault, keeps, keeps_number};

@@ -7,8 +7,10 @@ use Rattle.ps_dex.specs.declared.item.Tables.{Tables}
 use Rattle.ps_view.specs.declared.names.Names.{Names}
 use Rattle.ps_view.specs.declared.role.Role.{Role}
 use Rattle.ps_view.specs.Roles.{has_role, reads_exactly}
-use Rattle.ps_view.specs.Rows.{about, player_line, team_size_line, tier_line, rule_line, poke_line, switch_line, move_line, cant_line, damage_line, heal_line}
-use Rattle.ps_view.specs.Rows.{status_line, cure_line, boost_line, unboost_line, start_line, end_line, activate_line, prepare_line, transform_line, hit_count_line}
+use Rattle.ps_view.specs.Rows.{about, player_line, team_size_line, tier_line, rule_line, poke_line, switch_line, move_line, cant_line}
+use Rattle.ps_view.specs.Rows.{damage_line, heal_line}
+use Rattle.ps_view.specs.Rows.{status_line, cure_line, boost_line, unboost_line, start_line, end_line, activate_line, prepare_line}
+use Rattle.ps_view.specs.Rows.{transform_line, hit_count_line}
 use Rattle.ps_view.specs.Rows.{turn_line, forfeit_line, win_line}
 
 -- The line of an event, with health in its exact form or its public one. A request has none here: its room makes it when

@@ -18,7 +18,7 @@ position names who = side_word who.side ++ codes "a: " ++ nick_of names who
 
 abbrev pub name_or_none : Option SpeciesItem → List ℕ
 name_or_none None = codes ""
-name_or_none (Some s) = s.name
+name_or_none (Some species) = species.name
 
 -- the name of a species; the empty text past the species of the dex
 abbrev pub species_word : Tables → ℕ → List ℕ
@@ -38,28 +38,29 @@ status_end status = if status == 0 then codes "" else codes " " ++ status_word s
 
 -- the hundredths that others see; more than the greatest health would be all of it
 abbrev pub share_of : Health → ℕ
-share_of h = if nat_lt h.max h.hp then 100 else hundredths_of h.hp h.max
+share_of health = if nat_lt health.max health.hp then 100 else hundredths_of health.hp health.max
 
 -- the 48ths that others see; more than the greatest health would be all of it
 abbrev pub bar_of : Health → ℕ
-bar_of h = if nat_lt h.max h.hp then 48 else pixels_of h.hp h.max
+bar_of health = if nat_lt health.max health.hp then 48 else pixels_of health.hp health.max
 
 -- a share of the greatest health: in hundredths under HP Percentage Mod, else in 48ths
 abbrev pub shown_share : Bool → Health → List ℕ
-shown_share true h = decimal (share_of h) ++ codes "/100"
-shown_share false h = decimal (bar_of h) ++ codes "/48"
+shown_share true health = decimal (share_of health) ++ codes "/100"
+shown_share false health = decimal (bar_of health) ++ codes "/48"
 
 -- what the member's own side sees of its health
 abbrev pub exact_condition : Health → List ℕ
-exact_condition h = if h.hp == 0 then codes "0 fnt" else decimal h.hp ++ codes "/" ++ decimal h.max ++ status_end h.status
+exact_condition health = if health.hp == 0 then codes "0 fnt" else decimal health.hp ++ codes "/" ++ decimal health.max
+    ++ status_end health.status
 
 -- what all others see of it, under HP Percentage Mod or without it
 abbrev pub public_condition : Bool → Health → List ℕ
-public_condition percent h = if h.hp == 0 then codes "0 fnt" else shown_share percent h ++ status_end h.status
+public_condition percent health = if health.hp == 0 then codes "0 fnt" else shown_share percent health ++ status_end health.status
 
 abbrev pub condition : Bool → Bool → Health → List ℕ
-condition true percent h = exact_condition h
-condition false percent h = public_condition percent h
+condition true percent health = exact_condition health
+condition false percent health = public_condition percent health
 
 -- where a move is only prepared
 abbrev pub still_end : Bool → List ℕ

@@ -46,7 +46,8 @@ switch_line exact names dex who species level health =
 
 abbrev pub move_line : Names → Tables → Who → ℕ → Who → Bool → Option ℕ → List ℕ
 move_line names dex who mv target still from =
-    about_with (codes "move") names who (name_of_move mv dex.moves ++ codes "|" ++ position names target ++ still_end still ++ called_end dex from)
+    about_with (codes "move") names who (name_of_move mv dex.moves ++ codes "|" ++ position names target ++ still_end still
+    ++ called_end dex from)
 
 abbrev pub cant_line : Names → Who → ℕ → List ℕ
 cant_line names who reason = about_with (codes "cant") names who (reason_word reason)

@@ -1,7 +1,8 @@
 -- The words that the numbers of events stand for. A number past a list stands for the list's last word.
 use Rattle.std.specs.Prelude.{ℕ, ◌==◌, List, codes, Option, Some, None, if◌then◌else◌}
 use Rattle.ps_event.specs.Numbers.{from_nothing, from_psn, from_brn, from_leech_seed, from_recoil, from_confusion}
-use Rattle.ps_event.specs.Numbers.{effect_confusion, effect_substitute, effect_leech_seed, effect_reflect, effect_light_screen, effect_mist, effect_focus_energy, effect_mimic, effect_disable, effect_typechange, effect_bide}
+use Rattle.ps_event.specs.Numbers.{effect_confusion, effect_substitute, effect_leech_seed, effect_reflect, effect_light_screen}
+use Rattle.ps_event.specs.Numbers.{effect_mist, effect_focus_energy, effect_mimic, effect_disable, effect_typechange, effect_bide}
 use Rattle.ps_event.specs.Numbers.{reason_slp, reason_frz, reason_partially_trapped, reason_flinch, reason_recharge, reason_disable}
 use Rattle.ps_event.specs.Numbers.{stat_atk, stat_def, stat_spc, stat_spe, stat_acc}
 use Rattle.ps_event.specs.declared.side.Side.{Side}

@@ -1,7 +1,9 @@
 //! The parts that lines are made of, each put behind what a line has already.
 ghost use Rattle.std.specs.Prelude.{◌≡◌, ◌<◌, ◌++◌, OnOk, codes, string_bytes};
 ghost use Rattle.std.specs.Fmt.{decimal};
-ghost use Rattle.ps_view.specs.Parts.{position, species_word, level_end, details, status_end, share_of, bar_of, shown_share, exact_condition, public_condition, condition, still_end, called_end, stages, names_move, named_end};
+ghost use Rattle.ps_view.specs.Parts.{position, species_word, level_end, details, status_end, share_of, bar_of, shown_share};
+ghost use Rattle.ps_view.specs.Parts.{exact_condition, public_condition, condition, still_end, called_end, stages, names_move};
+ghost use Rattle.ps_view.specs.Parts.{named_end};
 
 use crate::names::Names;
 use crate::word::{side_word, stat_word, status_word};

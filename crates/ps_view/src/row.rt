@@ -1,8 +1,10 @@
 //! The rows of the table of lines, in its order, each put behind a text. Each is a line of SIM-PROTOCOL.md.
 ghost use Rattle.std.specs.Prelude.{◌≡◌, ◌++◌, OnOk, codes, string_bytes};
 ghost use Rattle.ps_view.specs.Parts.{position};
-ghost use Rattle.ps_view.specs.Rows.{about, about_with, player_line, team_size_line, tier_line, rule_line, poke_line, switch_line, move_line, cant_line, damage_line, heal_line};
-ghost use Rattle.ps_view.specs.Rows.{status_line, cure_line, boost_line, unboost_line, start_line, end_line, activate_line, prepare_line, transform_line, hit_count_line};
+ghost use Rattle.ps_view.specs.Rows.{about, about_with, player_line, team_size_line, tier_line, rule_line, poke_line, switch_line};
+ghost use Rattle.ps_view.specs.Rows.{move_line, cant_line, damage_line, heal_line};
+ghost use Rattle.ps_view.specs.Rows.{status_line, cure_line, boost_line, unboost_line, start_line, end_line, activate_line};
+ghost use Rattle.ps_view.specs.Rows.{prepare_line, transform_line, hit_count_line};
 ghost use Rattle.ps_view.specs.Rows.{turn_line, forfeit_line, win_line};
 
 use crate::names::Names;

@@ -13,17 +13,17 @@ use Rattle.ps_hits.specs.Amounts.{deal_alone}
 use Rattle.ps_event.specs.Numbers as numbers
 
 abbrev pub seeded : Fighter → Fighter
-seeded f = record f { vol = record f.vol { seeded = true } }
+seeded fighter = record fighter { vol = record fighter.vol { seeded = true } }
 
 -- leechseed: the accuracy test, then Fail where the foe is seeded or has the move's type, else it is seeded
 unfoldable pub leechseed_row : Figures → ℕ → Play (Unit {0})
 leechseed_row facts mv = do
   lands ← accuracy_test (move_of facts mv).accuracy
-  d ← duel_now
+  duel ← duel_now
   choose lands
-      (choose (d.foe.vol.seeded || is_of_type d.foe (move_of facts mv).kind) (tell (events.Fail (who_of d.user))) (do
-        change (λ d. record d { foe = seeded d.foe })
-        tell (events.VolStart (who_of d.foe) numbers.effect_leech_seed None)))
+      (choose (duel.foe.vol.seeded || is_of_type duel.foe (move_of facts mv).kind) (tell (events.Fail (who_of duel.user))) (do
+        change (λ duel. record duel { foe = seeded duel.foe })
+        tell (events.VolStart (who_of duel.foe) numbers.effect_leech_seed None)))
       (give tt)
 
 -- twice the damage that the user took last in this turn, where a move of type `normal` or `fighting` did it
@@ -37,18 +37,18 @@ answered facts (Some taken) = answer_to (move_of facts taken.mv).contact taken.d
 
 abbrev pub deal_answer : ℕ → Option ℕ → Play (Unit {0})
 deal_answer mv None = do
-  d ← duel_now
-  tell (events.Fail (who_of d.user))
+  duel ← duel_now
+  tell (events.Fail (who_of duel.user))
 deal_answer mv (Some amount) = deal_alone mv amount
 
 -- counter: that is dealt, whatever the types, with no accuracy test; else Fail
 unfoldable pub counter_row : Figures → ℕ → Play (Unit {0})
 counter_row facts mv = do
-  d ← duel_now
-  deal_answer mv (answered facts d.user.vol.taken)
+  duel ← duel_now
+  deal_answer mv (answered facts duel.user.vol.taken)
 
 -- nothing: Activate with the move's name
 unfoldable pub nothing_row : ℕ → Play (Unit {0})
 nothing_row mv = do
-  d ← duel_now
-  tell (events.Activate (who_of d.user) numbers.effect_move (Some mv))
+  duel ← duel_now
+  tell (events.Activate (who_of duel.user) numbers.effect_move (Some mv))

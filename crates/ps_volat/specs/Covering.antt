@@ -12,35 +12,38 @@ use Rattle.ps_event.specs.Numbers as numbers
 
 -- a quarter of the greatest health, rounded down
 abbrev pub cost_of : Fighter → ℕ
-cost_of f = f.max / 4
+cost_of fighter = fighter.max / 4
 
 -- who has a substitute, or no more health than the cost, can't make one
 unfoldable pub cannot_make_one : Fighter → Bool
-cannot_make_one f = nat_lt 0 f.vol.substitute || not (nat_lt (cost_of f) f.hp)
+cannot_make_one fighter = nat_lt 0 fighter.vol.substitute || not (nat_lt (cost_of fighter) fighter.hp)
 
 -- a fighter that gave the cost for a substitute, which has that and 1
 unfoldable pub with_substitute : Fighter → Fighter
-with_substitute f = record f { hp = f.hp - cost_of f; vol = record f.vol { substitute = cost_of f + 1 } }
+with_substitute fighter = record fighter {
+  hp = fighter.hp - cost_of fighter;
+  vol = record fighter.vol { substitute = cost_of fighter + 1 };
+}
 
 -- substitute: Fail where the user can't make one; else it loses the cost, with no event of the loss
 unfoldable pub substitute_row : Play (Unit {0})
 substitute_row = do
-  d ← duel_now
-  choose (cannot_make_one d.user) (tell (events.Fail (who_of d.user))) (do
-    change (λ d. record d { user = with_substitute d.user })
-    tell (events.VolStart (who_of d.user) numbers.effect_substitute None))
+  duel ← duel_now
+  choose (cannot_make_one duel.user) (tell (events.Fail (who_of duel.user))) (do
+    change (λ duel. record duel { user = with_substitute duel.user })
+    tell (events.VolStart (who_of duel.user) numbers.effect_substitute None))
 
 -- Fail where it is on, else it starts, with the number of its name
 abbrev pub start : (Fighter → Bool) → (Fighter → Fighter) → ℕ → Play (Unit {0})
 start is_on turn_on number = do
-  d ← duel_now
-  choose (is_on d.user) (tell (events.Fail (who_of d.user))) (do
-    change (λ d. record d { user = turn_on d.user })
-    tell (events.VolStart (who_of d.user) number None))
+  duel ← duel_now
+  choose (is_on duel.user) (tell (events.Fail (who_of duel.user))) (do
+    change (λ duel. record duel { user = turn_on duel.user })
+    tell (events.VolStart (who_of duel.user) number None))
 
 abbrev pub has_screen : ScreenKind → Fighter → Bool
-has_screen screens.Reflect f = f.vol.reflect
-has_screen screens.Light f = f.vol.light
+has_screen screens.Reflect fighter = fighter.vol.reflect
+has_screen screens.Light fighter = fighter.vol.light
 
 -- a screen's place in the list of what starts
 abbrev pub screen_number : ScreenKind → ℕ
@@ -48,8 +51,8 @@ screen_number screens.Reflect = numbers.effect_reflect
 screen_number screens.Light = numbers.effect_light_screen
 
 abbrev pub with_screen : ScreenKind → Fighter → Fighter
-with_screen screens.Reflect f = record f { vol = record f.vol { reflect = true } }
-with_screen screens.Light f = record f { vol = record f.vol { light = true } }
+with_screen screens.Reflect fighter = record fighter { vol = record fighter.vol { reflect = true } }
+with_screen screens.Light fighter = record fighter { vol = record fighter.vol { light = true } }
 
 -- screen: Reflect or Light Screen
 unfoldable pub screen_row : ScreenKind → Play (Unit {0})
@@ -57,11 +60,12 @@ screen_row which = start (has_screen which) (with_screen which) (screen_number w
 
 -- mist
 unfoldable pub mist_row : Play (Unit {0})
-mist_row = start (λ f. f.vol.mist) (λ f. record f { vol = record f.vol { mist = true } }) numbers.effect_mist
+mist_row = start (λ fighter. fighter.vol.mist) (λ fighter. record fighter { vol = record fighter.vol { mist = true } }) numbers.effect_mist
 
 -- focus: Focus Energy
 unfoldable pub focus_row : Play (Unit {0})
-focus_row = start (λ f. f.vol.focus) (λ f. record f { vol = record f.vol { focus = true } }) numbers.effect_focus_energy
+focus_row = start (λ fighter. fighter.vol.focus) (λ fighter. record fighter { vol = record fighter.vol { focus = true } })
+    numbers.effect_focus_energy
 
 -- what the call does for a move of that kind; for another kind nothing
 abbrev pub screen_effect : Effect → Play (Unit {0})

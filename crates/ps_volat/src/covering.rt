@@ -11,7 +11,8 @@ ghost use Rattle.ps_hits.specs.Scenes.{scene};
 ghost use Rattle.ps_hits.specs.Courses.{played, course};
 ghost use Rattle.ps_mon.specs.Duels.{IsFighter};
 ghost use Rattle.ps_mon.specs.Known.{AreNamed};
-ghost use Rattle.ps_volat.specs.Covering.{screen_number, cost_of, cannot_make_one, with_substitute, substitute_row, has_screen, with_screen, screen_row, mist_row, focus_row, screen_effect};
+ghost use Rattle.ps_volat.specs.Covering.{screen_number, cost_of, cannot_make_one, with_substitute, substitute_row, has_screen};
+ghost use Rattle.ps_volat.specs.Covering.{with_screen, screen_row, mist_row, focus_row, screen_effect};
 
 use ps_event::event::{Event, Events};
 use ps_event::numbers::{
@@ -71,7 +72,8 @@ fn substitute_duel(duel: &mut Duel, out: &mut Events)
     });
 }
 
-/// A quarter of the user's greatest health, rounded down, becomes a substitute that has 1 more. It fails where the user has one, or has no more health than that.
+/// A quarter of the user's greatest health, rounded down, becomes a substitute that has 1 more. It fails where the user has one, or
+/// has no more health than that.
 pub fn substitute(battle: &mut Battle, _facts: Facts<'_>, user: u8, mv: u16, out: &mut Events)
     requires sound { IsSound battle.old }
     requires fair { AreFair (figures _facts) }
@@ -150,7 +152,8 @@ pub fn screen(battle: &mut Battle, facts: Facts<'_>, user: u8, mv: u16, out: &mu
     requires fair { AreFair (figures facts) }
     requires user { user < 2 }
     requires room { array_vec_len out.old + 20 ≤ 160 }
-    ensures effect { course battle.new out.new ≡ played (screen_effect (move_of (figures facts.entry) mv).effect) user (course battle.old out.old) }
+    ensures effect { course battle.new out.new
+        ≡ played (screen_effect (move_of (figures facts.entry) mv).effect) user (course battle.old out.old) }
     ensures sound { IsSound battle.new }
     ensures whole { IsValid battle.old → StillStands battle.old battle.new → IsValid battle.new }
     ensures known { (moves : ℕ) → IsNamed moves mv → AreKnown moves battle.old → AreKnown moves battle.new }

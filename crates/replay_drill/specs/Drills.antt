@@ -8,9 +8,9 @@ use Rattle.replay_drill.specs.declared.fight.Fight.{Fight}
 use Rattle.replay_drill.specs.Fights.{fight_of, fight_start, fight_choices}
 use Rattle.ps_base.specs.Lists.{each_to}
 
--- step k, from 1, of a drill whose draws begin with this state: the moment, what is drawn, and the battle's choices
+-- a step, the first of which is 1, of a drill whose draws begin with this state: the moment, what is drawn, and the battle's choices
 abbrev pub step_lines : Option Fight → ℕ → ℕ → List ℕ
-step_lines fight seed k = time_line k ++ drawn_line k (after_steps seed (k - 1)) ++ fight_choices fight
+step_lines fight seed step = time_line step ++ drawn_line step (after_steps seed (step - 1)) ++ fight_choices fight
 
 -- a drill of so many steps, whose draws begin with that number
 unfoldable pub drill_text : Settings → Tables → ℕ → List ℕ

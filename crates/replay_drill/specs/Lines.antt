@@ -4,19 +4,20 @@ use Rattle.std.specs.Fmt.{decimal}
 use Rattle.ps_group.specs.declared.group.Group.{Group}
 use Rattle.ps_group.specs.Ranks.{rank_of}
 use Rattle.ps_base.specs.Lists.{each_to}
+use Rattle.ps_base.specs.Characters as characters
 
 abbrev pub line : List ℕ → List ℕ
-line text = text ++ 10 ∷ []
+line text = text ++ characters.newline ∷ []
 
 -- `>N TEXT`: connection N sends the text
 abbrev pub sent_line : ℕ → List ℕ → List ℕ
-sent_line conn text = codes ">" ++ decimal conn ++ codes " " ++ text ++ 10 ∷ []
+sent_line conn text = codes ">" ++ decimal conn ++ codes " " ++ text ++ characters.newline ∷ []
 
 -- ---- the head
 
 -- the symbol `%`
 abbrev pub has_percent : List Group → Bool
-has_percent groups = is_some (rank_of 37 groups)
+has_percent groups = is_some (rank_of characters.percent groups)
 
 -- user u1 gets the group `%`, where there is such a group
 abbrev pub group_line_if : Bool → List ℕ
@@ -28,11 +29,11 @@ group_line groups = group_line_if (has_percent groups)
 
 -- `+N`
 abbrev pub open_line : ℕ → List ℕ
-open_line conn = codes "+" ++ decimal conn ++ 10 ∷ []
+open_line conn = codes "+" ++ decimal conn ++ characters.newline ∷ []
 
 -- connection N takes the name uN
 abbrev pub name_line : ℕ → List ℕ
-name_line conn = codes ">" ++ decimal conn ++ codes " |/trn u" ++ decimal conn ++ codes ",0," ++ 10 ∷ []
+name_line conn = codes ">" ++ decimal conn ++ codes " |/trn u" ++ decimal conn ++ codes ",0," ++ characters.newline ∷ []
 
 abbrev pub join_line : ℕ → List ℕ
 join_line conn = sent_line conn (codes "|/join lobby")
@@ -44,17 +45,18 @@ head_lines groups = group_line groups ++ each_to open_line 8 ++ each_to name_lin
 -- ---- the battle's lines
 
 abbrev pub team_line : List ℕ → ℕ → List ℕ
-team_line team conn = codes ">" ++ decimal conn ++ codes " |/utm " ++ team ++ 10 ∷ []
+team_line team conn = codes ">" ++ decimal conn ++ codes " |/utm " ++ team ++ characters.newline ∷ []
 
 unfoldable pub challenge_line : List ℕ → List ℕ
-challenge_line format = codes ">7 |/challenge u8, " ++ format ++ 10 ∷ []
+challenge_line format = codes ">7 |/challenge u8, " ++ format ++ characters.newline ∷ []
 
 abbrev pub accept_line : List ℕ
 accept_line = line (codes ">8 |/accept u7")
 
 -- connection N sends a text with the battle's id, which is the first of that format, between these parts
 abbrev pub battle_line : List ℕ → ℕ → List ℕ → List ℕ → List ℕ
-battle_line format conn before behind = codes ">" ++ decimal conn ++ codes " " ++ before ++ codes "battle-" ++ format ++ codes "-1" ++ behind ++ 10 ∷ []
+battle_line format conn before behind = codes ">" ++ decimal conn ++ codes " " ++ before ++ codes "battle-" ++ format ++ codes "-1"
+    ++ behind ++ characters.newline ∷ []
 
 abbrev pub join_battle_line : List ℕ → ℕ → List ℕ
 join_battle_line format conn = battle_line format conn (codes "|/join ") []
@@ -81,20 +83,21 @@ choose_lines format = default_line format 7 ++ default_line format 8
 
 -- `T K`: the moment is K
 abbrev pub time_line : ℕ → List ℕ
-time_line k = codes "T " ++ decimal k ++ 10 ∷ []
+time_line moment = codes "T " ++ decimal moment ++ characters.newline ∷ []
 
 -- connection I sends words that end with the step's number to the lobby
 abbrev pub lobby_line : ℕ → List ℕ → ℕ → List ℕ
-lobby_line conn words k = codes ">" ++ decimal conn ++ codes " lobby|" ++ words ++ decimal k ++ 10 ∷ []
+lobby_line conn words step = codes ">" ++ decimal conn ++ codes " lobby|" ++ words ++ decimal step ++ characters.newline ∷ []
 
 -- connection I says mK in the lobby
 abbrev pub talk_line : ℕ → ℕ → List ℕ
-talk_line conn k = lobby_line conn (codes "m") k
+talk_line conn step = lobby_line conn (codes "m") step
 
 -- connection I whispers wK to uJ
 abbrev pub whisper_line : ℕ → ℕ → ℕ → List ℕ
-whisper_line conn to k = codes ">" ++ decimal conn ++ codes " |/pm u" ++ decimal to ++ codes ", w" ++ decimal k ++ 10 ∷ []
+whisper_line conn to step = codes ">" ++ decimal conn ++ codes " |/pm u" ++ decimal to ++ codes ", w" ++ decimal step
+    ++ characters.newline ∷ []
 
 -- connection I leaves the note nK for the staff of the lobby
 abbrev pub note_line : ℕ → ℕ → List ℕ
-note_line conn k = lobby_line conn (codes "/modnote n") k
+note_line conn step = lobby_line conn (codes "/modnote n") step

@@ -7,11 +7,11 @@ use Rattle.replay_drill.specs.declared.tally.Tally.{Tally}
 use Rattle.replay_drill.specs.Messages.{mark_after, messages_in, counted}
 
 -- it is the tally of this text
-pub record Tallies (t : Tally) (text : List ℕ) : Type 0 where
-  pub bytes : t.bytes ≡ counted (length text)
-  pub digest : Holds256 t.hasher text
+pub record Tallies (tally : Tally) (text : List ℕ) : Type 0 where
+  pub bytes : tally.bytes ≡ counted (length text)
+  pub digest : Holds256 tally.hasher text
 
 -- it counts the messages of this text
-pub record Counts (c : Counter) (text : List ℕ) : Type 0 where
-  pub mark : c.mark ≡ mark_after Start text
-  pub messages : c.messages ≡ counted (messages_in text)
+pub record Counts (counter : Counter) (text : List ℕ) : Type 0 where
+  pub mark : counter.mark ≡ mark_after Start text
+  pub messages : counter.messages ≡ counted (messages_in text)

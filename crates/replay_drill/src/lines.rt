@@ -1,6 +1,9 @@
 //! The lines of a drill's script.
 ghost use Rattle.std.specs.Prelude.{◌≡◌, ◌++◌, OnOk, string_bytes};
-ghost use Rattle.replay_drill.specs.Lines.{group_line, open_line, name_line, join_line, head_lines, team_line, team_lines, challenge_line, accept_line, battle_line, join_battle_line, join_battle_lines, start_lines, default_line, choose_lines, time_line, lobby_line, talk_line, whisper_line, note_line};
+ghost use Rattle.replay_drill.specs.Lines.{group_line, open_line, name_line, join_line, head_lines, team_line, team_lines};
+ghost use Rattle.replay_drill.specs.Lines.{challenge_line, accept_line, battle_line, join_battle_line, join_battle_lines};
+ghost use Rattle.replay_drill.specs.Lines.{start_lines, default_line, choose_lines, time_line, lobby_line, talk_line, whisper_line};
+ghost use Rattle.replay_drill.specs.Lines.{note_line};
 ghost use Rattle.ps_base.specs.Lists.{each_to};
 
 use ps_base::id::Id;

@@ -43,7 +43,8 @@ fn push_step(
     fight: &Option<Fight>,
     k: u32,
 ) -> Result<(), AllocError>
-    ensures text { OnOk result (string_bytes script.new ≡ string_bytes script.old ++ time_line k ++ drawn_line k rng.old.x ++ fight_choices fight.now) }
+    ensures text { OnOk result (string_bytes script.new ≡ string_bytes script.old ++ time_line k ++ drawn_line k rng.old.x
+        ++ fight_choices fight.now) }
     ensures state { OnOk result (rng.new.x ≡ after_step rng.old.x) }
 {
     push_time(script, k)?;

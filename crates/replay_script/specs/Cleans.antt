@@ -15,18 +15,18 @@ pub record IsClean (text : List ℕ) : Type 0 where
 -- if a text is sent, it is clean
 abbrev pub SendsClean : Item → Type 0
 SendsClean Nothing = Unit {0}
-SendsClean (Moment n) = Unit {0}
+SendsClean (Moment moment) = Unit {0}
 SendsClean (Group symbol id) = Unit {0}
-SendsClean (Open n) = Unit {0}
-SendsClean (Send n text) = IsClean text
-SendsClean (Close n) = Unit {0}
+SendsClean (Open conn) = Unit {0}
+SendsClean (Send conn text) = IsClean text
+SendsClean (Close conn) = Unit {0}
 
 -- a line of this form has a clean text, if its form says so
 abbrev pub IsAsFormed : Form → List ℕ → Type 0
 IsAsFormed forms.Nothing text = Unit {0}
-IsAsFormed (forms.Moment n) text = Unit {0}
+IsAsFormed (forms.Moment moment) text = Unit {0}
 IsAsFormed (forms.Group symbol) text = Unit {0}
-IsAsFormed (forms.Open n) text = Unit {0}
-IsAsFormed (forms.Send n) text = Unit {0}
-IsAsFormed (forms.SendClean n) text = IsClean text
-IsAsFormed (forms.Close n) text = Unit {0}
+IsAsFormed (forms.Open conn) text = Unit {0}
+IsAsFormed (forms.Send conn) text = Unit {0}
+IsAsFormed (forms.SendClean conn) text = IsClean text
+IsAsFormed (forms.Close conn) text = Unit {0}

@@ -5,5 +5,7 @@ use Rattle.replay_script.specs.declared.script.ScriptKind.{ScriptKind}
 use Rattle.replay_script.specs.Scripts.{IsScript, IsFirstFault}
 
 pub record LawOfScripts : Type 0 where
-  pub one : (symbols bytes : List ℕ) (items others : List Item) → IsScript symbols bytes items → IsScript symbols bytes others → items ≡ others
-  pub fault : (symbols bytes : List ℕ) (items : List Item) (line : ℕ) (kind : ScriptKind) → IsFirstFault symbols bytes line kind → IsScript symbols bytes items → ⊥
+  pub one : (symbols bytes : List ℕ) (items others : List Item) → IsScript symbols bytes items → IsScript symbols bytes others
+      → items ≡ others
+  pub fault : (symbols bytes : List ℕ) (items : List Item) (line : ℕ) (kind : ScriptKind) → IsFirstFault symbols bytes line kind
+      → IsScript symbols bytes items → ⊥

@@ -1,6 +1,7 @@
 -- The limits of an input: 200,000 lines and 16,777,216 bytes.
 use Rattle.std.specs.Prelude.{ℕ, ◌+◌, ◌≤◌, List, [], ◌∷◌, length, Option, Some, None, nat_le, ◌==◌, if◌then◌else◌}
 use Rattle.std.specs.Io.KnownBytes.{Consumes}
+use Rattle.ps_base.specs.Characters as characters
 
 -- the most lines and the most bytes
 abbrev pub most_lines : ℕ
@@ -13,7 +14,9 @@ most_bytes = 16777216
 -- its first byte, so a byte behind 200,000 newlines begins line 200,001. Where one byte passes both limits the count is that of lines
 abbrev pub long_from : ℕ → ℕ → List ℕ → Option ℕ
 long_from size breaks [] = None
-long_from size breaks (b ∷ bytes) = if nat_le most_lines breaks then Some (most_lines + 1) else (if nat_le most_bytes size then Some (most_bytes + 1) else long_from (size + 1) (if b == 10 then breaks + 1 else breaks) bytes)
+long_from size breaks (byte ∷ bytes) = if nat_le most_lines breaks then Some (most_lines + 1) else
+    (if nat_le most_bytes size then Some (most_bytes + 1) else long_from (size + 1)
+    (if byte == characters.newline then breaks + 1 else breaks) bytes)
 
 abbrev pub long_of : List ℕ → Option ℕ
 long_of bytes = long_from 0 0 bytes
@@ -21,7 +24,7 @@ long_of bytes = long_from 0 0 bytes
 -- how many newlines there are: for the code's count
 abbrev pub breaks_from : ℕ → List ℕ → ℕ
 breaks_from breaks [] = breaks
-breaks_from breaks (b ∷ bytes) = breaks_from (if b == 10 then breaks + 1 else breaks) bytes
+breaks_from breaks (byte ∷ bytes) = breaks_from (if byte == characters.newline then breaks + 1 else breaks) bytes
 
 abbrev pub breaks_of : List ℕ → ℕ
 breaks_of bytes = breaks_from 0 bytes

@@ -10,18 +10,18 @@ use Rattle.replay_script.specs.declared.line.Said.TheVariants as said
 -- its bytes, wherever they stand
 abbrev pub item_of : Said → Item
 item_of said.Nothing = Nothing
-item_of (said.Moment n) = Moment n
+item_of (said.Moment moment) = Moment moment
 item_of (said.Group symbol id) = Group symbol id.now
-item_of (said.Open n) = Open n
-item_of (said.Send n text) = Send n text.now
-item_of (said.Close n) = Close n
+item_of (said.Open conn) = Open conn
+item_of (said.Send conn text) = Send conn text.now
+item_of (said.Close conn) = Close conn
 
 -- by its form, with this text
 abbrev pub item_by : Form → List ℕ → Item
 item_by forms.Nothing text = Nothing
-item_by (forms.Moment n) text = Moment n
+item_by (forms.Moment moment) text = Moment moment
 item_by (forms.Group symbol) text = Group symbol text
-item_by (forms.Open n) text = Open n
-item_by (forms.Send n) text = Send n text
-item_by (forms.SendClean n) text = Send n text
-item_by (forms.Close n) text = Close n
+item_by (forms.Open conn) text = Open conn
+item_by (forms.Send conn) text = Send conn text
+item_by (forms.SendClean conn) text = Send conn text
+item_by (forms.Close conn) text = Close conn

@@ -13,6 +13,8 @@ pub fn law_of_scripts()
 /// Whatever symbols groups have, a text is a script or has a first fault, and it has one first fault at
 /// most.
 pub fn law_of_faults()
-    ensures one { (symbols bytes : List ℕ) (line other_line : ℕ) (kind other_kind : ScriptKind) → IsFirstFault symbols bytes line kind → IsFirstFault symbols bytes other_line other_kind → (line ≡ other_line) × (kind ≡ other_kind) }
-    ensures some { (symbols bytes : List ℕ) → ((items : List Item) × IsScript symbols bytes items) ⊎ ((line : ℕ) × (kind : ScriptKind) × IsFirstFault symbols bytes line kind) }
+    ensures one { (symbols bytes : List ℕ) (line other_line : ℕ) (kind other_kind : ScriptKind) → IsFirstFault symbols bytes line kind
+        → IsFirstFault symbols bytes other_line other_kind → (line ≡ other_line) × (kind ≡ other_kind) }
+    ensures some { (symbols bytes : List ℕ) → ((items : List Item) × IsScript symbols bytes items)
+        ⊎ ((line : ℕ) × (kind : ScriptKind) × IsFirstFault symbols bytes line kind) }
 {}

@@ -104,8 +104,8 @@ kept_same room old new is =
     ∙ ap (λ (ls : List Stored). record { room = room; most = old.most; backlog = ls }) (lines_gone old.most old.backlog old.gone old.kept)
 
 -- nor is an entry that is taken back
-pub kept_back : (room : Seen) (old gone more new : Short) (h : LogEntry) → gone ≡ forgotten old → more ≡ with_entry h gone → new ≡ taken_back more → kept_with room new ≡ kept_with room old
-kept_back room old gone more new h g m is =
+pub backlog_items : (room : Seen) (old gone more new : Short) (h : LogEntry) → gone ≡ forgotten old → more ≡ with_entry h gone → new ≡ taken_back more → kept_with room new ≡ kept_with room old
+backlog_items room old gone more new h g m is =
     ap (kept_with room) (is ∙ ap taken_back m)
     ∙ ap (λ (hs : List LogEntry). record { room = room; most = gone.most; backlog = last_of gone.most (gone.backlog ++ logged_lines hs) }) (front gone.kept h)
     ∙ kept_same room old gone g

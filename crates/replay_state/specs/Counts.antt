@@ -28,8 +28,8 @@ out_refuses (Some out) = room_refuses out.verdict
 
 -- whether the hall or the room refuses an entry, as they are
 abbrev pub is_refused : Now → Placed → Bool
-is_refused n (Hall e) = hall_refuses (halls.out_of n.hall e).verdict
-is_refused n (Room number e) = out_refuses (out_at (record_at number n) e)
+is_refused now (Hall entry) = hall_refuses (halls.out_of now.hall entry).verdict
+is_refused now (Room number entry) = out_refuses (out_at (record_at number now) entry)
 
 abbrev pub one_if : Bool → ℕ
 one_if false = 0
@@ -37,9 +37,9 @@ one_if true = 1
 
 -- how many of these entries are refused, each by what those before it leave
 abbrev pub refused_from : World → List Placed → ℕ
-refused_from w [] = 0
-refused_from w (p ∷ ps) = one_if (is_refused (now_of w) p) + refused_from (world_after w p) ps
+refused_from world [] = 0
+refused_from world (placed ∷ placeds) = one_if (is_refused (now_of world) placed) + refused_from (world_after world placed) placeds
 
 -- how many entries of a script are refused
 abbrev pub refused : Setup → List Item → ℕ
-refused s items = refused_from (world_opening s) (entries s items)
+refused setup items = refused_from (world_opening setup) (entries setup items)

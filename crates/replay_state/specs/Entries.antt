@@ -41,36 +41,37 @@ use Rattle.replay_state.specs.Nows.{Standing, Now, now_of, record_at}
 
 -- whether a connection is a member of a room
 abbrev pub is_member : ℕ → Record → Bool
-is_member conn r = roles.is_member (role conn r)
+is_member conn room = roles.is_member (role conn room)
 
 abbrev pub quit_of : ℕ → ℕ → Badge → ℕ → Placed
 quit_of moment conn badge number = Room number (record { conn = conn; badge = badge; moment = moment; cmd = commands.Quit })
 
 abbrev pub quit_in : ℕ → ℕ → Badge → ℕ → Standing → List Placed
-quit_in moment conn badge number r = if is_member conn r.state then quit_of moment conn badge number ∷ [] else []
+quit_in moment conn badge number room = if is_member conn room.state then quit_of moment conn badge number ∷ [] else []
 
 -- a Quit in each of these rooms of which the connection is a member, in ascending number
 abbrev pub room_quits : ℕ → ℕ → Badge → ℕ → List Standing → List Placed
 room_quits moment conn badge number [] = []
-room_quits moment conn badge number (r ∷ rs) = quit_in moment conn badge number r ++ room_quits moment conn badge (suc number) rs
+room_quits moment conn badge number (room ∷ rooms) = quit_in moment conn badge number room
+    ++ room_quits moment conn badge (suc number) rooms
 
 -- who has no name is a member of no room
 abbrev pub named_quits : ℕ → Now → ℕ → Option Badge → List Placed
-named_quits moment n conn None = []
-named_quits moment n conn (Some badge) = room_quits moment conn badge 0 n.chats ++ room_quits moment conn badge first_battle n.battles
+named_quits moment now conn None = []
+named_quits moment now conn (Some badge) = room_quits moment conn badge 0 now.chats ++ room_quits moment conn badge first_battle now.battles
 
 abbrev pub hall_entry : ℕ → ℕ → HallCmd → Placed
 hall_entry moment conn cmd = Hall (record { conn = conn; moment = moment; cmd = cmd })
 
 -- a Quit in each room of which the connection is a member, and then in the hall
 abbrev pub quits : ℕ → Now → ℕ → List Placed
-quits moment n conn = named_quits moment n conn (badge_of n.hall conn) ++ hall_entry moment conn hall_commands.Quit ∷ []
+quits moment now conn = named_quits moment now conn (badge_of now.hall conn) ++ hall_entry moment conn hall_commands.Quit ∷ []
 
 -- ---- what a text brings about
 
 -- the end of a session
 abbrev pub ended : ℕ → Now → ℕ → List Happening
-ended moment n conn = map Entry (quits moment n conn) ++ Ended conn ∷ []
+ended moment now conn = map Entry (quits moment now conn) ++ Ended conn ∷ []
 
 abbrev pub room_entry : ℕ → ℕ → Badge → Command → RoomEntry
 room_entry moment conn badge cmd = record { conn = conn; badge = badge; moment = moment; cmd = cmd }
@@ -86,18 +87,18 @@ entry_in_hall moment conn other = None
 
 -- a text for a room that isn't there is an entry of the hall, which says so, as long as the hall takes texts
 abbrev pub numbered_entry : ℕ → ℕ → Option ℕ → Command → Session → Option Placed
-numbered_entry moment conn None cmd s = entry_in_hall moment conn (no_room s)
-numbered_entry moment conn (Some number) cmd s = entry_in_room moment conn number cmd s.badge
+numbered_entry moment conn None cmd session = entry_in_hall moment conn (no_room session)
+numbered_entry moment conn (Some number) cmd session = entry_in_room moment conn number cmd session.badge
 
 -- The one entry that a text makes which was taken so; None at the limit of its place. The session is that after the take.
 abbrev pub order_entry : ℕ → Now → ℕ → Result Order TakeFault → Session → Option Placed
-order_entry moment n conn (Ok (orders.Hall cmd)) s = Some (hall_entry moment conn cmd)
-order_entry moment n conn (Ok (orders.Room id cmd)) s = numbered_entry moment conn (get n.numbers id) cmd s
-order_entry moment n conn (Err fault) s = None
+order_entry moment now conn (Ok (orders.Hall cmd)) session = Some (hall_entry moment conn cmd)
+order_entry moment now conn (Ok (orders.Room id cmd)) session = numbered_entry moment conn (get now.numbers id) cmd session
+order_entry moment now conn (Err fault) session = None
 
 -- the one entry that a text of a connection makes
 abbrev pub text_entry : ℕ → Now → ℕ → List ℕ → Session → Option Placed
-text_entry moment n conn text s = order_entry moment n conn (taken s text) (after_take (taken s text) s)
+text_entry moment now conn text session = order_entry moment now conn (taken session text) (after_take (taken session text) session)
 
 -- the end of a battle is reported to the hall by the connection whose entry ended it
 abbrev pub report_of : ℕ → ℕ → Option Ending → List Happening
@@ -106,43 +107,44 @@ report_of moment conn (Some end) = Entry (hall_entry moment conn (hall_commands.
 
 -- what comes of an entry in a room, if it is there
 abbrev pub out_at : Option Record → RoomEntry → Option RoomOut
-out_at None e = None
-out_at (Some r) e = Some (out_of r e)
+out_at None entry = None
+out_at (Some room) entry = Some (out_of room entry)
 
 abbrev pub ending_at : Option Record → RoomEntry → Option Ending
-ending_at r e = ended_in (out_at r e)
+ending_at room entry = ended_in (out_at room entry)
 
 abbrev pub reports : ℕ → Now → ℕ → Placed → List Happening
-reports moment n conn (Hall e) = []
-reports moment n conn (Room number e) = report_of moment conn (ending_at (record_at number n) e)
+reports moment now conn (Hall entry) = []
+reports moment now conn (Room number entry) = report_of moment conn (ending_at (record_at number now) entry)
 
 -- an entry, and the report of the battle that it ended; a text that makes none ends the session
 abbrev pub entry_happenings : ℕ → Now → ℕ → Option Placed → List Happening
-entry_happenings moment n conn None = ended moment n conn
-entry_happenings moment n conn (Some p) = Entry p ∷ reports moment n conn p
+entry_happenings moment now conn None = ended moment now conn
+entry_happenings moment now conn (Some placed) = Entry placed ∷ reports moment now conn placed
 
 -- ---- what is known of a connection after its text
 
 -- the badge that a connection has from an entry of the hall on
 abbrev pub badged : Option Badge → Session → Session
-badged None s = s
-badged (Some badge) s = with_badge badge s
+badged None session = session
+badged (Some badge) session = with_badge badge session
 
 abbrev pub session_past_hall : HallRecord → HallEntry → Session → Session
-session_past_hall h e s = badged (halls.out_of h e).badge s
+session_past_hall hall entry session = badged (halls.out_of hall entry).badge session
 
 abbrev pub session_past_room : Option ℕ → Session → Session
-session_past_room None s = after_no_room s
-session_past_room (Some number) s = s
+session_past_room None session = after_no_room session
+session_past_room (Some number) session = session
 
 -- the session after a text that was taken so, from the one after the take
 abbrev pub order_session : ℕ → Now → ℕ → Result Order TakeFault → Session → Session
-order_session moment n conn (Ok (orders.Hall cmd)) s = session_past_hall n.hall (record { conn = conn; moment = moment; cmd = cmd }) s
-order_session moment n conn (Ok (orders.Room id cmd)) s = session_past_room (get n.numbers id) s
-order_session moment n conn (Err fault) s = s
+order_session moment now conn (Ok (orders.Hall cmd)) session = session_past_hall now.hall
+    (record { conn = conn; moment = moment; cmd = cmd }) session
+order_session moment now conn (Ok (orders.Room id cmd)) session = session_past_room (get now.numbers id) session
+order_session moment now conn (Err fault) session = session
 
 abbrev pub text_session : ℕ → Now → ℕ → List ℕ → Session → Session
-text_session moment n conn text s = order_session moment n conn (taken s text) (after_take (taken s text) s)
+text_session moment now conn text session = order_session moment now conn (taken session text) (after_take (taken session text) session)
 
 -- ---- what a line brings about
 
@@ -150,7 +152,7 @@ abbrev pub session_of : ℕ → List Session → Option Session
 session_of conn ss = slice_get ss (conn - 1)
 
 abbrev pub is_open : ℕ → Now → Bool
-is_open conn n = is_seat n.hall.users.seats conn
+is_open conn now = is_seat now.hall.users.seats conn
 
 -- What the lines before a line leave: the moment, the hall and the rooms, and what is known of each connection, in order from 1.
 pub record State : Type 0 where
@@ -167,58 +169,59 @@ abbrev pub idle : List Session → Line
 idle ss = record { happenings = []; sessions = ss }
 
 abbrev pub sent_by : State → ℕ → List ℕ → Option Session → Line
-sent_by s conn text None = idle s.sessions
-sent_by s conn text (Some session) = record {
-  happenings = entry_happenings s.moment s.now conn (text_entry s.moment s.now conn text session);
-  sessions = slice_set s.sessions (conn - 1) (text_session s.moment s.now conn text session);
+sent_by state conn text None = idle state.sessions
+sent_by state conn text (Some session) = record {
+  happenings = entry_happenings state.moment state.now conn (text_entry state.moment state.now conn text session);
+  sessions = slice_set state.sessions (conn - 1) (text_session state.moment state.now conn text session);
 }
 
 -- a text of a connection whose session is over does nothing
 abbrev pub sent : State → ℕ → List ℕ → Line
-sent s conn text = if is_open conn s.now then sent_by s conn text (session_of conn s.sessions) else idle s.sessions
+sent state conn text = if is_open conn state.now then sent_by state conn text (session_of conn state.sessions) else idle state.sessions
 
 -- and neither does its end
 abbrev pub closed : State → ℕ → Line
-closed s conn = if is_open conn s.now then record { happenings = map Entry (quits s.moment s.now conn); sessions = s.sessions } else
-    idle s.sessions
+closed state conn = if is_open conn state.now then record
+    { happenings = map Entry (quits state.moment state.now conn); sessions = state.sessions } else
+    idle state.sessions
 
 abbrev pub opening : ℕ → ℕ → Happening
 opening moment conn = Entry (hall_entry moment conn hall_commands.Open)
 
 abbrev pub line_at : State → Item → Line
-line_at s Nothing = idle s.sessions
-line_at s (Moment n) = idle s.sessions
-line_at s (Group symbol id) = idle s.sessions
-line_at s (Open conn) = record { happenings = opening s.moment conn ∷ []; sessions = s.sessions ++ begun conn ∷ [] }
-line_at s (Send conn text) = sent s conn text
-line_at s (Close conn) = closed s conn
+line_at state Nothing = idle state.sessions
+line_at state (Moment moment) = idle state.sessions
+line_at state (Group symbol id) = idle state.sessions
+line_at state (Open conn) = record { happenings = opening state.moment conn ∷ []; sessions = state.sessions ++ begun conn ∷ [] }
+line_at state (Send conn text) = sent state conn text
+line_at state (Close conn) = closed state conn
 
 -- ---- the end of a battle
 
 -- that which an entry brings about
 abbrev pub end_by : Now → Option Placed → Option Ending
-end_by n None = None
-end_by n (Some (Hall e)) = None
-end_by n (Some (Room number e)) = ending_at (record_at number n) e
+end_by now None = None
+end_by now (Some (Hall entry)) = None
+end_by now (Some (Room number entry)) = ending_at (record_at number now) entry
 
 abbrev pub end_sent : State → ℕ → List ℕ → Option Session → Option Ending
-end_sent s conn text None = None
-end_sent s conn text (Some session) = end_by s.now (text_entry s.moment s.now conn text session)
+end_sent state conn text None = None
+end_sent state conn text (Some session) = end_by state.now (text_entry state.moment state.now conn text session)
 
 -- that which a line brings about, whose entry's end is reported right behind it
 abbrev pub end_at : State → Item → Option Ending
-end_at s (Send conn text) = if is_open conn s.now then end_sent s conn text (session_of conn s.sessions) else None
-end_at s Nothing = None
-end_at s (Moment n) = None
-end_at s (Group symbol id) = None
-end_at s (Open conn) = None
-end_at s (Close conn) = None
+end_at state (Send conn text) = if is_open conn state.now then end_sent state conn text (session_of conn state.sessions) else None
+end_at state Nothing = None
+end_at state (Moment moment) = None
+end_at state (Group symbol id) = None
+end_at state (Open conn) = None
+end_at state (Close conn) = None
 
 -- ---- scripts
 
 -- the moment after a line
 abbrev pub moment_after : ℕ → Item → ℕ
-moment_after moment (Moment n) = n
+moment_after moment (Moment new) = new
 moment_after moment other = moment
 
 -- what the lines before a line leave, with the whole history of each place
@@ -228,83 +231,83 @@ pub record Run : Type 0 where
   pub sessions : List Session
 
 abbrev pub state_of : Run → State
-state_of r = record { moment = r.moment; now = now_of r.world; sessions = r.sessions }
+state_of run = record { moment = run.moment; now = now_of run.world; sessions = run.sessions }
 
 -- before the first line
 abbrev pub run_opening : Setup → Run
-run_opening s = record { moment = 0; world = world_opening s; sessions = [] }
+run_opening setup = record { moment = 0; world = world_opening setup; sessions = [] }
 
 abbrev pub entry_in : Happening → Option Placed
-entry_in (Entry p) = Some p
+entry_in (Entry placed) = Some placed
 entry_in (Ended conn) = None
 
 abbrev pub entries_in : List Happening → List Placed
 entries_in xs = filter_map entry_in xs
 
 abbrev pub worlds_after : World → List Placed → World
-worlds_after w [] = w
-worlds_after w (p ∷ ps) = worlds_after (world_after w p) ps
+worlds_after world [] = world
+worlds_after world (placed ∷ placeds) = worlds_after (world_after world placed) placeds
 
 -- what a line brings about behind others
 abbrev pub line_in : Run → Item → Line
-line_in r i = line_at (state_of r) i
+line_in run item = line_at (state_of run) item
 
 abbrev pub run_after : Run → Item → Run
-run_after r i = record {
-  moment = moment_after r.moment i;
-  world = worlds_after r.world (entries_in (line_in r i).happenings);
-  sessions = (line_in r i).sessions;
+run_after run item = record {
+  moment = moment_after run.moment item;
+  world = worlds_after run.world (entries_in (line_in run item).happenings);
+  sessions = (line_in run item).sessions;
 }
 
 abbrev pub run_past : Run → List Item → Run
-run_past r [] = r
-run_past r (i ∷ is) = run_past (run_after r i) is
+run_past run [] = run
+run_past run (item ∷ items) = run_past (run_after run item) items
 
 -- what these lines bring about behind others
 abbrev pub happenings_from : Run → List Item → List Happening
-happenings_from r [] = []
-happenings_from r (i ∷ is) = (line_in r i).happenings ++ happenings_from (run_after r i) is
+happenings_from run [] = []
+happenings_from run (item ∷ items) = (line_in run item).happenings ++ happenings_from (run_after run item) items
 
 -- all that a script brings about, in order
 abbrev pub happenings : Setup → List Item → List Happening
-happenings s items = happenings_from (run_opening s) items
+happenings setup items = happenings_from (run_opening setup) items
 
 -- all entries of a script, each with its place, in order
 abbrev pub entries : Setup → List Item → List Placed
-entries s items = entries_in (happenings s items)
+entries setup items = entries_in (happenings setup items)
 
 -- the world of a script: the opening and the history of each place
 abbrev pub world_of : Setup → List Item → World
-world_of s items = (run_past (run_opening s) items).world
+world_of setup items = (run_past (run_opening setup) items).world
 
 -- ---- for the code: an order for a room was counted to it last
 
 abbrev pub IsCounted : Order → Session → Type 0
-IsCounted (orders.Hall cmd) s = Unit {0}
-IsCounted (orders.Room id cmd) s = s.last ≡ Some id
+IsCounted (orders.Hall cmd) session = Unit {0}
+IsCounted (orders.Room id cmd) session = session.last ≡ Some id
 
 -- ---- for the code: an entry of a room has its sender's badge, which the session lends to it
 
 -- the session meanwhile, by the order that it makes its entry of
 abbrev pub lent_to_room : Option ℕ → Session → Session
-lent_to_room None s = after_no_room s
-lent_to_room (Some number) s = without_badge s
+lent_to_room None session = after_no_room session
+lent_to_room (Some number) session = without_badge session
 
 abbrev pub session_lent : Now → Order → Session → Session
-session_lent n (orders.Hall cmd) s = s
-session_lent n (orders.Room id cmd) s = lent_to_room (get n.numbers id) s
+session_lent now (orders.Hall cmd) session = session
+session_lent now (orders.Room id cmd) session = lent_to_room (get now.numbers id) session
 
 -- what comes of an entry: the end of the battle that it ended, and the badge that one of the hall gives
 abbrev pub entry_out : Now → Placed → EntryOut
-entry_out n (Hall e) = record { ended = None; badge = (halls.out_of n.hall e).badge }
-entry_out n (Room number e) = record { ended = ending_at (record_at number n) e; badge = None }
+entry_out now (Hall entry) = record { ended = None; badge = (halls.out_of now.hall entry).badge }
+entry_out now (Room number entry) = record { ended = ending_at (record_at number now) entry; badge = None }
 
 -- the badge that the session gets from it
 abbrev pub badge_past : Placed → Option Badge → Option Badge
-badge_past (Hall e) badge = badge
-badge_past (Room number e) badge = Some e.badge
+badge_past (Hall entry) badge = badge
+badge_past (Room number entry) badge = Some entry.badge
 
 -- and the session then
 abbrev pub session_past : Now → Option Placed → Session → Session
-session_past n None s = s
-session_past n (Some p) s = badged (badge_past p (entry_out n p).badge) s
+session_past now None session = session
+session_past now (Some placed) session = badged (badge_past placed (entry_out now placed).badge) session

@@ -20,21 +20,22 @@ head_text id conn = decimal conn ++ codes "< >" ++ id ++ codes "\n" ++ decimal c
 abbrev pub head_of : List ℕ → ℕ → Head
 head_of id conn = record { conn = conn; text = head_text id conn }
 
--- the messages whose further line ends so, to those of these members that each come behind the last one that was taken, up to n
+-- the messages whose further line ends so, to those of these members that each come behind the last one that was taken, up to a count
 abbrev pub each_headed : List ℕ → ℕ → ℕ → List Head → List ℕ
-each_headed end n last [] = []
-each_headed end n last (h ∷ hs) = if is_next last n h.conn then h.text ++ end ++ each_headed end n h.conn hs else each_headed end n last hs
+each_headed end count last [] = []
+each_headed end count last (head ∷ heads) = if is_next last count head.conn then head.text ++ end
+    ++ each_headed end count head.conn heads else each_headed end count last heads
 
 -- there is one for each member, in ascending number
-pub record HasHeads (s : Kept) (heads : List Head) : Type 0 where
+pub record HasHeads (room : Kept) (heads : List Head) : Type 0 where
   pub conns : List ℕ
-  pub heads_are : heads ≡ map (head_of s.room.id) conns
+  pub heads_are : heads ≡ map (head_of room.room.id) conns
   pub sorted : IsSorted nat_cmp conns
-  pub members : (conn : ℕ) → list_any (λ c. c == conn) conns ≡ is_member (role conn (record_in s.room))
+  pub members : (conn : ℕ) → list_any (λ other. other == conn) conns ≡ is_member (role conn (record_in room.room))
 
 -- they are, if it says that they are ready
-pub record AreReady (s : Kept) (ready : Bool) (heads : List Head) : Type 0 where
-  pub are : ready ≡ true → HasHeads s heads
+pub record AreReady (room : Kept) (ready : Bool) (heads : List Head) : Type 0 where
+  pub are : ready ≡ true → HasHeads room heads
 
 -- whether a command may change who is a member
 abbrev pub changes_members : Command → Bool

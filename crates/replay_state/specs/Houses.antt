@@ -41,62 +41,63 @@ pub record House : Type 0 where
 -- ---- what they are, but for what was logged: what a line brings about doesn't look at that
 
 abbrev pub standing : Kept → Standing
-standing k = record { id = k.room.id; state = record_in k.room }
+standing room = record { id = room.room.id; state = record_in room.room }
 
 abbrev pub now_in : House → Now
-now_in k = record { hall = k.hall; chats = map standing k.chats; battles = map standing k.battles; numbers = k.numbers }
+now_in house = record { hall = house.hall; chats = map standing house.chats; battles = map standing house.battles; numbers = house.numbers }
 
 -- ---- one entry more
 
 -- a room by its number
 abbrev pub seen_at : ℕ → House → Option Kept
-seen_at number k = if nat_lt number first_battle then slice_get k.chats number else slice_get k.battles (number - first_battle)
+seen_at number house = if nat_lt number first_battle then slice_get house.chats number else slice_get house.battles (number - first_battle)
 
 abbrev pub seen_rooms_after : List Kept → ℕ → Entry → List Kept
-seen_rooms_after rooms place e = option_map_or (λ k. slice_set rooms place (kept_after k e)) (slice_get rooms place) rooms
+seen_rooms_after rooms place entry = option_map_or (λ room. slice_set rooms place (kept_after room entry)) (slice_get rooms place) rooms
 
 -- a battle that this hall starts has its room from then on
 abbrev pub begin : HallRecord → Option Start → House → House
-begin h None k = k
-begin h (Some start) k = record k {
-  battles = k.battles ++ kept_opened (opening_in h start) ∷ [];
-  numbers = with_number k.numbers (opening_in h start);
+begin hall None house = house
+begin hall (Some start) house = record house {
+  battles = house.battles ++ kept_opened (opening_in hall start) ∷ [];
+  numbers = with_number house.numbers (opening_in hall start);
 }
 
 abbrev pub house_hall : House → HallEntry → House
-house_hall k e = record k { hall = halls.after k.hall e }
+house_hall house entry = record house { hall = halls.after house.hall entry }
 
 abbrev pub house_room : House → ℕ → Entry → House
-house_room k number e = if nat_lt number first_battle then record k { chats = seen_rooms_after k.chats number e } else record k
-    { battles = seen_rooms_after k.battles (number - first_battle) e }
+house_room house number entry = if nat_lt number first_battle then record house { chats = seen_rooms_after house.chats number entry }
+    else record house
+    { battles = seen_rooms_after house.battles (number - first_battle) entry }
 
 abbrev pub house_after : House → Placed → House
-house_after k (Hall e) = begin k.hall (started_by k.hall e) (house_hall k e)
-house_after k (Room number e) = house_room k number e
+house_after house (Hall entry) = begin house.hall (started_by house.hall entry) (house_hall house entry)
+house_after house (Room number entry) = house_room house number entry
 
 -- ---- what is told
 
 abbrev pub id_of : Option Kept → List ℕ
-id_of found = option_map_or (λ k. k.room.id) found []
+id_of found = option_map_or (λ room. room.room.id) found []
 
 -- the id of the room of an entry, which is the text behind `>` in its messages
 abbrev pub house_id : House → Placed → Option (List ℕ)
-house_id k (Hall e) = None
-house_id k (Room number e) = Some (id_of (seen_at number k))
+house_id house (Hall entry) = None
+house_id house (Room number entry) = Some (id_of (seen_at number house))
 
 -- what a connection is sent at a room's next entry, of which the log will have this
 unfoldable pub next_message : ℕ → Kept → LogEntry → List (List ℕ)
-next_message conn k h = message_of conn (role conn (record_in k.room)) k.backlog h
+next_message conn room log_entry = message_of conn (role conn (record_in room.room)) room.backlog log_entry
 
 -- what it is sent at an entry of a room
 abbrev pub seen_message : ℕ → Entry → Option Kept → List (List ℕ)
-seen_message conn e None = []
-seen_message conn e (Some k) = next_message conn k (given (record_in k.room) e)
+seen_message conn entry None = []
+seen_message conn entry (Some room) = next_message conn room (given (record_in room.room) entry)
 
 -- what a connection is sent at an entry
 abbrev pub house_message : ℕ → House → Placed → List (List ℕ)
-house_message conn k (Hall e) = halls.message conn k.hall e
-house_message conn k (Room number e) = seen_message conn e (seen_at number k)
+house_message conn house (Hall entry) = halls.message conn house.hall entry
+house_message conn house (Room number entry) = seen_message conn entry (seen_at number house)
 
 -- ---- who may hear
 
@@ -111,7 +112,7 @@ own_conn (Split side logged secret public) = None
 
 -- who may be sent something at a room's next entry: who made it, the members, and who has a line of its own
 abbrev pub room_hearers : Kept → LogEntry → List ℕ
-room_hearers k h = h.conn ∷ map conn_of (presents_of (record_in k.room)) ++ filter_map own_conn h.lines
+room_hearers room log_entry = log_entry.conn ∷ map conn_of (presents_of (record_in room.room)) ++ filter_map own_conn log_entry.lines
 
 -- the text of a line for all members
 abbrev pub text_for_all : Audience → List ℕ → Option (List ℕ)
@@ -125,19 +126,19 @@ common_of (Split side logged secret public) = None
 -- of the only one of these
 abbrev pub common_line : List Stored → Option (List ℕ)
 common_line [] = None
-common_line (l ∷ []) = common_of l
-common_line (l ∷ m ∷ ls) = None
+common_line (line ∷ []) = common_of line
+common_line (line ∷ next ∷ rest) = None
 
 abbrev pub common_unless : Option Joined → List Stored → Option (List ℕ)
 common_unless None ls = common_line ls
-common_unless (Some j) ls = None
+common_unless (Some joined) ls = None
 
 -- the text of an entry that is one line, the same for each member, and nothing for who is none
 abbrev pub common_text : LogEntry → Option (List ℕ)
-common_text h = common_unless h.join h.lines
+common_text log_entry = common_unless log_entry.join log_entry.lines
 
 abbrev pub told_conn : Notice → ℕ
-told_conn n = n.conn
+told_conn notice = notice.conn
 
 -- whom these notices tell something
 abbrev pub notice_hearers : List Notice → List ℕ
@@ -147,18 +148,23 @@ notice_hearers ns = map told_conn ns
 
 -- before the first entry
 abbrev pub house_opening : Setup → House
-house_opening s = record {
-  hall = opened_hall s;
-  chats = map kept_opened (chat_openings s);
+house_opening setup = record {
+  hall = opened_hall setup;
+  chats = map kept_opened (chat_openings setup);
   battles = [];
-  numbers = numbers_from empty (chat_openings s);
+  numbers = numbers_from empty (chat_openings setup);
 }
 
 -- ---- of a world
 
 -- a room of it
 abbrev pub kept_in : Story → Kept
-kept_in s = kept (seen_of s)
+kept_in story = kept (seen_of story)
 
 abbrev pub house_of : World → House
-house_of w = record { hall = hall_in w; chats = map kept_in w.chats; battles = map kept_in w.battles; numbers = w.numbers }
+house_of world = record {
+  hall = hall_in world;
+  chats = map kept_in world.chats;
+  battles = map kept_in world.battles;
+  numbers = world.numbers;
+}

@@ -15,20 +15,20 @@ pub record Kept : Type 0 where
 
 -- what is kept of a room with a log
 abbrev pub kept : Seen → Kept
-kept s = record {
-  room = unlogged s;
-  most = backlog_size (cast_in s.battle);
-  backlog = last_of (backlog_size (cast_in s.battle)) (logged_lines s.log);
+kept seen = record {
+  room = unlogged seen;
+  most = backlog_size (cast_in seen.battle);
+  backlog = last_of (backlog_size (cast_in seen.battle)) (logged_lines seen.log);
 }
 
 -- at the opening
 abbrev pub kept_opened : Opening → Kept
-kept_opened o = kept (seen_opened o)
+kept_opened opening = kept (seen_opened opening)
 
 -- after an entry
 abbrev pub kept_after : Kept → Entry → Kept
-kept_after k e = record {
-  room = state_after k.room e;
-  most = k.most;
-  backlog = last_of k.most (k.backlog ++ logged_in (kept_of (record_in k.room) e));
+kept_after room entry = record {
+  room = state_after room.room entry;
+  most = room.most;
+  backlog = last_of room.most (room.backlog ++ logged_in (kept_of (record_in room.room) entry));
 }

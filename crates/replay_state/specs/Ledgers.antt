@@ -23,11 +23,14 @@ blank_noting = record { counts = no_counts; notes = Some [] }
 
 -- with an entry more
 abbrev pub one_more : Bool → Counts → Counts
-one_more refused c = record { entries = c.entries + 1; refused = c.refused + one_if refused }
+one_more refused counts = record { entries = counts.entries + 1; refused = counts.refused + one_if refused }
 
 -- with an entry more, which does this unless it is refused
 abbrev pub entered : Bool → Option Note → Sheet → Sheet
-entered refused does s = record { counts = one_more refused s.counts; notes = after_notes (option_to_list (unless refused does)) s.notes }
+entered refused does sheet = record {
+  counts = one_more refused sheet.counts;
+  notes = after_notes (option_to_list (unless refused does)) sheet.notes;
+}
 
 -- this where notes are asked for, and else nothing
 abbrev pub asked : Option (List Note) → Option Note → Option Note

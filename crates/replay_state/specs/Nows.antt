@@ -22,15 +22,20 @@ pub record Now : Type 0 where
   pub numbers : ById ℕ
 
 abbrev pub standing_of : Story → Standing
-standing_of s = record { id = s.opening.id; state = record_of s }
+standing_of story = record { id = story.opening.id; state = record_of story }
 
 abbrev pub now_of : World → Now
-now_of w = record { hall = hall_in w; chats = map standing_of w.chats; battles = map standing_of w.battles; numbers = w.numbers }
+now_of world = record {
+  hall = hall_in world;
+  chats = map standing_of world.chats;
+  battles = map standing_of world.battles;
+  numbers = world.numbers;
+}
 
 -- a room by its number
 abbrev pub room_at : ℕ → Now → Option Standing
-room_at number n = if nat_lt number first_battle then slice_get n.chats number else slice_get n.battles (number - first_battle)
+room_at number now = if nat_lt number first_battle then slice_get now.chats number else slice_get now.battles (number - first_battle)
 
 -- its record
 abbrev pub record_at : ℕ → Now → Option Record
-record_at number n = option_map (λ s. s.state) (room_at number n)
+record_at number now = option_map (λ room. room.state) (room_at number now)

@@ -32,83 +32,86 @@ use Rattle.replay_state.specs.Entries.{reports, is_open, text_entry, session_of}
 
 -- ---- the answer that an entry gets
 
-pub record IsHallAnswered (h : HallRecord) (e : HallEntry) : Type 0 where
+pub record IsHallAnswered (hall : HallRecord) (entry : HallEntry) : Type 0 where
   -- an allowed entry is applied
-  pub allowed : halls.verdict h e ≡ None → halls.after h e ≡ applied h e.conn e.cmd
+  pub allowed : halls.verdict hall entry ≡ None → halls.after hall entry ≡ applied hall entry.conn entry.cmd
   -- a refused one leaves the record as it was,
-  pub unchanged : (why : HallWhy) → halls.verdict h e ≡ Some why → halls.after h e ≡ h
+  pub unchanged : (why : HallWhy) → halls.verdict hall entry ≡ Some why → halls.after hall entry ≡ hall
   -- gives its sender the one line of that reason,
-  pub told : (why : HallWhy) → halls.verdict h e ≡ Some why → halls.message e.conn h e ≡ refused_line why e.cmd ∷ []
+  pub told : (why : HallWhy) → halls.verdict hall entry ≡ Some why → halls.message entry.conn hall entry ≡ refused_line why entry.cmd ∷ []
   -- and nobody else anything
-  pub silent : (why : HallWhy) (conn : ℕ) → halls.verdict h e ≡ Some why → conn ≢ e.conn → halls.message conn h e ≡ []
+  pub silent : (why : HallWhy) (conn : ℕ) → halls.verdict hall entry ≡ Some why → conn ≢ entry.conn → halls.message conn hall entry ≡ []
 
 -- in its place, by what the entries before it leave; an entry of a room stands in a room that is there
-pub record IsRoomAnswered (n : Now) (number : ℕ) (e : Entry) : Type 0 where
+pub record IsRoomAnswered (now : Now) (number : ℕ) (entry : Entry) : Type 0 where
   pub room : Record
-  pub there : record_at number n ≡ Some room
-  pub answer : IsAnswered room e
+  pub there : record_at number now ≡ Some room
+  pub answer : IsAnswered room entry
 
 abbrev pub IsPlacedAnswered : Now → Placed → Type 0
-IsPlacedAnswered n (Hall e) = IsHallAnswered n.hall e
-IsPlacedAnswered n (Room number e) = IsRoomAnswered n number e
+IsPlacedAnswered now (Hall entry) = IsHallAnswered now.hall entry
+IsPlacedAnswered now (Room number entry) = IsRoomAnswered now number entry
 
 -- ---- a text of a script
 
 abbrev pub is_end_of : ℕ → Happening → Bool
-is_end_of conn (happening.Entry p) = false
+is_end_of conn (happening.Entry placed) = false
 is_end_of conn (happening.Ended other) = other == conn
 
 -- the place to which a text goes has been given as many texts as it takes: the place of its order, or the hall where its room
 -- isn't there
-pub data IsAtLimit (n : Now) (text : List ℕ) (s : Session) : Type 0 where
-  at_place : (place : Option (List ℕ)) → taken s text ≡ Err (Limit place) → IsAtLimit n text s
-  at_hall : (id : List ℕ) (cmd : Command) → taken s text ≡ Ok (orders.Room id cmd) → get n.numbers id ≡ None
-      → is_full None (after_take (taken s text) s) ≡ true → IsAtLimit n text s
+pub data IsAtLimit (now : Now) (text : List ℕ) (session : Session) : Type 0 where
+  at_place : (place : Option (List ℕ)) → taken session text ≡ Err (Limit place) → IsAtLimit now text session
+  at_hall : (id : List ℕ) (cmd : Command) → taken session text ≡ Ok (orders.Room id cmd) → get now.numbers id ≡ None
+      → is_full None (after_take (taken session text) session) ≡ true → IsAtLimit now text session
 
--- What a text brings about that stands behind the lines `before` of a script, with the lines `later` behind it. `r` is what the
+-- What a text brings about that stands behind the lines `before` of a script, with the lines `later` behind it. `run` is what the
 -- lines before it leave, and `session` what is known of the connection there.
-pub record IsText (s : Setup) (items before : List Item) (conn : ℕ) (text : List ℕ) (later : List Item) (r : Run)
+pub record IsText (setup : Setup) (items before : List Item) (conn : ℕ) (text : List ℕ) (later : List Item) (run : Run)
     (session : Session) : Type 0 where
   -- below the limit exactly one entry, and the report of the battle that it ended; it gets its answer in its place,
-  pub entry : is_open conn (now_of r.world) ≡ true → (p : Placed) → text_entry r.moment (now_of r.world) conn text session ≡ Some p
-      → happenings s items ≡ happenings_from (run_opening s) before
-      ++ (happening.Entry p ∷ reports r.moment (now_of r.world) conn p ++ happenings_from (run_after r (Send conn text)) later)
-  pub answer : is_open conn (now_of r.world) ≡ true → (p : Placed) → text_entry r.moment (now_of r.world) conn text session ≡ Some p
-      → IsPlacedAnswered (now_of r.world) p
+  pub entry : is_open conn (now_of run.world) ≡ true → (placed : Placed)
+      → text_entry run.moment (now_of run.world) conn text session ≡ Some placed
+      → happenings setup items ≡ happenings_from (run_opening setup) before
+      ++ (happening.Entry placed ∷ reports run.moment (now_of run.world) conn placed
+      ++ happenings_from (run_after run (Send conn text)) later)
+  pub answer : is_open conn (now_of run.world) ≡ true → (placed : Placed)
+      → text_entry run.moment (now_of run.world) conn text session ≡ Some placed
+      → IsPlacedAnswered (now_of run.world) placed
   -- at the limit the session's end alone,
-  pub limit : is_open conn (now_of r.world) ≡ true → text_entry r.moment (now_of r.world) conn text session ≡ None
-      → happenings s items ≡ happenings_from (run_opening s) before
-      ++ (ended r.moment (now_of r.world) conn ++ happenings_from (run_after r (Send conn text)) later)
+  pub limit : is_open conn (now_of run.world) ≡ true → text_entry run.moment (now_of run.world) conn text session ≡ None
+      → happenings setup items ≡ happenings_from (run_opening setup) before
+      ++ (ended run.moment (now_of run.world) conn ++ happenings_from (run_after run (Send conn text)) later)
   -- which is where its place takes no more,
-  pub full : text_entry r.moment (now_of r.world) conn text session ≡ None → IsAtLimit (now_of r.world) text session
+  pub full : text_entry run.moment (now_of run.world) conn text session ≡ None → IsAtLimit (now_of run.world) text session
   -- after it nothing,
-  pub past : is_open conn (now_of r.world) ≡ false
-      → happenings s items ≡ happenings_from (run_opening s) before ++ happenings_from (run_after r (Send conn text)) later
+  pub past : is_open conn (now_of run.world) ≡ false
+      → happenings setup items ≡ happenings_from (run_opening setup) before ++ happenings_from (run_after run (Send conn text)) later
   -- and a connection that sends a text isn't open only where its session was ended before, at its limit
-  pub over : is_open conn (now_of r.world) ≡ false → list_any (is_end_of conn) (happenings_from (run_opening s) before) ≡ true
+  pub over : is_open conn (now_of run.world) ≡ false → list_any (is_end_of conn) (happenings_from (run_opening setup) before) ≡ true
 
 -- of each text of a script
-pub record IsTextOf (s : Setup) (items before : List Item) (conn : ℕ) (text : List ℕ) (later : List Item) (r : Run) : Type 0 where
+pub record IsTextOf (setup : Setup) (items before : List Item) (conn : ℕ) (text : List ℕ) (later : List Item) (run : Run) : Type 0 where
   pub session : Session
-  pub session_is : session_of conn r.sessions ≡ Some session
-  pub text_is : IsText s items before conn text later r session
+  pub session_is : session_of conn run.sessions ≡ Some session
+  pub text_is : IsText setup items before conn text later run session
 
 abbrev pub HasOneEntryEach : Setup → List Item → Type 0
-HasOneEntryEach s items = (before : List Item) (conn : ℕ) (text : List ℕ) (later : List Item)
-    → items ≡ before ++ Send conn text ∷ later → IsTextOf s items before conn text later (run_past (run_opening s) before)
+HasOneEntryEach setup items = (before : List Item) (conn : ℕ) (text : List ℕ) (later : List Item)
+    → items ≡ before ++ Send conn text ∷ later → IsTextOf setup items before conn text later (run_past (run_opening setup) before)
 
 -- ---- entries stand in the histories of their places
 
 abbrev pub hall_entry_of : Placed → Option HallEntry
-hall_entry_of (Hall e) = Some e
-hall_entry_of (Room number e) = None
+hall_entry_of (Hall entry) = Some entry
+hall_entry_of (Room number entry) = None
 
 abbrev pub room_entry_of : ℕ → Placed → Option Entry
-room_entry_of number (Hall e) = None
-room_entry_of number (Room other e) = if other == number then Some e else None
+room_entry_of number (Hall entry) = None
+room_entry_of number (Room other entry) = if other == number then Some entry else None
 
 -- the history of each place in the world of a script is its entries there, in order
-pub record AreHistories (s : Setup) (items : List Item) : Type 0 where
-  pub hall : (world_of s items).hall ≡ filter_map hall_entry_of (entries s items)
-  pub room : (number : ℕ) (story : Story) → story_at number (world_of s items) ≡ Some story
-      → story.history ≡ filter_map (room_entry_of number) (entries s items)
+pub record AreHistories (setup : Setup) (items : List Item) : Type 0 where
+  pub hall : (world_of setup items).hall ≡ filter_map hall_entry_of (entries setup items)
+  pub room : (number : ℕ) (story : Story) → story_at number (world_of setup items) ≡ Some story
+      → story.history ≡ filter_map (room_entry_of number) (entries setup items)

@@ -26,7 +26,7 @@ with_ranking groups ranks other = ranks
 
 abbrev pub ranks_from : List group.Group → ById ℕ → List Item → ById ℕ
 ranks_from groups ranks [] = ranks
-ranks_from groups ranks (i ∷ is) = ranks_from groups (with_ranking groups ranks i) is
+ranks_from groups ranks (item ∷ items) = ranks_from groups (with_ranking groups ranks item) items
 
 -- Of two lines for one id the later counts. All of them stand before the first opening, so they hold for the whole script.
 abbrev pub ranks_of : List group.Group → List Item → ById ℕ
@@ -40,8 +40,8 @@ setup_of config dex items = record { config = config; dex = dex; ranks = ranks_o
 
 -- the hall before its first entry
 abbrev pub opened_hall : Setup → HallRecord
-opened_hall s = hall_opened s.config s.dex s.ranks
+opened_hall setup = hall_opened setup.config setup.dex setup.ranks
 
 -- the chat rooms, numbered from 0 in the order of the configuration; there are sixteen at the most
 abbrev pub chat_openings : Setup → List Opening
-chat_openings s = chats_from s.config s.dex 0 s.config.rooms
+chat_openings setup = chats_from setup.config setup.dex 0 setup.config.rooms

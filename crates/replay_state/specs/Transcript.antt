@@ -11,6 +11,7 @@ use Rattle.replay_state.specs.declared.place.Happening.TheVariants.{Entry, Ended
 use Rattle.replay_state.specs.Setup.{Setup}
 use Rattle.replay_state.specs.Worlds.{Place, in_hall, in_room, place_of, World, world_after, world_message, room_id}
 use Rattle.replay_state.specs.Entries.{Run, run_opening, run_after, line_in}
+use Rattle.ps_base.specs.Characters as characters
 
 -- ---- messages
 
@@ -25,47 +26,50 @@ abbrev pub message_if : ℕ → Place → Option (List ℕ) → List (List ℕ) 
 message_if conn place id [] = []
 message_if conn place id (line ∷ lines) = record { conn = conn; place = place; id = id; lines = line ∷ lines } ∷ []
 
--- the messages of an entry to the connections 1 to n
+-- the messages of an entry to so many connections, from 1 on
 abbrev pub messages_to : ℕ → World → Placed → List Message
-messages_to zero w p = []
-messages_to (suc n) w p = messages_to n w p ++ message_if (suc n) (place_of p) (room_id w p) (world_message (suc n) w p)
+messages_to zero world placed = []
+messages_to (suc count) world placed = messages_to count world placed
+    ++ message_if (suc count) (place_of placed) (room_id world placed) (world_message (suc count) world placed)
 
 -- what is printed: a message, or that a connection's session ended
 pub data Sign : Type 0 where
   told : Message → Sign
   over : ℕ → Sign
 
--- what is printed of these happenings in a world, where n connections have opened
+-- what is printed of these happenings in a world, where so many connections have opened
 abbrev pub signs_from : ℕ → World → List Happening → List Sign
-signs_from n w [] = []
-signs_from n w (Entry p ∷ xs) = map told (messages_to n w p) ++ signs_from n (world_after w p) xs
-signs_from n w (Ended conn ∷ xs) = over conn ∷ signs_from n w xs
+signs_from count world [] = []
+signs_from count world (Entry placed ∷ placeds) = map told (messages_to count world placed)
+    ++ signs_from count (world_after world placed) placeds
+signs_from count world (Ended conn ∷ conns) = over conn ∷ signs_from count world conns
 
 -- what is printed of these lines behind others: for each entry in order its messages, to each connection that has opened, in
 -- ascending number; and that a session ended, after the messages of its last entries
 abbrev pub signs_in : Run → List Item → List Sign
-signs_in r [] = []
-signs_in r (i ∷ is) = signs_from (length (line_in r i).sessions) r.world (line_in r i).happenings ++ signs_in (run_after r i) is
+signs_in run [] = []
+signs_in run (item ∷ items) = signs_from (length (line_in run item).sessions) run.world (line_in run item).happenings
+    ++ signs_in (run_after run item) items
 
 -- all that is printed of a script
 abbrev pub signs : Setup → List Item → List Sign
-signs s items = signs_in (run_opening s) items
+signs setup items = signs_in (run_opening setup) items
 
 abbrev pub message_in : Sign → Option Message
-message_in (told m) = Some m
+message_in (told message) = Some message
 message_in (over conn) = None
 
 -- all messages of a script
 abbrev pub messages : Setup → List Item → List Message
-messages s items = filter_map message_in (signs s items)
+messages setup items = filter_map message_in (signs setup items)
 
 -- ---- printing
 
 abbrev pub first_line : ℕ → List ℕ → List ℕ
-first_line conn line = decimal conn ++ codes "< " ++ line ++ 10 ∷ []
+first_line conn line = decimal conn ++ codes "< " ++ line ++ characters.newline ∷ []
 
 abbrev pub further_line : ℕ → List ℕ → List ℕ
-further_line conn line = decimal conn ++ codes ". " ++ line ++ 10 ∷ []
+further_line conn line = decimal conn ++ codes ". " ++ line ++ characters.newline ∷ []
 
 -- the lines of a message to a connection
 abbrev pub printed : ℕ → List (List ℕ) → List ℕ
@@ -78,19 +82,19 @@ with_id id [] = []
 with_id id (line ∷ lines) = headed id (line ∷ lines)
 
 abbrev pub print : Message → List ℕ
-print m = printed m.conn (with_id m.id m.lines)
+print message = printed message.conn (with_id message.id message.lines)
 
 -- the line of a session that ended
 abbrev pub over_line : ℕ → List ℕ
-over_line conn = decimal conn ++ codes "! OwnLimit" ++ 10 ∷ []
+over_line conn = decimal conn ++ codes "! OwnLimit" ++ characters.newline ∷ []
 
 abbrev pub print_sign : Sign → List ℕ
-print_sign (told m) = print m
+print_sign (told message) = print message
 print_sign (over conn) = over_line conn
 
 -- all that is written for a script
 abbrev pub output : Setup → List Item → List ℕ
-output s items = flat_map print_sign (signs s items)
+output setup items = flat_map print_sign (signs setup items)
 
 -- ---- blocks
 
@@ -101,7 +105,7 @@ same_place (in_room number) in_hall = false
 same_place (in_room number) (in_room other) = number == other
 
 abbrev pub picked : ℕ → Place → Message → List (List (List ℕ))
-picked conn place m = if m.conn == conn && same_place place m.place then m.lines ∷ [] else []
+picked conn place message = if message.conn == conn && same_place place message.place then message.lines ∷ [] else []
 
 -- a connection's messages from a place, in order, as the view of that place has them
 abbrev pub block : ℕ → Place → List Message → List (List (List ℕ))

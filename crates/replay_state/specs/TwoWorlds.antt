@@ -14,7 +14,7 @@ use Rattle.replay_state.specs.Transcript.{messages, block}
 
 -- the hall of a world
 abbrev pub hall_of : World → HallStory
-hall_of w = hall_story (record { config = w.setup.config; dex = w.setup.dex; ranks = w.setup.ranks }) w.hall
+hall_of world = hall_story (record { config = world.setup.config; dex = world.setup.dex; ranks = world.setup.ranks }) world.hall
 
 -- both worlds have the room, and it is the same to a connection
 pub record AreSameIn (number conn : ℕ) (one two : World) : Type 0 where

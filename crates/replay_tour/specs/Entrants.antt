@@ -8,10 +8,10 @@ use Rattle.rules_config.specs.declared.settings.Settings.{Settings}
 use Rattle.replay_script.specs.declared.item.Item.{Item}
 use Rattle.replay_script.specs.declared.item.Item.TheVariants.{Open, Send}
 
--- a line of each connection from 1 to n, in order
+-- a line of each of so many connections, from 1 on, in order
 abbrev pub each_line : (ℕ → Item) → ℕ → List Item
 each_line line zero = []
-each_line line (suc n) = each_line line n ++ line (suc n) ∷ []
+each_line line (suc count) = each_line line count ++ line (suc count) ∷ []
 
 -- the name of the user of a connection, which is its id too
 abbrev pub user_name : ℕ → List ℕ
@@ -22,11 +22,11 @@ user_name conn = codes "u" ++ decimal conn
 -- who is registered under an id
 abbrev pub registered : List ℕ → List Registered → Option Registered
 registered id [] = None
-registered id (u ∷ us) = if bytes_eq u.id id then Some u else registered id us
+registered id (user ∷ users) = if bytes_eq user.id id then Some user else registered id users
 
 abbrev pub assertion_by : List ℕ → ℕ → Option Registered → List ℕ
 assertion_by nonce conn None = []
-assertion_by nonce conn (Some u) = assertion_of (challstr_of nonce conn) u.secret
+assertion_by nonce conn (Some user) = assertion_of (challstr_of nonce conn) user.secret
 
 -- the empty one, unless the name is registered
 abbrev pub assertion : Settings → ℕ → List ℕ

@@ -23,58 +23,58 @@ begun users seed = record { round = first_round users seed; wins = []; battle = 
 -- ---- the next line
 
 abbrev pub line_of : List ℕ → Tour → Option (ℕ × ℕ) → Option Item
-line_of format t None = None
-line_of format t (Some pair) = Some (match_line format t.battle pair t.stage)
+line_of format tour None = None
+line_of format tour (Some pair) = Some (match_line format tour.battle pair tour.stage)
 
 -- that of the open match, and none where there is a champion
 abbrev pub next_line : List ℕ → Tour → Option Item
-next_line format t = line_of format t (open_match t.round)
+next_line format tour = line_of format tour (open_match tour.round)
 
 -- ---- after a line
 
 abbrev pub at_stage : Stage → Tour → Tour
-at_stage stage t = record { round = t.round; wins = t.wins; battle = t.battle; ties = t.ties; stage = stage }
+at_stage stage tour = record { round = tour.round; wins = tour.wins; battle = tour.battle; ties = tour.ties; stage = stage }
 
 -- the open match is won, and the next one begins with a battle of its own
 abbrev pub won : ℕ → ℕ → Tour → Tour
-won winner loser t = record {
-  round = after_win winner t.round;
-  wins = t.wins ++ record { winner = winner; loser = loser } ∷ [];
-  battle = t.battle + 1;
+won winner loser tour = record {
+  round = after_win winner tour.round;
+  wins = tour.wins ++ record { winner = winner; loser = loser } ∷ [];
+  battle = tour.battle + 1;
   ties = 0;
   stage = Challenge;
 }
 
 -- the open match is played again
 abbrev pub again : Tour → Tour
-again t = record { round = t.round; wins = t.wins; battle = t.battle + 1; ties = t.ties + 1; stage = Challenge }
+again tour = record { round = tour.round; wins = tour.wins; battle = tour.battle + 1; ties = tour.ties + 1; stage = Challenge }
 
 -- a tied match is played again up to two times; after its third tie the first of the two wins
 abbrev pub tied : ℕ × ℕ → Tour → Tour
-tied pair t = if nat_lt t.ties 2 then again t else won pair.0 pair.1 t
+tied pair tour = if nat_lt tour.ties 2 then again tour else won pair.0 pair.1 tour
 
 -- a battle of these two ended: side 0 won it, who is the first, or side 1, or nobody
 abbrev pub ended : ℕ × ℕ → Option ℕ → Tour → Tour
-ended pair None t = tied pair t
-ended pair (Some side) t = if side == 0 then won pair.0 pair.1 t else won pair.1 pair.0 t
+ended pair None tour = tied pair tour
+ended pair (Some side) tour = if side == 0 then won pair.0 pair.1 tour else won pair.1 pair.0 tour
 
 -- after a choice the other one chooses, unless the battle ended at it
 abbrev pub chosen : ℕ × ℕ → Stage → Option (Option ℕ) → Tour → Tour
-chosen pair other None t = at_stage other t
-chosen pair other (Some side) t = ended pair side t
+chosen pair other None tour = at_stage other tour
+chosen pair other (Some side) tour = ended pair side tour
 
 abbrev pub past_line : ℕ × ℕ → Stage → Option (Option ℕ) → Tour → Tour
-past_line pair Challenge end t = at_stage Accept t
-past_line pair Accept end t = at_stage FirstJoin t
-past_line pair FirstJoin end t = at_stage SecondJoin t
-past_line pair SecondJoin end t = at_stage FirstChoice t
-past_line pair FirstChoice end t = chosen pair SecondChoice end t
-past_line pair SecondChoice end t = chosen pair FirstChoice end t
+past_line pair Challenge end tour = at_stage Accept tour
+past_line pair Accept end tour = at_stage FirstJoin tour
+past_line pair FirstJoin end tour = at_stage SecondJoin tour
+past_line pair SecondJoin end tour = at_stage FirstChoice tour
+past_line pair FirstChoice end tour = chosen pair SecondChoice end tour
+past_line pair SecondChoice end tour = chosen pair FirstChoice end tour
 
 abbrev pub past_match : Option (ℕ × ℕ) → Option (Option ℕ) → Tour → Tour
-past_match None end t = t
-past_match (Some pair) end t = past_line pair t.stage end t
+past_match None end tour = tour
+past_match (Some pair) end tour = past_line pair tour.stage end tour
 
 -- after the next line, at which a battle ended so: with the side that won it, or a tie, or not at all
 abbrev pub past : Option (Option ℕ) → Tour → Tour
-past end t = past_match (open_match t.round) end t
+past end tour = past_match (open_match tour.round) end tour

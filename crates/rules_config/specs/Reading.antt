@@ -20,12 +20,15 @@ use Rattle.rules_config.specs.declared.settings.Settings.{Settings}
 use Rattle.rules_config.specs.Rooms.{rooms_at}
 use Rattle.rules_config.specs.Users.{staff_at, users_in}
 use Rattle.rules_config.specs.Fresh.{IsSaidOrFresh}
+use Rattle.ps_base.specs.Characters as characters
 
 -- ---- nonce
 
 -- an ASCII letter or digit
 abbrev pub is_plain : ℕ → Bool
-is_plain b = (nat_le 48 b && nat_le b 57) || (nat_le 65 b && nat_le b 90) || (nat_le 97 b && nat_le b 122)
+is_plain byte = (nat_le characters.digit_zero byte && nat_le byte characters.digit_nine)
+    || (nat_le characters.capital_a byte && nat_le byte characters.capital_z)
+    || (nat_le characters.letter_a byte && nat_le byte characters.letter_z)
 
 unfoldable pub are_plain : List ℕ → Bool
 are_plain text = list_all is_plain text
@@ -35,8 +38,8 @@ unfoldable pub is_nonce : List ℕ → Bool
 is_nonce text = are_plain text && nat_le 1 (length text) && nat_le (length text) 32
 
 unfoldable pub nonce_in : Data → Result (List ℕ) Fault
-nonce_in d = do
-  text ← text_in d
+nonce_in value = do
+  text ← text_in value
   _ ← ensure Range (is_nonce text)
   Ok text
 
@@ -47,8 +50,8 @@ abbrev pub greatest_seed : ℕ
 greatest_seed = 18446744073709551615
 
 unfoldable pub seeds_in : Data → Result (List ℕ) Fault
-seeds_in d = do
-  items ← array_in d
+seeds_in value = do
+  items ← array_in value
   each (λ before after. number_in 0 greatest_seed) [] items
 
 -- ---- the whole
@@ -61,17 +64,17 @@ default_groups_of Second = groups_with_bot
 -- The keys of a configuration in their order, each of which may be missing: `version` is tested before all others;
 -- `said_in` reads `rulesets` and `formats`.
 unfoldable pub config_in : Tables → Data → Result Settings Fault
-config_in dex d = do
-  _ ← object_in d
-  version ← version_in d
-  groups ← optional (codes "groups") (default_groups_of version) groups_in d
-  staff ← staff_at groups d
-  rooms ← rooms_at d
-  users ← optional (codes "users") [] (users_in groups) d
-  formats ← said_in version dex d
-  nonce ← optional (codes "nonce") (codes "0") nonce_in d
-  seed ← optional (codes "seed") 0 (number_in 0 greatest_seed) d
-  seeds ← optional (codes "seeds") [] seeds_in d
+config_in dex value = do
+  _ ← object_in value
+  version ← version_in value
+  groups ← optional (codes "groups") (default_groups_of version) groups_in value
+  staff ← staff_at groups value
+  rooms ← rooms_at value
+  users ← optional (codes "users") [] (users_in groups) value
+  formats ← said_in version dex value
+  nonce ← optional (codes "nonce") (codes "0") nonce_in value
+  seed ← optional (codes "seed") 0 (number_in 0 greatest_seed) value
+  seeds ← optional (codes "seeds") [] seeds_in value
   Ok (record {
     groups = groups;
     staff = staff;
@@ -81,8 +84,8 @@ config_in dex d = do
     nonce = nonce;
     seed = seed;
     seeds = seeds;
-    gives_nonce = is_some (get (codes "nonce") d);
-    gives_seed = is_some (get (codes "seed") d);
+    gives_nonce = is_some (get (codes "nonce") value);
+    gives_seed = is_some (get (codes "seed") value);
   })
 
 -- the bytes of a configuration over a dex

@@ -10,6 +10,7 @@ use Rattle.ps_data.specs.Forms.{object_in, text_in}
 use Rattle.ps_data.specs.Lists.{list_in}
 use Rattle.ps_data.specs.OwnIds.{own_id_in}
 use Rattle.rules_config.specs.declared.settings.ChatRoom.{ChatRoom}
+use Rattle.ps_base.specs.Characters as characters
 
 -- the room where a configuration names none
 abbrev pub lobby : ChatRoom
@@ -17,21 +18,21 @@ lobby = record { id = codes "lobby"; title = codes "Lobby" }
 
 -- no control character below the space; a title may be empty
 unfoldable pub is_title : List ℕ → Bool
-is_title text = list_all (λ c. nat_le 32 c) (chars text)
+is_title text = list_all (λ char. nat_le characters.space char) (chars text)
 
 unfoldable pub title_in : Data → Result (List ℕ) Fault
-title_in d = do
-  text ← text_in d
+title_in value = do
+  text ← text_in value
   _ ← ensure Range (is_title text)
   Ok text
 
 unfoldable pub room_in : List ChatRoom → Data → Result ChatRoom Fault
-room_in before d = do
-  _ ← object_in d
-  id ← required (codes "id") (own_id_in (λ r. r.id) before) d
-  title ← required (codes "title") title_in d
+room_in before value = do
+  _ ← object_in value
+  id ← required (codes "id") (own_id_in (λ room. room.id) before) value
+  title ← required (codes "title") title_in value
   Ok (record { id = id; title = title })
 
 -- one to sixteen rooms, and the lobby where the key is missing
 unfoldable pub rooms_at : Data → Result (List ChatRoom) Fault
-rooms_at d = optional (codes "rooms") (lobby ∷ []) (list_in 1 16 (λ before after. room_in before)) d
+rooms_at value = optional (codes "rooms") (lobby ∷ []) (list_in 1 16 (λ before after. room_in before)) value

@@ -3,14 +3,17 @@ use Rattle.std.specs.Prelude.{ℕ, ◌-◌, ◌==◌, List, [], ◌∷◌, ◌++
 use Rattle.std.specs.Int.{w64, from_be_bytes}
 use Rattle.sha2.specs.Sha256.{sha256}
 use Rattle.rules_config.specs.declared.settings.Settings.{Settings}
+use Rattle.ps_base.specs.Characters as characters
 
 -- the number that the first eight bytes spell, the big end first
 unfoldable pub number_at_front : List ℕ → ℕ
-number_at_front b = from_be_bytes w64 (slice_index b 0 ∷ slice_index b 1 ∷ slice_index b 2 ∷ slice_index b 3 ∷ slice_index b 4 ∷ slice_index b 5 ∷ slice_index b 6 ∷ slice_index b 7 ∷ [])
+number_at_front bytes = from_be_bytes w64
+    (slice_index bytes 0 ∷ slice_index bytes 1 ∷ slice_index bytes 2 ∷ slice_index bytes 3 ∷ slice_index bytes 4
+    ∷ slice_index bytes 5 ∷ slice_index bytes 6 ∷ slice_index bytes 7 ∷ [])
 
 -- the seed, a colon and the number of the battle, both in decimal
 abbrev pub signed_text : ℕ → ℕ → List ℕ
-signed_text seed number = decimal seed ++ 58 ∷ decimal number
+signed_text seed number = decimal seed ++ characters.colon ∷ decimal number
 
 -- the front of the digest of that text
 unfoldable pub drawn : ℕ → ℕ → ℕ

@@ -13,45 +13,46 @@ use Rattle.ps_data.specs.OwnIds.{own_id_in}
 use Rattle.ps_group.specs.declared.group.Group.{Group}
 use Rattle.ps_group.specs.Ranks.{rank_of}
 use Rattle.rules_config.specs.declared.settings.Registered.{Registered}
+use Rattle.ps_base.specs.Characters as characters
 
 -- ---- staff
 
 -- the group whose symbol a text of one character is
 abbrev pub rank_named : List Group → List ℕ → Option ℕ
 rank_named groups [] = None
-rank_named groups (c ∷ []) = rank_of c groups
-rank_named groups (c ∷ d ∷ cs) = None
+rank_named groups (symbol ∷ []) = rank_of symbol groups
+rank_named groups (symbol ∷ extra ∷ extras) = None
 
 -- The rank of the group whose symbol a text is. The text has no form of its own: what is no group's symbol is unknown.
 unfoldable pub named_rank_in : List Group → Data → Result ℕ Fault
-named_rank_in groups d = do
-  text ← text_in d
+named_rank_in groups value = do
+  text ← text_in value
   some_or Unknown (rank_named groups (chars text))
 
 -- the rank of `%`
 unfoldable pub default_staff_in : List Group → Result ℕ Fault
-default_staff_in groups = some_or Unknown (rank_of 37 groups)
+default_staff_in groups = some_or Unknown (rank_of characters.percent groups)
 
 abbrev pub staff_or : List Group → Option Data → Result ℕ Fault
 staff_or groups None = default_staff_in groups
-staff_or groups (Some d) = named_rank_in groups d
+staff_or groups (Some value) = named_rank_in groups value
 
 -- The lowest rank that counts as staff. Where the key is missing it is that of `%`, which some group must have then.
 unfoldable pub staff_at : List Group → Data → Result ℕ Fault
-staff_at groups d = under (Key (codes "staff")) (staff_or groups (get (codes "staff") d))
+staff_at groups value = under (Key (codes "staff")) (staff_or groups (get (codes "staff") value))
 
 -- ---- registered names
 
 -- a secret is any text
 unfoldable pub user_in : List Group → List Registered → Data → Result Registered Fault
-user_in groups before d = do
-  _ ← object_in d
-  id ← required (codes "id") (own_id_in (λ u. u.id) before) d
-  secret ← required (codes "secret") text_in d
-  rank ← required (codes "group") (named_rank_in groups) d
+user_in groups before value = do
+  _ ← object_in value
+  id ← required (codes "id") (own_id_in (λ user. user.id) before) value
+  secret ← required (codes "secret") text_in value
+  rank ← required (codes "group") (named_rank_in groups) value
   Ok (record { id = id; secret = secret; rank = rank })
 
 unfoldable pub users_in : List Group → Data → Result (List Registered) Fault
-users_in groups d = do
-  items ← array_in d
+users_in groups value = do
+  items ← array_in value
   each (λ before after. user_in groups before) [] items

@@ -5,7 +5,8 @@ ghost use Rattle.serde_json.specs.View.{view};
 ghost use Rattle.ps_data.specs.Reading.{Gives, GivesBy, optional};
 ghost use Rattle.ps_data.specs.Forms.{number_in};
 ghost use Rattle.ps_group.specs.Reading.{groups_in};
-ghost use Rattle.rules_config.specs.Reading.{is_plain, are_plain, is_nonce, nonce_in, greatest_seed, seeds_in, default_groups_of, config_in, config_of};
+ghost use Rattle.rules_config.specs.Reading.{is_plain, are_plain, is_nonce, nonce_in, greatest_seed, seeds_in, default_groups_of};
+ghost use Rattle.rules_config.specs.Reading.{config_in, config_of};
 
 use crate::room::rooms_at;
 use crate::settings::Settings;

@@ -14,11 +14,11 @@ no_legal = record { team = record { members = []; count = 0 }; nicks = [] }
 
 -- the team of player 1, at 0, or of player 2, at 1
 abbrev pub legal_of : List Legal → ℕ → Legal
-legal_of teams s = slice_index_or teams s no_legal
+legal_of teams side = slice_index_or teams side no_legal
 
 -- the name of player 1, at 0, or of player 2, at 1
 abbrev pub player_of : List (List ℕ) → ℕ → List ℕ
-player_of players s = slice_index_or players s []
+player_of players side = slice_index_or players side []
 
 -- a battle can start with this
 pub record IsFit (start : Start) (config : Settings) (dex : Tables) : Type 0 where

@@ -55,7 +55,7 @@ nothing_said = record {
 
 abbrev pub within : ℕ → ℕ → Option ℕ → Option ℕ
 within least most None = None
-within least most (Some n) = if nat_le least n && nat_le n most then Some n else None
+within least most (Some number) = if nat_le least number && nat_le number most then Some number else None
 
 -- each as its one decimal text: connections at once, seconds of silence, and messages a second
 abbrev pub at_once_in : List ℕ → Option ℕ
@@ -89,15 +89,15 @@ option_in further word =
 
 abbrev pub with_at_once : Further → Option ℕ → Option Reading
 with_at_once further None = None
-with_at_once further (Some n) = Some (record { further = record further { at_once = Some n }; wants = AnOption })
+with_at_once further (Some count) = Some (record { further = record further { at_once = Some count }; wants = AnOption })
 
 abbrev pub with_ping : Further → Option ℕ → Option Reading
 with_ping further None = None
-with_ping further (Some n) = Some (record { further = record further { ping = Some n }; wants = AnOption })
+with_ping further (Some seconds) = Some (record { further = record further { ping = Some seconds }; wants = AnOption })
 
 abbrev pub with_rate : Further → Option ℕ → Option Reading
 with_rate further None = None
-with_rate further (Some n) = Some (record { further = record further { rate = Some n }; wants = AnOption })
+with_rate further (Some rate) = Some (record { further = record further { rate = Some rate }; wants = AnOption })
 
 abbrev pub with_dex : Further → Option (List ℕ) → Option Reading
 with_dex further None = None
@@ -180,30 +180,30 @@ IfStays (Err at) holds = Unit {0}
 -- ---- for the code: what was read, as contracts see it
 
 abbrev pub further_of : FurtherWords → Further
-further_of f = record {
-  at_once = f.at_once;
-  ping = f.ping;
-  rate = f.rate;
-  stops_at_end = f.stops_at_end;
-  logs = f.logs;
-  dex = option_copied f.dex;
-  config = option_copied f.config;
+further_of further = record {
+  at_once = further.at_once;
+  ping = further.ping;
+  rate = further.rate;
+  stops_at_end = further.stops_at_end;
+  logs = further.logs;
+  dex = option_copied further.dex;
+  config = option_copied further.config;
 }
 
 abbrev pub reading_of : WordReading → Reading
-reading_of r = record { further = further_of r.further; wants = r.wants }
+reading_of reading = record { further = further_of reading.further; wants = reading.wants }
 
 abbrev pub stays_of : AlwaysWords → Stays
-stays_of w = record {
-  address = w.address.now;
-  at_once = w.at_once;
-  ping = w.ping;
-  rate = w.rate;
-  stops_at_end = w.stops_at_end;
-  logs = w.logs;
-  options = options_of w.options;
+stays_of words = record {
+  address = words.address.now;
+  at_once = words.at_once;
+  ping = words.ping;
+  rate = words.rate;
+  stops_at_end = words.stops_at_end;
+  logs = words.logs;
+  options = options_of words.options;
 }
 
 abbrev pub option_reading : Option WordReading → Option Reading
 option_reading None = None
-option_reading (Some r) = Some (reading_of r)
+option_reading (Some reading) = Some (reading_of reading)

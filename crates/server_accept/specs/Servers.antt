@@ -22,32 +22,35 @@ IfServe (Err at) holds = Unit {0}
 -- how many links a door has handed out, after so many more
 abbrev pub given_by : ℕ → ℕ → ℕ
 given_by zero given = given
-given_by (suc n) given = one_more (given_by n given)
+given_by (suc more) given = one_more (given_by more given)
 
 -- What has shown each status. That of a file names one of the files of the words, and its count rose; at the last three the
 -- files are good.
 abbrev pub ServeCause : Option (List ℕ → Option (List ℕ)) → Options → FileCounts → FileCounts → Status → Type 0
-ServeCause contents o old new (FileMissing name) = Stops contents o (FileMissing name) × IsOption o name × Rose old.missing new.missing
-ServeCause contents o old new (FileFault name) = Stops contents o (FileFault name) × IsOption o name × Rose old.faults new.faults
-ServeCause contents o old new (FileLong name) = Stops contents o (FileLong name) × IsOption o name × Rose old.long new.long
-ServeCause contents o old new (BadDex path kind) = Stops contents o (BadDex path kind)
-ServeCause contents o old new (BadConfig path kind) = Stops contents o (BadConfig path kind)
-ServeCause contents o old new NoMemory = Unit {0}
-ServeCause contents o old new Done = HasSetup contents o IsGood
-ServeCause contents o old new DoorFault = HasSetup contents o IsGood
-ServeCause contents o old new (Usage word) = ⊥
-ServeCause contents o old new (BadScript line kind) = ⊥
-ServeCause contents o old new (ScriptLong count) = ⊥
-ServeCause contents o old new ReadFault = ⊥
-ServeCause contents o old new WriteFault = ⊥
-ServeCause contents o old new (BadTeam set rule subject) = ⊥
-ServeCause contents o old new (UnknownFormat id) = ⊥
-ServeCause contents o old new (BadPack at kind) = ⊥
-ServeCause contents o old new NoTour = ⊥
-ServeCause contents o old new KeepFault = ⊥
-ServeCause contents o old new (KeepFull count) = ⊥
-ServeCause contents o old new (BadExport line) = ⊥
-ServeCause contents o old new (NoExport set) = ⊥
+ServeCause contents options old new (FileMissing name) = Stops contents options (FileMissing name) × IsOption options name
+    × Rose old.missing new.missing
+ServeCause contents options old new (FileFault name) = Stops contents options (FileFault name) × IsOption options name
+    × Rose old.faults new.faults
+ServeCause contents options old new (FileLong name) = Stops contents options (FileLong name) × IsOption options name
+    × Rose old.long new.long
+ServeCause contents options old new (BadDex path kind) = Stops contents options (BadDex path kind)
+ServeCause contents options old new (BadConfig path kind) = Stops contents options (BadConfig path kind)
+ServeCause contents options old new NoMemory = Unit {0}
+ServeCause contents options old new Done = HasSetup contents options IsGood
+ServeCause contents options old new DoorFault = HasSetup contents options IsGood
+ServeCause contents options old new (Usage word) = ⊥
+ServeCause contents options old new (BadScript line kind) = ⊥
+ServeCause contents options old new (ScriptLong count) = ⊥
+ServeCause contents options old new ReadFault = ⊥
+ServeCause contents options old new WriteFault = ⊥
+ServeCause contents options old new (BadTeam set rule subject) = ⊥
+ServeCause contents options old new (UnknownFormat id) = ⊥
+ServeCause contents options old new (BadPack at kind) = ⊥
+ServeCause contents options old new NoTour = ⊥
+ServeCause contents options old new KeepFault = ⊥
+ServeCause contents options old new (KeepFull count) = ⊥
+ServeCause contents options old new (BadExport line) = ⊥
+ServeCause contents options old new (NoExport set) = ⊥
 
 -- where the words or the files ended it, the door was asked nothing: of its faults and of the links that it handed out, the
 -- counts before and after
@@ -62,14 +65,15 @@ KeepsDoor faults later given now other = Unit {0}
 
 -- good files, with no fault of the files or the door, settle a server
 abbrev pub SettlesServe : Option (List ℕ → Option (List ℕ)) → Options → Type 0 → Type 0 → Status → Type 0
-SettlesServe contents o file_fault door_fault status = AreGood contents o → (file_fault → ⊥) → (door_fault → ⊥) → IsSettled status
+SettlesServe contents options file_fault door_fault status = AreGood contents options → (file_fault → ⊥) → (door_fault → ⊥)
+    → IsSettled status
 
 -- ---- a server that stays up
 
 -- The hub of a server that stays up: of the configuration and the dex that the words and the files give, with a fresh nonce and seed
 -- where the configuration's file says none.
 abbrev pub IsFreshHub : Option (List ℕ → Option (List ℕ)) → Options → Fresh → Hub → Type 0
-IsFreshHub contents o fresh hub = HasSetup contents o (λ config dex. (hub.config ≡ with_fresh fresh config) × (hub.dex ≡ dex))
+IsFreshHub contents options fresh hub = HasSetup contents options (λ config dex. (hub.config ≡ with_fresh fresh config) × (hub.dex ≡ dex))
 
 -- a status that the files have shown, or want of memory
 abbrev pub IsOfFiles : Status → Type 0
@@ -97,7 +101,7 @@ IsOfFiles (NoExport set) = ⊥
 
 -- where good files, with no fault of the files, end so, memory was refused
 abbrev pub SettlesFiles : Option (List ℕ → Option (List ℕ)) → Options → Type 0 → Status → Type 0
-SettlesFiles contents o file_fault status = AreGood contents o → (file_fault → ⊥) → IsSettled status
+SettlesFiles contents options file_fault status = AreGood contents options → (file_fault → ⊥) → IsSettled status
 
 -- ---- for the code alone
 

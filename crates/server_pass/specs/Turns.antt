@@ -16,68 +16,75 @@ use Rattle.server_pass.specs.declared.turn_end.TurnEnd.TheVariants.{Done, Busy, 
 module _ {O C : Type 0} where
   -- the same after tries in vain, which met these words
   abbrev pub TurnsAtLast : View O C → Option C → View O C → Type 0
-  TurnsAtLast v cmd w = (words : List ℕ) × Turns (record v { met = v.met ++ words }) cmd w
+  TurnsAtLast old cmd new = (words : List ℕ) × Turns (record old { met = old.met ++ words }) cmd new
 
   -- so many turns without an entry, one behind the other
   abbrev pub ReadsOn : ℕ → View O C → View O C → Type 0
-  ReadsOn zero v w = w ≡ v
-  ReadsOn (suc turns) v w = (u : View O C) × ReadsOn turns v u × TurnsAtLast u None w
+  ReadsOn zero old new = new ≡ old
+  ReadsOn (suc turns) old new = (mid : View O C) × ReadsOn turns old mid × TurnsAtLast mid None new
 
   -- turns without an entry, if any
   abbrev pub Rereads : View O C → View O C → Type 0
-  Rereads v w = (turns : ℕ) × ReadsOn turns v w
+  Rereads old new = (turns : ℕ) × ReadsOn turns old new
 
   -- a turn with an entry, behind turns without one, if any: tries for which memory was wanting
   abbrev pub TurnsInTheEnd : View O C → C → View O C → Type 0
-  TurnsInTheEnd v cmd w = (u : View O C) × Rereads v u × TurnsAtLast u (Some cmd) w
+  TurnsInTheEnd old cmd new = (mid : View O C) × Rereads old mid × TurnsAtLast mid (Some cmd) new
 
 module _ {O C X : Type 0} where
   -- Of the view and the cursor before, the two after, if out of memory for an entry: there was no turn, or one without it. The
   -- cursor stands where it stood.
   abbrev pub FallsShort : View O C → X → View O C → X → Type 0
-  FallsShort v x w y = (y ≡ x) × ((w ≡ v) ⊎ Turns v None w)
+  FallsShort old cursor new new_cursor = (new_cursor ≡ cursor) × ((new ≡ old) ⊎ Turns old None new)
 
   abbrev pub FallsShortAtLast : View O C → X → View O C → X → Type 0
-  FallsShortAtLast v x w y = (y ≡ x) × ((w ≡ v) ⊎ TurnsAtLast v None w)
+  FallsShortAtLast old cursor new new_cursor = (new_cursor ≡ cursor) × ((new ≡ old) ⊎ TurnsAtLast old None new)
 
 module _ {O C X : Type 0} (pulls : O → List C → X → List Msg → X → Type 0) where
   -- of the commands of a history, and the cursor and the messages kept before, the two after: what was pulled stands behind
   abbrev pub PullsMore : O → List C → X → List Msg → X → List Msg → Type 0
-  PullsMore o cmds x kept y more = (msgs : List Msg) × pulls o cmds x msgs y × (more ≡ kept ++ msgs)
+  PullsMore origin cmds old kept new more = (msgs : List Msg) × pulls origin cmds old msgs new × (more ≡ kept ++ msgs)
 
   -- the same; or nothing was pulled, if memory ran out for the messages, which are still to come
   abbrev pub PullsIfCan : O → List C → X → List Msg → X → List Msg → Type 0
-  PullsIfCan o cmds x kept y more = PullsMore o cmds x kept y more ⊎ ((y ≡ x) × (more ≡ kept))
+  PullsIfCan origin cmds old kept new more = PullsMore origin cmds old kept new more ⊎ ((new ≡ old) × (more ≡ kept))
 
   -- Of the view, the cursor and the messages kept before, how a turn without a command ended, and the three after
   abbrev pub Reads : {T : Type 0} → View O C → X → List Msg → Result T Unread → View O C → X → List Msg → Type 0
-  Reads v x kept (Ok done) w y more = Turns v None w × PullsMore v.origin (commands w.seen) x kept y more
-  Reads v x kept (Err (unread.Busy word)) w y more = IsBusy v word w × (y ≡ x) × (more ≡ kept)
-  Reads v x kept (Err unread.NoMemory) w y more = ((w ≡ v) ⊎ Turns v None w) × (y ≡ x) × (more ≡ kept)
+  Reads old cursor kept (Ok done) new new_cursor more = Turns old None new
+      × PullsMore old.origin (commands new.seen) cursor kept new_cursor more
+  Reads old cursor kept (Err (unread.Busy word)) new new_cursor more = IsBusy old word new × (new_cursor ≡ cursor) × (more ≡ kept)
+  Reads old cursor kept (Err unread.NoMemory) new new_cursor more = ((new ≡ old) ⊎ Turns old None new) × (new_cursor ≡ cursor)
+      × (more ≡ kept)
 
   -- the same after tries in vain: it isn't busy then
   abbrev pub ReadsAtLast : {T E : Type 0} → View O C → X → List Msg → Result T E → View O C → X → List Msg → Type 0
-  ReadsAtLast v x kept (Ok done) w y more = TurnsAtLast v None w × PullsMore v.origin (commands w.seen) x kept y more
-  ReadsAtLast v x kept (Err e) w y more = ((w ≡ v) ⊎ TurnsAtLast v None w) × (y ≡ x) × (more ≡ kept)
+  ReadsAtLast old cursor kept (Ok done) new new_cursor more = TurnsAtLast old None new
+      × PullsMore old.origin (commands new.seen) cursor kept new_cursor more
+  ReadsAtLast old cursor kept (Err fault) new new_cursor more = ((new ≡ old) ⊎ TurnsAtLast old None new) × (new_cursor ≡ cursor)
+      × (more ≡ kept)
 
 module _ {O C U X : Type 0} (answers : O → List C → C → U → Type 0) (pulls : O → List C → X → List Msg → X → Type 0) where
   -- Of the view, the cursor, the messages kept and the command before, what a turn with it gave, and the three after
   abbrev pub Takes : {L : Type 0} → View O C → X → List Msg → C → TurnEnd U (Back C) L → View O C → X → List Msg → Type 0
-  Takes v x kept c (Done out) w y more =
-      (log : List (Entry C)) × Extends v log × (w ≡ turned v log (Some c)) × answers v.origin (commands log) c out
-      × PullsIfCan pulls v.origin (commands w.seen) x kept y more
-  Takes v x kept c (Busy back) w y more = IsBusy v back.word w × (back.cmd ≡ c) × (y ≡ x) × (more ≡ kept)
-  Takes v x kept c (OwnLimit reason) w y more = (length v.mine ≡ OWN_LIMIT) × (w ≡ v) × (y ≡ x) × (more ≡ kept)
-  Takes v x kept c NameTaken w y more = Turns v None w × (y ≡ x) × (more ≡ kept)
-  Takes v x kept c NoMemory w y more = FallsShort v x w y × (more ≡ kept)
+  Takes old cursor kept cmd (Done out) new new_cursor more =
+      (log : List (Entry C)) × Extends old log × (new ≡ turned old log (Some cmd)) × answers old.origin (commands log) cmd out
+      × PullsIfCan pulls old.origin (commands new.seen) cursor kept new_cursor more
+  Takes old cursor kept cmd (Busy back) new new_cursor more = IsBusy old back.word new × (back.cmd ≡ cmd) × (new_cursor ≡ cursor)
+      × (more ≡ kept)
+  Takes old cursor kept cmd (OwnLimit reason) new new_cursor more = (length old.mine ≡ OWN_LIMIT) × (new ≡ old)
+      × (new_cursor ≡ cursor) × (more ≡ kept)
+  Takes old cursor kept cmd NameTaken new new_cursor more = Turns old None new × (new_cursor ≡ cursor) × (more ≡ kept)
+  Takes old cursor kept cmd NoMemory new new_cursor more = FallsShort old cursor new new_cursor × (more ≡ kept)
 
   -- The same after tries in vain. It isn't busy then; at its limit, or without memory at once, it tries nothing
   abbrev pub TakesAtLast : {T B L : Type 0} → View O C → X → List Msg → C → TurnEnd T B L → View O C → X → List Msg → Type 0
-  TakesAtLast v x kept c (Done out) w y more = TurnsAtLast v (Some c) w × PullsIfCan pulls v.origin (commands w.seen) x kept y more
-  TakesAtLast v x kept c (Busy back) w y more = ⊥
-  TakesAtLast v x kept c (OwnLimit reason) w y more = ⊥
-  TakesAtLast v x kept c NameTaken w y more = TurnsAtLast v None w × (y ≡ x) × (more ≡ kept)
-  TakesAtLast v x kept c NoMemory w y more = FallsShortAtLast v x w y × (more ≡ kept)
+  TakesAtLast old cursor kept cmd (Done out) new new_cursor more = TurnsAtLast old (Some cmd) new
+      × PullsIfCan pulls old.origin (commands new.seen) cursor kept new_cursor more
+  TakesAtLast old cursor kept cmd (Busy back) new new_cursor more = ⊥
+  TakesAtLast old cursor kept cmd (OwnLimit reason) new new_cursor more = ⊥
+  TakesAtLast old cursor kept cmd NameTaken new new_cursor more = TurnsAtLast old None new × (new_cursor ≡ cursor) × (more ≡ kept)
+  TakesAtLast old cursor kept cmd NoMemory new new_cursor more = FallsShortAtLast old cursor new new_cursor × (more ≡ kept)
 
 module _ {U B L : Type 0} where
   -- this holds where there is no entry, since one stands that is signed as the command is

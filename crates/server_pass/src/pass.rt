@@ -82,7 +82,8 @@ impl<U: Drop, K: Told<Out = U>, N, I> PlacePass<Pass<K>, K::Cursor, N, I> {
         ensures kept { result.kept.items ++ result.fresh.items ≡ [] }
         ensures at { result.at ≡ 0 }
         ensures same { (result.number ≡ number) × (result.id ≡ id) }
-        ensures of { (conn : ℕ) → K.telling.stands_at conn lock.now.1 [] cursor → K.telling.shows conn lock.now.1 [] [] → K.telling.passed cursor ≡ 0
+        ensures of { (conn : ℕ) → K.telling.stands_at conn lock.now.1 [] cursor → K.telling.shows conn lock.now.1 [] []
+            → K.telling.passed cursor ≡ 0
             → IsPass K.origin K.stands K.signer K.telling conn lock.now result }
     {
         PlacePass {
@@ -137,7 +138,8 @@ impl<U: Drop, K: Told<Out = U>, N, I> PlacePass<Pass<K>, K::Cursor, N, I> {
         ensures limit { length self.old.pass.1.mine ≡ OWN_LIMIT → IsLimited result }
         ensures taken { IfKeptOut result (IsNameTaken K.signer self.old.pass.1.said self.new.pass.1.seen cmd) }
         ensures of { (conn : ℕ) (place : TableId × K.Origin) → IsOf K.signer conn cmd
-            → IsPass K.origin K.stands K.signer K.telling conn place self.old → IsPass K.origin K.stands K.signer K.telling conn place self.new }
+            → IsPass K.origin K.stands K.signer K.telling conn place self.old
+            → IsPass K.origin K.stands K.signer K.telling conn place self.new }
         ensures grows { Grows self.old.pass.1 self.new.pass.1 }
         ensures same { (self.new.at ≡ self.old.at) × (self.new.number ≡ self.old.number) × (self.new.id ≡ self.old.id) }
     {
@@ -156,11 +158,13 @@ impl<U: Drop, K: Told<Out = U>, N, I> PlacePass<Pass<K>, K::Cursor, N, I> {
         requires lock { self.old.pass.0 ≡ lock.now.0 }
         requires sign { SignsOn K.signer self.old.pass.1.said cmd }
         ensures lock { self.new.pass.0 ≡ self.old.pass.0 }
-        ensures does { TakesAtLast K.answers K.pulls self.old.pass.1 self.old.cursor (self.old.kept.items ++ self.old.fresh.items) cmd result
+        ensures does { TakesAtLast K.answers K.pulls self.old.pass.1 self.old.cursor (self.old.kept.items ++ self.old.fresh.items) cmd
+            result
             self.new.pass.1 self.new.cursor (self.new.kept.items ++ self.new.fresh.items) }
         ensures taken { IfKeptOut result (IsNameTaken K.signer self.old.pass.1.said self.new.pass.1.seen cmd) }
         ensures of { (conn : ℕ) (place : TableId × K.Origin) → IsOf K.signer conn cmd
-            → IsPass K.origin K.stands K.signer K.telling conn place self.old → IsPass K.origin K.stands K.signer K.telling conn place self.new }
+            → IsPass K.origin K.stands K.signer K.telling conn place self.old
+            → IsPass K.origin K.stands K.signer K.telling conn place self.new }
         ensures grows { Grows self.old.pass.1 self.new.pass.1 }
         ensures same { (self.new.at ≡ self.old.at) × (self.new.number ≡ self.old.number) × (self.new.id ≡ self.old.id) }
     {
@@ -183,10 +187,12 @@ impl<U: Drop, K: Told<Out = U>, N, I> PlacePass<Pass<K>, K::Cursor, N, I> {
         requires free { K.telling.bounded None self.old.cursor ≡ self.old.cursor }
         ensures lock { self.new.pass.0 ≡ self.old.pass.0 }
         ensures does { TakesAtLast K.answers (UpTo K.pulls K.telling.bounded) self.old.pass.1 self.old.cursor
-            (self.old.kept.items ++ self.old.fresh.items) cmd result self.new.pass.1 self.new.cursor (self.new.kept.items ++ self.new.fresh.items) }
+            (self.old.kept.items ++ self.old.fresh.items) cmd result self.new.pass.1 self.new.cursor
+            (self.new.kept.items ++ self.new.fresh.items) }
         ensures taken { IfKeptOut result (IsNameTaken K.signer self.old.pass.1.said self.new.pass.1.seen cmd) }
         ensures of { (conn : ℕ) (place : TableId × K.Origin) → IsOf K.signer conn cmd
-            → IsPass K.origin K.stands K.signer K.telling conn place self.old → IsPass K.origin K.stands K.signer K.telling conn place self.new }
+            → IsPass K.origin K.stands K.signer K.telling conn place self.old
+            → IsPass K.origin K.stands K.signer K.telling conn place self.new }
         ensures grows { Grows self.old.pass.1 self.new.pass.1 }
         ensures same { (self.new.at ≡ self.old.at) × (self.new.number ≡ self.old.number) × (self.new.id ≡ self.old.id) }
     {
@@ -212,7 +218,8 @@ impl<U: Drop, K: Told<Out = U>, N, I> PlacePass<Pass<K>, K::Cursor, N, I> {
         ensures does { Reads K.pulls self.old.pass.1 self.old.cursor (self.old.kept.items ++ self.old.fresh.items) result
             self.new.pass.1 self.new.cursor (self.new.kept.items ++ self.new.fresh.items) }
         ensures of { (conn : ℕ) (place : TableId × K.Origin)
-            → IsPass K.origin K.stands K.signer K.telling conn place self.old → IsPass K.origin K.stands K.signer K.telling conn place self.new }
+            → IsPass K.origin K.stands K.signer K.telling conn place self.old
+            → IsPass K.origin K.stands K.signer K.telling conn place self.new }
         ensures grows { Grows self.old.pass.1 self.new.pass.1 }
         ensures same { (self.new.at ≡ self.old.at) × (self.new.number ≡ self.old.number) × (self.new.id ≡ self.old.id) }
     {
@@ -236,10 +243,12 @@ impl<U: Drop, K: Told<Out = U>, N, I> PlacePass<Pass<K>, K::Cursor, N, I> {
         requires lock { self.old.pass.0 ≡ lock.now.0 }
         requires free { K.telling.bounded None self.old.cursor ≡ self.old.cursor }
         ensures lock { self.new.pass.0 ≡ self.old.pass.0 }
-        ensures does { ReadsAtLast (UpTo K.pulls K.telling.bounded) self.old.pass.1 self.old.cursor (self.old.kept.items ++ self.old.fresh.items)
+        ensures does { ReadsAtLast (UpTo K.pulls K.telling.bounded) self.old.pass.1 self.old.cursor
+            (self.old.kept.items ++ self.old.fresh.items)
             result self.new.pass.1 self.new.cursor (self.new.kept.items ++ self.new.fresh.items) }
         ensures of { (conn : ℕ) (place : TableId × K.Origin)
-            → IsPass K.origin K.stands K.signer K.telling conn place self.old → IsPass K.origin K.stands K.signer K.telling conn place self.new }
+            → IsPass K.origin K.stands K.signer K.telling conn place self.old
+            → IsPass K.origin K.stands K.signer K.telling conn place self.new }
         ensures grows { Grows self.old.pass.1 self.new.pass.1 }
         ensures same { (self.new.at ≡ self.old.at) × (self.new.number ≡ self.old.number) × (self.new.id ≡ self.old.id) }
     {
@@ -264,7 +273,8 @@ impl<U: Drop, K: Told<Out = U>, N, I> PlacePass<Pass<K>, K::Cursor, N, I> {
         ensures fresh { IsFresh self.old.pass.1 result }
         ensures grows { Grows self.old.pass.1 self.new.pass.1 }
         ensures of { (conn : ℕ) (place : TableId × K.Origin)
-            → IsPass K.origin K.stands K.signer K.telling conn place self.old → IsPass K.origin K.stands K.signer K.telling conn place self.new }
+            → IsPass K.origin K.stands K.signer K.telling conn place self.old
+            → IsPass K.origin K.stands K.signer K.telling conn place self.new }
     {
         lock.look(&mut self.pass)
     }
@@ -274,10 +284,13 @@ impl<U: Drop, K: Told<Out = U>, N, I> PlacePass<Pass<K>, K::Cursor, N, I> {
         ensures ok { IfOk result (λ v. v.items ≡ self.old.kept.items ++ self.old.fresh.items) }
         ensures none { IfOk result (λ v. self.new.kept.items ++ self.new.fresh.items ≡ []) }
         ensures at { IfOk result (λ v. self.new.at ≡ K.telling.passed self.new.cursor) }
-        ensures err { OnErr result ((self.new.kept.items ++ self.new.fresh.items ≡ self.old.kept.items ++ self.old.fresh.items) × (self.new.at ≡ self.old.at)) }
-        ensures same { (self.new.pass ≡ self.old.pass) × (self.new.cursor ≡ self.old.cursor) × (self.new.number ≡ self.old.number) × (self.new.id ≡ self.old.id) }
+        ensures err { OnErr result ((self.new.kept.items ++ self.new.fresh.items ≡ self.old.kept.items ++ self.old.fresh.items)
+            × (self.new.at ≡ self.old.at)) }
+        ensures same { (self.new.pass ≡ self.old.pass) × (self.new.cursor ≡ self.old.cursor) × (self.new.number ≡ self.old.number)
+            × (self.new.id ≡ self.old.id) }
         ensures of { (conn : ℕ) (place : TableId × K.Origin)
-            → IsPass K.origin K.stands K.signer K.telling conn place self.old → IsPass K.origin K.stands K.signer K.telling conn place self.new }
+            → IsPass K.origin K.stands K.signer K.telling conn place self.old
+            → IsPass K.origin K.stands K.signer K.telling conn place self.new }
     {
         let msgs = hand_out(alloc, &mut self.kept, &mut self.fresh)?;
         self.at = K::passed(&self.cursor);
@@ -294,7 +307,8 @@ impl<U: Drop, K: Told<Out = U>, N, I> PlacePass<Pass<K>, K::Cursor, N, I> {
         requires of { (conn : ℕ) × (place : TableId × K.Origin) × IsPass K.origin K.stands K.signer K.telling conn place self.old }
         requires lock { self.old.pass.0 ≡ lock.now.0 }
         ensures of { (conn : ℕ) (place : TableId × K.Origin)
-            → IsPass K.origin K.stands K.signer K.telling conn place self.old → IsPass K.origin K.stands K.signer K.telling conn place self.new }
+            → IsPass K.origin K.stands K.signer K.telling conn place self.old
+            → IsPass K.origin K.stands K.signer K.telling conn place self.new }
         ensures grows { Grows self.old.pass.1 self.new.pass.1 }
         ensures read { Rereads self.old.pass.1 self.new.pass.1 }
         ensures idle { shown ≤ K.telling.passed self.old.cursor → self.new ≡ self.old }
@@ -321,9 +335,11 @@ impl<U: Drop, K: Told<Out = U>, N, I> PlacePass<Pass<K>, K::Cursor, N, I> {
         requires of { (conn : ℕ) × (place : TableId × K.Origin) × IsPass K.origin K.stands K.signer K.telling conn place self.old }
         requires lock { self.old.pass.0 ≡ lock.now.0 }
         ensures of { (conn : ℕ) (place : TableId × K.Origin)
-            → IsPass K.origin K.stands K.signer K.telling conn place self.old → IsPass K.origin K.stands K.signer K.telling conn place self.new }
+            → IsPass K.origin K.stands K.signer K.telling conn place self.old
+            → IsPass K.origin K.stands K.signer K.telling conn place self.new }
         ensures grows { Grows self.old.pass.1 self.new.pass.1 }
-        ensures ok { IfOk result (λ msgs. (conn : ℕ) (place : TableId × K.Origin) → IsPass K.origin K.stands K.signer K.telling conn place self.old
+        ensures ok { IfOk result (λ msgs. (conn : ℕ) (place : TableId × K.Origin)
+            → IsPass K.origin K.stands K.signer K.telling conn place self.old
             → Caught K.telling conn place.1 msgs.items self.old self.new) }
         ensures err { OnErr result (LooksAtMost self.old.pass.1 self.new.pass.1 × (self.new.at ≡ self.old.at)) }
         ensures same { (self.new.number ≡ self.old.number) × (self.new.id ≡ self.old.id) }
@@ -344,9 +360,11 @@ impl<U: Drop, K: Told<Out = U>, N, I> PlacePass<Pass<K>, K::Cursor, N, I> {
         requires of { (conn : ℕ) × (place : TableId × K.Origin) × IsPass K.origin K.stands K.signer K.telling conn place self.old }
         requires lock { self.old.pass.0 ≡ lock.now.0 }
         ensures of { (conn : ℕ) (place : TableId × K.Origin)
-            → IsPass K.origin K.stands K.signer K.telling conn place self.old → IsPass K.origin K.stands K.signer K.telling conn place self.new }
+            → IsPass K.origin K.stands K.signer K.telling conn place self.old
+            → IsPass K.origin K.stands K.signer K.telling conn place self.new }
         ensures grows { Grows self.old.pass.1 self.new.pass.1 }
-        ensures ok { IfOk result (λ msgs. (conn : ℕ) (place : TableId × K.Origin) → IsPass K.origin K.stands K.signer K.telling conn place self.old
+        ensures ok { IfOk result (λ msgs. (conn : ℕ) (place : TableId × K.Origin)
+            → IsPass K.origin K.stands K.signer K.telling conn place self.old
             → Handed K.telling conn place.1 msgs.items self.old self.new) }
         ensures err { OnErr result (Rereads self.old.pass.1 self.new.pass.1 × (self.new.at ≡ self.old.at)) }
         ensures same { (self.new.number ≡ self.old.number) × (self.new.id ≡ self.old.id) }
@@ -363,11 +381,14 @@ impl<U: Drop, K: Told<Out = U>, N, I> PlacePass<Pass<K>, K::Cursor, N, I> {
     pub fn meet(&mut self, lock: &HistLock<K>, other: &mut PlacePass<Pass<K>, K::Cursor, N, I>)
         requires { (self.old.pass.0 ≡ lock.now.0) × (other.old.pass.0 ≡ lock.now.0) }
         ensures met { Met K.signer self.old.pass.1 self.new.pass.1 other.old.pass.1 other.new.pass.1 }
-        ensures heard { IsHeardRightly K.signer self.old.pass.1 other.old.pass.1 × IsHeardRightly K.signer other.old.pass.1 self.old.pass.1 }
+        ensures heard { IsHeardRightly K.signer self.old.pass.1 other.old.pass.1
+            × IsHeardRightly K.signer other.old.pass.1 self.old.pass.1 }
         ensures of { (conn : ℕ) (place : TableId × K.Origin)
-            → IsPass K.origin K.stands K.signer K.telling conn place self.old → IsPass K.origin K.stands K.signer K.telling conn place self.new }
+            → IsPass K.origin K.stands K.signer K.telling conn place self.old
+            → IsPass K.origin K.stands K.signer K.telling conn place self.new }
         ensures of_other { (conn : ℕ) (place : TableId × K.Origin)
-            → IsPass K.origin K.stands K.signer K.telling conn place other.old → IsPass K.origin K.stands K.signer K.telling conn place other.new }
+            → IsPass K.origin K.stands K.signer K.telling conn place other.old
+            → IsPass K.origin K.stands K.signer K.telling conn place other.new }
         ensures same { self.new ≡ record self.old { pass = self.new.pass } }
         ensures same_other { other.new ≡ record other.old { pass = other.new.pass } }
     {

@@ -16,71 +16,73 @@ use Rattle.server_places.specs.Halls.{hall_opened, hall_seen, HallReads, HallPie
 use Rattle.server_places.specs.Halls.{HallStandsAt, HallGoesOn, HallPullsGoOn}
 use Rattle.server_places.specs.Tellings.{hall_telling}
 
-view_more : (conn : ℕ) (h : Record) (before later : List HallEntry)
-    → view conn h (before ++ later) ≡ view conn h before ++ view conn (run_record h before) later
-view_more conn h [] later = refl
-view_more conn h (e ∷ es) later = ap (λ (ms : List (List (List ℕ))). sent (message conn h e) ++ ms)
-    (view_more conn (after h e) es later) ∙ sym
-    (append_assoc (sent (message conn h e)) (view conn (after h e) es) (view conn (run_record (after h e) es) later))
+view_more : (conn : ℕ) (hall : Record) (before later : List HallEntry)
+    → view conn hall (before ++ later) ≡ view conn hall before ++ view conn (run_record hall before) later
+view_more conn hall [] later = refl
+view_more conn hall (entry ∷ entries) later = ap (λ (ms : List (List (List ℕ))). sent (message conn hall entry) ++ ms)
+    (view_more conn (after hall entry) entries later) ∙ sym
+    (append_assoc (sent (message conn hall entry)) (view conn (after hall entry) entries)
+    (view conn (run_record (after hall entry) entries) later))
 
 -- who reads all of it
-hall_reads_on : (conn : ℕ) (r : Root) (before later : List HallEntry) (until : Option ℕ) (x y : HallCursor)
+hall_reads_on : (conn : ℕ) (root : Root) (before later : List HallEntry) (until : Option ℕ) (x y : HallCursor)
     (ms : List (List (List ℕ))) (msgs : List Msg)
-    → HallStandsAt conn r before x → HallShows conn r before ms → HallReads r (before ++ later) (hall_bounded until x) msgs y
-    → HallShows conn r (before ++ later) (ms ++ map msg_lines msgs) × HallStandsAt conn r (before ++ later) (hall_bounded None y)
-hall_reads_on conn r before later until x y ms msgs at shows p =
-    let past = pulls_view conn (hall_opened r) before later in (
+    → HallStandsAt conn root before x → HallShows conn root before ms → HallReads root (before ++ later) (hall_bounded until x) msgs y
+    → HallShows conn root (before ++ later) (ms ++ map msg_lines msgs) × HallStandsAt conn root (before ++ later) (hall_bounded None y)
+hall_reads_on conn root before later until x y ms msgs at shows p =
+    let past = pulls_view conn (hall_opened root) before later in (
       ap (λ (xs : List (List (List ℕ))). xs ++ map msg_lines msgs) shows
-          ∙ ap (λ (xs : List (List (List ℕ))). view conn (hall_opened r) before ++ xs)
-          (p.messages ∙ ap (λ (c : HallCursor). pulled_past c.hall (hall_seen r (before ++ later))) at ∙ past.messages)
-          ∙ sym (view_more conn (hall_opened r) before later),
+          ∙ ap (λ (xs : List (List (List ℕ))). view conn (hall_opened root) before ++ xs)
+          (p.messages ∙ ap (λ (c : HallCursor). pulled_past c.hall (hall_seen root (before ++ later))) at ∙ past.messages)
+          ∙ sym (view_more conn (hall_opened root) before later),
       ap (hall_bounded None) p.cursor ∙ ap (λ (c : HallCursor). record
-          { hall = cursor_past c.hall (hall_seen r (before ++ later)); passed = length (before ++ later); until = None }) at
+          { hall = cursor_past c.hall (hall_seen root (before ++ later)); passed = length (before ++ later); until = None }) at
           ∙ ap (λ (c : Cursor). record { hall = c; passed = length (before ++ later); until = None }) past.end,
     )
 
 -- ---- pieces
 
 -- who stands behind some entries has no bound
-pub hall_free : (conn : ℕ) (r : Root) (es : List HallEntry) (x : HallCursor) → HallStandsAt conn r es x → hall_bounded None x ≡ x
-hall_free conn r es x at = ap (hall_bounded None) at ∙ sym at
+pub hall_free : (conn : ℕ) (root : Root) (es : List HallEntry) (x : HallCursor) → HallStandsAt conn root es x → hall_bounded None x ≡ x
+hall_free conn root es x at = ap (hall_bounded None) at ∙ sym at
 
 -- a pull leaves the bound as it is
-pub hall_until : (r : Root) (es : List HallEntry) (x y : HallCursor) (msgs : List Msg) → HallPulls r es x msgs y → y.until ≡ x.until
-hall_until r es x y msgs (inl stays) = ap (λ (c : HallCursor). c.until) stays.2
-hall_until r es x y msgs (inr p) = ap (λ (c : HallCursor). c.until) p.reads.cursor
+pub hall_until : (root : Root) (es : List HallEntry) (x y : HallCursor) (msgs : List Msg) → HallPulls root es x msgs y → y.until ≡ x.until
+hall_until root es x y msgs (inl stays) = ap (λ (c : HallCursor). c.until) stays.2
+hall_until root es x y msgs (inr p) = ap (λ (c : HallCursor). c.until) p.reads.cursor
 
 -- what is pulled with no bound, where there is none
-pub hall_pulls_free : (r : Root) (es : List HallEntry) (x y : HallCursor) (msgs : List Msg) → hall_bounded None x ≡ x
-    → HallPulls r es x msgs y → HallPullsUpTo r es x msgs y
-hall_pulls_free r es x y msgs free p =
-    let none : y.until ≡ None = hall_until r es x y msgs p ∙ sym (ap (λ (c : HallCursor). c.until) free) in (
+pub hall_pulls_free : (root : Root) (es : List HallEntry) (x y : HallCursor) (msgs : List Msg) → hall_bounded None x ≡ x
+    → HallPulls root es x msgs y → HallPullsUpTo root es x msgs y
+hall_pulls_free root es x y msgs free p =
+    let none : y.until ≡ None = hall_until root es x y msgs p ∙ sym (ap (λ (c : HallCursor). c.until) free) in (
       None,
       y,
-      subst (λ (c : HallCursor). HallPulls r es c msgs y) (sym free) p,
+      subst (λ (c : HallCursor). HallPulls root es c msgs y) (sym free) p,
       λ i.
           record { hall = y.hall; passed = y.passed; until = none i },
     )
 
-hall_goes_nowhere : (conn : ℕ) (r : Root) (before later : List HallEntry) (x y : HallCursor) (ms : List (List (List ℕ))) (msgs : List Msg)
-    → HallStandsAt conn r before x → HallShows conn r before ms → msgs ≡ [] → y ≡ x
-    → HallGoesOn conn r before later (ms ++ map msg_lines msgs) y
-hall_goes_nowhere conn r before later x y ms msgs at shows none same =
+hall_goes_nowhere : (conn : ℕ) (root : Root) (before later : List HallEntry) (x y : HallCursor) (ms : List (List (List ℕ)))
+    (msgs : List Msg)
+    → HallStandsAt conn root before x → HallShows conn root before ms → msgs ≡ [] → y ≡ x
+    → HallGoesOn conn root before later (ms ++ map msg_lines msgs) y
+hall_goes_nowhere conn root before later x y ms msgs at shows none same =
     let passed : y.passed ≡ length before = ap (λ (c : HallCursor). c.passed) (same ∙ at) in
     let here : take y.passed (before ++ later) ≡ before = take_at before later y.passed (sym passed) in
     let nothing : ms ++ map msg_lines msgs ≡ ms = ap (λ (l : List Msg). ms ++ map msg_lines l) none ∙ append-nil ms in
     record {
       on = omega (arith, passed);
       within = omega (arith, passed, length-append before later);
-      shows = subst (λ (l : List HallEntry). HallShows conn r l (ms ++ map msg_lines msgs)) (sym here) (nothing ∙ shows);
-      stands = subst (λ (l : List HallEntry). HallStandsAt conn r l y) (sym here) (same ∙ at);
+      shows = subst (λ (l : List HallEntry). HallShows conn root l (ms ++ map msg_lines msgs)) (sym here) (nothing ∙ shows);
+      stands = subst (λ (l : List HallEntry). HallStandsAt conn root l y) (sym here) (same ∙ at);
     }
 
-hall_goes_far : (conn : ℕ) (r : Root) (before later : List HallEntry) (until : Option ℕ) (x y z : HallCursor)
+hall_goes_far : (conn : ℕ) (root : Root) (before later : List HallEntry) (until : Option ℕ) (x y z : HallCursor)
     (ms : List (List (List ℕ))) (msgs : List Msg)
-    → HallStandsAt conn r before x → HallShows conn r before ms → HallPiece r (before ++ later) (hall_bounded until x) msgs z
-    → y ≡ hall_bounded None z → HallGoesOn conn r before later (ms ++ map msg_lines msgs) y
-hall_goes_far conn r before later until x y z ms msgs at shows p is =
+    → HallStandsAt conn root before x → HallShows conn root before ms → HallPiece root (before ++ later) (hall_bounded until x) msgs z
+    → y ≡ hall_bounded None z → HallGoesOn conn root before later (ms ++ map msg_lines msgs) y
+hall_goes_far conn root before later until x y z ms msgs at shows p is =
     let all : List HallEntry = before ++ later in
     let n : ℕ = p.count in
     let within : n ≤ length all = p.within in
@@ -91,36 +93,37 @@ hall_goes_far conn r before later until x y z ms msgs at shows p is =
     let begins : take (length before) front ≡ before = take-take (length before) n all on ∙ take_at before later (length before) refl in
     let parts : before ++ drop (length before) front
     ≡ front = ap (λ (l : List HallEntry). l ++ drop (length before) front) (sym begins) ∙ take-append-drop (length before) front in
-    let there : HallShows conn r (before ++ drop (length before) front) (ms ++ map msg_lines msgs)
-    × HallStandsAt conn r (before ++ drop (length before) front) (hall_bounded None z) =
-    hall_reads_on conn r before (drop (length before) front) until x z ms msgs at shows
-    (subst (λ (l : List HallEntry). HallReads r l (hall_bounded until x) msgs z) (sym parts) p.reads) in
+    let there : HallShows conn root (before ++ drop (length before) front) (ms ++ map msg_lines msgs)
+    × HallStandsAt conn root (before ++ drop (length before) front) (hall_bounded None z) =
+    hall_reads_on conn root before (drop (length before) front) until x z ms msgs at shows
+    (subst (λ (l : List HallEntry). HallReads root l (hall_bounded until x) msgs z) (sym parts) p.reads) in
     let here : y.passed ≡ n = ap (λ (c : HallCursor). c.passed) is ∙ ap (λ (c : HallCursor). c.passed) p.reads.cursor ∙ size in
     let same : before ++ drop (length before) front ≡ take y.passed all = parts ∙ ap (λ (m : ℕ). take m all) (sym here) in
     record {
       on = omega (arith, here);
       within = omega (arith, here);
-      shows = subst (λ (l : List HallEntry). HallShows conn r l (ms ++ map msg_lines msgs)) same there.0;
-      stands = subst (λ (l : List HallEntry). HallStandsAt conn r l y) same
-          (subst (λ (c : HallCursor). HallStandsAt conn r (before ++ drop (length before) front) c) (sym is) there.1);
+      shows = subst (λ (l : List HallEntry). HallShows conn root l (ms ++ map msg_lines msgs)) same there.0;
+      stands = subst (λ (l : List HallEntry). HallStandsAt conn root l y) same
+          (subst (λ (c : HallCursor). HallStandsAt conn root (before ++ drop (length before) front) c) (sym is) there.1);
     }
 
-hall_goes_by : (conn : ℕ) (r : Root) (before later : List HallEntry) (until : Option ℕ) (x y z : HallCursor)
+hall_goes_by : (conn : ℕ) (root : Root) (before later : List HallEntry) (until : Option ℕ) (x y z : HallCursor)
     (ms : List (List (List ℕ))) (msgs : List Msg)
-    → HallStandsAt conn r before x → HallShows conn r before ms → HallPulls r (before ++ later) (hall_bounded until x) msgs z
-    → y ≡ hall_bounded None z → HallGoesOn conn r before later (ms ++ map msg_lines msgs) y
-hall_goes_by conn r before later until x y z ms msgs at shows (inl stays) is =
-    hall_goes_nowhere conn r before later x y ms msgs at shows stays.1 (is ∙ ap (hall_bounded None) stays.2 ∙ hall_free conn r before x at)
-hall_goes_by conn r before later until x y z ms msgs at shows (inr p) is = hall_goes_far conn r before later until x y z ms msgs at
+    → HallStandsAt conn root before x → HallShows conn root before ms → HallPulls root (before ++ later) (hall_bounded until x) msgs z
+    → y ≡ hall_bounded None z → HallGoesOn conn root before later (ms ++ map msg_lines msgs) y
+hall_goes_by conn root before later until x y z ms msgs at shows (inl stays) is =
+    hall_goes_nowhere conn root before later x y ms msgs at shows stays.1
+    (is ∙ ap (hall_bounded None) stays.2 ∙ hall_free conn root before x at)
+hall_goes_by conn root before later until x y z ms msgs at shows (inr p) is = hall_goes_far conn root before later until x y z ms msgs at
     shows p is
 
 pub hall_goes_on : HallPullsGoOn
-hall_goes_on conn r before later x y ms msgs at shows p = hall_goes_by conn r before later p.0 x y p.1 ms msgs at shows p.2 p.3
+hall_goes_on conn root before later x y ms msgs at shows p = hall_goes_by conn root before later p.0 x y p.1 ms msgs at shows p.2 p.3
 
 pub hall_tells : IsLawful HallPulls hall_telling
 hall_tells = record {
-  goes_on = λ conn r before later x y ms msgs at shows p.
-      let on = hall_goes_on conn r before later x y ms msgs at shows p in (on.on, on.within, on.shows, on.stands);
+  goes_on = λ conn root before later x y ms msgs at shows p.
+      let on = hall_goes_on conn root before later x y ms msgs at shows p in (on.on, on.within, on.shows, on.stands);
   free = hall_free;
   unset = hall_pulls_free;
   last = λ first second x. refl;

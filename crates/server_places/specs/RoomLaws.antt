@@ -22,57 +22,60 @@ use Rattle.ps_base.specs.Messages.{sent, msg_lines}
 use Rattle.server_pass.specs.Tellings.{IsLawful}
 use Rattle.server_places.specs.Tellings.{room_telling}
 
-view_more : (conn : ℕ) (r : Record) (before later : List Entry)
-    → view conn r (before ++ later) ≡ view conn r before ++ view conn (run_record r before) later
-view_more conn r [] later = refl
-view_more conn r (e ∷ es) later = ap (λ (ms : List (List (List ℕ))). sent (message conn r e) ++ ms)
-    (view_more conn (after r e) es later) ∙ sym
-    (append_assoc (sent (message conn r e)) (view conn (after r e) es) (view conn (run_record (after r e) es) later))
+view_more : (conn : ℕ) (room : Record) (before later : List Entry)
+    → view conn room (before ++ later) ≡ view conn room before ++ view conn (run_record room before) later
+view_more conn room [] later = refl
+view_more conn room (entry ∷ entries) later = ap (λ (ms : List (List (List ℕ))). sent (message conn room entry) ++ ms)
+    (view_more conn (after room entry) entries later) ∙ sym
+    (append_assoc (sent (message conn room entry)) (view conn (after room entry) entries)
+    (view conn (run_record (after room entry) entries) later))
 
 -- what is told from one story on to the next: of the first room all, and of a room that was there what came since
 pub data Goes : Option Story → Option Story → Type 0 where
   never : Goes None None
-  opens : (s : Story) → Goes None (Some s)
-  goes : (s : Story) (later : List RoomCmd) → Goes (Some s) (Some (going_on later s))
+  opens : (story : Story) → Goes None (Some story)
+  goes : (story : Story) (later : List RoomCmd) → Goes (Some story) (Some (going_on later story))
 
 goes_by : (site : Site) (before later : List RoomCmd) (one two : Option Story) → Tells site before one
     → Tells site (before ++ later) two → Goes one two
 goes_by site before later None None a b = never
-goes_by site before later None (Some s) a b = opens s
-goes_by site before later (Some s) two a b = subst (λ (t : Option Story). Goes (Some s) t)
-    (one_story site (before ++ later) (Some (going_on later s)) two (tells_more site before later s a) b) (goes s later)
+goes_by site before later None (Some story) a b = opens story
+goes_by site before later (Some story) two a b = subst (λ (told : Option Story). Goes (Some story) told)
+    (one_story site (before ++ later) (Some (going_on later story)) two (tells_more site before later story a) b) (goes story later)
 
 -- ---- what is read
 
-read_all : (conn : ℕ) (s : Story) → read_past (first_cursor conn) (seen_of s).log ≡ view_told conn (Some s)
-read_all conn s = (pulls_all conn s.opening s.history).messages
+read_all : (conn : ℕ) (story : Story) → read_past (first_cursor conn) (seen_of story).log ≡ view_told conn (Some story)
+read_all conn story = (pulls_all conn story.opening story.history).messages
 
 shown : (conn : ℕ) (until : Option ℕ) (one two : Option Story) (x : RoomCursor) (n : ℕ) → Goes one two → x ≡ cursor_of conn one n
     → view_told conn one ++ read_from (bounded until x) two ≡ view_told conn two
 shown conn until one two x n never at = refl
-shown conn until one two x n (opens s) at = rw at (read_all conn s)
-shown conn until one two x n (goes s later) at = rw at
-    (ap (λ (ms : List (List (List ℕ))). view conn (opened s.opening) s.history ++ ms)
-    (pulls_view conn s.opening s.history (plays later)).messages ∙ sym (view_more conn (opened s.opening) s.history (plays later)))
+shown conn until one two x n (opens story) at = rw at (read_all conn story)
+shown conn until one two x n (goes story later) at = rw at
+    (ap (λ (ms : List (List (List ℕ))). view conn (opened story.opening) story.history ++ ms)
+    (pulls_view conn story.opening story.history (plays later)).messages
+    ∙ sym (view_more conn (opened story.opening) story.history (plays later)))
 
 stands : (conn : ℕ) (until : Option ℕ) (one two : Option Story) (x : RoomCursor) (n m : ℕ) → Goes one two → x ≡ cursor_of conn one n
     → bounded None (cursor_from (bounded until x) two m) ≡ cursor_of conn two m
 stands conn until one two x n m never at = rw at refl
-stands conn until one two x n m (opens s) at = rw at
-    (ap (λ (c : Cursor). record { room = c; id = Some s.opening.id; passed = m; until = None }) (pulls_all conn s.opening s.history).end)
-stands conn until one two x n m (goes s later) at = rw at
-    (ap (λ (c : Cursor). record { room = c; id = Some s.opening.id; passed = m; until = None })
-    (pulls_view conn s.opening s.history (plays later)).end)
+stands conn until one two x n m (opens story) at = rw at
+    (ap (λ (c : Cursor). record { room = c; id = Some story.opening.id; passed = m; until = None })
+    (pulls_all conn story.opening story.history).end)
+stands conn until one two x n m (goes story later) at = rw at
+    (ap (λ (c : Cursor). record { room = c; id = Some story.opening.id; passed = m; until = None })
+    (pulls_view conn story.opening story.history (plays later)).end)
 
 -- ---- from a new cursor
 
-from_none : (t : Option Story) → Goes None t
+from_none : (told : Option Story) → Goes None told
 from_none None = never
-from_none (Some s) = opens s
+from_none (Some story) = opens story
 
-nothing_told : (conn : ℕ) (chat : Option Opening) (site : Site) (t : Option Story) → TellsBy chat site [] t → view_told conn t ≡ []
-nothing_told conn (Some chat) site t e = ap (view_told conn) e
-nothing_told conn None site t e = ap (view_told conn) e
+nothing_told : (conn : ℕ) (chat : Option Opening) (site : Site) (told : Option Story) → TellsBy chat site [] told → view_told conn told ≡ []
+nothing_told conn (Some chat) site told e = ap (view_told conn) e
+nothing_told conn None site told e = ap (view_told conn) e
 
 -- who reads all of it
 reads_go_on : (conn : ℕ) (site : Site) (before later : List RoomCmd) (until : Option ℕ) (x y : RoomCursor) (ms : List (List (List ℕ)))
@@ -113,11 +116,11 @@ reads_go_on conn site before later until x y ms msgs (inr at) shows p =
 
 passed_of : (conn : ℕ) (told : Option Story) (n : ℕ) → (cursor_of conn told n).passed ≡ n
 passed_of conn None n = refl
-passed_of conn (Some s) n = refl
+passed_of conn (Some story) n = refl
 
 free_of : (conn : ℕ) (told : Option Story) (n : ℕ) → bounded None (cursor_of conn told n) ≡ cursor_of conn told n
 free_of conn None n = refl
-free_of conn (Some s) n = refl
+free_of conn (Some story) n = refl
 
 -- who stands behind some commands has passed as many, and has no bound
 pub stands_passed : (conn : ℕ) (site : Site) (cmds : List RoomCmd) (x : RoomCursor) → StandsAt conn site cmds x → x.passed ≡ length cmds
@@ -130,11 +133,11 @@ stands_free conn site cmds x (inr at) = ap (bounded None) at.2 ∙ free_of conn 
 
 passed_from : (x : RoomCursor) (told : Option Story) (n : ℕ) → (cursor_from x told n).passed ≡ n
 passed_from x None n = refl
-passed_from x (Some s) n = refl
+passed_from x (Some story) n = refl
 
 until_from : (x : RoomCursor) (told : Option Story) (n : ℕ) → (cursor_from x told n).until ≡ x.until
 until_from x None n = refl
-until_from x (Some s) n = refl
+until_from x (Some story) n = refl
 
 -- a pull leaves the bound as it is
 pub pulls_until : (site : Site) (cmds : List RoomCmd) (x y : RoomCursor) (msgs : List Msg) → Pulls site cmds x msgs y → y.until ≡ x.until

@@ -37,7 +37,7 @@ pub record Opens (site : Site) (start : Start) : Type 0 where
 -- by whose number a command is signed: an entry by that of the connection whose session made it, a Begin by none
 abbrev pub room_signer : RoomCmd → Option ℕ
 room_signer (Begin start) = None
-room_signer (Play e) = Some e.conn
+room_signer (Play entry) = Some entry.conn
 
 -- a configuration, a dex and a place without anything
 abbrev pub no_settings : Settings
@@ -65,7 +65,7 @@ no_site = record { number = 0; config = no_settings; dex = no_tables }
 -- the entry of a room that a command is; a Begin is none
 abbrev pub play_of : RoomCmd → Option Entry
 play_of (Begin start) = None
-play_of (Play e) = Some e
+play_of (Play entry) = Some entry
 
 -- the entries of a room among the commands of its place
 abbrev pub plays : List RoomCmd → List Entry
@@ -74,18 +74,18 @@ plays cmds = filter_map play_of cmds
 -- What the commands of a battle's place tell: nothing, until the first Begin that opens the battle; from then on the battle's
 -- room, with the entries after that Begin. What stands before it does nothing, and neither does a later Begin.
 abbrev pub BattleTells : Site → List RoomCmd → Option Story → Type 0
-BattleTells site [] t = t ≡ None
-BattleTells site (Play e ∷ cmds) t = BattleTells site cmds t
-BattleTells site (Begin start ∷ cmds) t = (Opens site start × (t ≡ Some (story (battle_at site start) (plays cmds))))
-    ⊎ ((Opens site start → ⊥) × BattleTells site cmds t)
+BattleTells site [] told = told ≡ None
+BattleTells site (Play entry ∷ cmds) told = BattleTells site cmds told
+BattleTells site (Begin start ∷ cmds) told = (Opens site start × (told ≡ Some (story (battle_at site start) (plays cmds))))
+    ⊎ ((Opens site start → ⊥) × BattleTells site cmds told)
 
 abbrev pub TellsBy : Option Opening → Site → List RoomCmd → Option Story → Type 0
-TellsBy (Some chat) site cmds t = t ≡ Some (story chat (plays cmds))
-TellsBy None site cmds t = BattleTells site cmds t
+TellsBy (Some chat) site cmds told = told ≡ Some (story chat (plays cmds))
+TellsBy None site cmds told = BattleTells site cmds told
 
 -- What the commands of a place tell: of a chat room its opening and its entries.
 abbrev pub Tells : Site → List RoomCmd → Option Story → Type 0
-Tells site cmds t = TellsBy (chat_at site) site cmds t
+Tells site cmds told = TellsBy (chat_at site) site cmds told
 
 -- the commands of a place tell one story at the most
 abbrev pub OneStory : Type 0
@@ -93,20 +93,20 @@ OneStory = (site : Site) (cmds : List RoomCmd) (one two : Option Story) → Tell
 
 -- more commands go on with it: the entries among them follow its own
 abbrev pub StoriesGoOn : Type 0
-StoriesGoOn = (site : Site) (before later : List RoomCmd) (s : Story) → Tells site before (Some s)
-    → Tells site (before ++ later) (Some (story s.opening (s.history ++ plays later)))
+StoriesGoOn = (site : Site) (before later : List RoomCmd) (told : Story) → Tells site before (Some told)
+    → Tells site (before ++ later) (Some (story told.opening (told.history ++ plays later)))
 
 -- ---- what a connection is sent
 
 -- all that a connection is sent from a place, message by message; nothing where there is no room
 abbrev pub view_told : ℕ → Option Story → List (List (List ℕ))
 view_told conn None = []
-view_told conn (Some s) = view conn (opened s.opening) s.history
+view_told conn (Some told) = view conn (opened told.opening) told.history
 
 -- the id of a place's room, if there is one
 abbrev pub id_told : Option Story → Option (List ℕ)
 id_told None = None
-id_told (Some s) = Some s.opening.id
+id_told (Some told) = Some told.opening.id
 
 -- ---- pulling
 

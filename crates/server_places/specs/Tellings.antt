@@ -10,7 +10,7 @@ use Rattle.server_places.specs.Halls.{HallShows, HallStandsAt, hall_bounded}
 use Rattle.server_places.specs.Rooms.{Shows, StandsAt, bounded}
 
 abbrev pub hall_telling : Telling Root HallEntry HallCursor
-hall_telling = record { shows = HallShows; stands_at = HallStandsAt; passed = λ x. x.passed; bounded = hall_bounded }
+hall_telling = record { shows = HallShows; stands_at = HallStandsAt; passed = λ cursor. cursor.passed; bounded = hall_bounded }
 
 abbrev pub room_telling : Telling Site RoomCmd RoomCursor
-room_telling = record { shows = Shows; stands_at = StandsAt; passed = λ x. x.passed; bounded = bounded }
+room_telling = record { shows = Shows; stands_at = StandsAt; passed = λ cursor. cursor.passed; bounded = bounded }

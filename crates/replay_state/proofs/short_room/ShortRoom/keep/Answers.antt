@@ -1,7 +1,7 @@
 use Rattle.std.proofs.Common.{◌∙◌, ap, sym, subst}
 use Rattle.ps_room.specs.Logs.{Seen, record_in, given, out_of, Goes}
 use Rattle.replay_state.specs.Kepts.{Kept, kept_after}
-use Rattle.replay_state.proofs.KeptLemmas.{kept_with, at_fault, kept_same, kept_back, kept_next}
+use Rattle.replay_state.proofs.KeptLemmas.{kept_with, at_fault, kept_same, backlog_items, kept_next}
 use Rattle.replay_state.proofs.short_room.ShortRoom.keep.Goals as goal
 
 pub keep-requires-clause-out : goal.keep-requires-clause-out
@@ -31,7 +31,7 @@ returns-in-Ok-clause-ok c =
 
 pub returns-in-Err-clause-err : goal.returns-in-Err-clause-err
 returns-in-Err-clause-err c =
-    kept_back c.keep.new.self c.self.inside.log c.forget_first.new.self c.push.new.self c.take_back.new.self c.args.prepared.log_entry
+    backlog_items c.keep.new.self c.self.inside.log c.forget_first.new.self c.push.new.self c.take_back.new.self c.args.prepared.log_entry
     c.in_ok-forget_first.ensures.ok c.in_ok-push.ensures.ok c.take_back.ensures
     ∙ ap (λ (s : Seen). kept_with s c.self.inside.log) c.in-Err.ensures.err
     ∙ c.self.view_is
