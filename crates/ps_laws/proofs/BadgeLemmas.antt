@@ -19,7 +19,8 @@ use Rattle.ps_room.specs.Tolds.{Joined, Told}
 use Rattle.ps_room.specs.Records.{Record, cast_in}
 use Rattle.ps_room.specs.Rooms.{sender_of, verdict, or_else, refusal_by_battle, is_join, joined_if, lines_by, logged_of, allowed_events, battle_after, told, told_by, after, after_by, message, message_of, role}
 use Rattle.ps_laws.specs.Users.{badge_of, user_of}
-use Rattle.ps_laws.specs.Rounds.{round_of, round_if_allowed}
+use Rattle.ps_laws.specs.Rounds.{round_of}
+use Rattle.ps_laws.proofs.RoundParts.{round_if_allowed}
 use Rattle.ps_laws.specs.Low.{looked_at, entry_kept}
 use Rattle.ps_laws.proofs.HomeLemmas.{join_is_new}
 

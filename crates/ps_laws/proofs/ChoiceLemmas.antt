@@ -12,7 +12,8 @@ use Rattle.battle_rounds.specs.Fights.{Fight, outcome_in, refusal_in}
 use Rattle.ps_chat.specs.declared.present.Present.{Present}
 use Rattle.ps_room.specs.Roles.{side_of_member}
 use Rattle.ps_laws.specs.Alike.{own_bout, own_fight}
-use Rattle.ps_laws.specs.Rounds.{round_of_choices, round_in}
+use Rattle.ps_laws.specs.Rounds.{round_of_choices}
+use Rattle.ps_laws.proofs.RoundParts.{round_in}
 use Rattle.ps_laws.proofs.PartLemmas.{PlaysOwn, chosen_own, side_below, if_none}
 use Rattle.ps_laws.proofs.WaitLemmas.{MayWait, AreChoices, chosen_waits, round_choices}
 use Rattle.ps_laws.proofs.ItemLemmas.{put_choice, waiting_in, waiting_fight, outcome_of_choices}

@@ -19,7 +19,8 @@ use Rattle.ps_room.specs.Stories.{story, view_of}
 use Rattle.ps_room.proofs.AnswerLemmas.{after_refused}
 use Rattle.ps_laws.specs.Alike.{own_fight, own_part}
 use Rattle.ps_laws.specs.Users.{user_of, users_from, users}
-use Rattle.ps_laws.specs.Rounds.{Round, round_of_choices, round_of, round_if_allowed}
+use Rattle.ps_laws.specs.Rounds.{Round, round_of_choices, round_of}
+use Rattle.ps_laws.proofs.RoundParts.{round_if_allowed}
 use Rattle.ps_laws.specs.Hidden.{is_previewed, hidden_in_both}
 use Rattle.ps_laws.specs.Low.{Item, whole, commit_of, entry_kept, is_own, items_of_own, items_of_others, items_of_allowed, items_of, low_from}
 use Rattle.ps_laws.specs.HallLow.{is_user}

@@ -1,3 +1,4 @@
+pub mod RoundParts
 pub mod SideLemmas
 pub mod LineLemmas
 pub mod PartLemmas

@@ -35,8 +35,9 @@ use Rattle.ps_room.specs.Rooms.{sender_of, verdict, after, applied, or_else, ref
 use Rattle.ps_room.proofs.AnswerLemmas.{after_allowed, after_refused}
 use Rattle.ps_laws.specs.Alike.{AreAlike, AreBoutsAlike, AreFightsAlike, AreMaybeAlike, IsLoggedOpenly}
 use Rattle.ps_laws.specs.Users.{user_of, users_from}
-use Rattle.ps_laws.specs.Rounds.{Round, choice_of, round_of_choices, completed_if, round_by, round_in, round_if_allowed, round_of, rounds_from}
-use Rattle.ps_laws.specs.Hidden.{is_chosen, names_slot}
+use Rattle.ps_laws.specs.Rounds.{Round, choice_of, round_of_choices, round_of, rounds_from}
+use Rattle.ps_laws.proofs.RoundParts.{completed_if, round_by, round_in, round_if_allowed}
+use Rattle.ps_laws.specs.Hidden.{spot_at, is_chosen, names_slot}
 use Rattle.ps_laws.specs.Low.{Item, whole, commit, entry_kept, is_own, commit_of, items_of_own, items_of_others, items_of_allowed, items_of, low_from}
 use Rattle.ps_laws.proofs.PartLemmas.{is_choose, side_below}
 use Rattle.ps_laws.proofs.WaitLemmas.{AreChoices, MayWait, WaitsIn, chosen_waits, round_choices, waits_after_entry}
@@ -136,7 +137,7 @@ choice_at_same : (r q : Round) (s : ℕ) → AreRoundsAlike r q → choice_of r 
 choice_at_same r q zero w = w.first
 choice_at_same r q (suc s) w = w.second
 
-pub is_chosen_same : (r q : Round) (s k j : ℕ) → s < 2 → AreRoundsAlike r q → is_chosen s k j r ≡ is_chosen s k j q
+pub is_chosen_same : (r q : Round) (s k j : ℕ) → s < 2 → AreRoundsAlike r q → is_chosen (spot_at s k j) r ≡ is_chosen (spot_at s k j) q
 is_chosen_same r q s k j lt w =
     ap (λ (i : ℕ). i == k && names_slot j (choice_of r s)) (w.before s lt)
     ∙ ap (λ (c : Choice). active_index (side_of q.before s) == k && names_slot j c) (choice_at_same r q s w)

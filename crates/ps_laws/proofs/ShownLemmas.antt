@@ -18,7 +18,7 @@ use Rattle.battle_secrecy.specs.Showing.{shows_one, ShowsNoHidden}
 use Rattle.battle_secrecy.specs.Laws.{IsChoiceUnhidden, forms, fronts}
 use Rattle.battle_secrecy.proofs.FrontLemmas.{turn_front, front_after, choice_of_side}
 use Rattle.ps_laws.specs.Rounds.{Round, choice_of, round_of_choices, rounds}
-use Rattle.ps_laws.specs.Hidden.{member_in, has_stood, is_member_hidden, is_chosen, is_told, is_slot_shown, is_slot_hidden, hidden_with, is_previewed, own_sides, hidden, hidden_in_both}
+use Rattle.ps_laws.specs.Hidden.{spot_at, member_in, has_stood, is_member_hidden, is_chosen, is_told, is_slot_shown, is_slot_hidden, hidden_with, is_previewed, own_sides, hidden, hidden_in_both}
 use Rattle.ps_room.specs.Stories.{Story}
 use Rattle.ps_laws.specs.Users.{users}
 use Rattle.ps_laws.proofs.WaitLemmas.{AreChoices}
@@ -28,7 +28,7 @@ use Rattle.ps_hits.specs.Courses.{untold}
 
 pub record IsUnshown (places : Hidden) (r : Round) : Type 0 where
   pub members : (s k : ℕ) → places.member s k ≡ true → (active_index (side_of r.after s) == k) ≡ false
-  pub chosen : (s k j : ℕ) → places.slot s k j ≡ true → is_chosen s k j r ≡ false
+  pub chosen : (s k j : ℕ) → places.slot s k j ≡ true → is_chosen (spot_at s k j) r ≡ false
   pub told : (s k j : ℕ) → places.slot s k j ≡ true → shows_one s k (active_index (side_of r.after s) == k) (places.move s k j) (forms r.before r.first r.second s k) r.told ≡ false
 
 abbrev pub AreUnshown : Hidden → List Round → Type 0
@@ -41,12 +41,12 @@ AreUnshown places (r ∷ rs) = IsUnshown places r × AreUnshown places rs
 record AreNeverShown (st : Start) (places : Hidden) (rs : List Round) : Type 0 where
   moves : (s k j : ℕ) → places.move s k j ≡ (slot_of (member_in st s k) j).mv
   members : (s k : ℕ) → places.member s k ≡ true → list_any (λ r. active_index (side_of r.after s) == k) rs ≡ false
-  slots : (s k j : ℕ) → places.slot s k j ≡ true → list_any (is_slot_shown st s k j) rs ≡ false
+  slots : (s k j : ℕ) → places.slot s k j ≡ true → list_any (is_slot_shown st (spot_at s k j)) rs ≡ false
 
 each_unshown : (st : Start) (places : Hidden) (rs : List Round) → AreNeverShown st places rs → AreUnshown places rs
 each_unshown st places [] never = tt
 each_unshown st places (r ∷ rs) never =
-    let slot : (s k j : ℕ) → places.slot s k j ≡ true → (is_chosen s k j r ≡ false) × (is_told st s k j r ≡ false) = λ s k j h. or_parts (is_chosen s k j r) (is_told st s k j r) (or_parts (is_slot_shown st s k j r) (list_any (is_slot_shown st s k j) rs) (never.slots s k j h)).0 in (
+    let slot : (s k j : ℕ) → places.slot s k j ≡ true → (is_chosen (spot_at s k j) r ≡ false) × (is_told st (spot_at s k j) r ≡ false) = λ s k j h. or_parts (is_chosen (spot_at s k j) r) (is_told st (spot_at s k j) r) (or_parts (is_slot_shown st (spot_at s k j) r) (list_any (is_slot_shown st (spot_at s k j)) rs) (never.slots s k j h)).0 in (
       record {
         members = λ s k h. (or_parts (active_index (side_of r.after s) == k) (list_any (λ x. active_index (side_of x.after s) == k) rs) (never.members s k h)).0;
         chosen = λ s k j h. (slot s k j h).0;
@@ -55,7 +55,7 @@ each_unshown st places (r ∷ rs) never =
       each_unshown st places rs (record {
         moves = never.moves;
         members = λ s k h. (or_parts (active_index (side_of r.after s) == k) (list_any (λ x. active_index (side_of x.after s) == k) rs) (never.members s k h)).1;
-        slots = λ s k j h. (or_parts (is_slot_shown st s k j r) (list_any (is_slot_shown st s k j) rs) (never.slots s k j h)).1;
+        slots = λ s k j h. (or_parts (is_slot_shown st (spot_at s k j) r) (list_any (is_slot_shown st (spot_at s k j)) rs) (never.slots s k j h)).1;
       }),
     )
 
@@ -63,7 +63,7 @@ each_unshown st places (r ∷ rs) never =
 last_of_three : (a b c : Bool) → (a && b && not c) ≡ true → c ≡ false
 last_of_three a b c e = not-true c (and_parts (a && b) (not c) e).1
 
-never_shown : (preview : Bool) (own : ℕ → Bool) (st : Start) (rs : List Round) (other : Hidden) (places : Hidden) → ((s k : ℕ) → places.member s k ≡ (is_member_hidden preview (own s) st rs s k && other.member s k)) → ((s k j : ℕ) → places.slot s k j ≡ (is_slot_hidden (own s) st rs s k j && other.slot s k j)) → ((s k j : ℕ) → places.move s k j ≡ (slot_of (member_in st s k) j).mv) → AreNeverShown st places rs
+never_shown : (preview : Bool) (own : ℕ → Bool) (st : Start) (rs : List Round) (other : Hidden) (places : Hidden) → ((s k : ℕ) → places.member s k ≡ (is_member_hidden preview (own s) st rs s k && other.member s k)) → ((s k j : ℕ) → places.slot s k j ≡ (is_slot_hidden (own s) st rs (spot_at s k j) && other.slot s k j)) → ((s k j : ℕ) → places.move s k j ≡ (slot_of (member_in st s k) j).mv) → AreNeverShown st places rs
 never_shown preview own st rs other places members slots moves = record {
   moves = moves;
   members = λ s k h. (or_parts (not preview && k == 0) _ (last_of_three (not (own s)) _ (has_stood preview rs s k) (and_parts _ _ (sym (members s k) ∙ h)).0)).1;

@@ -19,7 +19,8 @@ use Rattle.ps_room.specs.Roles.{side_of_member}
 use Rattle.ps_room.specs.Rooms.{sender_of, verdict, told, after, message, role, refusal_by_battle, logged_of, shown_events, seen_texts, role_in, joiner_of}
 use Rattle.ps_room.proofs.AnswerLemmas.{after_allowed, after_refused, battle_allows}
 use Rattle.ps_laws.specs.Alike.{own_fight, own_part}
-use Rattle.ps_laws.specs.Rounds.{Round, round_of_choices, round_of, round_of_member, round_if_allowed, round_in}
+use Rattle.ps_laws.specs.Rounds.{Round, round_of_choices, round_of}
+use Rattle.ps_laws.proofs.RoundParts.{round_of_member, round_if_allowed, round_in}
 use Rattle.ps_laws.specs.Low.{Item, whole, commit, commit_of, entry_kept, items_of_round, items_of_own}
 use Rattle.ps_laws.proofs.PartLemmas.{PlaysOwn, side_below, is_choose, verdict_own, after_own, message_own, role_own, cast_own}
 use Rattle.ps_laws.proofs.ItemLemmas.{item_after, item_message, items_after, items_view, whole_after, whole_message, whole_is, whole_message_is, with_choice, waiting_fight, outcome_of_choices, commit_after, commit_message, choice_message}

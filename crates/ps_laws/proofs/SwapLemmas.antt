@@ -28,7 +28,7 @@ use Rattle.ps_room.specs.Rooms.{sender_of, after}
 use Rattle.ps_room.specs.Stories.{Story, story, view_of}
 use Rattle.ps_laws.specs.Users.{users}
 use Rattle.ps_laws.specs.Rounds.{Round, rounds}
-use Rattle.ps_laws.specs.Hidden.{member_in, is_previewed, has_stood, is_member_hidden, is_chosen, is_told, is_slot_shown, is_slot_hidden, own_sides, hidden, hidden_in_both}
+use Rattle.ps_laws.specs.Hidden.{spot_at, member_in, is_previewed, has_stood, is_member_hidden, is_chosen, is_told, is_slot_shown, is_slot_hidden, own_sides, hidden, hidden_in_both}
 use Rattle.ps_laws.specs.Low.{low_from}
 use Rattle.ps_laws.specs.Alike.{AreAlike}
 use Rattle.ps_laws.specs.Same.{IsSlotSame, AreKindsEqual, IsKindSame, IsMemberSame, IsNickSame, nick_in, AreTeamsSame, AreStartsSame, AreSame}
@@ -179,7 +179,7 @@ record IsSwapped (conn : ℕ) (o : Opening) (st : Start) (h : List Entry) (s : �
   slot_side : (t k j : ℕ) → spot.slot t k j ≡ true → t ≡ s
   member_hidden : (k : ℕ) → spot.member s k ≡ true → (hidden conn (story (with_start o st) h)).member s k ≡ true
   slot_hidden : (k j : ℕ) → spot.slot s k j ≡ true → (hidden conn (story (with_start o st) h)).slot s k j ≡ true
-  slot_untold : (k j : ℕ) → spot.slot s k j ≡ true → list_any (is_told (with_team st s l) s k j) (rounds (story (with_start o st) h)) ≡ false
+  slot_untold : (k j : ℕ) → spot.slot s k j ≡ true → list_any (is_told (with_team st s l) (spot_at s k j)) (rounds (story (with_start o st) h)) ≡ false
   slot_counts : (k j : ℕ) → spot.slot s k j ≡ true → (member_in st s k).slot_count ≡ (member_in (with_team st s l) s k).slot_count
 
 both_true : (a b : Bool) → a ≡ true → b ≡ true → (a && b) ≡ true
@@ -213,7 +213,7 @@ stood_same s k [] (q ∷ qs) lt w = absurd w
 stood_same s k (r ∷ rs) [] lt w = absurd w
 stood_same s k (r ∷ rs) (q ∷ qs) lt w = ap₂ (λ (x y : Bool). x || y) (ap (λ (i : ℕ). i == k) (w.0.after s lt)) (stood_same s k rs qs lt w.1)
 
-shown_same : (st : Start) (s k j : ℕ) (rs qs : List Round) → s < 2 → AreAllRounds rs qs → list_any (is_slot_shown st s k j) rs ≡ list_any (is_slot_shown st s k j) qs
+shown_same : (st : Start) (s k j : ℕ) (rs qs : List Round) → s < 2 → AreAllRounds rs qs → list_any (is_slot_shown st (spot_at s k j)) rs ≡ list_any (is_slot_shown st (spot_at s k j)) qs
 shown_same st s k j [] [] lt w = refl
 shown_same st s k j [] (q ∷ qs) lt w = absurd w
 shown_same st s k j (r ∷ rs) [] lt w = absurd w
@@ -259,38 +259,38 @@ module _ (conn : ℕ) (o : Opening) (st : Start) (h : List Entry) (s : ℕ) (l :
   member_too : (t k : ℕ) → is_member_hidden preview (own t) st (rounds one) t k ≡ is_member_hidden preview (own t) other (rounds one) t k
   member_too t k = ap (λ (n : ℕ). not (own t) && nat_lt k n && not (has_stood preview (rounds one) t k)) (counts t)
 
-  slot_too : (k j : ℕ) → spot.slot s k j ≡ true → is_slot_hidden (own s) other (rounds one) s k j ≡ true
+  slot_too : (k j : ℕ) → spot.slot s k j ≡ true → is_slot_hidden (own s) other (rounds one) (spot_at s k j) ≡ true
   slot_too k j sp =
       let hides = w.slot_hidden k j sp in
-      let parts = and_parts (not (own s) && nat_lt j (member_in st s k).slot_count) (not (list_any (is_slot_shown st s k j) (rounds one))) hides in
-      let none = neither_shown (is_chosen s k j) (is_told st s k j) (is_told other s k j) (rounds one) (not-true (list_any (is_slot_shown st s k j) (rounds one)) parts.1) (w.slot_untold k j sp) in
+      let parts = and_parts (not (own s) && nat_lt j (member_in st s k).slot_count) (not (list_any (is_slot_shown st (spot_at s k j)) (rounds one))) hides in
+      let none = neither_shown (is_chosen (spot_at s k j)) (is_told st (spot_at s k j)) (is_told other (spot_at s k j)) (rounds one) (not-true (list_any (is_slot_shown st (spot_at s k j)) (rounds one)) parts.1) (w.slot_untold k j sp) in
       let inside : (not (own s) && nat_lt j (member_in other s k).slot_count) ≡ true = ap (λ (n : ℕ). not (own s) && nat_lt j n) (sym (w.slot_counts k j sp)) ∙ parts.0 in
-      both_true (not (own s) && nat_lt j (member_in other s k).slot_count) (not (list_any (is_slot_shown other s k j) (rounds one))) inside (ap not none)
+      both_true (not (own s) && nat_lt j (member_in other s k).slot_count) (not (list_any (is_slot_shown other (spot_at s k j)) (rounds one))) inside (ap not none)
 
   member_P : (k : ℕ) → spot.member s k ≡ true → P.member s k ≡ true
   member_P k sp = both_true (is_member_hidden preview (own s) st (rounds one) s k) (spot.member s k) (w.member_hidden k sp) sp
 
   slot_P : (k j : ℕ) → spot.slot s k j ≡ true → P.slot s k j ≡ true
-  slot_P k j sp = both_true (is_slot_hidden (own s) st (rounds one) s k j) (spot.slot s k j) (w.slot_hidden k j sp) sp
+  slot_P k j sp = both_true (is_slot_hidden (own s) st (rounds one) (spot_at s k j)) (spot.slot s k j) (w.slot_hidden k j sp) sp
 
   member_Q : (k : ℕ) → spot.member s k ≡ true → Q.member s k ≡ true
   member_Q k sp = both_true (is_member_hidden preview (own s) other (rounds one) s k) (spot.member s k) (sym (member_too s k) ∙ w.member_hidden k sp) sp
 
   slot_Q : (k j : ℕ) → spot.slot s k j ≡ true → Q.slot s k j ≡ true
-  slot_Q k j sp = both_true (is_slot_hidden (own s) other (rounds one) s k j) (spot.slot s k j) (slot_too k j sp) sp
+  slot_Q k j sp = both_true (is_slot_hidden (own s) other (rounds one) (spot_at s k j)) (spot.slot s k j) (slot_too k j sp) sp
 
-  slot_both : (t k j : ℕ) → spot.slot t k j ≡ true → (is_slot_hidden (own t) st (rounds one) t k j ≡ true) × (is_slot_hidden (own t) other (rounds one) t k j ≡ true)
+  slot_both : (t k j : ℕ) → spot.slot t k j ≡ true → (is_slot_hidden (own t) st (rounds one) (spot_at t k j) ≡ true) × (is_slot_hidden (own t) other (rounds one) (spot_at t k j) ≡ true)
   slot_both t k j sp =
       let same : t ≡ s = w.slot_side t k j sp in
       let here : spot.slot s k j ≡ true = subst (λ (x : ℕ). spot.slot x k j ≡ true) same sp in
-      subst (λ (x : ℕ). (is_slot_hidden (own x) st (rounds one) x k j ≡ true) × (is_slot_hidden (own x) other (rounds one) x k j ≡ true)) (sym same) (w.slot_hidden k j here, slot_too k j here)
+      subst (λ (x : ℕ). (is_slot_hidden (own x) st (rounds one) (spot_at x k j) ≡ true) × (is_slot_hidden (own x) other (rounds one) (spot_at x k j) ≡ true)) (sym same) (w.slot_hidden k j here, slot_too k j here)
 
   places : ArePlaces P Q
   places = record {
     members = λ t k. ap (λ (x : Bool). x && spot.member t k) (member_too t k);
-    slots = λ t k j. where_spot (is_slot_hidden (own t) st (rounds one) t k j) (is_slot_hidden (own t) other (rounds one) t k j) (spot.slot t k j) (slot_both t k j);
+    slots = λ t k j. where_spot (is_slot_hidden (own t) st (rounds one) (spot_at t k j)) (is_slot_hidden (own t) other (rounds one) (spot_at t k j)) (spot.slot t k j) (slot_both t k j);
     member_below = λ t k hides. subst (λ (x : ℕ). x < 2) (sym (w.member_side t k (and_parts (is_member_hidden preview (own t) other (rounds one) t k) (spot.member t k) hides).1)) w.below;
-    slot_below = λ t k j hides. subst (λ (x : ℕ). x < 2) (sym (w.slot_side t k j (and_parts (is_slot_hidden (own t) other (rounds one) t k j) (spot.slot t k j) hides).1)) w.below;
+    slot_below = λ t k j hides. subst (λ (x : ℕ). x < 2) (sym (w.slot_side t k j (and_parts (is_slot_hidden (own t) other (rounds one) (spot_at t k j)) (spot.slot t k j) hides).1)) w.below;
   }
 
   same_in : (hides : Hidden) → ((k : ℕ) → spot.member s k ≡ true → hides.member s k ≡ true) → ((k j : ℕ) → spot.slot s k j ≡ true → hides.slot s k j ≡ true) → AreStartsSame preview hides st other
@@ -318,7 +318,7 @@ module _ (conn : ℕ) (o : Opening) (st : Start) (h : List Entry) (s : ℕ) (l :
     hidden_slot : (k j : ℕ) → spot.slot s k j ≡ true → (hidden conn two).slot s k j ≡ true
     hidden_slot k j sp =
         sym (ap (λ (x : Bool). not (own s) && nat_lt j (member_in other s k).slot_count && not x) (shown_same other s k j (rounds one) (rounds two) w.below locked.rounds)
-        ∙ ap (λ (ids : List (List ℕ)). is_slot_hidden (own_sides ids o.config (Some other) s) other (rounds two) s k j) locked.users)
+        ∙ ap (λ (ids : List (List ℕ)). is_slot_hidden (own_sides ids o.config (Some other) s) other (rounds two) (spot_at s k j)) locked.users)
         ∙ slot_too k j sp
 
     worlds_same : AreSame conn one two
@@ -432,7 +432,7 @@ members_may_differ conn o st h s k m nick fit fit_too below hides kinds =
       slot_hidden = λ i j sp. absurd cc;
       slot_untold = λ i j sp. absurd cc;
       slot_counts = λ i j sp. absurd cc;
-    }) (all_ask_nothing P Q (opened (with_start o st)) h (λ t i j e. not_both (is_slot_hidden (own t) st (rounds one) t i j) e))
+    }) (all_ask_nothing P Q (opened (with_start o st)) h (λ t i j e. not_both (is_slot_hidden (own t) st (rounds one) (spot_at t i j)) e))
 
 -- ---- a slot that was never shown
 
@@ -492,7 +492,7 @@ slots_may_differ conn o st h s k j slot fit fit_too below inside hides untold pa
     let one = story (with_start o st) h in
     let own = own_sides (users conn one) o.config (Some st) in
     let there = inside_team st o.config o.dex s k below inside fit in
-    let low : j < m.slot_count = ltb-true j m.slot_count (inside_by (own s) (nat_lt j m.slot_count) (list_any (is_slot_shown st s k j) (rounds one)) hides) in
+    let low : j < m.slot_count = ltb-true j m.slot_count (inside_by (own s) (nat_lt j m.slot_count) (list_any (is_slot_shown st (spot_at s k j)) (rounds one)) hides) in
     let teams = past_teams st.teams s (team_there st o.config o.dex s below fit) in
     let member_is : member_in other s k ≡ slot_put m j slot =
     ap (λ (x : Legal). get_or x.team.members k no_member) (put_there st s (record l { team = member_put l.team k (slot_put m j slot) }) teams)
@@ -502,7 +502,7 @@ slots_may_differ conn o st h s k j slot fit fit_too below inside hides untold pa
     let P = both preview own (Some st) (rounds one) spot in
     let Q = both preview own (Some other) (rounds one) spot in
     let at : (t i n : ℕ) → P.slot t i n ≡ true → (t ≡ s) × (P.move t i n ≡ (slot_of m j).mv) × (Q.move t i n ≡ slot.mv) = λ t i n hides_too.
-    (let place = at_slot s k j t i n (and_parts (is_slot_hidden (own t) st (rounds one) t i n) (spot.slot t i n) hides_too).1 in (
+    (let place = at_slot s k j t i n (and_parts (is_slot_hidden (own t) st (rounds one) (spot_at t i n)) (spot.slot t i n) hides_too).1 in (
       place.0,
       ap₂ (λ (x y : ℕ). (slot_of (member_in st x y) n).mv) place.0 place.1 ∙ ap (λ (x : ℕ). (slot_of m x).mv) place.2,
       ap₂ (λ (x y : ℕ). (slot_of (member_in other x y) n).mv) place.0 place.1 ∙ ap (λ (x : ℕ). (slot_of (member_in other s k) x).mv) place.2 ∙ ap (λ (x : MoveSlot). x.mv) slot_is,
@@ -518,6 +518,6 @@ slots_may_differ conn o st h s k j slot fit fit_too below inside hides untold pa
       slot_side = λ t i n sp. (at_slot s k j t i n sp).0;
       member_hidden = λ i sp. absurd cc;
       slot_hidden = λ i n sp. (let at = at_slot s k j s i n sp in subst (λ (x : ℕ). (hidden conn one).slot s x n ≡ true) (sym at.1) (subst (λ (x : ℕ). (hidden conn one).slot s k x ≡ true) (sym at.2) hides));
-      slot_untold = λ i n sp. (let at = at_slot s k j s i n sp in subst (λ (x : ℕ). list_any (is_told other s x n) (rounds one) ≡ false) (sym at.1) (subst (λ (x : ℕ). list_any (is_told other s k x) (rounds one) ≡ false) (sym at.2) untold));
+      slot_untold = λ i n sp. (let at = at_slot s k j s i n sp in subst (λ (x : ℕ). list_any (is_told other (spot_at s x n)) (rounds one) ≡ false) (sym at.1) (subst (λ (x : ℕ). list_any (is_told other (spot_at s k x)) (rounds one) ≡ false) (sym at.2) untold));
       slot_counts = λ i n sp. (let at = at_slot s k j s i n sp in subst (λ (x : ℕ). (member_in st s x).slot_count ≡ (member_in other s x).slot_count) (sym at.1) (ap (λ (x : Member). x.slot_count) (sym member_is)));
     }) (all_ask_neither P Q s (slot_of m j).mv slot.mv (opened (with_start o st)) h at past)

@@ -28,7 +28,8 @@ use Rattle.ps_room.specs.Stories.{story}
 use Rattle.ps_room.proofs.AnswerLemmas.{after_allowed, after_refused, battle_allows, chat_allows}
 use Rattle.ps_laws.specs.Alike.{if_own, own_bout, own_fight, own_part}
 use Rattle.ps_laws.specs.Users.{badge_of, user_of, users_from, users}
-use Rattle.ps_laws.specs.Rounds.{Round, round_of, round_if_allowed, round_in, round_by, completed_if}
+use Rattle.ps_laws.specs.Rounds.{Round, round_of}
+use Rattle.ps_laws.proofs.RoundParts.{round_if_allowed, round_in, round_by, completed_if}
 use Rattle.ps_laws.specs.Low.{Item, whole, commit_of, entry_kept, is_own, items_of_own, items_of_others, items_of_allowed, items_of, low_from}
 use Rattle.ps_laws.specs.Secrets.{is_choose, side_in, waits_in, IsNeverPlayed, IsUnplayed, ChoicesMayBeMissing, ChoicesMayDiffer}
 use Rattle.ps_laws.specs.HallLow.{is_user}

@@ -1,6 +1,6 @@
 -- The rounds of a battle that a history completed.
 use Rattle.std.specs.Prelude.{ℕ, zero, suc, Bool, true, false, ◌&&◌, List, [], ◌∷◌, ◌++◌}
-use Rattle.std.specs.Prelude.{Option, Some, None, option_to_list, Result, Ok, Err}
+use Rattle.std.specs.Prelude.{Option, Some, None, option_to_list, Result, Ok, Err, ⊤, if◌then◌else◌}
 use Rattle.ps_base.specs.declared.why.Why.{Why}
 use Rattle.ps_lines.specs.declared.command.Command.{Command}
 use Rattle.ps_lines.specs.declared.command.Command.TheVariants.{Choose}
@@ -43,37 +43,40 @@ round_of_choices facts battle first second =
     record { before = battle; first = first; second = second; after = course.battle; told = course.told }
 
 -- what waits is a round where both sides are ready
-abbrev pub completed_if : Bool → Figures → Bout → Option Round
-completed_if true facts bout = Some (round_of_choices facts bout.battle (choice_or_pass bout.first) (choice_or_pass bout.second))
-completed_if false facts bout = None
+abbrev pub completed_round : Figures → Bout → Option Round
+completed_round facts bout = if is_ready bout 0 && is_ready bout 1
+    then Some (round_of_choices facts bout.battle (choice_or_pass bout.first) (choice_or_pass bout.second)) else None
 
-abbrev pub completed_by : Figures → Bout → Option Round
-completed_by facts bout = completed_if (is_ready bout 0 && is_ready bout 1) facts bout
+-- ---- the round of an entry
 
--- the choice of a side completes a round, or waits
-abbrev pub round_by : Tables → Bout → ℕ → Result Choice Why → Option Round
-round_by dex bout side (Ok choice) = completed_by (figures_of dex) (with_waiting side (Some choice) bout)
-round_by dex bout side (Err why) = None
+-- one step after another: where one finds nothing, nothing is found
+infixl 10 ◌>>=◌
+abbrev pub ◌>>=◌ : {A B : Type 0} → Option A → (A → Option B) → Option B
+None >>= next = None
+(Some value) >>= next = next value
 
-abbrev pub round_of_side : Tables → Bout → ℕ → Command → Option Round
-round_of_side dex bout side (Choose choice rqid) = round_by dex bout side (chosen bout side dex choice rqid)
-round_of_side dex bout side other = None
+-- what is refused completes no round
+abbrev pub allowed : Option Why → Option ⊤
+allowed None = Some tt
+allowed (Some why) = None
 
-abbrev pub round_in : Tables → Bout → Option ℕ → Command → Option Round
-round_in dex bout None cmd = None
-round_in dex bout (Some side) cmd = round_of_side dex bout side cmd
+abbrev pub ok_choice : Result Choice Why → Option Choice
+ok_choice (Ok choice) = Some choice
+ok_choice (Err why) = None
 
-abbrev pub round_of_member : Option Fight → Option Present → Command → Option Round
-round_of_member None me cmd = None
-round_of_member (Some fight) me cmd = round_in fight.cast.dex fight.bout (side_of_member fight.cast me) cmd
+-- the choice that a command of a side makes, if it makes one
+abbrev pub choice_by : Tables → Bout → ℕ → Command → Option Choice
+choice_by dex bout side (Choose choice rqid) = ok_choice (chosen bout side dex choice rqid)
+choice_by dex bout side other = None
 
-abbrev pub round_if_allowed : Option Why → Record → Entry → Option Round
-round_if_allowed (Some why) room entry = None
-round_if_allowed None room entry = round_of_member room.battle (sender_of room entry) entry.cmd
-
--- the round that an entry completes, if it completes one
+-- the round that an entry completes, if it completes one: the choice of a side's player completes it, or waits
 abbrev pub round_of : Record → Entry → Option Round
-round_of room entry = round_if_allowed (verdict room entry) room entry
+round_of room entry = do
+  _ ← allowed (verdict room entry)
+  fight ← room.battle
+  side ← side_of_member fight.cast (sender_of room entry)
+  choice ← choice_by fight.cast.dex fight.bout side entry.cmd
+  completed_round (figures_of fight.cast.dex) (with_waiting side (Some choice) fight.bout)
 
 -- the rounds that a history completes, from a record on
 abbrev pub rounds_from : Record → List Entry → List Round

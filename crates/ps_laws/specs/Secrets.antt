@@ -27,7 +27,7 @@ use Rattle.ps_room.specs.Stories.{story, view_of}
 use Rattle.ps_room.specs.Unseen.{sees_notes}
 use Rattle.ps_laws.specs.Users.{users}
 use Rattle.ps_laws.specs.Rounds.{Round, round_of, rounds}
-use Rattle.ps_laws.specs.Hidden.{member_in, is_told, is_previewed, hidden}
+use Rattle.ps_laws.specs.Hidden.{member_in, spot_at, is_told, is_previewed, hidden}
 use Rattle.ps_laws.specs.Low.{is_own}
 use Rattle.ps_laws.specs.Same.{AreKindsEqual}
 
@@ -95,7 +95,8 @@ SlotsMayDiffer conn = (opening : Opening) (st : Start) (history : List Entry) (s
     → IsFitOpening (with_start opening st) → IsFitOpening (with_start opening (with_slot st side member index slot))
     → side < 2 → member < (legal_of st.teams side).team.count
     → (hidden conn (story (with_start opening st) history)).slot side member index ≡ true
-    → list_any (is_told (with_slot st side member index slot) side member index) (rounds (story (with_start opening st) history)) ≡ false
+    → list_any (is_told (with_slot st side member index slot) (spot_at side member index))
+    (rounds (story (with_start opening st) history)) ≡ false
     → AllNameNeither side (slot_of (member_in st side member) index).mv slot.mv (opened (with_start opening st)) history
     → view_of conn (story (with_start opening st) history)
     ≡ view_of conn (story (with_start opening (with_slot st side member index slot)) history)
@@ -120,8 +121,8 @@ waits_in (Some fight) side = is_some (waiting fight.bout side)
 -- history ends.
 abbrev pub IsNeverPlayed : ℕ → Record → List Entry → Type 0
 IsNeverPlayed side room [] = Unit {0}
-IsNeverPlayed side room (entry ∷ entries) = waits_in room.battle side ≡ true → (round_of room entry ≡ None)
-    × IsNeverPlayed side (after room entry) entries
+IsNeverPlayed side room (entry ∷ entries) =
+    waits_in room.battle side ≡ true → ((round_of room entry ≡ None) × IsNeverPlayed side (after room entry) entries)
 
 -- An allowed choice of a side's player, where it stands: it is neither of the connection nor of one of its users, and completes no
 -- round, neither at once nor later.
