@@ -1,5 +1,5 @@
 -- Lookups in the hall.
-use Rattle.std.specs.Prelude.{ℕ, ℤ, ◌==◌, ◌&&◌, ◌||◌, Bool, not, List, [], ◌∷◌, find, map, option_and_then, unwrap_or, is_some}
+use Rattle.std.specs.Prelude.{ℕ, ℤ, ◌==◌, ◌&&◌, ◌||◌, Bool, not, List, [], ◌∷◌, find, map, unwrap_or, is_some}
 use Rattle.std.specs.Prelude.{slice_index_or, nat_le, Option, Some, None, Result, Ok, if◌then◌else◌}
 use Rattle.std.specs.List.{filter, list_any}
 use Rattle.std.specs.Str.{bytes_eq}
@@ -36,10 +36,6 @@ conn_of hall id = get hall.users.online id
 
 abbrev pub is_online : Record → List ℕ → Bool
 is_online hall id = is_some (conn_of hall id)
-
--- the badge of an id that is online
-abbrev pub badge_by_id : Record → List ℕ → Option Badge
-badge_by_id hall id = option_and_then (badge_of hall) (conn_of hall id)
 
 -- ---- formats and teams
 

@@ -1,17 +1,15 @@
 //! Lookups in the hall.
-ghost use Rattle.std.specs.Prelude.{◌≡◌, is_some, option_and_then, nat_le};
+ghost use Rattle.std.specs.Prelude.{◌≡◌, is_some, nat_le};
 ghost use Rattle.std.specs.FinMap.{get};
 ghost use Rattle.std.specs.Option.{option_copied};
 ghost use Rattle.ps_base.specs.Limits.{most_battles};
 ghost use Rattle.ps_rules.specs.Resolve.{format_of};
-ghost use Rattle.ps_users.specs.Seats.{badge_in};
 ghost use Rattle.ps_ladder.specs.Ratings.{rating};
 ghost use Rattle.ps_ladder.specs.Waiting.{found};
 ghost use Rattle.ps_hall.specs.Lookups.{challenge_from, ladder_in};
 ghost use Rattle.ps_hall.specs.States.{record_of};
 
 use crate::state::State;
-use ps_base::badge::Badge;
 use ps_base::id::Id;
 use ps_base::id_map::IdMap;
 use ps_base::limit::MOST_BATTLES;
@@ -37,16 +35,6 @@ pub(crate) fn is_online(users: &Users, id: &Id) -> bool
     ensures { result ≡ is_some (get users.now.online id.now) }
 {
     users.conn(id.as_str()).is_some()
-}
-
-/// The badge of an id that is online.
-pub(crate) fn badge_by_id<'a>(users: &'a Users, id: &Id) -> Option<&'a Badge>
-    ensures { option_copied result ≡ option_and_then (badge_in users.now.seats) (get users.now.online id.now) }
-{
-    match users.conn(id.as_str()) {
-        None => None,
-        Some(conn) => users.badge(conn),
-    }
 }
 
 /// The rating of a user in a format.
