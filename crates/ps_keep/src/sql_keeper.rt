@@ -6,45 +6,33 @@ use crate::keeper::{KeepEnd, Keeper};
 use crate::note::Note;
 use crate::table::{self, Job, Loaded, TableEnd};
 use crate::tally::Tally;
-use sqlite::{Connection, File, FileStore, MemStore};
+use sqlite::{Connection, File, FileStore};
 use std::alloc::Global;
 use std::marker::Model;
 use std::{fs, slice};
 
-// Where a database is.
+// Where a database is: in the file of the host with this name.
 #[derive(Drop)]
-enum Shelf<'a> {
-    // In the file of the host with this name.
-    File {
-        host: &'a HostRuntime,
-        name: &'a str,
-    },
-    // In memory: it is gone with the keeper.
-    Memory,
+struct Shelf<'a> {
+    host: &'a HostRuntime,
+    name: &'a str,
 }
 
 // An open database.
-enum Opened {
-    File(Connection<FileStore<File>>),
-    Memory(Connection<MemStore>),
+struct Opened {
+    conn: Connection<FileStore<File>>,
 }
 
 // By hand, so that whoever drops one has one step of its proof for that.
 impl Drop for Opened {
     fn drop(self) {
-        match self {
-            Opened::File(_) => {}
-            Opened::Memory(_) => {}
-        }
+        let Opened { conn: _ } = self;
     }
 }
 
 impl Opened {
     fn run(&mut self, alloc: Global, job: Job<'_>) -> Result<Option<Loaded>, TableEnd> {
-        match self {
-            Opened::File(conn) => table::run(alloc, conn, job),
-            Opened::Memory(conn) => table::run(alloc, conn, job),
-        }
+        table::run(alloc, &mut self.conn, job)
     }
 
     fn append(&mut self, alloc: Global, notes: &[Note]) -> Result<(), TableEnd> {
@@ -52,37 +40,23 @@ impl Opened {
         Ok(())
     }
 
-    // A file's log is copied into it.
+    // The log of the file is copied into it.
     fn close(self) {
-        match self {
-            Opened::File(conn) => {
-                let _ = conn.close();
-            }
-            Opened::Memory(_) => {}
-        }
+        let Opened { conn } = self;
+        let _ = conn.close();
     }
 }
 
 // Opens the database of a file. Where there is no file it is made, or none is given.
-fn open_file(host: &HostRuntime, name: &str, make: bool) -> Result<Option<Opened>, TableEnd> {
-    let Ok(is_there) = fs::exists(host, name) else {
+fn open(shelf: &Shelf<'_>, make: bool) -> Result<Option<Opened>, TableEnd> {
+    let Ok(is_there) = fs::exists(shelf.host, shelf.name) else {
         return Err(TableEnd::Failed);
     };
     if !is_there && !make {
         return Ok(None);
     }
-    let conn = Connection::open(host, name)?;
-    Ok(Some(Opened::File(conn)))
-}
-
-fn open(alloc: Global, shelf: &Shelf<'_>, make: bool) -> Result<Option<Opened>, TableEnd> {
-    match shelf {
-        Shelf::File { host, name } => open_file(host, name, make),
-        Shelf::Memory => {
-            let conn = Connection::open_in_memory(alloc)?;
-            Ok(Some(Opened::Memory(conn)))
-        }
-    }
+    let conn = Connection::open(shelf.host, shelf.name)?;
+    Ok(Some(Opened { conn }))
 }
 
 // A database, which is opened at the first call that needs it, and then held.
@@ -103,15 +77,15 @@ impl Drop for Book<'_> {
 
 impl Book<'_> {
     // Where it isn't open it is opened.
-    fn hold(&mut self, alloc: Global, make: bool) -> Result<(), TableEnd> {
+    fn hold(&mut self, make: bool) -> Result<(), TableEnd> {
         if self.opened.is_none() {
-            self.opened = open(alloc, &self.shelf, make)?;
+            self.opened = open(&self.shelf, make)?;
         }
         Ok(())
     }
 
     fn load(&mut self, alloc: Global, most: u32) -> Result<Option<Loaded>, TableEnd> {
-        self.hold(alloc, false)?;
+        self.hold(false)?;
         match &mut self.opened {
             None => Ok(None),
             Some(opened) => opened.run(alloc, Job::Load { most }),
@@ -121,15 +95,13 @@ impl Book<'_> {
     // The log of a file is copied into it, so that the file alone has all notes, and others may open it. Where that fails they
     // are in the file and its log.
     fn finish(&mut self) {
-        if let Some(Opened::File(_)) = &self.opened {
-            if let Some(opened) = self.opened.take() {
-                opened.close();
-            }
+        if let Some(opened) = self.opened.take() {
+            opened.close();
         }
     }
 
     fn append(&mut self, alloc: Global, notes: &[Note]) -> Result<(), TableEnd> {
-        self.hold(alloc, true)?;
+        self.hold(true)?;
         let end = match &mut self.opened {
             None => Err(TableEnd::Failed),
             Some(opened) => opened.append(alloc, notes),
@@ -191,20 +163,7 @@ impl<'a> SqlKeeper<'a> {
     {
         SqlKeeper {
             book: Book {
-                shelf: Shelf::File { host, name },
-                opened: None,
-            },
-            tally: Tally::new(),
-        }
-    }
-
-    /// A keeper over a database in memory, with no notes. Takes no memory.
-    pub fn in_memory() -> SqlKeeper<'a>
-        ensures { result ≡ no_counts }
-    {
-        SqlKeeper {
-            book: Book {
-                shelf: Shelf::Memory,
+                shelf: Shelf { host, name },
                 opened: None,
             },
             tally: Tally::new(),
