@@ -16,6 +16,8 @@ use Rattle.ps_hits.specs.Told.{side_name}
 use Rattle.ps_battle.specs.Openings.{open_course, give_up}
 use Rattle.ps_battle.specs.Turns.{turn}
 use Rattle.battle_rounds.specs.declared.bout.Bout.{Bout}
+use Rattle.battle_rounds.specs.declared.finish.Finish.{Finish}
+use Rattle.battle_rounds.specs.declared.finish.Finish.TheVariants as finishes
 use Rattle.battle_rounds.specs.Bouts.{waiting, with_waiting}
 
 -- the battle in its rounds after something, and the events of it
@@ -67,12 +69,12 @@ undone side bout = record { bout = with_waiting side None bout; told = events.Re
 unfoldable pub gave_up : ℕ → Bout → Outcome
 gave_up side bout = in_round bout.round (give_up side (untold bout.battle))
 
--- who won, or nobody at a tie; None where the battle goes on
-abbrev pub result_of : Phase → Option (Option ℕ)
-result_of (phases.Won winner) = Some (Some winner)
-result_of phases.Tied = Some None
-result_of other = None
+-- how a battle ended that has come to this phase; None where it goes on
+abbrev pub finish_of : Phase → Option Finish
+finish_of (phases.Won side) = Some (finishes.Won side)
+finish_of phases.Tied = Some finishes.Tied
+finish_of other = None
 
--- how a battle ended between two phases
-abbrev pub ended : Phase → Phase → Option (Option ℕ)
-ended before after = if is_over before then None else result_of after
+-- how a battle ended between two phases; None where it was over before, and where it goes on
+abbrev pub ended : Phase → Phase → Option Finish
+ended before after = if is_over before then None else finish_of after

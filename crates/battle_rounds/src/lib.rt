@@ -4,6 +4,7 @@
 pub mod bout;
 pub mod cast;
 pub mod decision;
+pub mod finish;
 pub mod refusal;
 pub mod request;
 pub mod room_battle;

@@ -8,9 +8,10 @@ ghost use Rattle.ps_mon.specs.Teams.{IsFresh, IsTeamKnown};
 ghost use Rattle.ps_mon.specs.Valid.{is_over};
 ghost use Rattle.battle_rounds.specs.Bouts.{IsBout, CanWait, waiting};
 ghost use Rattle.battle_rounds.specs.Rounds.{outcome, opened, is_ready, choice_or_pass, committed, completed, chose, undone, gave_up};
-ghost use Rattle.battle_rounds.specs.Rounds.{result_of, ended};
+ghost use Rattle.battle_rounds.specs.Rounds.{finish_of, ended};
 
 use crate::bout::{Bout, set_waiting, waiting};
+use crate::finish::Finish;
 use ps_battle::{commit, forfeit, open as open_battle};
 use ps_choice::legality::is_asked;
 use ps_event::event::{Event, Events};
@@ -145,23 +146,22 @@ pub fn give_up(bout: &mut Bout, facts: Facts<'_>, side: u8, out: &mut Events)
     bout.second = None;
 }
 
-fn result_of(phase: Phase) -> Option<Option<u8>>
-    ensures { result ≡ result_of phase }
+fn finish_of(phase: Phase) -> Option<Finish>
+    ensures { result ≡ finish_of phase }
 {
     match phase {
-        Phase::Won(side) => Some(Some(side)),
-        Phase::Tied => Some(None),
+        Phase::Won(side) => Some(Finish::Won(side)),
+        Phase::Tied => Some(Finish::Tied),
         _ => None,
     }
 }
 
-/// How a battle ended between two phases: the side that won, 0 or 1, or nobody at a tie. None where it was over before, and
-/// where it goes on.
-pub fn ended(before: Phase, after: Phase) -> Option<Option<u8>>
+/// How a battle ended between two phases. `None` where it was over before, and where it goes on.
+pub fn ended(before: Phase, after: Phase) -> Option<Finish>
     ensures { result ≡ ended before after }
 {
     match before {
         Phase::Won(_) | Phase::Tied => None,
-        _ => result_of(after),
+        _ => finish_of(after),
     }
 }

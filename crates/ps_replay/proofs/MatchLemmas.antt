@@ -5,16 +5,16 @@ use Rattle.std.specs.Io.KnownBytes.{Appends, Keeps}
 use Rattle.std.proofs.KnownBytes.{Appends-trans, Appends-nil}
 use Rattle.std.proofs.lemmas.Option.{none-some}
 use Rattle.ps_outside.specs.Sinks.{AppendsFront}
-use Rattle.ps_room.specs.declared.outcome.Ending.{Ending}
 use Rattle.ps_tour.specs.Brackets.{open_match}
 use Rattle.replay_script.specs.declared.item.Item.{Item}
 use Rattle.replay_state.specs.Entries.{Run, state_of, end_at, run_after, run_past}
 use Rattle.replay_state.specs.Tables.{Desk, state_in, desk_of, desk_after, item_text, item_after, text_from}
 use Rattle.replay_state.proofs.TextLemmas.{desk_past, desk_past_all, text_behind, end_is}
+use Rattle.replay_tour.specs.declared.battle_end.BattleEnd.{BattleEnd}
 use Rattle.replay_tour.specs.Matches.{match_line}
 use Rattle.replay_tour.specs.Tours.{Tour, line_of, next_line, past}
 use Rattle.ps_replay.specs.Flow.{MovesFront}
-use Rattle.ps_replay.specs.Tours.{end_of, line_with, lines_from, played, PlaysLines, PlaysFront}
+use Rattle.ps_replay.specs.Tours.{battle_end, end_of, line_with, lines_from, played, PlaysLines, PlaysFront}
 use Rattle.ps_replay.proofs.FlowLemmas.{Came, Came-start, Came-more, Came-stopped, Came-last, Came-all}
 
 -- where the tournament began with `first` in the state `start` of the run `r`, and so many lines are left to come at the most
@@ -33,17 +33,17 @@ reached_start most left format t d r old all is =
 lines_step : (m : ℕ) (format : List ℕ) (t : Tour) (r : Run) (line : Item) → next_line format t ≡ Some line → lines_from (suc m) format t r ≡ line ∷ lines_from m format (past (end_of r line) t) (run_after r line)
 lines_step m format t r line e = ap (line_with (lines_from m format) t r) e
 
-end_known : (r : Run) (d : Desk) (line : Item) → d ≡ desk_of r → option_map (λ (e : Ending). e.winner) (end_at (state_in d) line) ≡ end_of r line
+end_known : (r : Run) (d : Desk) (line : Item) → d ≡ desk_of r → option_map battle_end (end_at (state_in d) line) ≡ end_of r line
 end_known r d line is =
-    ap (λ (x : Desk). option_map (λ (e : Ending). e.winner) (end_at (state_in x) line)) is
-    ∙ ap (option_map (λ (e : Ending). e.winner)) (end_is r line)
+    ap (λ (x : Desk). option_map battle_end (end_at (state_in x) line)) is
+    ∙ ap (option_map battle_end) (end_is r line)
 
 lines_left : (left m : ℕ) (format : List ℕ) (t : Tour) (r : Run) (line : Item) → left ≡ suc m → next_line format t ≡ Some line → lines_from left format t r ≡ line ∷ lines_from m format (past (end_of r line) t) (run_after r line)
 lines_left left m format t r line is next = ap (λ (n : ℕ). lines_from n format t r) is ∙ lines_step m format t r line next
 
 pub reached_more : (most left m : ℕ) (format : List ℕ) (first t : Tour) (start d : Desk) (r : Run) (old mid new : Option (List ℕ)) (pending now : List ℕ) (line : Item) → left ≡ suc m → next_line format t ≡ Some line
     → Reached most format first start r old mid left t d pending → MovesFront mid new (pending ++ item_text d line) now
-    → Reached most format first start r old new m (past (option_map (λ e. e.winner) (end_at (state_in d) line)) t) (item_after d line) now
+    → Reached most format first start r old new m (past (option_map battle_end (end_at (state_in d) line)) t) (item_after d line) now
 reached_more most left m format first t start d r old mid new pending now line is next a moved =
     let later : Tour = past (end_of a.run line) t in
     let rest : List Item = lines_from m format later (run_after a.run line) in
@@ -55,7 +55,7 @@ reached_more most left m format first t start d r old mid new pending now line i
           (subst (λ (is : List Item). Came old mid (text_from start (lines_from most format first r)) pending d is) parts a.came) moved;
       same = sym (ap (played t a.run) parts) ∙ a.same;
     } in
-    subst (λ (end : Option (Option ℕ)). Reached most format first start r old new m (past end t) (item_after d line) now) (sym (end_known a.run d line a.desk_is)) there
+    subst (λ (end : Option BattleEnd). Reached most format first start r old new m (past end t) (item_after d line) now) (sym (end_known a.run d line a.desk_is)) there
 
 pub reached_stopped : (most left m : ℕ) (format : List ℕ) (first t : Tour) (start d : Desk) (r : Run) (old mid new : Option (List ℕ)) (pending : List ℕ) (line : Item) → left ≡ suc m → next_line format t ≡ Some line
     → Reached most format first start r old mid left t d pending → AppendsFront mid new (pending ++ item_text d line) → AppendsFront old new (text_from start (lines_from most format first r))

@@ -1,5 +1,5 @@
 -- The script of a tournament, what is written of it, and how it ends.
-use Rattle.std.specs.Prelude.{◌≡◌, ◌⊎◌, ℕ, zero, suc, List, [], ◌∷◌, ◌++◌, Option, Some, None}
+use Rattle.std.specs.Prelude.{◌≡◌, ◌⊎◌, ℕ, zero, suc, ◌==◌, List, [], ◌∷◌, ◌++◌, Option, Some, None, if◌then◌else◌}
 use Rattle.std.specs.Option.{option_map}
 use Rattle.std.specs.Io.KnownBytes.{Appends, Keeps}
 use Rattle.ps_outside.specs.Causes.{Rose}
@@ -7,6 +7,7 @@ use Rattle.ps_outside.specs.Files.{FileCounts}
 use Rattle.ps_outside.specs.Sinks.{AppendsFront}
 use Rattle.ps_dex.specs.declared.item.Tables.{Tables}
 use Rattle.rules_config.specs.declared.settings.Settings.{Settings}
+use Rattle.ps_room.specs.declared.outcome.Ending.{Ending}
 use Rattle.ps_tour.specs.Brackets.{open_match}
 use Rattle.replay_script.specs.declared.item.Item.{Item}
 use Rattle.replay_state.specs.Setup.{Setup, setup_of}
@@ -15,6 +16,8 @@ use Rattle.replay_state.specs.Transcript.{output}
 use Rattle.replay_state.specs.Tables.{Desk, desk_of, text_from}
 use Rattle.replay_state.specs.TwoWorlds.{HasEqualBlocks}
 use Rattle.replay_drill.specs.declared.fight.Fight.{Fight}
+use Rattle.replay_tour.specs.declared.battle_end.BattleEnd.{BattleEnd}
+use Rattle.replay_tour.specs.declared.battle_end.BattleEnd.TheVariants.{FirstWon, SecondWon, Tied}
 use Rattle.replay_tour.specs.Entrants.{entering}
 use Rattle.replay_tour.specs.Tours.{Tour, begun, next_line, past}
 use Rattle.replay_tour.specs.Results.{result_text, IsDecidedTour}
@@ -30,9 +33,18 @@ use Rattle.program_commands.specs.Fields.{HasField, HasNoField}
 
 -- ---- the script: each line is the tournament's next one, as the lines before it left the world
 
--- how a battle ends at a line: with the side that won it, or a tie, or not at all
-abbrev pub end_of : Run → Item → Option (Option ℕ)
-end_of run item = option_map (λ ending. ending.winner) (end_at (state_of run) item)
+-- by the side that won: the first of the two who meet is side 0
+abbrev pub end_with : Option ℕ → BattleEnd
+end_with None = Tied
+end_with (Some side) = if side == 0 then FirstWon else SecondWon
+
+-- how a battle ended, by the two who meet in it
+abbrev pub battle_end : Ending → BattleEnd
+battle_end ending = end_with ending.winner
+
+-- how a battle ends at a line, if one does
+abbrev pub end_of : Run → Item → Option BattleEnd
+end_of run item = option_map battle_end (end_at (state_of run) item)
 
 -- a line, and what follows it, which `later` says
 abbrev pub line_with : (Tour → Run → List Item) → Tour → Run → Option Item → List Item

@@ -12,7 +12,7 @@ ghost use Rattle.replay_tour.specs.Entrants.{entering};
 ghost use Rattle.replay_tour.specs.Tours.{past};
 ghost use Rattle.replay_tour.specs.Results.{result_text};
 ghost use Rattle.ps_replay.specs.Flow.{MovesFront};
-ghost use Rattle.ps_replay.specs.Tours.{most_lines, PlaysLines, PlaysFront};
+ghost use Rattle.ps_replay.specs.Tours.{most_lines, battle_end, PlaysLines, PlaysFront};
 
 use crate::replay::{ReplayEnd, flush, replay_from, replay_item, table_of};
 use ps_base::id::Id;
@@ -24,6 +24,7 @@ use replay_script::item::Item;
 use replay_script::line::{Line, line_of, lines_of};
 use replay_state::table::Table;
 use replay_state::transcript::Transcript;
+use replay_tour::battle_end::BattleEnd;
 use replay_tour::entering::entering;
 use replay_tour::results::result_text;
 use replay_tour::tour::Tour;
@@ -40,13 +41,24 @@ fn most_lines() -> u32
     100_000
 }
 
-// The side that won, or a tie, where a battle ended.
-fn winner_of(end: Option<Ending>) -> Option<Option<u8>>
-    ensures { result ≡ option_map (λ e. e.winner) end }
+// How a battle ended, by the two who meet in it.
+fn battle_end(ending: Ending) -> BattleEnd
+    ensures { result ≡ battle_end ending }
 {
-    match end {
+    match ending.winner {
+        None => BattleEnd::Tied,
+        Some(0) => BattleEnd::FirstWon,
+        Some(_) => BattleEnd::SecondWon,
+    }
+}
+
+// The same where one ended at a line.
+fn battle_end_of(ending: Option<Ending>) -> Option<BattleEnd>
+    ensures { result ≡ option_map battle_end ending }
+{
+    match ending {
         None => None,
-        Some(end) => Some(end.winner),
+        Some(ending) => Some(battle_end(ending)),
     }
 }
 
@@ -60,7 +72,7 @@ fn play_line<K: Sink>(
     out: &mut K,
 ) -> Result<(), ReplayEnd>
     ensures state { OnOk result (table.new ≡ item_after table.old line.now) }
-    ensures tour { OnOk result (tour.new ≡ past (option_map (λ e. e.winner) (end_at (state_in table.old) line.now)) tour.old) }
+    ensures tour { OnOk result (tour.new ≡ past (option_map battle_end (end_at (state_in table.old) line.now)) tour.old) }
     ensures wrote { OnOk result (MovesFront (K.written out.old) (K.written out.new)
         (string_bytes pending.old.text ++ item_text table.old line.now) (string_bytes pending.new.text)) }
     ensures err { OnErr result (AppendsFront
@@ -70,7 +82,7 @@ fn play_line<K: Sink>(
 {
     match replay_item(alloc, table, &line_of(line), pending, out) {
         Err(end) => Err(end),
-        Ok(end) => match tour.go_on(winner_of(end)) {
+        Ok(end) => match tour.go_on(battle_end_of(end)) {
             Err(_) => Err(ReplayEnd::NoMemory),
             Ok(()) => Ok(()),
         },

@@ -18,6 +18,8 @@ use Rattle.ps_view.specs.declared.role.Role.{Role}
 use Rattle.battle_rounds.specs.declared.bout.Bout.{Bout}
 use Rattle.battle_rounds.specs.Casts.{Cast}
 use Rattle.battle_rounds.specs.declared.decision.Decision.{Decision}
+use Rattle.battle_rounds.specs.declared.finish.Finish.{Finish}
+use Rattle.battle_rounds.specs.declared.finish.Finish.TheVariants.{Won, Tied}
 use Rattle.battle_rounds.specs.Fights.{Fight, outcome_of}
 use Rattle.battle_rounds.specs.Rounds.{ended}
 use Rattle.ps_splitlog.specs.declared.stored.Stored.{Stored}
@@ -182,9 +184,11 @@ pub record MakesNone (seen : Seen) (entry : Entry) (new_bout : Option Bout) : Ty
 abbrev pub entry_of : ℕ → Badge → ℕ → Command → Entry
 entry_of conn badge moment cmd = record { conn = conn; badge = badge; moment = moment; cmd = cmd }
 
-abbrev pub ending_of : ℕ → Option (Option ℕ) → Option Ending
+-- the end of the battle with this number, where it ended
+abbrev pub ending_of : ℕ → Option Finish → Option Ending
 ending_of number None = None
-ending_of number (Some winner) = Some (record { number = number; winner = winner })
+ending_of number (Some (Won side)) = Some (record { number = number; winner = Some side })
+ending_of number (Some Tied) = Some (record { number = number; winner = None })
 
 -- how the battle ended at an entry that is applied
 abbrev pub ending_by : Option Fight → Option Present → Command → Option Ending

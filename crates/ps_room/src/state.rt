@@ -21,6 +21,7 @@ use crate::start::{Opened, open_battle};
 use battle_rounds::bout::{Bout, BoutBox};
 use battle_rounds::cast::{Cast, role_with, side_with_id};
 use battle_rounds::decision::Decision;
+use battle_rounds::finish::Finish;
 use battle_rounds::room_battle::{RoomBattle, requests};
 use battle_rounds::rounds::ended;
 use ps_base::list::List;
@@ -307,12 +308,19 @@ fn with_requests(
     Ok(lines)
 }
 
-fn ending_of(number: u32, end: Option<Option<u8>>) -> Option<Ending>
-    ensures { result ≡ ending_of number end }
+fn ending_of(number: u32, finish: Option<Finish>) -> Option<Ending>
+    ensures { result ≡ ending_of number finish }
 {
-    match end {
+    match finish {
         None => None,
-        Some(winner) => Some(Ending { number, winner }),
+        Some(Finish::Won(side)) => Some(Ending {
+            number,
+            winner: Some(side),
+        }),
+        Some(Finish::Tied) => Some(Ending {
+            number,
+            winner: None,
+        }),
     }
 }
 

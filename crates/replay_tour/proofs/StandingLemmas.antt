@@ -1,5 +1,5 @@
 -- What holds of a tournament line by line: each user still is in the bracket, or was beaten once.
-use Rattle.std.proofs.Common.{◌≡◌, ◌≤◌, ◌==◌, ℕ, zero, suc, Bool, true, false, cond, List, [], ◌∷◌, ◌++◌, map, Option, Some, None, refl, sym, ap, ◌∙◌, subst, inl, inr, arith, append_assoc}
+use Rattle.std.proofs.Common.{◌≡◌, ◌≤◌, ℕ, zero, suc, Bool, true, false, cond, List, [], ◌∷◌, ◌++◌, map, Option, Some, None, refl, sym, ap, ◌∙◌, subst, inl, inr, arith, append_assoc}
 use Rattle.std.specs.Prelude.{All, IsPermutation, nat_lt}
 use Rattle.std.proofs.lemmas.Bool.Decides.{eqb_tells}
 use Rattle.std.proofs.lemmas.List.{map-append, append-nil}
@@ -10,6 +10,8 @@ use Rattle.ps_tour.specs.Brackets.{Round, entrants, first_round, after_win, open
 use Rattle.ps_tour.specs.Laws.{loser_of}
 use Rattle.ps_tour.proofs.LawLemmas.{still_in, first_in, win_in, alone_with}
 use Rattle.ps_tour.proofs.RoundLemmas.{first_is_round, still_round}
+use Rattle.replay_tour.specs.declared.battle_end.BattleEnd.{BattleEnd}
+use Rattle.replay_tour.specs.declared.battle_end.BattleEnd.TheVariants as ends
 use Rattle.replay_tour.specs.declared.win.Win.{Win}
 use Rattle.replay_tour.specs.declared.stage.Stage.{Stage}
 use Rattle.replay_tour.specs.declared.stage.Stage.TheVariants.{Challenge, Accept, FirstJoin, SecondJoin, FirstChoice, SecondChoice}
@@ -68,15 +70,16 @@ at_stage_stands users stage t s = record { all = s.all; round = s.round }
 again_stands : (users : ℕ) (t : Tour) → IsStanding users t → IsStanding users (again t)
 again_stands users t s = record { all = s.all; round = s.round }
 
-ended_stands : (users : ℕ) (pair : ℕ × ℕ) (side : Option ℕ) (t : Tour) → open_match t.round ≡ Some pair → IsStanding users t → IsStanding users (ended pair side t)
-ended_stands users pair None t met s = either_stands users (nat_lt t.ties 2) (again t) (won pair.0 pair.1 t) (again_stands users t s) (first_stands users pair t met s)
-ended_stands users pair (Some side) t met s = either_stands users (side == 0) (won pair.0 pair.1 t) (won pair.1 pair.0 t) (first_stands users pair t met s) (second_stands users pair t met s)
+ended_stands : (users : ℕ) (pair : ℕ × ℕ) (end : BattleEnd) (t : Tour) → open_match t.round ≡ Some pair → IsStanding users t → IsStanding users (ended pair end t)
+ended_stands users pair ends.FirstWon t met s = first_stands users pair t met s
+ended_stands users pair ends.SecondWon t met s = second_stands users pair t met s
+ended_stands users pair ends.Tied t met s = either_stands users (nat_lt t.ties 2) (again t) (won pair.0 pair.1 t) (again_stands users t s) (first_stands users pair t met s)
 
-chosen_stands : (users : ℕ) (pair : ℕ × ℕ) (other : Stage) (end : Option (Option ℕ)) (t : Tour) → open_match t.round ≡ Some pair → IsStanding users t → IsStanding users (chosen pair other end t)
+chosen_stands : (users : ℕ) (pair : ℕ × ℕ) (other : Stage) (end : Option BattleEnd) (t : Tour) → open_match t.round ≡ Some pair → IsStanding users t → IsStanding users (chosen pair other end t)
 chosen_stands users pair other None t met s = at_stage_stands users other t s
-chosen_stands users pair other (Some side) t met s = ended_stands users pair side t met s
+chosen_stands users pair other (Some end) t met s = ended_stands users pair end t met s
 
-line_stands : (users : ℕ) (pair : ℕ × ℕ) (stage : Stage) (end : Option (Option ℕ)) (t : Tour) → open_match t.round ≡ Some pair → IsStanding users t → IsStanding users (past_line pair stage end t)
+line_stands : (users : ℕ) (pair : ℕ × ℕ) (stage : Stage) (end : Option BattleEnd) (t : Tour) → open_match t.round ≡ Some pair → IsStanding users t → IsStanding users (past_line pair stage end t)
 line_stands users pair Challenge end t met s = at_stage_stands users Accept t s
 line_stands users pair Accept end t met s = at_stage_stands users FirstJoin t s
 line_stands users pair FirstJoin end t met s = at_stage_stands users SecondJoin t s
@@ -84,11 +87,11 @@ line_stands users pair SecondJoin end t met s = at_stage_stands users FirstChoic
 line_stands users pair FirstChoice end t met s = chosen_stands users pair SecondChoice end t met s
 line_stands users pair SecondChoice end t met s = chosen_stands users pair FirstChoice end t met s
 
-match_stands : (users : ℕ) (met : Option (ℕ × ℕ)) (end : Option (Option ℕ)) (t : Tour) → open_match t.round ≡ met → IsStanding users t → IsStanding users (past_match met end t)
+match_stands : (users : ℕ) (met : Option (ℕ × ℕ)) (end : Option BattleEnd) (t : Tour) → open_match t.round ≡ met → IsStanding users t → IsStanding users (past_match met end t)
 match_stands users None end t e s = s
 match_stands users (Some pair) end t e s = line_stands users pair t.stage end t e s
 
-pub past_stands : (users : ℕ) (end : Option (Option ℕ)) (t : Tour) → IsStanding users t → IsStanding users (past end t)
+pub past_stands : (users : ℕ) (end : Option BattleEnd) (t : Tour) → IsStanding users t → IsStanding users (past end t)
 past_stands users end t s = match_stands users (open_match t.round) end t refl s
 
 -- ---- who meets is one of the users

@@ -1,7 +1,9 @@
 -- A tournament line by line: which line is next, and what it is after a line, by how a battle ended at it.
-use Rattle.std.specs.Prelude.{ℕ, ◌+◌, ◌==◌, nat_lt, List, [], ◌∷◌, ◌++◌, Option, Some, None, if◌then◌else◌}
+use Rattle.std.specs.Prelude.{ℕ, ◌+◌, nat_lt, List, [], ◌∷◌, ◌++◌, Option, Some, None, if◌then◌else◌}
 use Rattle.ps_tour.specs.Brackets.{Round, first_round, after_win, open_match}
 use Rattle.replay_script.specs.declared.item.Item.{Item}
+use Rattle.replay_tour.specs.declared.battle_end.BattleEnd.{BattleEnd}
+use Rattle.replay_tour.specs.declared.battle_end.BattleEnd.TheVariants as ends
 use Rattle.replay_tour.specs.declared.win.Win.{Win}
 use Rattle.replay_tour.specs.declared.stage.Stage.{Stage}
 use Rattle.replay_tour.specs.declared.stage.Stage.TheVariants.{Challenge, Accept, FirstJoin, SecondJoin, FirstChoice, SecondChoice}
@@ -53,17 +55,18 @@ again tour = record { round = tour.round; wins = tour.wins; battle = tour.battle
 abbrev pub tied : ℕ × ℕ → Tour → Tour
 tied pair tour = if nat_lt tour.ties 2 then again tour else won pair.0 pair.1 tour
 
--- a battle of these two ended: side 0 won it, who is the first, or side 1, or nobody
-abbrev pub ended : ℕ × ℕ → Option ℕ → Tour → Tour
-ended pair None tour = tied pair tour
-ended pair (Some side) tour = if side == 0 then won pair.0 pair.1 tour else won pair.1 pair.0 tour
+-- a battle of these two ended: the first won it, or the second, or nobody
+abbrev pub ended : ℕ × ℕ → BattleEnd → Tour → Tour
+ended pair ends.FirstWon tour = won pair.0 pair.1 tour
+ended pair ends.SecondWon tour = won pair.1 pair.0 tour
+ended pair ends.Tied tour = tied pair tour
 
 -- after a choice the other one chooses, unless the battle ended at it
-abbrev pub chosen : ℕ × ℕ → Stage → Option (Option ℕ) → Tour → Tour
+abbrev pub chosen : ℕ × ℕ → Stage → Option BattleEnd → Tour → Tour
 chosen pair other None tour = at_stage other tour
-chosen pair other (Some side) tour = ended pair side tour
+chosen pair other (Some end) tour = ended pair end tour
 
-abbrev pub past_line : ℕ × ℕ → Stage → Option (Option ℕ) → Tour → Tour
+abbrev pub past_line : ℕ × ℕ → Stage → Option BattleEnd → Tour → Tour
 past_line pair Challenge end tour = at_stage Accept tour
 past_line pair Accept end tour = at_stage FirstJoin tour
 past_line pair FirstJoin end tour = at_stage SecondJoin tour
@@ -71,10 +74,10 @@ past_line pair SecondJoin end tour = at_stage FirstChoice tour
 past_line pair FirstChoice end tour = chosen pair SecondChoice end tour
 past_line pair SecondChoice end tour = chosen pair FirstChoice end tour
 
-abbrev pub past_match : Option (ℕ × ℕ) → Option (Option ℕ) → Tour → Tour
+abbrev pub past_match : Option (ℕ × ℕ) → Option BattleEnd → Tour → Tour
 past_match None end tour = tour
 past_match (Some pair) end tour = past_line pair tour.stage end tour
 
--- after the next line, at which a battle ended so: with the side that won it, or a tie, or not at all
-abbrev pub past : Option (Option ℕ) → Tour → Tour
+-- after the next line, at which a battle ended so, or none
+abbrev pub past : Option BattleEnd → Tour → Tour
 past end tour = past_match (open_match tour.round) end tour

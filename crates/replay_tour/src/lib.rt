@@ -2,6 +2,7 @@
 //! told by whoever plays the lines.
 #![tactic(auto)]
 
+pub mod battle_end;
 pub mod entering;
 mod lines;
 pub mod results;

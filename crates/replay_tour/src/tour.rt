@@ -3,6 +3,7 @@ ghost use Rattle.std.specs.Prelude.{◌≡◌, ◌+◌, ◌≤◌, ◌<◌, IfOk
 ghost use Rattle.ps_tour.specs.Brackets.{champion, open_match, IsOneOf};
 ghost use Rattle.replay_tour.specs.Tours.{begun, next_line, at_stage, won, again, tied, ended, chosen, past_line, past};
 
+use crate::battle_end::BattleEnd;
 use crate::lines::match_line;
 use crate::stage::Stage;
 use crate::win::Win;
@@ -119,18 +120,14 @@ impl Tour {
     }
 
     // A battle of the open match ended.
-    fn end(&mut self, pair: (u8, u8), winner: Option<u8>) -> Result<(), AllocError>
+    fn end(&mut self, pair: (u8, u8), end: BattleEnd) -> Result<(), AllocError>
         requires { open_match self.old.round ≡ Some pair }
-        ensures { OnOk result (self.new ≡ ended pair winner self.old) }
+        ensures { OnOk result (self.new ≡ ended pair end self.old) }
     {
-        match winner {
-            None => self.tie(pair),
-            Some(side) => {
-                if side == 0 {
-                    return self.win(pair.0, pair.1);
-                }
-                self.win(pair.1, pair.0)
-            }
+        match end {
+            BattleEnd::FirstWon => self.win(pair.0, pair.1),
+            BattleEnd::SecondWon => self.win(pair.1, pair.0),
+            BattleEnd::Tied => self.tie(pair),
         }
     }
 
@@ -138,7 +135,7 @@ impl Tour {
         &mut self,
         pair: (u8, u8),
         other: Stage,
-        end: Option<Option<u8>>,
+        end: Option<BattleEnd>,
     ) -> Result<(), AllocError>
         requires { open_match self.old.round ≡ Some pair }
         ensures { OnOk result (self.new ≡ chosen pair other end self.old) }
@@ -148,7 +145,7 @@ impl Tour {
                 self.stage = other;
                 Ok(())
             }
-            Some(winner) => self.end(pair, winner),
+            Some(end) => self.end(pair, end),
         }
     }
 
@@ -158,7 +155,7 @@ impl Tour {
         self.stage = stage;
     }
 
-    fn past_line(&mut self, pair: (u8, u8), end: Option<Option<u8>>) -> Result<(), AllocError>
+    fn past_line(&mut self, pair: (u8, u8), end: Option<BattleEnd>) -> Result<(), AllocError>
         requires { open_match self.old.round ≡ Some pair }
         ensures { OnOk result (self.new ≡ past_line pair self.old.stage end self.old) }
     {
@@ -173,9 +170,8 @@ impl Tour {
         Ok(())
     }
 
-    /// Goes on behind the next line, at which a battle ended so: with the side that won it, 0 for the first of the two who meet,
-    /// or with a tie. `None` where none ended.
-    pub fn go_on(&mut self, end: Option<Option<u8>>) -> Result<(), AllocError>
+    /// Goes on behind the next line, at which a battle ended so; `None` where none ended.
+    pub fn go_on(&mut self, end: Option<BattleEnd>) -> Result<(), AllocError>
         ensures { OnOk result (self.new ≡ past end self.old) }
     {
         match self.bracket.next() {
