@@ -44,7 +44,8 @@ fn wrong_for_switch(phase: Phase) -> bool
     matches!(phase, Phase::Preview)
 }
 
-fn wrong_for_act(phase: Phase) -> bool
+/// Whether neither a move nor Struggle can be chosen, nor to go on.
+pub(crate) fn wrong_for_act(phase: Phase) -> bool
     ensures { result ≡ wrong_for_act phase }
 {
     matches!(phase, Phase::Preview | Phase::Replace { .. })

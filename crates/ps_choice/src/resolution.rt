@@ -1,14 +1,15 @@
 //! The choice that a player's wish stands for.
-ghost use Rattle.std.specs.Prelude.{◌≡◌, ◌<◌, ◌≤◌, nat_lt, IfSome, IfOk};
+ghost use Rattle.std.specs.Prelude.{◌≡◌, ◌<◌, ◌≤◌, nat_lt, option_map, IfSome, IfOk};
 ghost use Rattle.ps_mon.specs.Reading.{side_of, member_of};
 ghost use Rattle.ps_mon.specs.Valid.{IsSound, IsSide, IsShaped};
-ghost use Rattle.ps_mon.specs.Choices.{IsChoiceOf};
+ghost use Rattle.ps_mon.specs.Choices.{IsChoiceOf, legal as fault_in};
+ghost use Rattle.ps_mon.specs.declared.choice.Choice.TheVariants as choices;
 ghost use Rattle.ps_choice.specs.Wants.{want_of};
-ghost use Rattle.ps_choice.specs.Resolved.{first_of, lowest_usable, has_move_at, slot_with, first_act, bench, first_standing};
-ghost use Rattle.ps_choice.specs.Resolved.{replacement, by_default, numbered, is_number, is_lock_name, is_locked_name, slot_of_move};
-ghost use Rattle.ps_choice.specs.Resolved.{is_struggle, named, meant, resolved};
+ghost use Rattle.ps_choice.specs.Resolved.{first_of, lowest_usable, has_move_at, slot_with, act_at, first_act, bench, first_standing};
+ghost use Rattle.ps_choice.specs.Resolved.{replacement, by_default, numbered, is_number, is_lock_name, is_locked_name, going_on};
+ghost use Rattle.ps_choice.specs.Resolved.{slot_of_move, is_struggle, named, meant, no_move, fault_of_absent, judged, resolved};
 
-use crate::legality::{has_usable, is_locked, is_usable, legal};
+use crate::legality::{has_usable, is_asked, is_locked, is_usable, legal, wrong_for_act};
 use crate::ordering::{NOBODY, order_of, whole};
 use crate::wanted::Wanted;
 use ps_dex::dex::Dex;
@@ -16,27 +17,36 @@ use ps_dex::spelled::is_id_of;
 use ps_mon::choice::{Choice, ChoiceFault};
 use ps_mon::record::{Battle, Lock, Phase, SideState};
 
-fn first_of(a: bool, b: bool, c: bool, d: bool) -> u8
+/// What a player wishes for that isn't there.
+#[derive(Clone, Copy)]
+enum Absent {
+    /// A slot with the move of that name.
+    Move,
+    /// A member that could come in.
+    Member,
+}
+
+fn first_of(a: bool, b: bool, c: bool, d: bool) -> Option<u8>
     ensures value { result ≡ first_of a b c d }
-    ensures high { result ≤ 4 }
+    ensures high { IfSome result (λ slot. slot ≤ 4) }
 {
     if a {
-        return 1;
+        return Some(1);
     }
     if b {
-        return 2;
+        return Some(2);
     }
     if c {
-        return 3;
+        return Some(3);
     }
     if d {
-        return 4;
+        return Some(4);
     }
-    0
+    None
 }
 
 #[tactic(auto, unfolding(crate::specs::Resolved::lowest_usable))]
-fn lowest_usable(side: &SideState) -> u8
+fn lowest_usable(side: &SideState) -> Option<u8>
     requires { IsSide side.now }
     ensures { result ≡ lowest_usable side.now }
 {
@@ -58,7 +68,7 @@ fn has_move_at(side: &SideState, mv: u16, slot: u8) -> bool
 }
 
 #[tactic(auto, unfolding(crate::specs::Resolved::slot_with))]
-fn slot_with(side: &SideState, mv: u16) -> u8
+fn slot_with(side: &SideState, mv: u16) -> Option<u8>
     requires { IsSide side.now }
     ensures { result ≡ slot_with side.now mv }
 {
@@ -70,6 +80,15 @@ fn slot_with(side: &SideState, mv: u16) -> u8
     )
 }
 
+fn act_at(slot: Option<u8>) -> Choice
+    ensures { result ≡ act_at slot }
+{
+    match slot {
+        None => Choice::Struggle,
+        Some(slot) => Choice::Move(slot),
+    }
+}
+
 #[tactic(auto, unfolding(crate::specs::Resolved::first_act))]
 fn first_act(side: &SideState) -> Choice
     requires { IsSide side.now }
@@ -78,10 +97,7 @@ fn first_act(side: &SideState) -> Choice
     if is_locked(side) {
         return Choice::Continue;
     }
-    if has_usable(side) {
-        return Choice::Move(lowest_usable(side));
-    }
-    Choice::Struggle
+    act_at(lowest_usable(side))
 }
 
 fn stands_at(side: &SideState, index: u8) -> bool
@@ -103,24 +119,24 @@ fn first_standing(side: &SideState) -> Option<usize>
     bench.iter().position(|index| stands_at(side, *index))
 }
 
-fn replacement(side: &SideState) -> Choice
+fn replacement(side: &SideState) -> Option<Choice>
     requires { IsShaped side.now }
     ensures { result ≡ replacement (first_standing side.now) }
 {
     match first_standing(side) {
-        None => Choice::Switch(0),
-        Some(k) => Choice::Switch(k as u8 + 2),
+        None => None,
+        Some(k) => Some(Choice::Switch(k as u8 + 2)),
     }
 }
 
-fn by_default(phase: Phase, side: &SideState) -> Choice
+fn by_default(phase: Phase, side: &SideState) -> Option<Choice>
     requires { IsSide side.now }
     ensures { result ≡ by_default phase side.now }
 {
     match phase {
-        Phase::Preview => Choice::Team(whole(side.count, NOBODY)),
+        Phase::Preview => Some(Choice::Team(whole(side.count, NOBODY))),
         Phase::Replace { .. } => replacement(side),
-        _ => first_act(side),
+        _ => Some(first_act(side)),
     }
 }
 
@@ -166,13 +182,28 @@ fn is_locked_name(dex: &Dex, side: &SideState, name: &str) -> bool
     is_lock_name(dex, side.vol.lock, name)
 }
 
-fn slot_of_move(side: &SideState, mv: Option<u16>) -> Choice
+fn going_on(named: bool) -> Option<Choice>
+    ensures { result ≡ going_on named }
+{
+    if named { Some(Choice::Continue) } else { None }
+}
+
+fn move_in(slot: Option<u8>) -> Option<Choice>
+    ensures { result ≡ option_map choices.Move slot }
+{
+    match slot {
+        None => None,
+        Some(slot) => Some(Choice::Move(slot)),
+    }
+}
+
+fn slot_of_move(side: &SideState, mv: Option<u16>) -> Option<Choice>
     requires { IsSide side.now }
     ensures { result ≡ slot_of_move side.now mv }
 {
     match mv {
-        None => Choice::Move(0),
-        Some(mv) => Choice::Move(slot_with(side, mv)),
+        None => None,
+        Some(mv) => move_in(slot_with(side, mv)),
     }
 }
 
@@ -185,32 +216,68 @@ fn is_struggle(side: &SideState, name: &str) -> bool
 }
 
 #[tactic(auto, unfolding(crate::specs::Resolved::named))]
-fn named(dex: &Dex, side: &SideState, name: &str) -> Choice
+fn named(dex: &Dex, side: &SideState, name: &str) -> Option<Choice>
     requires { IsSide side.now }
     ensures { result ≡ named dex.now side.now name.now }
 {
     if is_locked(side) {
-        if is_locked_name(dex, side, name) {
-            return Choice::Continue;
-        }
-        return Choice::Move(0);
+        return going_on(is_locked_name(dex, side, name));
     }
     if is_struggle(side, name) {
-        return Choice::Struggle;
+        return Some(Choice::Struggle);
     }
     slot_of_move(side, dex.move_named(name))
 }
 
-fn meant(phase: Phase, side: &SideState, dex: &Dex, wanted: Wanted<'_>) -> Choice
+fn meant(phase: Phase, side: &SideState, dex: &Dex, wanted: Wanted<'_>) -> Result<Choice, Absent>
     requires { IsSide side.now }
     ensures { result ≡ meant phase side.now dex.now (want_of wanted.entry) }
 {
     match wanted {
-        Wanted::Move(n) => numbered(side, n),
-        Wanted::Named(name) => named(dex, side, name),
-        Wanted::Switch(n) => Choice::Switch(n),
-        Wanted::Team(digits) => Choice::Team(order_of(side.count, digits.as_bytes())),
-        Wanted::Default => by_default(phase, side),
+        Wanted::Move(n) => Ok(numbered(side, n)),
+        Wanted::Named(name) => named(dex, side, name).ok_or(Absent::Move),
+        Wanted::Switch(n) => Ok(Choice::Switch(n)),
+        Wanted::Team(digits) => Ok(Choice::Team(order_of(side.count, digits.as_bytes()))),
+        Wanted::Default => by_default(phase, side).ok_or(Absent::Member),
+    }
+}
+
+fn no_move(phase: Phase, side: &SideState) -> ChoiceFault
+    ensures { result ≡ no_move phase side.now }
+{
+    if wrong_for_act(phase) {
+        return ChoiceFault::WrongPhase;
+    }
+    if is_locked(side) {
+        return ChoiceFault::Locked;
+    }
+    ChoiceFault::NoSuchMove
+}
+
+/// The fault of a wish of a side, 0 or 1, for what isn't there. Those of the phase and of a lock come first.
+fn fault_of_absent(phase: Phase, number: u8, side: &SideState, absent: Absent) -> ChoiceFault
+    requires { number < 2 }
+    ensures { result ≡ fault_of_absent phase number side.now absent }
+{
+    if !is_asked(phase, number) {
+        return ChoiceFault::NotYourTurn;
+    }
+    match absent {
+        Absent::Move => no_move(phase, side),
+        Absent::Member => ChoiceFault::NoSuchMember,
+    }
+}
+
+#[tactic(auto, using(crate::proofs::ChoiceLemmas::legal_choices))]
+fn judged(battle: &Battle, side: u8, choice: Choice) -> Result<Choice, ChoiceFault>
+    requires sound { IsSound battle.now }
+    requires side { side < 2 }
+    ensures value { result ≡ judged choice (fault_in battle.now side choice) }
+    ensures choice { IfOk result (λ choice. IsChoiceOf battle.now side choice) }
+{
+    match legal(battle, side, choice) {
+        Ok(()) => Ok(choice),
+        Err(fault) => Err(fault),
     }
 }
 
@@ -223,7 +290,6 @@ fn meant(phase: Phase, side: &SideState, dex: &Dex, wanted: Wanted<'_>) -> Choic
 /// and the others follow in their order; `NoSuchMember` where a digit names none, or one that an earlier digit names. A
 /// name is looked up only where the side is asked, the phase fits and the member isn't locked; then `NoSuchMove` where no
 /// slot has it. Takes no memory.
-#[tactic(auto, using(crate::proofs::ChoiceLemmas::legal_choices))]
 pub fn resolve(
     battle: &Battle,
     dex: &Dex,
@@ -235,9 +301,9 @@ pub fn resolve(
     ensures value { result ≡ resolved battle.now.phase side (side_of battle.now side) dex.now (want_of wanted.entry) }
     ensures choice { IfOk result (λ choice. IsChoiceOf battle.now side choice) }
 {
-    let choice = meant(battle.phase, &battle.sides[side as usize], dex, wanted);
-    match legal(battle, side, choice) {
-        Ok(()) => Ok(choice),
-        Err(fault) => Err(fault),
+    let own = &battle.sides[side as usize];
+    match meant(battle.phase, own, dex, wanted) {
+        Ok(choice) => judged(battle, side, choice),
+        Err(absent) => Err(fault_of_absent(battle.phase, side, own, absent)),
     }
 }

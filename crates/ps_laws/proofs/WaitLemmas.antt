@@ -13,7 +13,7 @@ use Rattle.ps_mon.specs.Choices.{is_asked, IsChoiceOf, fault_of}
 use Rattle.ps_mon.specs.Reading.{side_of}
 use Rattle.ps_dex.specs.declared.item.Tables.{Tables}
 use Rattle.ps_dex.specs.Figures.{figures_of}
-use Rattle.ps_choice.specs.Resolved.{meant, judged}
+use Rattle.ps_choice.specs.Resolved.{meant, judged, settled}
 use Rattle.ps_choice.specs.Wants.{Want, want_in}
 use Rattle.battle_rounds.specs.declared.bout.Bout.{Bout}
 use Rattle.battle_rounds.specs.Bouts.{CanWait, with_waiting, waiting}
@@ -35,9 +35,13 @@ of_fault : (b : Battle) (s : ℕ) (choice c : Choice) (fault : Option ChoiceFaul
 of_fault b s choice c None asked is ok = let same : choice ≡ c = cc in record { asked = asked; legal = rw (← same) is }
 of_fault b s choice c (Some fault) asked is ok = absurd cc
 
+of_settled : (b : Battle) (s : ℕ) (r : Result Choice _) (c : Choice) → is_asked b.phase s ≡ true → with_why (settled b.phase s (side_of b s) r) ≡ Ok c → CanWait b s c
+of_settled b s (Ok choice) c asked ok = of_fault b s choice c _ asked refl ok
+of_settled b s (Err absent) c asked ok = absurd cc
+
 of_want : (b : Battle) (s : ℕ) (dex : Tables) (want : Option Want) (c : Choice) → is_asked b.phase s ≡ true → choice_in b s dex want ≡ Ok c → CanWait b s c
 of_want b s dex None c asked ok = absurd cc
-of_want b s dex (Some want) c asked ok = of_fault b s (meant b.phase (side_of b s) dex want) c _ asked refl ok
+of_want b s dex (Some want) c asked ok = of_settled b s (meant b.phase (side_of b s) dex want) c asked ok
 
 of_tests : (b : Battle) (s : ℕ) (dex : Tables) (want : Option Want) (c : Choice) (asked pending stale : Bool) → is_asked b.phase s ≡ asked → cond (not asked) (Err whys.NotYourTurn) (cond pending (Err whys.AlreadyChosen) (cond stale (Err whys.StaleRequest) (choice_in b s dex want))) ≡ Ok c → CanWait b s c
 of_tests b s dex want c false pending stale is ok = absurd cc

@@ -2,7 +2,7 @@
 -- of such a slot.
 use Rattle.std.proofs.Common.{◌≡◌, ◌⊎◌, ℕ, ◌<◌, ◌-◌, Bool, true, false, cond, ◌&&◌, ◌||◌, List, take, drop, position, Option, Some, None, Result, Err, is_some, not, nat_lt, get_or, refl, ap, ◌∙◌, sym, subst, inl, inr, arith}
 use Rattle.std.proofs.lemmas.Bool.Decides.{leb_tells, nat_tests}
-use Rattle.std.specs.Prelude.{◌==◌, codes}
+use Rattle.std.specs.Prelude.{◌==◌, ◌+◌, codes, option_map}
 use Rattle.std.specs.Str.{bytes_eq}
 use Rattle.ps_base.specs.Ids.{id_of}
 use Rattle.ps_base.specs.declared.why.Why.{Why}
@@ -21,12 +21,12 @@ use Rattle.ps_mon.specs.declared.team.Member.{Member}
 use Rattle.ps_mon.specs.declared.team.MoveSlot.{MoveSlot}
 use Rattle.ps_mon.specs.Reading.{side_of, active_index, active_of, member_of, member_at, slot_of}
 use Rattle.ps_mon.specs.Slots.{slot_count_now, slot_now, slot_in_force, is_disabled, is_ready, is_usable, has_usable}
-use Rattle.ps_mon.specs.Choices.{is_asked, is_locked, wrong_phase, locked, no_such_move, no_pp, disabled, no_such_member, already_out, fainted, unless, fault_of}
+use Rattle.ps_mon.specs.Choices.{is_asked, is_locked, wrong_for_act, wrong_phase, locked, no_such_move, no_pp, disabled, no_such_member, already_out, fainted, unless, fault_of}
 use Rattle.ps_mon.specs.Orders.{is_order}
 use Rattle.ps_dex.specs.declared.item.Tables.{Tables}
 use Rattle.ps_dex.specs.Lookups.{move_of}
 use Rattle.ps_choice.specs.Orders.{whole, nobody, order_of}
-use Rattle.ps_choice.specs.Resolved.{first_of, lowest_usable, has_move_at, slot_with, first_act, bench, first_standing, replacement, by_default, numbered, is_locked_name, going_on, slot_of_move, is_struggle, named, meant, judged, resolved}
+use Rattle.ps_choice.specs.Resolved.{first_of, lowest_usable, has_move_at, slot_with, act_at, first_act, bench, first_standing, numbered, is_locked_name, going_on, slot_of_move, is_struggle, named, judged, resolved}
 use Rattle.ps_choice.specs.Wants.{Want, Slot, Named, Position, Team, Default, want_in}
 use Rattle.battle_rounds.specs.declared.bout.Bout.{Bout}
 use Rattle.battle_rounds.specs.Bouts.{waiting}
@@ -142,14 +142,14 @@ AsksPast P Q s dex want = (mv : ℕ) → named_in dex want ≡ Some mv → IsPas
 
 move_meant_same : (P Q : Hidden) (s : ℕ) (a b : SideState) (mv : Option ℕ) → AreTwins P Q s a b → ((n : ℕ) → mv ≡ Some n → IsPast P Q s n) → slot_of_move a mv ≡ slot_of_move b mv
 move_meant_same P Q s a b None t past = refl
-move_meant_same P Q s a b (Some mv) t past = ap choices.Move (slot_with_same P Q s a b mv t (past mv refl))
+move_meant_same P Q s a b (Some mv) t past = ap (option_map choices.Move) (slot_with_same P Q s a b mv t (past mv refl))
 
 lock_name_same : (dex : Tables) (a b : SideState) (name : List ℕ) → a.vol ≡ b.vol → is_locked_name dex a name ≡ is_locked_name dex b name
 unfolding is_locked_name
 lock_name_same dex a b name e = ap (λ (v : Volatiles). is_locked_name dex (record b { vol = v }) name) e
 
-abbrev named_from : Bool → Bool → Bool → Choice → Choice
-named_from held by_name struggles other = cond held (going_on by_name) (cond struggles choices.Struggle other)
+abbrev named_from : Bool → Bool → Bool → Option Choice → Option Choice
+named_from held by_name struggles other = cond held (going_on by_name) (cond struggles (Some choices.Struggle) other)
 
 named_is : (dex : Tables) (side : SideState) (name : List ℕ) → named dex side name ≡ named_from (is_locked side) (is_locked_name dex side name) (bytes_eq (id_of name) (codes "struggle") && not (has_usable side)) (slot_of_move side (move_of (id_of name) dex))
 unfolding named is_struggle
@@ -180,19 +180,18 @@ numbered_same P Q s a b n t =
     ∙ ap (numbered_from n (is_locked b)) (has_usable_same (P.member s) (P.slot s) (P.move s) a b t.one)
     ∙ sym (numbered_is b n)
 
-abbrev act_from : Bool → Bool → ℕ → Choice
-act_from held usable lowest = cond held choices.Continue (cond usable (choices.Move lowest) choices.Struggle)
+abbrev act_from : Bool → Option ℕ → Choice
+act_from held lowest = cond held choices.Continue (act_at lowest)
 
-act_is : (side : SideState) → first_act side ≡ act_from (is_locked side) (has_usable side) (lowest_usable side)
+act_is : (side : SideState) → first_act side ≡ act_from (is_locked side) (lowest_usable side)
 unfolding first_act
 act_is side = refl
 
 act_same : (P Q : Hidden) (s : ℕ) (a b : SideState) → AreTwins P Q s a b → first_act a ≡ first_act b
 act_same P Q s a b t =
     act_is a
-    ∙ ap (λ (x : Bool). act_from x (has_usable a) (lowest_usable a)) (locked_same a b t.one.vol)
-    ∙ ap (λ (x : Bool). act_from (is_locked b) x (lowest_usable a)) (has_usable_same (P.member s) (P.slot s) (P.move s) a b t.one)
-    ∙ ap (act_from (is_locked b) (has_usable b)) (lowest_same (P.member s) (P.slot s) (P.move s) a b t.one)
+    ∙ ap (λ (x : Bool). act_from x (lowest_usable a)) (locked_same a b t.one.vol)
+    ∙ ap (act_from (is_locked b)) (lowest_same (P.member s) (P.slot s) (P.move s) a b t.one)
     ∙ sym (act_is b)
 
 standing_same : (P Q : Hidden) (s : ℕ) (a b : SideState) → AreTwins P Q s a b → first_standing a ≡ first_standing b
@@ -209,20 +208,6 @@ abbrev IsSent : Phase → Type 0
 IsSent phases.Turn = Unit {0}
 IsSent (phases.Replace p1 p2) = Unit {0}
 IsSent other = ⊥
-
-default_same : (phase : Phase) (P Q : Hidden) (s : ℕ) (a b : SideState) → IsSent phase → AreTwins P Q s a b → by_default phase a ≡ by_default phase b
-default_same phases.Turn P Q s a b sent t = act_same P Q s a b t
-default_same (phases.Replace p1 p2) P Q s a b sent t = ap replacement (standing_same P Q s a b t)
-default_same phases.Preview P Q s a b sent t = absurd sent
-default_same (phases.Won side) P Q s a b sent t = absurd sent
-default_same phases.Tied P Q s a b sent t = absurd sent
-
-meant_same : (phase : Phase) (P Q : Hidden) (s : ℕ) (a b : SideState) (dex : Tables) (want : Want) → IsSent phase → AreTwins P Q s a b → AsksPast P Q s dex (Some want) → meant phase a dex want ≡ meant phase b dex want
-meant_same phase P Q s a b dex (Slot n) sent t past = numbered_same P Q s a b n t
-meant_same phase P Q s a b dex (Named name) sent t past = named_same P Q s a b dex name t past
-meant_same phase P Q s a b dex (Position n) sent t past = refl
-meant_same phase P Q s a b dex (Team digits) sent t past = ap (λ (n : ℕ). choices.Team (order_of n digits)) t.one.count
-meant_same phase P Q s a b dex Default sent t past = default_same phase P Q s a b sent t
 
 locked_choice_same : (phase : Phase) (a b : SideState) (choice : Choice) → IsSent phase → a.vol ≡ b.vol → locked phase a choice ≡ locked phase b choice
 locked_choice_same phases.Turn a b choices.Continue sent e = ap not (locked_same a b e)
@@ -300,10 +285,37 @@ fault_same phase P Q s a b c sent t =
     ∙ ap (fault_from asked wrong (locked phase b c) (no_such_move b c) (no_pp b c) (disabled b c) (no_such_member b c) (already_out c)) (fainted_same P Q s a b c t)
     ∙ sym (fault_is phase s b c)
 
+-- what is told of a wish by a name that no slot has
+abbrev no_slot : Phase → ℕ → Bool → Result Choice ChoiceFault
+no_slot phase s held = Err (cond (is_asked phase s) (cond (wrong_for_act phase) faults.WrongPhase (cond held faults.Locked faults.NoSuchMove)) faults.NotYourTurn)
+
+named_alike : (phase : Phase) (P Q : Hidden) (s : ℕ) (a b : SideState) (dex : Tables) (name : List ℕ) (o : Option Choice) → IsSent phase → AreTwins P Q s a b → named dex a name ≡ o → named dex b name ≡ o → resolved phase s a dex (Named name) ≡ resolved phase s b dex (Named name)
+named_alike phase P Q s a b dex name None sent t is is_too = rw (is, is_too) (ap (no_slot phase s) (locked_same a b t.one.vol))
+named_alike phase P Q s a b dex name (Some c) sent t is is_too = rw (is, is_too) (ap (judged c) (fault_same phase P Q s a b c sent t))
+
+replaced_alike : (p1 p2 : Bool) (P Q : Hidden) (s : ℕ) (a b : SideState) (dex : Tables) (o : Option ℕ) → AreTwins P Q s a b → first_standing a ≡ o → first_standing b ≡ o → resolved (phases.Replace p1 p2) s a dex Default ≡ resolved (phases.Replace p1 p2) s b dex Default
+replaced_alike p1 p2 P Q s a b dex None t is is_too = rw (is, is_too) refl
+replaced_alike p1 p2 P Q s a b dex (Some n) t is is_too = rw (is, is_too) (ap (judged (choices.Switch (n + 2))) (fault_same (phases.Replace p1 p2) P Q s a b (choices.Switch (n + 2)) tt t))
+
+default_alike : (phase : Phase) (P Q : Hidden) (s : ℕ) (a b : SideState) (dex : Tables) → IsSent phase → AreTwins P Q s a b → resolved phase s a dex Default ≡ resolved phase s b dex Default
+default_alike phases.Turn P Q s a b dex sent t =
+    ap (λ (c : Choice). judged c (fault_of phases.Turn s a c)) (act_same P Q s a b t)
+    ∙ ap (judged (first_act b)) (fault_same phases.Turn P Q s a b (first_act b) tt t)
+default_alike (phases.Replace p1 p2) P Q s a b dex sent t = replaced_alike p1 p2 P Q s a b dex (first_standing b) t (standing_same P Q s a b t) refl
+default_alike phases.Preview P Q s a b dex sent t = absurd sent
+default_alike (phases.Won side) P Q s a b dex sent t = absurd sent
+default_alike phases.Tied P Q s a b dex sent t = absurd sent
+
 sent_same : (phase : Phase) (P Q : Hidden) (s : ℕ) (a b : SideState) (dex : Tables) (want : Want) → IsSent phase → AreTwins P Q s a b → AsksPast P Q s dex (Some want) → resolved phase s a dex want ≡ resolved phase s b dex want
-sent_same phase P Q s a b dex want sent t past =
-    ap (λ (c : Choice). judged c (fault_of phase s a c)) (meant_same phase P Q s a b dex want sent t past)
-    ∙ ap (judged (meant phase b dex want)) (fault_same phase P Q s a b (meant phase b dex want) sent t)
+sent_same phase P Q s a b dex (Slot n) sent t past =
+    ap (λ (c : Choice). judged c (fault_of phase s a c)) (numbered_same P Q s a b n t)
+    ∙ ap (judged (numbered b n)) (fault_same phase P Q s a b (numbered b n) sent t)
+sent_same phase P Q s a b dex (Named name) sent t past = named_alike phase P Q s a b dex name (named dex b name) sent t (named_same P Q s a b dex name t past) refl
+sent_same phase P Q s a b dex (Position n) sent t past = ap (judged (choices.Switch n)) (fault_same phase P Q s a b (choices.Switch n) sent t)
+sent_same phase P Q s a b dex (Team digits) sent t past =
+    ap (λ (n : ℕ). judged (choices.Team (order_of n digits)) (fault_of phase s a (choices.Team (order_of n digits)))) t.one.count
+    ∙ ap (judged (choices.Team (order_of b.count digits))) (fault_same phase P Q s a b (choices.Team (order_of b.count digits)) sent t)
+sent_same phase P Q s a b dex Default sent t past = default_alike phase P Q s a b dex sent t
 
 -- ---- under Team Preview an order alone is chosen, and of the members it looks at their number
 
@@ -315,21 +327,34 @@ number_wrong true struggles n = refl
 number_wrong false true n = refl
 number_wrong false false n = refl
 
-move_wrong : (side : SideState) (mv : Option ℕ) → wrong_phase phases.Preview (slot_of_move side mv) ≡ true
-move_wrong side None = refl
-move_wrong side (Some mv) = refl
-
-name_wrong : (held by_name struggles : Bool) (other : Choice) → wrong_phase phases.Preview other ≡ true → wrong_phase phases.Preview (named_from held by_name struggles other) ≡ true
-name_wrong true true struggles other h = refl
-name_wrong true false struggles other h = refl
-name_wrong false by_name true other h = refl
-name_wrong false by_name false other h = h
-
 numbered_wrong : (side : SideState) (n : ℕ) → wrong_phase phases.Preview (numbered side n) ≡ true
 numbered_wrong side n = ap (wrong_phase phases.Preview) (numbered_is side n) ∙ number_wrong (n == 1 && is_locked side) (n == 1 && not (has_usable side)) n
 
-named_wrong : (dex : Tables) (side : SideState) (name : List ℕ) → wrong_phase phases.Preview (named dex side name) ≡ true
-named_wrong dex side name = ap (wrong_phase phases.Preview) (named_is dex side name) ∙ name_wrong (is_locked side) (is_locked_name dex side name) (bytes_eq (id_of name) (codes "struggle") && not (has_usable side)) (slot_of_move side (move_of (id_of name) dex)) (move_wrong side (move_of (id_of name) dex))
+-- a name stands for an act, or for nothing
+abbrev IsAct : Option Choice → Type 0
+IsAct None = Unit {0}
+IsAct (Some choice) = wrong_phase phases.Preview choice ≡ true
+
+preview_name : (s : ℕ) (side : SideState) (dex : Tables) (name : List ℕ) (o : Option Choice) → named dex side name ≡ o → IsAct o → resolved phases.Preview s side dex (Named name) ≡ Err faults.WrongPhase
+preview_name s side dex name None is act = rw is refl
+preview_name s side dex name (Some c) is act = rw is (preview_act s side c act)
+
+slot_wrong : (slot : Option ℕ) → IsAct (option_map choices.Move slot)
+slot_wrong None = tt
+slot_wrong (Some n) = refl
+
+move_wrong : (side : SideState) (mv : Option ℕ) → IsAct (slot_of_move side mv)
+move_wrong side None = tt
+move_wrong side (Some mv) = slot_wrong (slot_with side mv)
+
+name_wrong : (held by_name struggles : Bool) (other : Option Choice) → IsAct other → IsAct (named_from held by_name struggles other)
+name_wrong true true struggles other h = refl
+name_wrong true false struggles other h = tt
+name_wrong false by_name true other h = refl
+name_wrong false by_name false other h = h
+
+named_wrong : (dex : Tables) (side : SideState) (name : List ℕ) → IsAct (named dex side name)
+named_wrong dex side name = subst IsAct (sym (named_is dex side name)) (name_wrong (is_locked side) (is_locked_name dex side name) (bytes_eq (id_of name) (codes "struggle") && not (has_usable side)) (slot_of_move side (move_of (id_of name) dex)) (move_wrong side (move_of (id_of name) dex)))
 
 order_same : (s : ℕ) (a b : SideState) (numbers : List ℕ) → a.count ≡ b.count → fault_of phases.Preview s a (choices.Team numbers) ≡ fault_of phases.Preview s b (choices.Team numbers)
 order_same s a b numbers e =
@@ -339,7 +364,7 @@ order_same s a b numbers e =
 
 preview_same : (s : ℕ) (a b : SideState) (dex : Tables) (want : Want) → a.count ≡ b.count → resolved phases.Preview s a dex want ≡ resolved phases.Preview s b dex want
 preview_same s a b dex (Slot n) e = preview_act s a (numbered a n) (numbered_wrong a n) ∙ sym (preview_act s b (numbered b n) (numbered_wrong b n))
-preview_same s a b dex (Named name) e = preview_act s a (named dex a name) (named_wrong dex a name) ∙ sym (preview_act s b (named dex b name) (named_wrong dex b name))
+preview_same s a b dex (Named name) e = preview_name s a dex name (named dex a name) refl (named_wrong dex a name) ∙ sym (preview_name s b dex name (named dex b name) refl (named_wrong dex b name))
 preview_same s a b dex (Position n) e = preview_act s a (choices.Switch n) refl ∙ sym (preview_act s b (choices.Switch n) refl)
 preview_same s a b dex (Team digits) e =
     ap (λ (n : ℕ). judged (choices.Team (order_of n digits)) (fault_of phases.Preview s a (choices.Team (order_of n digits)))) e
