@@ -22,12 +22,13 @@ use Rattle.battle_rounds.specs.Casts.{Cast, player_or_spectator, side_with_id}
 use Rattle.battle_rounds.specs.Fights.{Fight, requests}
 use Rattle.battle_rounds.specs.Rounds.{Outcome}
 use Rattle.ps_base.specs.Ids.{id_of}
+use Rattle.ps_splitlog.specs.declared.backlog.BacklogSize.TheVariants.{Last}
 use Rattle.ps_splitlog.specs.declared.stored.Stored.{Stored}
 use Rattle.ps_splitlog.specs.declared.stored.Stored.TheVariants.{Same}
 use Rattle.ps_splitlog.specs.declared.entry.LogEntry.{LogEntry}
 use Rattle.ps_splitlog.specs.Lines.{stored_of_event, stored_of_line, is_logged_line, shown_if, shown_lines}
 use Rattle.ps_splitlog.specs.Entries as log
-use Rattle.ps_splitlog.specs.Entries.{logged_in, last_of}
+use Rattle.ps_splitlog.specs.Entries.{logged_in, size_of_keep, keep_of_size, last_of}
 use Rattle.ps_room.specs.declared.entry.Entry.{Entry}
 use Rattle.ps_room.specs.Openings.{Opening, cast_with, bout_with}
 use Rattle.ps_room.specs.Tolds as logs
@@ -165,7 +166,7 @@ member_inside None p = refl
 member_inside (Some c) p = side_inside (side_with_id c.names (id_of p.badge.name)) p.rank
 
 -- the last hundred texts
-hundred : (items : List Logged) → AreTexts items → last_of 100 (filter_map (stored_logged None) items) ≡ filter_map (stored_logged None) (drop (length items - 100) items)
+hundred : (items : List Logged) → AreTexts items → last_of (Last 100) (filter_map (stored_logged None) items) ≡ filter_map (stored_logged None) (drop (length items - 100) items)
 hundred items is = rw is.1 (
     ap (λ ls. drop (length ls - 100) ls) (all_texts is.0)
     ∙ ap (λ n. drop (n - 100) (map as_stored is.0)) (length-map is.0 as_stored ∙ sym (length-map is.0 logs.Text))
@@ -184,10 +185,16 @@ last_are : (cast : Option Cast) (items : List Logged) → (cast ≡ None → Are
 last_are None items texts = hundred items (texts refl)
 last_are (Some c) items texts = refl
 
+-- a joiner's `keep` stands for the size that it was made of
+pub size_is : (cast : Option Cast) → size_of_keep (keep_of_size (backlog_size cast)) ≡ backlog_size cast
+size_is None = refl
+size_is (Some c) = refl
+
 backlog_shown : (conn : ℕ) (role : Role) (r : Record) (entries : List LogEntry) → IsLogOf r entries → has_role audiences.All role ≡ true
-    → shown_lines conn role (last_of (backlog_size (cast_in r.battle)) (log.logged_lines entries)) ≡ shown_items (cast_in r.battle) role (backlog_items (cast_in r.battle) (take (length r.logged) r.logged))
+    → shown_lines conn role (last_of (size_of_keep (keep_of_size (backlog_size (cast_in r.battle)))) (log.logged_lines entries)) ≡ shown_items (cast_in r.battle) role (backlog_items (cast_in r.battle) (take (length r.logged) r.logged))
 backlog_shown conn role r entries is inside =
-    ap (λ ls. shown_lines conn role (last_of (backlog_size (cast_in r.battle)) ls)) is.lines_are
+    ap (λ size. shown_lines conn role (last_of size (log.logged_lines entries))) (size_is (cast_in r.battle))
+    ∙ ap (λ ls. shown_lines conn role (last_of (backlog_size (cast_in r.battle)) ls)) is.lines_are
     ∙ ap (shown_lines conn role) (last_are (cast_in r.battle) r.logged is.texts)
     ∙ items_shown conn role (cast_in r.battle) inside (backlog_items (cast_in r.battle) r.logged)
     ∙ ap (λ items. shown_items (cast_in r.battle) role (backlog_items (cast_in r.battle) items)) (sym (take-length r.logged))

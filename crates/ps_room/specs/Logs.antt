@@ -22,12 +22,14 @@ use Rattle.battle_rounds.specs.declared.finish.Finish.{Finish}
 use Rattle.battle_rounds.specs.declared.finish.Finish.TheVariants.{Won, Tied}
 use Rattle.battle_rounds.specs.Fights.{Fight, outcome_of}
 use Rattle.battle_rounds.specs.Rounds.{ended}
+use Rattle.ps_splitlog.specs.declared.backlog.BacklogSize.{BacklogSize}
+use Rattle.ps_splitlog.specs.declared.backlog.BacklogSize.TheVariants.{All, Last}
 use Rattle.ps_splitlog.specs.declared.stored.Stored.{Stored}
 use Rattle.ps_splitlog.specs.declared.entry.Joined.{Joined as LogJoined}
 use Rattle.ps_splitlog.specs.declared.entry.LogEntry.{LogEntry}
 use Rattle.ps_splitlog.specs.declared.cursor.Cursor.{Cursor}
 use Rattle.ps_splitlog.specs.Lines.{stored_of, stored_of_line}
-use Rattle.ps_splitlog.specs.Entries.{all_of_them, logged_lines, message_of}
+use Rattle.ps_splitlog.specs.Entries.{keep_of_size, logged_lines, message_of}
 use Rattle.ps_splitlog.specs.Reads.{first_cursor, cursor_past, read_past}
 use Rattle.ps_room.specs.declared.entry.Entry.{Entry}
 use Rattle.ps_room.specs.declared.outcome.RoomOut.{RoomOut}
@@ -84,12 +86,12 @@ stored_in None events ls = map stored_of_line ls
 stored_in (Some cast) events ls = stored_of cast.names cast.dex events ls
 
 -- how much of what was logged who joins is sent: of a chat the last hundred lines, of a battle all
-abbrev pub backlog_size : Option Cast → ℕ
-backlog_size None = 100
-backlog_size (Some cast) = all_of_them
+abbrev pub backlog_size : Option Cast → BacklogSize
+backlog_size None = Last 100
+backlog_size (Some cast) = All
 
 abbrev pub join_of : Option Cast → Joined → LogJoined
-join_of cast join = record { role = join.role; head = join.head; keep = backlog_size cast; tail = join.request }
+join_of cast join = record { role = join.role; head = join.head; keep = keep_of_size (backlog_size cast); tail = join.request }
 
 abbrev pub log_entry_with : Option Cast → ℕ → Told → List (ℕ × Role) → LogEntry
 log_entry_with cast conn telling roles = record

@@ -35,7 +35,8 @@ use ps_chat::present::Present;
 use ps_event::audience::Audience;
 use ps_event::event::{Event, Events};
 use ps_lines::command::Command;
-use ps_splitlog::entry::{ALL, Entry as Heard, Joined, LogEntry, log_entry_of, log_entry_of_lines};
+use ps_splitlog::backlog::BacklogSize;
+use ps_splitlog::entry::{Entry as Heard, Joined, LogEntry, log_entry_of, log_entry_of_lines};
 use ps_view::role::Role;
 use std::alloc::{AllocError, Global};
 use std::marker::Model;
@@ -282,12 +283,12 @@ fn refused_log_entry(alloc: Global, conn: ConnNo, why: Why) -> Result<LogEntry, 
     log_entry_of_lines(alloc, conn, lines, None)
 }
 
-fn backlog_size(cast: Option<&Cast>) -> u32
+fn backlog_size(cast: Option<&Cast>) -> BacklogSize
     ensures { result ≡ backlog_size (option_copied cast.entry) }
 {
     match cast {
-        None => BACKLOG,
-        Some(_) => ALL,
+        None => BacklogSize::Last(BACKLOG),
+        Some(_) => BacklogSize::All,
     }
 }
 
@@ -471,7 +472,7 @@ impl RoomState {
     }
 
     /// How many of the lines that were logged who joins is sent: of a chat a hundred, of a battle all.
-    pub fn backlog_size(&self) -> u32
+    pub fn backlog_size(&self) -> BacklogSize
         ensures { result ≡ backlog_size (cast_in self.now.battle) }
     {
         backlog_size(cast_in(self.battle.as_ref()))
@@ -550,7 +551,7 @@ impl RoomState {
             Ok(Some(Joined {
                 role: role_of_member(cast_in(self.battle.as_ref()), &joiner),
                 head: self.head(alloc, &joiner)?,
-                keep: backlog_size(cast_in(self.battle.as_ref())),
+                keep: backlog_size(cast_in(self.battle.as_ref())).keep(),
                 tail: request_for(alloc, self.battle.as_ref(), &joiner)?,
             }))
         } else {

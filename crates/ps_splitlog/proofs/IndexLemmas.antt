@@ -1,15 +1,17 @@
 -- The index of a log.
-use Rattle.std.proofs.Common.{◌≡◌, ℕ, suc, ◌+◌, ◌-◌, ◌==◌, Bool, true, false, cond, List, [], ◌∷◌, ◌++◌, length, get_or, set, map, take, drop, Option, Some, refl, sym, ap, subst, ◌∙◌, append_assoc, ◌⊎◌, inl, inr, arith}
+use Rattle.std.proofs.Common.{◌≡◌, ℕ, suc, ◌+◌, ◌-◌, Bool, true, false, cond, List, [], ◌∷◌, ◌++◌, length, get_or, set, map, take, drop, Option, Some, refl, sym, ap, subst, ◌∙◌, append_assoc, ◌⊎◌, inl, inr, arith}
 use Rattle.std.specs.List.{filter, filter_map, cons_option, slice_get}
 use Rattle.std.proofs.lemmas.Grind.{flat_map-append}
 use Rattle.std.proofs.lemmas.List.{append-nil, map-append, length-map, length-append, take-map, drop-map}
 use Rattle.std.proofs.Math.Seq.{take-length, take-append_seam, get_or-append_seam, set-append_seam}
 use Rattle.ps_view.specs.declared.role.Role.{Role}
+use Rattle.ps_splitlog.specs.declared.backlog.BacklogSize.{BacklogSize}
+use Rattle.ps_splitlog.specs.declared.backlog.BacklogSize.TheVariants.{All, Last}
 use Rattle.ps_splitlog.specs.declared.stored.Stored.{Stored}
 use Rattle.ps_splitlog.specs.declared.entry.LogEntry.{LogEntry}
 use Rattle.ps_splitlog.specs.declared.index.LineIndex.{LineIndex}
 use Rattle.ps_splitlog.specs.Lines.{is_logged_line, shown_if, shown_lines}
-use Rattle.ps_splitlog.specs.Entries.{logged_in, logged_lines, last_of, all_of_them}
+use Rattle.ps_splitlog.specs.Entries.{logged_in, logged_lines, last_of}
 use Rattle.ps_splitlog.specs.Indices.{starts_of, line_indices_in, line_indices_of, IsIndex, line_at, shown_at}
 
 -- ---- lists
@@ -22,12 +24,9 @@ of_map : {X Y Z : Type 0} (f : Y → Option Z) (g : X → Y) (xs : List X) → f
 of_map f g [] = refl
 of_map f g (x ∷ xs) = ap (cons_option (f (g x))) (of_map f g xs)
 
-last_of-map : {X Y : Type 0} (g : X → Y) (keep : ℕ) (xs : List X) → map g (last_of keep xs) ≡ last_of keep (map g xs)
-last_of-map g keep xs = by (keep == all_of_them)
-  where
-    by : (all : Bool) → map g (cond all xs (drop (length xs - keep) xs)) ≡ cond all (map g xs) (drop (length (map g xs) - keep) (map g xs))
-    by true = refl
-    by false = sym (drop-map g (length xs - keep) xs) ∙ ap (λ n. drop (n - keep) (map g xs)) (sym (length-map xs g))
+last_of-map : {X Y : Type 0} (g : X → Y) (size : BacklogSize) (xs : List X) → map g (last_of size xs) ≡ last_of size (map g xs)
+last_of-map g All xs = refl
+last_of-map g (Last count) xs = sym (drop-map g (length xs - count) xs) ∙ ap (λ n. drop (n - count) (map g xs)) (sym (length-map xs g))
 
 -- ---- the indices are those of the logged lines
 
@@ -183,31 +182,31 @@ start_is earlier h later =
     ∙ get_or-append_seam (starts_of 0 earlier) (length (logged_lines earlier)) (starts_of (length (logged_lines earlier) + length (logged_in h)) later) 0
 
 -- what is shown of the last lines at these indices is what is shown of the lines
-last_shown : (conn : ℕ) (role : Role) (log : List LogEntry) (keep n : ℕ) → shown_at conn role log (last_of keep (take n (line_indices_of 0 log))) ≡ shown_lines conn role (last_of keep (take n (logged_lines log)))
-last_shown conn role log keep n =
-    of_map (shown_if conn role) (line_at log) (last_of keep (take n (line_indices_of 0 log)))
-    ∙ ap (filter_map (shown_if conn role)) (last_of-map (line_at log) keep (take n (line_indices_of 0 log))
-    ∙ ap (last_of keep) (sym (take-map (line_at log) n (line_indices_of 0 log)) ∙ ap (take n) (lines_are log) ∙ take-map Some n (logged_lines log))
-    ∙ sym (last_of-map Some keep (take n (logged_lines log))))
-    ∙ sym (of_map (shown_if conn role) Some (last_of keep (take n (logged_lines log))))
+last_shown : (conn : ℕ) (role : Role) (log : List LogEntry) (size : BacklogSize) (n : ℕ) → shown_at conn role log (last_of size (take n (line_indices_of 0 log))) ≡ shown_lines conn role (last_of size (take n (logged_lines log)))
+last_shown conn role log size n =
+    of_map (shown_if conn role) (line_at log) (last_of size (take n (line_indices_of 0 log)))
+    ∙ ap (filter_map (shown_if conn role)) (last_of-map (line_at log) size (take n (line_indices_of 0 log))
+    ∙ ap (last_of size) (sym (take-map (line_at log) n (line_indices_of 0 log)) ∙ ap (take n) (lines_are log) ∙ take-map Some n (logged_lines log))
+    ∙ sym (last_of-map Some size (take n (logged_lines log))))
+    ∙ sym (of_map (shown_if conn role) Some (last_of size (take n (logged_lines log))))
 
 -- what who joins by the entry behind these is shown of the backlog
-pub backlog_is : (conn : ℕ) (role : Role) (keep : ℕ) (earlier : List LogEntry) (h : LogEntry) (later : List LogEntry) (starts : List ℕ) (line_indices : List LineIndex) → IsIndex (earlier ++ h ∷ later) starts line_indices
-    → shown_at conn role (earlier ++ h ∷ later) (last_of keep (take (get_or starts (length earlier) 0) line_indices)) ≡ shown_lines conn role (last_of keep (logged_lines earlier))
-backlog_is conn role keep earlier h later starts line_indices index =
+pub backlog_is : (conn : ℕ) (role : Role) (size : BacklogSize) (earlier : List LogEntry) (h : LogEntry) (later : List LogEntry) (starts : List ℕ) (line_indices : List LineIndex) → IsIndex (earlier ++ h ∷ later) starts line_indices
+    → shown_at conn role (earlier ++ h ∷ later) (last_of size (take (get_or starts (length earlier) 0) line_indices)) ≡ shown_lines conn role (last_of size (logged_lines earlier))
+backlog_is conn role size earlier h later starts line_indices index =
     let log : List LogEntry = earlier ++ h ∷ later in
-    ap (λ ps. shown_at conn role log (last_of keep (take (get_or starts (length earlier) 0) ps))) index.line_indices
-    ∙ ap (λ n. shown_at conn role log (last_of keep (take n (line_indices_of 0 log)))) (ap (λ ns. get_or ns (length earlier) 0) index.starts ∙ start_is earlier h later)
-    ∙ last_shown conn role log keep (length (logged_lines earlier))
-    ∙ ap (λ ls. shown_lines conn role (last_of keep (take (length (logged_lines earlier)) ls))) (flat_map-append logged_in earlier (h ∷ later))
-    ∙ ap (λ ls. shown_lines conn role (last_of keep ls)) (take-append_seam (logged_lines earlier) (logged_lines (h ∷ later)))
+    ap (λ ps. shown_at conn role log (last_of size (take (get_or starts (length earlier) 0) ps))) index.line_indices
+    ∙ ap (λ n. shown_at conn role log (last_of size (take n (line_indices_of 0 log)))) (ap (λ ns. get_or ns (length earlier) 0) index.starts ∙ start_is earlier h later)
+    ∙ last_shown conn role log size (length (logged_lines earlier))
+    ∙ ap (λ ls. shown_lines conn role (last_of size (take (length (logged_lines earlier)) ls))) (flat_map-append logged_in earlier (h ∷ later))
+    ∙ ap (λ ls. shown_lines conn role (last_of size ls)) (take-append_seam (logged_lines earlier) (logged_lines (h ∷ later)))
 
 -- what who joins by the next entry is shown of the whole log
-pub whole_backlog_is : (conn : ℕ) (role : Role) (keep : ℕ) (entries : List LogEntry) (starts : List ℕ) (line_indices : List LineIndex) → IsIndex entries starts line_indices
-    → shown_at conn role entries (last_of keep line_indices) ≡ shown_lines conn role (last_of keep (logged_lines entries))
-whole_backlog_is conn role keep entries starts line_indices index =
+pub whole_backlog_is : (conn : ℕ) (role : Role) (size : BacklogSize) (entries : List LogEntry) (starts : List ℕ) (line_indices : List LineIndex) → IsIndex entries starts line_indices
+    → shown_at conn role entries (last_of size line_indices) ≡ shown_lines conn role (last_of size (logged_lines entries))
+whole_backlog_is conn role size entries starts line_indices index =
     let n : ℕ = length (line_indices_of 0 entries) in
-    ap (λ ps. shown_at conn role entries (last_of keep ps)) (index.line_indices ∙ sym (take-length (line_indices_of 0 entries)))
-    ∙ last_shown conn role entries keep n
-    ∙ ap (λ i. shown_lines conn role (last_of keep (take i (logged_lines entries)))) (count_is entries)
-    ∙ ap (λ ls. shown_lines conn role (last_of keep ls)) (take-length (logged_lines entries))
+    ap (λ ps. shown_at conn role entries (last_of size ps)) (index.line_indices ∙ sym (take-length (line_indices_of 0 entries)))
+    ∙ last_shown conn role entries size n
+    ∙ ap (λ i. shown_lines conn role (last_of size (take i (logged_lines entries)))) (count_is entries)
+    ∙ ap (λ ls. shown_lines conn role (last_of size ls)) (take-length (logged_lines entries))

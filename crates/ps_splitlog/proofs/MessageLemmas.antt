@@ -10,7 +10,7 @@ use Rattle.ps_splitlog.specs.declared.entry.Joined.{Joined}
 use Rattle.ps_splitlog.specs.declared.index.LineIndex.{LineIndex}
 use Rattle.ps_splitlog.specs.declared.stored.Stored.{Stored}
 use Rattle.ps_splitlog.specs.Lines.{shown_lines}
-use Rattle.ps_splitlog.specs.Entries.{changed, logged_lines, last_of, join_for, joined_or, first_message, message_of, message_at}
+use Rattle.ps_splitlog.specs.Entries.{changed, logged_lines, size_of_keep, last_of, join_for, joined_or, first_message, message_of, message_at}
 use Rattle.ps_splitlog.specs.Reads.{messages_of}
 use Rattle.ps_splitlog.specs.Indices.{IsIndex, shown_at}
 use Rattle.ps_splitlog.proofs.IndexLemmas.{backlog_is}
@@ -23,7 +23,7 @@ from_here log entry_index h at =
 
 -- the message of who joins, by the index
 pub message_of_join : (conn : ℕ) (role : Role) (log : List LogEntry) (entry_index : ℕ) (h : LogEntry) (j : Joined) (starts : List ℕ) (line_indices : List LineIndex) → IsIndex log starts line_indices → slice_get log entry_index ≡ Some h → join_for conn h ≡ Some j
-    → j.head ++ shown_at conn j.role log (last_of j.keep (take (get_or starts entry_index 0) line_indices)) ++ option_to_list j.tail ≡ message_at conn role log entry_index
+    → j.head ++ shown_at conn j.role log (last_of (size_of_keep j.keep) (take (get_or starts entry_index 0) line_indices)) ++ option_to_list j.tail ≡ message_at conn role log entry_index
 message_of_join conn role log entry_index h j starts line_indices index at joins =
     let earlier : List LogEntry = take entry_index log in
     let later : List LogEntry = drop (entry_index + 1) log in
@@ -32,10 +32,10 @@ message_of_join conn role log entry_index h j starts line_indices index at joins
     let lt : entry_index < length log = slice_get_within log entry_index h at in
     let many : length earlier ≡ entry_index = length-take entry_index log ∙ omega (arith, lt) in
     let whole : IsIndex (earlier ++ h ∷ later) starts line_indices = subst (λ hs. IsIndex hs starts line_indices) parts index in
-    let backlog : shown_at conn j.role log (last_of j.keep (take (get_or starts entry_index 0) line_indices)) ≡ shown_lines conn j.role (last_of j.keep (logged_lines earlier)) =
-    ap (λ hs. shown_at conn j.role hs (last_of j.keep (take (get_or starts entry_index 0) line_indices))) parts
-    ∙ ap (λ n. shown_at conn j.role (earlier ++ h ∷ later) (last_of j.keep (take (get_or starts n 0) line_indices))) (sym many)
-    ∙ backlog_is conn j.role j.keep earlier h later starts line_indices whole in
+    let backlog : shown_at conn j.role log (last_of (size_of_keep j.keep) (take (get_or starts entry_index 0) line_indices)) ≡ shown_lines conn j.role (last_of (size_of_keep j.keep) (logged_lines earlier)) =
+    ap (λ hs. shown_at conn j.role hs (last_of (size_of_keep j.keep) (take (get_or starts entry_index 0) line_indices))) parts
+    ∙ ap (λ n. shown_at conn j.role (earlier ++ h ∷ later) (last_of (size_of_keep j.keep) (take (get_or starts n 0) line_indices))) (sym many)
+    ∙ backlog_is conn j.role (size_of_keep j.keep) earlier h later starts line_indices whole in
     ap (λ texts. j.head ++ texts ++ option_to_list j.tail) backlog
     ∙ ap (λ o. joined_or conn o (logged_lines earlier) (shown_lines conn role h.lines)) (sym joins)
     ∙ ap (first_message conn role earlier) (sym here)

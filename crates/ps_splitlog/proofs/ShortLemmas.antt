@@ -1,5 +1,5 @@
 -- A log that forgets.
-use Rattle.std.proofs.Common.{◌≡◌, ◌≤◌, ◌<◌, ℕ, zero, suc, ◌+◌, ◌-◌, ◌==◌, Bool, true, false, cond, List, [], ◌∷◌, ◌++◌, length, get_or, take, drop, Option, Some, None, refl, sym, ap, ◌∙◌, append_assoc, ◌⊎◌, inl, inr, arith}
+use Rattle.std.proofs.Common.{◌≡◌, ◌≤◌, ◌<◌, ℕ, zero, suc, ◌+◌, ◌-◌, Bool, true, false, cond, List, [], ◌∷◌, ◌++◌, length, get_or, take, drop, Option, Some, None, refl, sym, ap, ◌∙◌, append_assoc, ◌⊎◌, inl, inr, arith}
 use Rattle.std.specs.Prelude.{nat_lt}
 use Rattle.std.specs.List.{filter, filter_map}
 use Rattle.std.specs.Option.{option_to_list}
@@ -8,11 +8,13 @@ use Rattle.std.proofs.lemmas.List.{append-nil, length-append, length-drop, drop-
 use Rattle.std.proofs.lemmas.List.Elements.{filter-append, filter_map-append}
 use Rattle.std.proofs.lemmas.Bool.Decides.{nat_tests}
 use Rattle.ps_view.specs.declared.role.Role.{Role}
+use Rattle.ps_splitlog.specs.declared.backlog.BacklogSize.{BacklogSize}
+use Rattle.ps_splitlog.specs.declared.backlog.BacklogSize.TheVariants.{All, Last}
 use Rattle.ps_splitlog.specs.declared.stored.Stored.{Stored}
 use Rattle.ps_splitlog.specs.declared.entry.Joined.{Joined}
 use Rattle.ps_splitlog.specs.declared.entry.LogEntry.{LogEntry}
 use Rattle.ps_splitlog.specs.Lines.{is_logged_line, shown, shown_lines}
-use Rattle.ps_splitlog.specs.Entries.{logged_in, logged_lines, all_of_them, last_of, join_for, joined_or, message_of}
+use Rattle.ps_splitlog.specs.Entries.{logged_in, logged_lines, size_of_keep, last_of, join_for, joined_or, message_of}
 use Rattle.ps_splitlog.specs.Shorts.{Short, IsShortOf, started, with_entry, gone_of, forgotten, lines_of, fewer, first_of, skipped_of, IsFew, StaysShort, AreShort}
 
 -- ---- lists
@@ -37,36 +39,28 @@ above a b ge = grind (arith, nat_tests, ge)
 
 -- ---- the last lines
 
-pub last_again : {X : Type 0} (m : ℕ) (xs ys : List X) → last_of m (last_of m xs ++ ys) ≡ last_of m (xs ++ ys)
-last_again m xs ys = by (m == all_of_them)
-  where
-    by : (all : Bool) → cond all (cond all xs (drop (length xs - m) xs) ++ ys) (drop (length (cond all xs (drop (length xs - m) xs) ++ ys) - m) (cond all xs (drop (length xs - m) xs) ++ ys)) ≡ cond all (xs ++ ys) (drop (length (xs ++ ys) - m) (xs ++ ys))
-    by true = refl
-    by false =
-        let k : ℕ = length xs - m in
-        let le : k ≤ length xs = omega arith in
-        let whole : drop k xs ++ ys ≡ drop k (xs ++ ys) = sym (drop-append-le k xs ys le) in
-        let many : length (xs ++ ys) ≡ length xs + length ys = length-append xs ys in
-        let left : length (drop k (xs ++ ys)) ≡ length (xs ++ ys) - k = length-drop k (xs ++ ys) in
-        ap (λ zs. drop (length zs - m) zs) whole
-        ∙ drop-drop (length (drop k (xs ++ ys)) - m) k (xs ++ ys)
-        ∙ ap (λ n. drop n (xs ++ ys)) (let sum : k + (length (drop k (xs ++ ys)) - m) ≡ length (xs ++ ys) - m = omega (arith, many, left) in sum)
+pub last_again : {X : Type 0} (size : BacklogSize) (xs ys : List X) → last_of size (last_of size xs ++ ys) ≡ last_of size (xs ++ ys)
+last_again All xs ys = refl
+last_again (Last m) xs ys =
+    let k : ℕ = length xs - m in
+    let le : k ≤ length xs = omega arith in
+    let whole : drop k xs ++ ys ≡ drop k (xs ++ ys) = sym (drop-append-le k xs ys le) in
+    let many : length (xs ++ ys) ≡ length xs + length ys = length-append xs ys in
+    let left : length (drop k (xs ++ ys)) ≡ length (xs ++ ys) - k = length-drop k (xs ++ ys) in
+    ap (λ zs. drop (length zs - m) zs) whole
+    ∙ drop-drop (length (drop k (xs ++ ys)) - m) k (xs ++ ys)
+    ∙ ap (λ n. drop n (xs ++ ys)) (let sum : k + (length (drop k (xs ++ ys)) - m) ≡ length (xs ++ ys) - m = omega (arith, many, left) in sum)
 
-last_none : (X : Type 0) (m : ℕ) → last_of m (nothing X) ≡ nothing X
-last_none X m = by (m == all_of_them)
-  where
-    by : (all : Bool) → cond all (nothing X) (drop (0 - m) (nothing X)) ≡ nothing X
-    by true = refl
-    by false = drop-none X (0 - m)
+last_none : (X : Type 0) (size : BacklogSize) → last_of size (nothing X) ≡ nothing X
+last_none X All = refl
+last_none X (Last m) = drop-none X (0 - m)
 
 -- the last of the last
-pub last_of_last : {X : Type 0} (keep most : ℕ) (xs : List X) → last_of keep (last_of most xs) ≡ last_of (fewer keep most) xs
-last_of_last {X} keep most xs = by (keep == all_of_them) (most == all_of_them) (nat_lt keep most) refl refl refl
+pub last_of_last : {X : Type 0} (size most : BacklogSize) (xs : List X) → last_of size (last_of most xs) ≡ last_of (fewer size most) xs
+last_of_last All most xs = refl
+last_of_last (Last keep) All xs = refl
+last_of_last (Last keep) (Last most) xs = twice (nat_lt keep most) refl
   where
-    one : (b : Bool) → (keep == all_of_them) ≡ false → (most == all_of_them) ≡ false → (cond b keep most == all_of_them) ≡ false
-    one true k m = k
-    one false k m = m
-
     twice : (b : Bool) → nat_lt keep most ≡ b → drop (length (drop (length xs - most) xs) - keep) (drop (length xs - most) xs) ≡ drop (length xs - cond b keep most) xs
     twice b is =
         let left : length (drop (length xs - most) xs) ≡ length xs - (length xs - most) = length-drop (length xs - most) xs in
@@ -77,24 +71,16 @@ last_of_last {X} keep most xs = by (keep == all_of_them) (most == all_of_them) (
         sums true lt left = omega (arith, left, below keep most lt)
         sums false ge left = omega (arith, left, above keep most ge)
 
-    by : (k m b : Bool) → (keep == all_of_them) ≡ k → (most == all_of_them) ≡ m → nat_lt keep most ≡ b
-        → cond k (cond m xs (drop (length xs - most) xs)) (drop (length (cond m xs (drop (length xs - most) xs)) - keep) (cond m xs (drop (length xs - most) xs)))
-        ≡ last_of (cond k most (cond m keep (cond b keep most))) xs
-    by true true b k m l = rw m refl
-    by true false b k m l = rw m refl
-    by false true b k m l = rw k refl
-    by false false b k m l = twice b l ∙ ap (λ (a : Bool). cond a xs (drop (length xs - cond b keep most) xs)) (sym (one b k m))
-
 -- the last of two lists
-pub recent : (conn : ℕ) (role : Role) (keep from skip : ℕ) (backlog more : List Stored) → from ≡ first_of keep (length backlog) (length more) → skip ≡ skipped_of keep (length more)
-    → shown_lines conn role (drop from backlog) ++ shown_lines conn role (drop skip more) ≡ shown_lines conn role (last_of keep (backlog ++ more))
-recent conn role keep from skip backlog more f s =
+pub recent : (conn : ℕ) (role : Role) (size : BacklogSize) (from skip : ℕ) (backlog more : List Stored) → from ≡ first_of size (length backlog) (length more) → skip ≡ skipped_of size (length more)
+    → shown_lines conn role (drop from backlog) ++ shown_lines conn role (drop skip more) ≡ shown_lines conn role (last_of size (backlog ++ more))
+recent conn role size from skip backlog more f s =
     sym (filter_map-append (shown conn role) (drop from backlog) (drop skip more))
-    ∙ ap (shown_lines conn role) (ap (λ n. drop n backlog ++ drop skip more) f ∙ ap (λ n. drop (first_of keep (length backlog) (length more)) backlog ++ drop n more) s ∙ by (keep == all_of_them))
+    ∙ ap (shown_lines conn role) (ap (λ n. drop n backlog ++ drop skip more) f ∙ ap (λ n. drop (first_of size (length backlog) (length more)) backlog ++ drop n more) s ∙ by size)
   where
-    by : (all : Bool) → drop (cond all 0 (length backlog - (keep - length more))) backlog ++ drop (cond all 0 (length more - keep)) more ≡ cond all (backlog ++ more) (drop (length (backlog ++ more) - keep) (backlog ++ more))
-    by true = refl
-    by false =
+    by : (size : BacklogSize) → drop (first_of size (length backlog) (length more)) backlog ++ drop (skipped_of size (length more)) more ≡ last_of size (backlog ++ more)
+    by All = refl
+    by (Last keep) =
         let many : length (backlog ++ more) ≡ length backlog + length more = length-append backlog more in
         let k : ℕ = length (backlog ++ more) - keep in
         ap (λ (x : List Stored). x ++ drop (length more - keep) more) (sym (same (nat_lt keep (length more)) refl))
@@ -140,7 +126,7 @@ left_more skip left now first next l n = let many : length (first ++ next) ≡ l
 front_of : (log : List LogEntry) (n : ℕ) (h : LogEntry) (hs : List LogEntry) → h ∷ hs ≡ drop n log → n < length log
 front_of log n h hs is = let many : length (drop n log) ≡ length log - n = length-drop n log in let some : suc (length hs) ≡ length (drop n log) = ap length is in omega (arith, many, some)
 
-forgot : (log : List LogEntry) (most : ℕ) (backlog : List Stored) (n : ℕ) (kept : List LogEntry) → backlog ≡ last_of most (logged_lines (take n log)) → kept ≡ drop n log → n ≤ length log → IsShortOf log (gone_of most backlog n kept)
+forgot : (log : List LogEntry) (most : BacklogSize) (backlog : List Stored) (n : ℕ) (kept : List LogEntry) → backlog ≡ last_of most (logged_lines (take n log)) → kept ≡ drop n log → n ≤ length log → IsShortOf log (gone_of most backlog n kept)
 forgot log most backlog n [] b k le = record { backlog = b; kept = k; gone = le }
 forgot log most backlog n (h ∷ hs) b k le =
     let lt : n < length log = front_of log n h hs k in
@@ -171,12 +157,12 @@ lines_are log s is =
     ∙ ap (last_of s.most) (sym (flat_map-append logged_in (take s.gone log) (drop s.gone log)) ∙ ap logged_lines (take-append-drop s.gone log))
 
 -- who joins is sent no more lines than these are
-pub few_message : (conn : ℕ) (role : Role) (most : ℕ) (before : List Stored) (h : LogEntry) → IsFew most h → message_of conn role (last_of most before) h ≡ message_of conn role before h
+pub few_message : (conn : ℕ) (role : Role) (most : BacklogSize) (before : List Stored) (h : LogEntry) → IsFew most h → message_of conn role (last_of most before) h ≡ message_of conn role before h
 few_message conn role most before h few = by (join_for conn h) refl
   where
     by : (o : Option Joined) → join_for conn h ≡ o → joined_or conn o (last_of most before) (shown_lines conn role h.lines) ≡ joined_or conn o before (shown_lines conn role h.lines)
     by None is = refl
-    by (Some j) is = ap (λ (ls : List Stored). j.head ++ shown_lines conn j.role ls ++ option_to_list j.tail) (last_of_last j.keep most before ∙ ap (λ n. last_of n before) (few conn j is))
+    by (Some j) is = ap (λ (ls : List Stored). j.head ++ shown_lines conn j.role ls ++ option_to_list j.tail) (last_of_last (size_of_keep j.keep) most before ∙ ap (λ (size : BacklogSize). last_of size before) (few conn j is))
 
 pub are_short : AreShort
 are_short = record {

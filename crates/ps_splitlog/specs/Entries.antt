@@ -6,6 +6,8 @@ use Rattle.ps_event.specs.declared.event.Event.{Event}
 use Rattle.ps_dex.specs.declared.item.Tables.{Tables}
 use Rattle.ps_view.specs.declared.names.Names.{Names}
 use Rattle.ps_view.specs.declared.role.Role.{Role}
+use Rattle.ps_splitlog.specs.declared.backlog.BacklogSize.{BacklogSize}
+use Rattle.ps_splitlog.specs.declared.backlog.BacklogSize.TheVariants.{All, Last}
 use Rattle.ps_splitlog.specs.declared.stored.Stored.{Stored}
 use Rattle.ps_splitlog.specs.declared.entry.Joined.{Joined}
 use Rattle.ps_splitlog.specs.declared.entry.LogEntry.{LogEntry}
@@ -35,12 +37,19 @@ logged_in entry = filter is_logged_line entry.lines
 abbrev pub logged_lines : List LogEntry → List Stored
 logged_lines hs = flat_map logged_in hs
 
--- the last so many; this number means all
-abbrev pub all_of_them : ℕ
-all_of_them = 4294967295
+-- how much a joiner's `keep` stands for: the last so many, or all by the greatest number that a `keep` has
+abbrev pub size_of_keep : ℕ → BacklogSize
+size_of_keep keep = if keep == 4294967295 then All else Last keep
 
-abbrev pub last_of : {X : Type 0} → ℕ → List X → List X
-last_of keep ls = if keep == all_of_them then ls else drop (length ls - keep) ls
+-- the `keep` for a size
+abbrev pub keep_of_size : BacklogSize → ℕ
+keep_of_size All = 4294967295
+keep_of_size (Last count) = count
+
+-- all, or the last so many
+abbrev pub last_of : {X : Type 0} → BacklogSize → List X → List X
+last_of All ls = ls
+last_of (Last count) ls = drop (length ls - count) ls
 
 -- ---- messages
 
@@ -51,7 +60,7 @@ join_for conn entry = if conn == entry.conn then entry.join else None
 -- the head, the last lines that were logged before by the role of the join, and the tail
 abbrev pub joined_or : ℕ → Option Joined → List Stored → List (List ℕ) → List (List ℕ)
 joined_or conn None before texts = texts
-joined_or conn (Some joined) before texts = joined.head ++ shown_lines conn joined.role (last_of joined.keep before)
+joined_or conn (Some joined) before texts = joined.head ++ shown_lines conn joined.role (last_of (size_of_keep joined.keep) before)
     ++ option_to_list joined.tail
 
 -- what a connection in this role is sent at an entry, before which these lines were logged

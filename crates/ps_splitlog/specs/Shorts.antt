@@ -1,15 +1,17 @@
 -- A log that forgets: what it has of a log whose beginning is gone.
-use Rattle.std.specs.Prelude.{◌≡◌, ◌≤◌, ◌-◌, ℕ, suc, List, [], ◌∷◌, ◌++◌, length, take, drop, if◌then◌else◌, ◌==◌, nat_lt, Some}
+use Rattle.std.specs.Prelude.{◌≡◌, ◌≤◌, ◌-◌, ℕ, suc, List, [], ◌∷◌, ◌++◌, length, take, drop, if◌then◌else◌, nat_lt, Some}
 use Rattle.ps_view.specs.declared.role.Role.{Role}
+use Rattle.ps_splitlog.specs.declared.backlog.BacklogSize.{BacklogSize}
+use Rattle.ps_splitlog.specs.declared.backlog.BacklogSize.TheVariants.{All, Last}
 use Rattle.ps_splitlog.specs.declared.stored.Stored.{Stored}
 use Rattle.ps_splitlog.specs.declared.entry.Joined.{Joined}
 use Rattle.ps_splitlog.specs.declared.entry.LogEntry.{LogEntry}
-use Rattle.ps_splitlog.specs.Entries.{logged_in, logged_lines, all_of_them, last_of, join_for, message_of}
+use Rattle.ps_splitlog.specs.Entries.{logged_in, logged_lines, size_of_keep, last_of, join_for, message_of}
 
--- How many of the logged lines of the entries that are gone are kept at the most (`all_of_them` means all), these lines, the
--- entries that aren't gone, and how many are.
+-- How many of the logged lines of the entries that are gone are kept at the most, these lines, the entries that aren't gone, and
+-- how many are.
 pub record Short : Type 0 where
-  pub most : ℕ
+  pub most : BacklogSize
   pub backlog : List Stored
   pub kept : List LogEntry
   pub gone : ℕ
@@ -21,7 +23,7 @@ pub record IsShortOf (log : List LogEntry) (short : Short) : Type 0 where
   pub gone : short.gone ≤ length log
 
 -- with no entry
-abbrev pub started : ℕ → Short
+abbrev pub started : BacklogSize → Short
 started most = record { most = most; backlog = []; kept = []; gone = 0 }
 
 -- with a further entry
@@ -33,7 +35,7 @@ abbrev pub taken_back : Short → Short
 taken_back short = record { most = short.most; backlog = short.backlog; kept = take (length short.kept - 1) short.kept; gone = short.gone }
 
 -- where these aren't gone: the first of them is
-abbrev pub gone_of : ℕ → List Stored → ℕ → List LogEntry → Short
+abbrev pub gone_of : BacklogSize → List Stored → ℕ → List LogEntry → Short
 gone_of most backlog gone [] = record { most = most; backlog = backlog; kept = []; gone = gone }
 gone_of most backlog gone (entry ∷ entries) = record
     { most = most; backlog = last_of most (backlog ++ logged_in entry); kept = entries; gone = suc gone }
@@ -48,23 +50,28 @@ lines_of short = last_of short.most (short.backlog ++ logged_lines short.kept)
 
 -- ---- for the code: how many lines who joins is sent, and where they begin
 
--- the fewer of both, where one number means all
-abbrev pub fewer : ℕ → ℕ → ℕ
-fewer keep most = if keep == all_of_them then most else (if most == all_of_them then keep else (if nat_lt keep most then keep else most))
+-- the fewer of both
+abbrev pub fewer : BacklogSize → BacklogSize → BacklogSize
+fewer All most = most
+fewer (Last count) All = Last count
+fewer (Last count) (Last limit) = Last (if nat_lt count limit then count else limit)
 
 -- of so many lines the index of the first that counts, where so many more follow them
-abbrev pub first_of : ℕ → ℕ → ℕ → ℕ
-first_of keep many more = if keep == all_of_them then 0 else many - (keep - more)
+abbrev pub first_of : BacklogSize → ℕ → ℕ → ℕ
+first_of All many more = 0
+first_of (Last count) many more = many - (count - more)
 
 -- and of those that follow
-abbrev pub skipped_of : ℕ → ℕ → ℕ
-skipped_of keep more = if keep == all_of_them then 0 else more - keep
+abbrev pub skipped_of : BacklogSize → ℕ → ℕ
+skipped_of All more = 0
+skipped_of (Last count) more = more - count
 
 -- ---- laws
 
 -- the next entry's message is that of the whole log, where who joins is sent no more lines than are kept
-abbrev pub IsFew : ℕ → LogEntry → Type 0
-IsFew most entry = (conn : ℕ) (joined : Joined) → join_for conn entry ≡ Some joined → fewer joined.keep most ≡ joined.keep
+abbrev pub IsFew : BacklogSize → LogEntry → Type 0
+IsFew most entry = (conn : ℕ) (joined : Joined) → join_for conn entry ≡ Some joined
+    → fewer (size_of_keep joined.keep) most ≡ size_of_keep joined.keep
 
 -- What is short of a log stays so, as entries come and are forgotten; and who joins is sent what it is sent of the log.
 pub record StaysShort (log : List LogEntry) (short : Short) : Type 0 where
@@ -74,5 +81,5 @@ pub record StaysShort (log : List LogEntry) (short : Short) : Type 0 where
       → message_of conn role (lines_of short) entry ≡ message_of conn role (logged_lines log) entry
 
 pub record AreShort : Type 0 where
-  pub start : (most : ℕ) → IsShortOf [] (started most)
+  pub start : (most : BacklogSize) → IsShortOf [] (started most)
   pub next : (log : List LogEntry) (short : Short) → IsShortOf log short → StaysShort log short

@@ -17,9 +17,6 @@ use ps_view::role::Role;
 use std::alloc::{AllocError, Global};
 use std::marker::Model;
 
-/// A `keep` with which who joins is sent all that was logged.
-pub const ALL: u32 = 4_294_967_295;
-
 /// What who joins is sent in the place of the entry's lines.
 #[derive(Debug, Drop)]
 pub struct Joined {
@@ -27,7 +24,8 @@ pub struct Joined {
     pub role: Role,
     /// The lines that come first.
     pub head: List<Text>,
-    /// How many of the lines that were logged before follow, the last ones; `ALL` means all.
+    /// How many of the lines that were logged before follow, the last ones; 4,294,967,295 means all. What it stands for is a
+    /// `BacklogSize`.
     pub keep: u32,
     /// The line that comes last.
     pub tail: Option<Text>,

@@ -1,6 +1,7 @@
 //! The log of a room, each text written once, and read by cursors.
 #![tactic(auto)]
 
+pub mod backlog;
 pub mod cursor;
 pub mod entry;
 mod firsts;

@@ -2,12 +2,13 @@
 ghost use Rattle.std.specs.Prelude.{◌≡◌, ◌++◌, ◌∷◌, [], take, drop, map, get_or, IfOk, OnOk};
 ghost use Rattle.std.specs.Option.{option_copied, option_to_list};
 ghost use Rattle.ps_splitlog.specs.Lines.{shown_lines};
-ghost use Rattle.ps_splitlog.specs.Entries.{changed, logged_lines, last_of, join_for, message_of, message_at};
+ghost use Rattle.ps_splitlog.specs.Entries.{changed, logged_lines, size_of_keep, last_of, join_for, message_of, message_at};
 ghost use Rattle.ps_splitlog.specs.Reads.{messages_of, role_past};
 ghost use Rattle.ps_base.specs.Messages.{sent, msg_lines};
 ghost use Rattle.ps_splitlog.specs.Indices.{shown_at, IsIndex};
 
-use crate::entry::{ALL, Joined, LogEntry};
+use crate::backlog::BacklogSize;
+use crate::entry::{Joined, LogEntry};
 use crate::index::{Index, LineIndex, line_at, line_indices_before};
 use crate::stored::{Stored, shown};
 use ps_base::list::List;
@@ -103,15 +104,17 @@ fn push_all_shown_at(
     Ok(())
 }
 
-// The last so many of these indices.
-fn last_of(keep: u32, line_indices: &[LineIndex]) -> &[LineIndex]
-    ensures { result.now ≡ last_of keep line_indices.now }
+// The last of these indices, as many as a size says.
+fn last_of(size: BacklogSize, line_indices: &[LineIndex]) -> &[LineIndex]
+    ensures { result.now ≡ last_of size line_indices.now }
 {
-    if keep == ALL {
-        return line_indices;
+    match size {
+        BacklogSize::All => line_indices,
+        BacklogSize::Last(count) => {
+            let first = line_indices.len().saturating_sub(count as usize);
+            &line_indices[first..]
+        }
     }
-    let first = line_indices.len().saturating_sub(keep as usize);
-    &line_indices[first..]
 }
 
 // What who joins by an entry is sent, where these lines were logged before.
@@ -122,12 +125,13 @@ fn init(
     entries: &[LogEntry],
     before: &[LineIndex],
 ) -> Result<List<Text>, AllocError>
-    ensures { IfOk result (λ v. v ≡ joined.now.head ++ shown_at conn joined.now.role entries.now (last_of joined.now.keep before.now)
+    ensures { IfOk result (λ v. v ≡ joined.now.head
+        ++ shown_at conn joined.now.role entries.now (last_of (size_of_keep joined.now.keep) before.now)
         ++ option_to_list joined.now.tail) }
 {
     let mut texts = Vec::new(alloc);
     push_copies(alloc, &mut texts, joined.head.as_slice())?;
-    let backlog = last_of(joined.keep, before);
+    let backlog = last_of(BacklogSize::of_keep(joined.keep), before);
     push_all_shown_at(alloc, &mut texts, conn, joined.role, entries, backlog)?;
     push_tail(alloc, &mut texts, &joined.tail)?;
     Ok(List::from_vec(texts))

@@ -7,7 +7,8 @@ ghost use Rattle.ps_splitlog.specs.Lines.{is_logged_line, shown_lines};
 ghost use Rattle.ps_splitlog.specs.Entries.{last_of, logged_lines, message_of};
 ghost use Rattle.ps_splitlog.specs.Shorts.{fewer, first_of, skipped_of};
 
-use crate::entry::{ALL, Joined, LogEntry};
+use crate::backlog::BacklogSize;
+use crate::entry::{Joined, LogEntry};
 use crate::read::{join_for, push_shown, push_tail, shown_of};
 use crate::stored::{Stored, is_logged_line};
 use ps_base::list::List;
@@ -18,11 +19,11 @@ use std::alloc::{AllocError, Global};
 use std::collections::VecDeque;
 use std::marker::Model;
 
-/// A log that forgets its first entries, when it is told to. Of these it keeps the logged lines alone, the last so many: who joins
-/// is sent them. So it takes the memory of what may still be shown, and not that of all that was told. `SplitLog` keeps every
+/// A log that forgets its first entries, when it is told to. Of these it keeps the logged lines alone, the last so many or all: who
+/// joins is sent them. So it takes the memory of what may still be shown, and not that of all that was told. `SplitLog` keeps every
 /// entry, for a cursor that stands anywhere.
 pub struct ShortLog {
-    most: u32,
+    most: BacklogSize,
     backlog: VecDeque<Stored>,
     kept: VecDeque<LogEntry>,
     gone: usize,
@@ -72,15 +73,17 @@ fn push_all_logged(backlog: &mut VecDeque<Stored>, lines: Vec<Stored>)
     }
 }
 
-// Leaves the last so many lines.
-fn leave_last(backlog: &mut VecDeque<Stored>, most: u32)
+// Leaves the last lines, as many as a size says.
+fn leave_last(backlog: &mut VecDeque<Stored>, most: BacklogSize)
     ensures { backlog.new.items ≡ last_of most backlog.old.items }
 {
-    if most == ALL {
-        return;
+    match most {
+        BacklogSize::All => {}
+        BacklogSize::Last(count) => {
+            let extra = backlog.len().saturating_sub(count as usize);
+            drop_first(backlog, extra);
+        }
     }
-    let extra = backlog.len().saturating_sub(most as usize);
-    drop_first(backlog, extra);
 }
 
 fn drop_first(backlog: &mut VecDeque<Stored>, count: usize)
@@ -93,34 +96,38 @@ fn drop_first(backlog: &mut VecDeque<Stored>, count: usize)
 
 // ---- what who joins is sent
 
-fn fewer(keep: u32, most: u32) -> u32
-    ensures { result ≡ fewer keep most }
+fn fewer(size: BacklogSize, most: BacklogSize) -> BacklogSize
+    ensures { result ≡ fewer size most }
 {
-    if keep == ALL {
-        return most;
+    match size {
+        BacklogSize::All => most,
+        BacklogSize::Last(count) => match most {
+            BacklogSize::All => BacklogSize::Last(count),
+            BacklogSize::Last(limit) => BacklogSize::Last(if count < limit {
+                count
+            } else {
+                limit
+            }),
+        },
     }
-    if most == ALL {
-        return keep;
-    }
-    if keep < most { keep } else { most }
 }
 
-fn first_of(keep: u32, many: usize, more: usize) -> usize
-    ensures { result ≡ first_of keep many more }
+fn first_of(size: BacklogSize, many: usize, more: usize) -> usize
+    ensures { result ≡ first_of size many more }
 {
-    if keep == ALL {
-        return 0;
+    match size {
+        BacklogSize::All => 0,
+        BacklogSize::Last(count) => many.saturating_sub((count as usize).saturating_sub(more)),
     }
-    many.saturating_sub((keep as usize).saturating_sub(more))
 }
 
-fn skipped_of(keep: u32, more: usize) -> usize
-    ensures { result ≡ skipped_of keep more }
+fn skipped_of(size: BacklogSize, more: usize) -> usize
+    ensures { result ≡ skipped_of size more }
 {
-    if keep == ALL {
-        return 0;
+    match size {
+        BacklogSize::All => 0,
+        BacklogSize::Last(count) => more.saturating_sub(count as usize),
     }
-    more.saturating_sub(keep as usize)
 }
 
 // How many of these lines are logged.
@@ -234,26 +241,27 @@ fn push_all_past(
     Ok(())
 }
 
-// Puts what is shown of the last so many lines behind the others: of the backlog, and of the first so many entries.
+// Puts what is shown of the last lines, as many as a size says, behind the others: of the backlog, and of the first so many
+// entries.
 #[tactic(auto, using(crate::proofs::ShortLemmas::recent))]
 fn push_recent(
     alloc: Global,
     texts: &mut Vec<Text>,
     conn: ConnNo,
     role: Role,
-    keep: u32,
+    size: BacklogSize,
     backlog: &VecDeque<Stored>,
     kept: &VecDeque<LogEntry>,
     upto: usize,
 ) -> Result<(), AllocError>
     requires { upto ≤ deque_len kept.now }
     ensures { OnOk result (texts.new.items ≡ texts.old.items
-        ++ shown_lines conn role (last_of keep (backlog.now.items ++ logged_lines (take upto kept.now.items)))) }
+        ++ shown_lines conn role (last_of size (backlog.now.items ++ logged_lines (take upto kept.now.items)))) }
 {
     let more = logged_count_of(kept, upto)?;
-    let from = first_of(keep, backlog.len(), more);
+    let from = first_of(size, backlog.len(), more);
     push_shown_from(alloc, texts, conn, role, backlog, from)?;
-    push_all_past(alloc, texts, conn, role, kept, upto, skipped_of(keep, more))?;
+    push_all_past(alloc, texts, conn, role, kept, upto, skipped_of(size, more))?;
     Ok(())
 }
 
@@ -262,14 +270,14 @@ fn init(
     alloc: Global,
     conn: ConnNo,
     joined: &Joined,
-    keep: u32,
+    size: BacklogSize,
     backlog: &VecDeque<Stored>,
     kept: &VecDeque<LogEntry>,
     upto: usize,
 ) -> Result<List<Text>, AllocError>
     requires { upto ≤ deque_len kept.now }
     ensures { IfOk result (λ v. v ≡ joined.now.head
-        ++ shown_lines conn joined.now.role (last_of keep (backlog.now.items ++ logged_lines (take upto kept.now.items)))
+        ++ shown_lines conn joined.now.role (last_of size (backlog.now.items ++ logged_lines (take upto kept.now.items)))
         ++ option_to_list joined.now.tail) }
 {
     let mut texts = Vec::new(alloc);
@@ -279,7 +287,7 @@ fn init(
         &mut texts,
         conn,
         joined.role,
-        keep,
+        size,
         backlog,
         kept,
         upto,
@@ -292,7 +300,7 @@ fn init(
 #[tactic(auto, using(crate::proofs::ShortLemmas::last_of_last))]
 fn message_behind(
     alloc: Global,
-    most: u32,
+    most: BacklogSize,
     backlog: &VecDeque<Stored>,
     kept: &VecDeque<LogEntry>,
     upto: usize,
@@ -310,7 +318,7 @@ fn message_behind(
             alloc,
             conn,
             joined,
-            fewer(joined.keep, most),
+            fewer(BacklogSize::of_keep(joined.keep), most),
             backlog,
             kept,
             upto,
@@ -321,8 +329,8 @@ fn message_behind(
 impl ShortLog {
     ghost use Rattle.ps_splitlog.specs.Shorts.{started, with_entry, taken_back, forgotten, lines_of};
 
-    /// A log with no entry. Of the logged lines of what it forgets it keeps the last so many; `ALL` means all. Takes no memory.
-    pub fn new(alloc: Global, most: u32) -> ShortLog
+    /// A log with no entry. Of the logged lines of what it forgets it keeps as many of the last as `most` says. Takes no memory.
+    pub fn new(alloc: Global, most: BacklogSize) -> ShortLog
         ensures { result ≡ started most }
     {
         ShortLog {

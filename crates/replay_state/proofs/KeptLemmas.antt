@@ -6,10 +6,12 @@ use Rattle.std.proofs.lemmas.Grind.{flat_map-append}
 use Rattle.std.proofs.lemmas.List.{append-nil}
 use Rattle.std.proofs.lemmas.Option.{same_Some}
 use Rattle.battle_rounds.specs.Casts.{Cast}
+use Rattle.ps_splitlog.specs.declared.backlog.BacklogSize.{BacklogSize}
+use Rattle.ps_splitlog.specs.declared.backlog.BacklogSize.TheVariants.{All, Last}
 use Rattle.ps_splitlog.specs.declared.entry.LogEntry.{LogEntry}
 use Rattle.ps_splitlog.specs.declared.entry.Joined.{Joined as LogJoined}
 use Rattle.ps_splitlog.specs.declared.stored.Stored.{Stored}
-use Rattle.ps_splitlog.specs.Entries.{logged_in, logged_lines, all_of_them, last_of, message_of}
+use Rattle.ps_splitlog.specs.Entries.{logged_in, logged_lines, size_of_keep, keep_of_size, last_of, message_of}
 use Rattle.ps_splitlog.specs.Shorts.{Short, with_entry, taken_back, gone_of, forgotten, lines_of, fewer, IsFew}
 use Rattle.ps_splitlog.proofs.ShortLemmas.{last_again, few_message}
 use Rattle.ps_splitlog.proofs.IndexLemmas.{front}
@@ -20,6 +22,7 @@ use Rattle.ps_room.specs.Records.{Record, cast_in}
 use Rattle.ps_room.specs.Rooms.{verdict, told, role}
 use Rattle.ps_room.specs.Logs.{Seen, backlog_size, join_of, record_in, given, kept_of, unlogged, opened_log, seen_opened, seen_after, state_after}
 use Rattle.ps_room.proofs.CastLemmas.{cast_by}
+use Rattle.ps_room.proofs.LogLemmas.{size_is}
 use Rattle.replay_state.specs.Kepts.{Kept, kept, kept_opened, kept_after}
 use Rattle.replay_state.specs.Houses.{next_message}
 
@@ -27,7 +30,7 @@ use Rattle.replay_state.specs.Houses.{next_message}
 pub kept_more : (s : Seen) (e : Entry) → kept (seen_after s e) ≡ kept_after (kept s) e
 kept_more s e =
     let h : LogEntry = kept_of (record_in s) e in
-    let m : ℕ = backlog_size (cast_in s.battle) in
+    let m : BacklogSize = backlog_size (cast_in s.battle) in
     ap (λ n. record { room = unlogged (seen_after s e); most = n; backlog = last_of n (logged_lines (s.log ++ h ∷ [])) }) (ap backlog_size (cast_by (record_in s) e (verdict (record_in s) e) refl))
     ∙ ap (λ (ls : List Stored). record { room = unlogged (seen_after s e); most = m; backlog = ls }) (
     ap (last_of m) (flat_map-append logged_in s.log (h ∷ []) ∙ ap (λ (ls : List Stored). logged_lines s.log ++ ls) (append-nil (logged_in h)))
@@ -35,16 +38,19 @@ kept_more s e =
 
 -- ---- who joins is sent no more lines than are kept
 
-fewer_same : (m : ℕ) → fewer m m ≡ m
-fewer_same m = by (m == all_of_them) (nat_lt m m)
+fewer_same : (size : BacklogSize) → fewer size size ≡ size
+fewer_same All = refl
+fewer_same (Last m) = by (nat_lt m m)
   where
-    by : (all less : Bool) → cond all m (cond all m (cond less m m)) ≡ m
-    by true less = refl
-    by false true = refl
-    by false false = refl
+    by : (less : Bool) → Last (cond less m m) ≡ Last m
+    by true = refl
+    by false = refl
 
-few_by : (cast : Option Cast) (mine : Bool) (o : Option Joined) (j : LogJoined) → cond mine (option_map (join_of cast) o) None ≡ Some j → fewer j.keep (backlog_size cast) ≡ j.keep
-few_by cast true (Some x) j is = rw (sym (same_Some (join_of cast x) j is)) (fewer_same (backlog_size cast))
+few_of_cast : (cast : Option Cast) → fewer (size_of_keep (keep_of_size (backlog_size cast))) (backlog_size cast) ≡ size_of_keep (keep_of_size (backlog_size cast))
+few_of_cast cast = rw (size_is cast) (fewer_same (backlog_size cast))
+
+few_by : (cast : Option Cast) (mine : Bool) (o : Option Joined) (j : LogJoined) → cond mine (option_map (join_of cast) o) None ≡ Some j → fewer (size_of_keep j.keep) (backlog_size cast) ≡ size_of_keep j.keep
+few_by cast true (Some x) j is = rw (sym (same_Some (join_of cast x) j is)) (few_of_cast cast)
 few_by cast true None j is = absurd cc
 few_by cast false o j is = absurd cc
 
@@ -58,13 +64,13 @@ message_kept conn s e = few_message conn (role conn (record_in s)) (backlog_size
 
 -- ---- the code's log
 
-lines_gone : (most : ℕ) (backlog : List Stored) (gone : ℕ) (hs : List LogEntry) → lines_of (gone_of most backlog gone hs) ≡ last_of most (backlog ++ logged_lines hs)
+lines_gone : (most : BacklogSize) (backlog : List Stored) (gone : ℕ) (hs : List LogEntry) → lines_of (gone_of most backlog gone hs) ≡ last_of most (backlog ++ logged_lines hs)
 lines_gone most backlog gone [] = refl
 lines_gone most backlog gone (h ∷ hs) =
     last_again most (backlog ++ logged_in h) (logged_lines hs)
     ∙ ap (last_of most) (append_assoc backlog (logged_in h) (logged_lines hs))
 
-most_gone : (most : ℕ) (backlog : List Stored) (gone : ℕ) (hs : List LogEntry) → (gone_of most backlog gone hs).most ≡ most
+most_gone : (most : BacklogSize) (backlog : List Stored) (gone : ℕ) (hs : List LogEntry) → (gone_of most backlog gone hs).most ≡ most
 most_gone most backlog gone [] = refl
 most_gone most backlog gone (h ∷ hs) = refl
 
@@ -79,10 +85,10 @@ lines_pushed s h =
     ∙ sym (last_again s.most (s.backlog ++ logged_lines s.kept) (logged_in h))
 
 -- a room with this log at its opening
-pub kept_new : (o : Opening) (state : Seen) (log : Short) (most : ℕ) (first : List LogEntry) → state ≡ unlogged (seen_opened o) → most ≡ backlog_size (cast_in state.battle) → first ≡ opened_log o.config o.dex o.battle
+pub kept_new : (o : Opening) (state : Seen) (log : Short) (most : BacklogSize) (first : List LogEntry) → state ≡ unlogged (seen_opened o) → most ≡ backlog_size (cast_in state.battle) → first ≡ opened_log o.config o.dex o.battle
     → log.most ≡ most → lines_of log ≡ last_of most (logged_lines first) → kept_with state log ≡ kept_opened o
 kept_new o state log most first s m f is lines =
-    let size : ℕ = backlog_size (cast_in (seen_opened o).battle) in
+    let size : BacklogSize = backlog_size (cast_in (seen_opened o).battle) in
     let same : most ≡ size = m ∙ ap (λ (x : Seen). backlog_size (cast_in x.battle)) s in
     ap (λ (x : Seen). kept_with x log) s
     ∙ ap (λ n. record { room = unlogged (seen_opened o); most = n; backlog = lines_of log }) (is ∙ same)

@@ -1,5 +1,6 @@
 -- A room as a replay keeps it: of what it logged what who joins may still be shown, and no entry.
-use Rattle.std.specs.Prelude.{ℕ, List, ◌++◌}
+use Rattle.std.specs.Prelude.{List, ◌++◌}
+use Rattle.ps_splitlog.specs.declared.backlog.BacklogSize.{BacklogSize}
 use Rattle.ps_splitlog.specs.declared.stored.Stored.{Stored}
 use Rattle.ps_splitlog.specs.Entries.{logged_in, logged_lines, last_of}
 use Rattle.ps_room.specs.declared.entry.Entry.{Entry}
@@ -10,7 +11,7 @@ use Rattle.ps_room.specs.Logs.{Seen, backlog_size, record_in, kept_of, unlogged,
 -- the room apart from its log, how many lines that were logged who joins is sent, and these
 pub record Kept : Type 0 where
   pub room : Seen
-  pub most : ℕ
+  pub most : BacklogSize
   pub backlog : List Stored
 
 -- what is kept of a room with a log

@@ -15,6 +15,7 @@ use ps_chat::present::Present;
 use ps_room::entry::Entry;
 use ps_room::opening::Opening;
 use ps_room::state::{OpenedRoom, Prepared, RoomState};
+use ps_splitlog::backlog::BacklogSize;
 use ps_splitlog::entry::LogEntry;
 use ps_splitlog::short_log::ShortLog;
 use ps_view::role::Role;
@@ -51,7 +52,7 @@ impl Model for ShortRoom {
 }
 
 // A log that begins with this entry, if there is one.
-fn log_of(alloc: Global, most: u32, first: Option<LogEntry>) -> Result<ShortLog, AllocError>
+fn log_of(alloc: Global, most: BacklogSize, first: Option<LogEntry>) -> Result<ShortLog, AllocError>
     ensures most { IfOk result (λ l. l.most ≡ most) }
     ensures lines { IfOk result (λ l. lines_of l ≡ last_of most (logged_lines (option_to_list first))) }
 {
