@@ -25,8 +25,8 @@ IfTaken other P = Unit {0}
 
 -- Under the number of the connection stands an entry in the hall, which the pass that was to make its Open met; or one in a room,
 -- which its pass there hasn't made.
-abbrev pub IsTaken : Hub → ℕ → Passes → Option HallPass → Type 0
-IsTaken hub conn passes refused = ((hall : HallPass) × (refused ≡ Some hall) × IsStranger hub conn hall)
+abbrev pub IsNumberInUse : Hub → ℕ → Passes → Option HallPass → Type 0
+IsNumberInUse hub conn passes refused = ((hall : HallPass) × (refused ≡ Some hall) × IsStranger hub conn hall)
     ⊎ IsShutOutAmong conn passes.rooms.items quit_faults.Taken
 
 -- Of all that the pass knows of the hall, what stands under the number of the connection is its Open and its own entries, in order.

@@ -16,7 +16,7 @@ use Rattle.ps_hub.specs.declared.passes.Passes.{Passes}
 use Rattle.ps_serve.specs.declared.closed.Closed.{Closed}
 use Rattle.ps_serve.specs.Steps.{Hours}
 use Rattle.ps_serve.specs.Ends.{Account, Served}
-use Rattle.ps_serve.specs.Names.{IfTaken, IsTaken, HasOwnNumber}
+use Rattle.ps_serve.specs.Names.{IfTaken, IsNumberInUse, HasOwnNumber}
 
 -- The end of a session of the connection with this number: of an account of it, over some link and some clock, all holds that a
 -- session promises.
@@ -29,7 +29,7 @@ pub record IsSession (hub : Hub) (conn : ℕ) (closed : Closed) : Type 0 where
   pub hours_before : Hours
   pub hours : Hours
   pub served : Served closed.end hub conn account closed.passes talk_before talk counts_before counts hours_before hours
-  pub taken : IfTaken closed.end (IsTaken hub conn closed.passes closed.refused)
+  pub taken : IfTaken closed.end (IsNumberInUse hub conn closed.passes closed.refused)
   pub names : HasOwnNumber conn closed.passes
 
 -- ---- sessions that met

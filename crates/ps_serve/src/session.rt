@@ -10,7 +10,7 @@ ghost use Rattle.ps_serve.specs.Steps.{Hours, Stands};
 ghost use Rattle.ps_serve.specs.Ends.{Account, SomeAccount, SentIsView, IsLabelled, EntriesAreMade, AnswersAreKept, IsOpen};
 ghost use Rattle.ps_serve.specs.Ends.{TellsMoments, LooksAreAnswered, AreOfHub, OneHistory, OneBegin, HallLosesNothing, TwoWorlds};
 ghost use Rattle.ps_serve.specs.Ends.{HasCause, EndsWell, EndsWellWithin, AreFew, Served, is_short};
-ghost use Rattle.ps_serve.specs.Names.{IfTaken, IsTaken, HasOwnNumber};
+ghost use Rattle.ps_serve.specs.Names.{IfTaken, IsNumberInUse, HasOwnNumber};
 ghost use Rattle.ps_serve.specs.Sessions.{IsSession};
 ghost use Rattle.ps_serve.specs.Rests.{end_after, IsSitting, GoesOn, ComesToRest};
 
@@ -130,7 +130,7 @@ fn serve<R: Wait, L: Link, C: Clock>(
 ) -> Closed
     ensures served { (account : Account) × Served result.end hub.now conn account result.passes (L.talk link.old) (L.talk link.new)
         (L.counts link.old) (L.counts link.new) (C.hours clock.old) (C.hours clock.new) }
-    ensures taken { IfTaken result.end (IsTaken hub.now conn result.passes result.refused) }
+    ensures taken { IfTaken result.end (IsNumberInUse hub.now conn result.passes result.refused) }
 {
     let held = for_the_end(alloc);
     let passes = match hub.admit(rt, conn, clock.now()) {
@@ -250,7 +250,7 @@ pub fn serve_session<R: Wait, L: Link, C: Clock>(
         → (Rose (L.counts link.old).faults (L.counts link.new).faults → ⊥) → EndsWell result.end }
 
     // Taken comes only where an entry stood under its number before its own first one; else all that stands under it is its own.
-    ensures taken { IfTaken result.end (IsTaken hub.now conn result.passes result.refused) }
+    ensures taken { IfTaken result.end (IsNumberInUse hub.now conn result.passes result.refused) }
     ensures own_names { HasOwnNumber conn result.passes }
 
     // All of it once more, as what two sessions of a hub that meet are compared by (`Closed::meet_in_hall`, `meet_in_room`).
