@@ -90,11 +90,11 @@ impl Places {
 fn ready_bells(
     alloc: Global,
     attending: &Attending,
-    but: u64,
+    but: Option<u64>,
 ) -> Result<Vec<Arc<Bell>>, AllocError> {
     let mut ready = Vec::new(alloc);
     for (number, bell) in attending.iter() {
-        if *number != but && !bell.has_rung() {
+        if Some(*number) != but && !bell.has_rung() {
             ready.push(bell.clone()?)?;
         }
     }
@@ -156,7 +156,11 @@ impl Round {
 }
 
 // A round of the bells of a place that are ready to ring, but for that of a link.
-fn round_of(alloc: Global, attending: &Attending, but: u64) -> Result<Arc<Round>, AllocError> {
+fn round_of(
+    alloc: Global,
+    attending: &Attending,
+    but: Option<u64>,
+) -> Result<Arc<Round>, AllocError> {
     let round = Round {
         bells: ready_bells(alloc, attending, but)?,
         taken: AtomicU64::new(0),
@@ -165,9 +169,9 @@ fn round_of(alloc: Global, attending: &Attending, but: u64) -> Result<Arc<Round>
 }
 
 // Rings the bells of a place, but for that of a link.
-fn ring_all(attending: &Attending, but: u64) {
+fn ring_all(attending: &Attending, but: Option<u64>) {
     for (number, bell) in attending.iter() {
-        if *number != but {
+        if Some(*number) != but {
             let _ = bell.ring();
         }
     }
@@ -203,7 +207,7 @@ impl Bells {
             alloc,
             are_over: AtomicBool::new(false),
             places: Mutex::new(Places {
-                next: 1,
+                next: 0,
                 hall: BTreeMap::new(alloc),
                 rooms: BTreeMap::new(alloc),
                 door: None,
@@ -266,9 +270,9 @@ impl Bells {
         let _ = self.places.lock(rt).hall.remove(&number);
     }
 
-    /// Rings for all that attend a place, but for the link of this number. They are rung when nobody waits for the lock any more,
-    /// unless memory is refused.
-    pub(crate) fn ring<R: Wait>(&self, rt: &R, place: Option<u32>, but: u64) {
+    /// Rings for all that attend a place, but for the link of this number, if it has one. They are rung when nobody waits for the lock
+    /// any more, unless memory is refused.
+    pub(crate) fn ring<R: Wait>(&self, rt: &R, place: Option<u32>, but: Option<u64>) {
         let places = self.places.lock(rt);
         let Some(attending) = places.at(place) else {
             return;
@@ -344,7 +348,7 @@ impl Bells {
     /// Says that the door and all its links are to end, and rings for all of them.
     pub(crate) fn end<R: Wait>(&self, rt: &R) {
         self.are_over.store(true, Ordering::SeqCst);
-        self.ring(rt, None, 0);
+        self.ring(rt, None, None);
         if let Some(bell) = &self.places.lock(rt).door {
             let _ = bell.ring();
         }

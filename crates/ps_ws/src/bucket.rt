@@ -1,5 +1,6 @@
 //! How fast the messages of a client are read.
 
+use std::num::NonZeroU32;
 use std::time::Duration;
 
 // How long a bucket takes to fill, in seconds.
@@ -16,11 +17,11 @@ pub(crate) struct Bucket {
 }
 
 impl Bucket {
-    /// A full one, to which so many leaves come a second; for 0 it never runs out.
-    pub(crate) fn new(rate: u32) -> Bucket {
-        let each = match 1_000_000_000_u64.checked_div(u64::from(rate)) {
+    /// A full one, to which so many leaves come a second; for `None` it never runs out.
+    pub(crate) fn new(rate: Option<NonZeroU32>) -> Bucket {
+        let each = match rate {
             None => Duration::ZERO,
-            Some(nanos) => Duration::from_nanos(nanos),
+            Some(rate) => Duration::from_nanos(1_000_000_000 / u64::from(rate.get())),
         };
         Bucket {
             each,

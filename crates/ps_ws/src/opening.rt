@@ -160,11 +160,14 @@ impl<R: rt::Clock + Wait + Copy> Wire<R> {
             if rest.is_empty() {
                 return Ok(());
             }
-            let count = write_some(stream, rest)?;
-            if count == 0 && self.wait_since(begun, PATIENCE).is_err() {
-                return Err(SendEnd::Failed);
+            match write_some(stream, rest)? {
+                Some(count) => rest = &rest[count..],
+                None => {
+                    if self.wait_since(begun, PATIENCE).is_err() {
+                        return Err(SendEnd::Failed);
+                    }
+                }
             }
-            rest = &rest[count..];
         }
         Err(SendEnd::Failed)
     }

@@ -1,5 +1,5 @@
 //! What a wire sends: whole frames, which leave together.
-ghost use Rattle.std.specs.Prelude.{◌≤◌, length, IfOk};
+ghost use Rattle.std.specs.Prelude.{◌≤◌, length, IfOk, IfSome};
 
 use crate::wire::{PARTING, PATIENCE, SocketEnd, Stage, Stream, Wire};
 use bytes::Bytes;
@@ -16,16 +16,16 @@ use websocket::protocol::frame::coding::{Data, OpCode};
 /// From how many bytes on what is to be sent leaves before the link is asked for what comes next.
 pub(crate) const WRITE_SIZE: usize = 16_384;
 
-/// Writes as much of these bytes as the socket has room for: 0 where it has none now.
-pub(crate) fn write_some(stream: &mut Stream, bytes: &[u8]) -> Result<usize, SendEnd>
-    ensures bound { IfOk result (λ count. count ≤ length bytes.now) }
+/// Writes as much of these bytes as the socket has room for. `None`: it has none now.
+pub(crate) fn write_some(stream: &mut Stream, bytes: &[u8]) -> Result<Option<usize>, SendEnd>
+    ensures bound { IfOk result (λ written. IfSome written (λ count. count ≤ length bytes.now)) }
 {
     match stream.write(bytes) {
         Ok(0) => Err(SendEnd::Failed),
-        Ok(count) => Ok(count),
+        Ok(count) => Ok(Some(count)),
         Err(error) => {
             if error.kind() == ErrorKind::WouldBlock {
-                Ok(0)
+                Ok(None)
             } else {
                 Err(SendEnd::Failed)
             }
@@ -153,12 +153,13 @@ impl<R: rt::Clock + Wait + Copy> Wire<R> {
             let Stage::Open(socket) = &mut self.stage else {
                 return Err(SendEnd::Failed);
             };
-            let count = write_some(socket.get_mut(), rest)?;
-            if count == 0 {
-                self.ring_bells();
-                begun = Some(self.wait_to_write(begun)?);
+            match write_some(socket.get_mut(), rest)? {
+                Some(count) => rest = &rest[count..],
+                None => {
+                    self.ring_bells();
+                    begun = Some(self.wait_to_write(begun)?);
+                }
             }
-            rest = &rest[count..];
         }
         Err(SendEnd::Failed)
     }

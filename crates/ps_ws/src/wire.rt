@@ -603,7 +603,7 @@ impl<R: rt::Clock + Wait + Copy> Wire<R> {
 
     // Rings at a place for all others.
     fn ring_at(&self, place: Option<u32>) {
-        self.bells.ring(&self.host, place, self.number.unwrap_or(0));
+        self.bells.ring(&self.host, place, self.number);
     }
 
     /// Rings where it was to.

@@ -1,7 +1,8 @@
 -- The words of a server that stays up.
 use Rattle.std.specs.Prelude.{ℕ, ◌+◌, ◌-◌, Bool, true, false, ◌&&◌, nat_le, List, [], ◌∷◌, codes, Option, Some, None, Result, Ok, Err}
 use Rattle.std.specs.Prelude.{◌==◌, if◌then◌else◌}
-use Rattle.std.specs.Option.{option_copied, is_some, unwrap_or}
+use Rattle.std.specs.NonZero.{non_zero_u32_get}
+use Rattle.std.specs.Option.{option_copied, option_map, is_some, unwrap_or}
 use Rattle.std.specs.Str.{bytes_eq}
 use Rattle.ps_base.specs.Numbers.{number_in}
 use Rattle.program_commands.specs.Words.{Options, is_name, options_of}
@@ -12,12 +13,13 @@ use Rattle.server_accept.specs.declared.always_words.Wants.{Wants}
 use Rattle.server_accept.specs.declared.always_words.Wants.TheVariants.{AnOption, AtOnce, Ping, Rate, DexName, ConfigName}
 
 -- what it is asked for: at an address, so many connections at once, pings after so many seconds of silence, so many messages of a
--- client a second, whether it ends with standard input, whether it tells its operator what happens, and these files
+-- client a second, if there is a bound, whether it ends with standard input, whether it tells its operator what happens, and these
+-- files
 pub record Stays : Type 0 where
   pub address : List ℕ
   pub at_once : ℕ
   pub ping : ℕ
-  pub rate : ℕ
+  pub rate : Option ℕ
   pub stops_at_end : Bool
   pub logs : Bool
   pub options : Options
@@ -66,6 +68,10 @@ ping_in word = within 1 3600 (number_in word)
 
 abbrev pub rate_in : List ℕ → Option ℕ
 rate_in word = within 0 10000 (number_in word)
+
+-- the bound that a number of messages a second is: 0 is none
+abbrev pub bound_of : ℕ → Option ℕ
+bound_of number = if number == 0 then None else Some number
 
 abbrev pub name_in : List ℕ → Option (List ℕ)
 name_in word = if is_name word then Some word else None
@@ -150,7 +156,7 @@ stays_with address (Ok said) = Ok (record {
   address = address;
   at_once = unwrap_or said.at_once 1024;
   ping = unwrap_or said.ping 30;
-  rate = unwrap_or said.rate 5;
+  rate = bound_of (unwrap_or said.rate 5);
   stops_at_end = said.stops_at_end;
   logs = said.logs;
   options = record { dex = said.dex; config = said.config };
@@ -198,7 +204,7 @@ stays_of words = record {
   address = words.address.now;
   at_once = words.at_once;
   ping = words.ping;
-  rate = words.rate;
+  rate = option_map non_zero_u32_get words.rate;
   stops_at_end = words.stops_at_end;
   logs = words.logs;
   options = options_of words.options;

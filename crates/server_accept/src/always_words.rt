@@ -1,12 +1,15 @@
 //! The words of a server that stays up.
+ghost use Rattle.std.specs.NonZero.{non_zero_u32_get};
+ghost use Rattle.std.specs.Option.{option_map};
 ghost use Rattle.std.specs.Prelude.{◌≡◌, ◌+◌, ◌<◌, Some, Ok, Err, map, string_bytes, MatchResult};
 ghost use Rattle.ps_base.specs.Numbers.{number_in};
 ghost use Rattle.server_accept.specs.AlwaysWords.{within, asks, option_in, with_at_once, with_ping, with_rate, with_dex, with_config};
-ghost use Rattle.server_accept.specs.AlwaysWords.{name_in, word_in, end_of, further_in, always_in, nothing_said, stay_in};
+ghost use Rattle.server_accept.specs.AlwaysWords.{name_in, word_in, end_of, further_in, always_in, nothing_said, stay_in, bound_of};
 ghost use Rattle.server_accept.specs.AlwaysWords.{stay_words_in, further_of, reading_of, stays_of, option_reading};
 
 use program_commands::words::{OptionWords, is_name};
 use ps_base::decimal::read_u32;
+use std::num::NonZeroU32;
 
 /// How many connections are served at once, if the words don't say.
 const AT_ONCE: u32 = 1_024;
@@ -38,8 +41,8 @@ pub struct AlwaysWords<'a> {
     pub at_once: u32,
     /// After how many seconds of silence a client is pinged, 1 to 3,600.
     pub ping: u32,
-    /// How many messages of a client are read a second, 0 to 10,000; 0 for as many as come.
-    pub rate: u32,
+    /// How many messages of a client are read a second, 1 to 10,000. `None`: as many as come.
+    pub rate: Option<NonZeroU32>,
     /// Whether the end of standard input ends it.
     pub stops_at_end: bool,
     /// Whether it tells its operator what happens.
@@ -91,6 +94,13 @@ fn number_within(least: u32, most: u32, word: &str) -> Option<u32>
             None
         }
     }
+}
+
+// The bound that a number of messages is: 0 is none.
+fn bound_of(number: u32) -> Option<NonZeroU32>
+    ensures { option_map non_zero_u32_get result ≡ bound_of number }
+{
+    NonZeroU32::new(number)
 }
 
 // What was said by an option, if it wasn't said before.
@@ -277,7 +287,7 @@ fn always_in<'a>(address: &'a str, words: &'a [String]) -> Result<AlwaysWords<'a
                     address,
                     at_once: said.at_once.unwrap_or(AT_ONCE),
                     ping: said.ping.unwrap_or(PING),
-                    rate: said.rate.unwrap_or(RATE),
+                    rate: bound_of(said.rate.unwrap_or(RATE)),
                     stops_at_end: said.stops_at_end,
                     logs: said.logs,
                     options: OptionWords {
