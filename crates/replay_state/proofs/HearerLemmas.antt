@@ -35,8 +35,9 @@ use Rattle.ps_view.specs.declared.role.Role.{Role}
 use Rattle.ps_view.specs.declared.role.Role.TheVariants.{Outside}
 use Rattle.ps_view.specs.Roles.{is_member}
 use Rattle.replay_state.specs.Houses.{own_conn, room_hearers, notice_hearers, next_message, text_for_all, common_of, common_line, common_unless, common_text}
-use Rattle.replay_state.specs.Transcript.{printed, with_id}
+use Rattle.replay_state.specs.Transcript.{HasNoNewline, line_behind, first_line, printed, with_id}
 use Rattle.replay_state.specs.Tables.{each_of}
+use Rattle.replay_state.proofs.PrintLemmas.{plain_line}
 use Rattle.replay_state.specs.Heads.{head_text, head_of, each_headed, HasHeads, AreReady, changes_members, still_ready}
 use Rattle.replay_state.specs.declared.heads.Head.{Head}
 
@@ -259,11 +260,13 @@ common_message k s h t is =
 
 -- ---- heads
 
-head_flat : (d f a i n b l : List ℕ) → (d ++ (f ++ a) ++ i ++ n ++ d ++ b) ++ (l ++ n) ≡ (d ++ f ++ (a ++ i) ++ n) ++ ((d ++ b ++ l ++ n) ++ [])
-head_flat d f a i n b l = search (rules, append_assoc, append-nil)
+head_flat : (d f a n b l : List ℕ) → ((d ++ f ++ a ++ n) ++ d ++ b) ++ (l ++ n) ≡ (d ++ f ++ a ++ n) ++ ((d ++ b ++ l ++ n) ++ [])
+head_flat d f a n b l = search (rules, append_assoc, append-nil)
 
-head_printed : (k : ℕ) (id line : List ℕ) → head_text id k ++ (line ++ 10 ∷ []) ≡ printed k (with_id (Some id) (line ∷ []))
-head_printed k id line = head_flat (decimal k) (codes "< ") (codes ">") id (10 ∷ []) (codes ". ") line
+head_printed : (k : ℕ) (id line : List ℕ) → HasNoNewline line → head_text id k ++ (line ++ 10 ∷ []) ≡ printed k (with_id (Some id) (line ∷ []))
+head_printed k id line plain =
+    head_flat (decimal k) (codes "< ") (line_behind (decimal k) (codes ">" ++ id)) (10 ∷ []) (codes ". ") line
+    ∙ ap (λ (end : List ℕ). first_line k (codes ">" ++ id) ++ ((decimal k ++ codes ". " ++ end ++ 10 ∷ []) ++ [])) (sym (plain_line (decimal k) line plain))
 
 headed_is : (id end : List ℕ) (n last : ℕ) (conns : List ℕ) → each_headed end n last (map (head_of id) conns) ≡ each_of (λ conn. head_text id conn ++ end) n last conns
 headed_is id end n last [] = refl
@@ -272,19 +275,19 @@ headed_is id end n last (conn ∷ conns) = rw (headed_is id end n conn conns) (r
 no_lines : (k : ℕ) (id : List ℕ) (r : Role) (t : List ℕ) → is_member r ≡ false → printed k (with_id (Some id) (lines_for r t)) ≡ []
 no_lines k id r t out = rw out refl
 
-one_line : (k : ℕ) (id : List ℕ) (r : Role) (t : List ℕ) → is_member r ≡ true → printed k (with_id (Some id) (lines_for r t)) ≡ head_text id k ++ (t ++ 10 ∷ [])
-one_line k id r t full = rw full (sym (head_printed k id t))
+one_line : (k : ℕ) (id : List ℕ) (r : Role) (t : List ℕ) → HasNoNewline t → is_member r ≡ true → printed k (with_id (Some id) (lines_for r t)) ≡ head_text id k ++ (t ++ 10 ∷ [])
+one_line k id r t plain full = rw full (sym (head_printed k id t plain))
 
 -- what a line prints behind the heads of the members is what is printed for all
-pub all_headed : (s : Kept) (h : LogEntry) (t : List ℕ) (count : ℕ) (heads : List Head) → common_text h ≡ Some t → HasHeads s heads
+pub all_headed : (s : Kept) (h : LogEntry) (t : List ℕ) (count : ℕ) (heads : List Head) → common_text h ≡ Some t → HasNoNewline t → HasHeads s heads
     → each_headed (t ++ 10 ∷ []) count 0 heads ≡ each_to (λ conn. printed conn (with_id (Some s.room.id) (next_message conn s h))) count
-all_headed s h t count heads is ready =
+all_headed s h t count heads is plain ready =
     let told : (k : ℕ) → printed k (with_id (Some s.room.id) (next_message k s h)) ≡ printed k (with_id (Some s.room.id) (lines_for (role k (record_in s.room)) t)) =
     λ k. ap (λ (ls : List (List ℕ)). printed k (with_id (Some s.room.id) ls)) (common_message k s h t is) in
     ap (each_headed (t ++ 10 ∷ []) count 0) ready.heads_are
     ∙ headed_is s.room.id (t ++ 10 ∷ []) count 0 ready.conns
     ∙ each_same (λ conn. head_text s.room.id conn ++ (t ++ 10 ∷ [])) (λ conn. printed conn (with_id (Some s.room.id) (next_message conn s h))) count 0 ready.conns
-    (λ k there. sym (told k ∙ one_line k s.room.id (role k (record_in s.room)) t (sym (ready.members k) ∙ there)))
+    (λ k there. sym (told k ∙ one_line k s.room.id (role k (record_in s.room)) t plain (sym (ready.members k) ∙ there)))
     ∙ each_silent (λ conn. printed conn (with_id (Some s.room.id) (next_message conn s h))) count ready.conns ready.sorted
     (λ k out. told k ∙ no_lines k s.room.id (role k (record_in s.room)) t (sym (ready.members k) ∙ out))
 

@@ -21,6 +21,7 @@ pub mod OneEntryLemmas
 pub mod OrderLemmas
 pub mod EndLemmas
 pub mod LedgerLemmas
+pub mod PrintLemmas
 pub mod HearerLemmas
 pub mod KeptLemmas
 pub mod CleanLemmas

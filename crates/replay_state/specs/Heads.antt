@@ -11,11 +11,11 @@ use Rattle.ps_room.specs.Rooms.{role}
 use Rattle.ps_room.specs.Logs.{record_in}
 use Rattle.replay_state.specs.Kepts.{Kept}
 use Rattle.replay_state.specs.declared.heads.Head.{Head}
-use Rattle.replay_state.specs.Tables.{is_next}
+use Rattle.replay_state.specs.Tables.{is_next, first_behind}
 
 -- the line of the room's id, and what stands before the further line
 abbrev pub head_text : List ℕ → ℕ → List ℕ
-head_text id conn = decimal conn ++ codes "< >" ++ id ++ codes "\n" ++ decimal conn ++ codes ". "
+head_text id conn = first_behind (decimal conn) (codes ">" ++ id) ++ decimal conn ++ codes ". "
 
 abbrev pub head_of : List ℕ → ℕ → Head
 head_of id conn = record { conn = conn; text = head_text id conn }

@@ -13,7 +13,7 @@ use Rattle.replay_state.specs.Entries.{State, Line, line_at, moment_after, Run}
 use Rattle.replay_state.specs.Counts.{is_refused}
 use Rattle.replay_state.specs.Notes.{done_by}
 use Rattle.replay_state.specs.Ledgers.{Sheet, entered}
-use Rattle.replay_state.specs.Transcript.{printed, with_id, over_line}
+use Rattle.replay_state.specs.Transcript.{line_behind, printed, with_id, over_line}
 use Rattle.ps_base.specs.Lists.{each_to}
 use Rattle.ps_base.specs.Characters as characters
 
@@ -47,10 +47,10 @@ each_of text_for count last (conn ∷ conns) = if is_next last count conn then t
 
 -- a line behind the digits of its connection: the first of a message, and a further one
 abbrev pub first_behind : List ℕ → List ℕ → List ℕ
-first_behind digits line = digits ++ codes "< " ++ line ++ characters.newline ∷ []
+first_behind digits line = digits ++ codes "< " ++ line_behind digits line ++ characters.newline ∷ []
 
 abbrev pub further_behind : List ℕ → List ℕ → List ℕ
-further_behind digits line = digits ++ codes ". " ++ line ++ characters.newline ∷ []
+further_behind digits line = digits ++ codes ". " ++ line_behind digits line ++ characters.newline ∷ []
 
 -- what is printed for a connection at an entry
 abbrev pub printed_for : House → Placed → ℕ → List ℕ

@@ -1,5 +1,6 @@
 -- The messages of a script's entries, and how they are printed.
-use Rattle.std.specs.Prelude.{ℕ, zero, suc, Bool, true, false, ◌&&◌, List, [], ◌∷◌, ◌++◌, length, map, codes, Option, Some, None}
+use Rattle.std.specs.Prelude.{◌≢◌, ℕ, ◌<◌, zero, suc, Bool, true, false, ◌&&◌, List, [], ◌∷◌, ◌++◌, length, map, codes}
+use Rattle.std.specs.Prelude.{slice_index, Option, Some, None}
 use Rattle.std.specs.Prelude.{◌==◌, if◌then◌else◌}
 use Rattle.std.specs.List.{flat_map, filter_map}
 use Rattle.std.specs.Fmt.{decimal}
@@ -65,11 +66,23 @@ messages setup items = filter_map message_in (signs setup items)
 
 -- ---- printing
 
+-- for the code: a line without a newline
+abbrev pub HasNoNewline : List ℕ → Type 0
+HasNoNewline line = (index : ℕ) → index < length line → slice_index line index ≢ characters.newline
+
+-- A line behind the digits of its connection. If it had a newline, as none has, it would go on as the text of its message does: so
+-- what is printed can be read back, whatever lines say.
+abbrev pub byte_behind : List ℕ → ℕ → List ℕ
+byte_behind digits byte = if byte == characters.newline then characters.newline ∷ digits ++ codes ". " else byte ∷ []
+
+abbrev pub line_behind : List ℕ → List ℕ → List ℕ
+line_behind digits line = flat_map (byte_behind digits) line
+
 abbrev pub first_line : ℕ → List ℕ → List ℕ
-first_line conn line = decimal conn ++ codes "< " ++ line ++ characters.newline ∷ []
+first_line conn line = decimal conn ++ codes "< " ++ line_behind (decimal conn) line ++ characters.newline ∷ []
 
 abbrev pub further_line : ℕ → List ℕ → List ℕ
-further_line conn line = decimal conn ++ codes ". " ++ line ++ characters.newline ∷ []
+further_line conn line = decimal conn ++ codes ". " ++ line_behind (decimal conn) line ++ characters.newline ∷ []
 
 -- the lines of a message to a connection
 abbrev pub printed : ℕ → List (List ℕ) → List ℕ

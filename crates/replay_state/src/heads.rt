@@ -3,12 +3,13 @@
 ghost use Rattle.std.specs.Prelude.{◌≡◌, ◌++◌, ◌∷◌, [], IfOk, OnOk, Some, map, string_bytes, false};
 ghost use Rattle.replay_state.specs.Heads.{head_of, each_headed, HasHeads, AreReady, changes_members, still_ready};
 ghost use Rattle.replay_state.specs.Houses.{next_message, common_text};
-ghost use Rattle.replay_state.specs.Transcript.{printed, with_id};
+ghost use Rattle.replay_state.specs.Transcript.{HasNoNewline, printed, with_id};
 ghost use Rattle.ps_base.specs.Lists.{each_to};
 
-use crate::hearers;
 use crate::play::is_next;
 use crate::short_room::ShortRoom;
+use crate::{hearers, play, print};
+use itoa::Buffer;
 use ps_base::text::Text;
 use ps_lines::command::Command;
 use ps_splitlog::entry::LogEntry;
@@ -33,7 +34,12 @@ pub(crate) struct Heads {
 fn head_of(alloc: Global, id: &str, conn: u32) -> Result<Head, AllocError>
     ensures { IfOk result (λ h. h ≡ head_of id.now conn) }
 {
-    let text = format!(in alloc; "{conn}< >{id}\n{conn}. ")?;
+    let mut buffer = Buffer::new();
+    let digits = buffer.format(conn);
+    let mut text = String::new(alloc);
+    print::push_place(&mut text, digits, id)?;
+    text.push_str(digits)?;
+    text.push_str(". ")?;
     Ok(Head {
         conn,
         text: Text::from_string(text),
@@ -104,6 +110,34 @@ fn push_behind(
     Ok(())
 }
 
+// Prints an entry of a room that is one line without a newline, the same for each member, behind their heads.
+fn push_headed(
+    alloc: Global,
+    out: &mut String,
+    count: u32,
+    room: &ShortRoom,
+    heads: &mut Heads,
+    log_entry: &LogEntry,
+    line: &Text,
+) -> Result<(), AllocError>
+    requires common { common_text log_entry.now ≡ Some line.now }
+    requires plain { HasNoNewline line.now }
+    requires ready { AreReady room.now heads.old.ready heads.old.list.items }
+    ensures kept { AreReady room.now heads.new.ready heads.new.list.items }
+    ensures text { OnOk result (string_bytes out.new ≡ string_bytes out.old
+        ++ each_to (λ conn. printed conn (with_id (Some room.now.room.id) (next_message conn room.now log_entry.now))) count) }
+{
+    make_ready(alloc, room, heads)?;
+    push_behind(
+        out,
+        count,
+        heads.list.as_slice(),
+        &mut heads.line,
+        line.as_str(),
+    )?;
+    Ok(())
+}
+
 /// Prints an entry of a room that is one line, the same for each member, to the connections from 1 to `count`.
 pub(crate) fn push_common(
     alloc: Global,
@@ -120,15 +154,11 @@ pub(crate) fn push_common(
     ensures text { OnOk result (string_bytes out.new ≡ string_bytes out.old
         ++ each_to (λ conn. printed conn (with_id (Some room.now.room.id) (next_message conn room.now log_entry.now))) count) }
 {
-    make_ready(alloc, room, heads)?;
-    push_behind(
-        out,
-        count,
-        heads.list.as_slice(),
-        &mut heads.line,
-        line.as_str(),
-    )?;
-    Ok(())
+    if print::has_newline(line.as_str()) {
+        play::push_by_role(alloc, out, count, room, log_entry)
+    } else {
+        push_headed(alloc, out, count, room, heads, log_entry, line)
+    }
 }
 
 // Whether a command may change who is a member.

@@ -1,12 +1,13 @@
 //! Messages as they are printed.
-ghost use Rattle.std.specs.Prelude.{◌≡◌, ◌++◌, OnOk, codes, string_bytes, None, Some};
+ghost use Rattle.std.specs.Prelude.{◌≡◌, ◌∷◌, ◌++◌, false, OnOk, IfSome, IfNone, codes, string_bytes, None, Some};
 ghost use Rattle.std.specs.List.{flat_map};
 ghost use Rattle.ps_splitlog.specs.Lines.{shown_lines};
 ghost use Rattle.ps_hall.specs.Halls.{message_of};
-ghost use Rattle.replay_state.specs.Transcript.{further_line, printed, with_id, over_line};
+ghost use Rattle.replay_state.specs.Transcript.{HasNoNewline, line_behind, further_line, printed, with_id, over_line};
 ghost use Rattle.replay_state.specs.Tables.{first_behind, further_behind};
 
 use itoa::Buffer;
+use memchr::memchr;
 use ps_base::number::ConnNo;
 use ps_base::text::Text;
 use ps_hall::notice::Notice;
@@ -17,22 +18,78 @@ use std::fmt::Write;
 
 // ---- lines behind the digits of their connection, which are made once for a message
 
+/// Whether a text has a newline.
+pub(crate) fn has_newline(text: &str) -> bool
+    ensures { result ≡ false → HasNoNewline text.now }
+{
+    match memchr(b'\n', text.as_bytes()) {
+        None => false,
+        Some(_) => true,
+    }
+}
+
+// The parts before and behind the first newline.
+fn at_newline(text: &str) -> Option<(&str, &str)>
+    ensures found { IfSome result (λ p. text.now ≡ p.0.now ++ 10 ∷ p.1.now) }
+    ensures first { IfSome result (λ p. HasNoNewline p.0.now) }
+    ensures none { IfNone result (HasNoNewline text.now) }
+{
+    text.split_once('\n')
+}
+
+// A part of a line, and what stands before the next one.
+fn push_part(out: &mut String, digits: &str, part: &str) -> Result<(), AllocError>
+    ensures { OnOk result (string_bytes out.new ≡ string_bytes out.old ++ (part.now ++ (10 ∷ digits.now ++ codes ". "))) }
+{
+    out.push_str(part)?;
+    out.push_str("\n")?;
+    out.push_str(digits)?;
+    out.push_str(". ")
+}
+
+// What a line with newlines is printed as behind these digits.
+#[tactic(auto, using(crate::proofs::PrintLemmas::plain_line))]
+fn push_parts(out: &mut String, digits: &str, line: &str) -> Result<(), AllocError>
+    ensures { OnOk result (string_bytes out.new ≡ string_bytes out.old ++ line_behind digits.now line.now) }
+{
+    match at_newline(line) {
+        None => out.push_str(line),
+        Some((part, rest)) => {
+            push_part(out, digits, part)?;
+            push_parts(out, digits, rest)?;
+            Ok(())
+        }
+    }
+}
+
+// A line as it is printed behind these digits, where most lines have no newline.
+#[tactic(auto, using(crate::proofs::PrintLemmas::plain_line))]
+fn push_line(out: &mut String, digits: &str, line: &str) -> Result<(), AllocError>
+    ensures { OnOk result (string_bytes out.new ≡ string_bytes out.old ++ line_behind digits.now line.now) }
+{
+    if has_newline(line) {
+        push_parts(out, digits, line)
+    } else {
+        out.push_str(line)
+    }
+}
+
 fn push_first(out: &mut String, digits: &str, line: &str) -> Result<(), AllocError>
     ensures { OnOk result (string_bytes out.new ≡ string_bytes out.old ++ first_behind digits.now line.now) }
 {
     out.push_str(digits)?;
     out.push_str("< ")?;
-    out.push_str(line)?;
+    push_line(out, digits, line)?;
     out.push_str("\n")
 }
 
-// The line of a room's id, which begins a message of it.
-fn push_place(out: &mut String, digits: &str, id: &str) -> Result<(), AllocError>
+/// Prints the line of a room's id, which begins a message of it, behind these digits.
+pub(crate) fn push_place(out: &mut String, digits: &str, id: &str) -> Result<(), AllocError>
     ensures { OnOk result (string_bytes out.new ≡ string_bytes out.old ++ first_behind digits.now (codes ">" ++ id.now)) }
 {
     out.push_str(digits)?;
     out.push_str("< >")?;
-    out.push_str(id)?;
+    push_line(out, digits, id)?;
     out.push_str("\n")
 }
 
@@ -41,7 +98,7 @@ fn push_further(out: &mut String, digits: &str, line: &str) -> Result<(), AllocE
 {
     out.push_str(digits)?;
     out.push_str(". ")?;
-    out.push_str(line)?;
+    push_line(out, digits, line)?;
     out.push_str("\n")
 }
 
