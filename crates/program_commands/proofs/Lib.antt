@@ -3,3 +3,4 @@ pub mod CheckLemmas
 pub mod ConvertLemmas
 pub mod FieldLemmas
 pub mod SeedLemmas
+pub mod RoomLemmas

@@ -2,6 +2,7 @@ pub mod Words
 pub mod KeptWords
 pub mod Statuses
 pub mod Steps
+pub mod Rooms
 pub mod Setups
 pub mod Checks
 pub mod Conversions

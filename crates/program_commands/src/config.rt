@@ -2,6 +2,7 @@
 ghost use Rattle.std.specs.Prelude.{◌≡◌, ◌≤◌, length, Some, None, IfOk, IfErr};
 ghost use Rattle.std.specs.Option.{option_copied};
 ghost use Rattle.replay_drill.specs.Plain.{HasPlainFormats};
+ghost use Rattle.program_commands.specs.Rooms.{HasOwnRooms};
 ghost use Rattle.program_commands.specs.Steps.{config_in};
 ghost use Rattle.program_commands.specs.Setups.{Stands, Gave, Ended, StepCause};
 
@@ -26,6 +27,7 @@ fn read_config<F: Files>(
     ensures value { IfOk result (Gave (F.contents files.old) (λ lookup. config_in lookup dex.now (Some name.now))) }
     ensures few { IfOk result (λ c. length c.rooms ≤ 16) }
     ensures plain { IfOk result HasPlainFormats }
+    ensures rooms { IfOk result HasOwnRooms }
     ensures counts { IfOk result (λ _. F.counts files.new ≡ F.counts files.old) }
     ensures ended { IfErr result (Ended (F.contents files.old) (Some name.now) (λ lookup. config_in lookup dex.now (Some name.now))) }
     ensures cause { IfErr result (StepCause (Some name.now) (F.counts files.old) (F.counts files.new)) }
@@ -55,6 +57,7 @@ pub fn config_or_standard<F: Files>(
         (λ lookup. config_in lookup dex.now (option_copied named.entry))) }
     ensures few { IfOk result (λ c. length c.rooms ≤ 16) }
     ensures plain { IfOk result HasPlainFormats }
+    ensures rooms { IfOk result HasOwnRooms }
     ensures counts { IfOk result (λ _. F.counts files.new ≡ F.counts files.old) }
     ensures ended { IfErr result (Ended (F.contents files.old) (option_copied named.entry)
         (λ lookup. config_in lookup dex.now (option_copied named.entry))) }
