@@ -18,6 +18,7 @@ use Rattle.replay_state.specs.Ledgers.{blank_noting}
 use Rattle.replay_state.specs.Tables.{Desk, fresh, ledger_from}
 use Rattle.replay_state.specs.Transcript.{output}
 use Rattle.replay_state.proofs.BlockLemmas.{blocks_of}
+use Rattle.replay_read.proofs.ReadLemmas.{read_back}
 use Rattle.replay_state.proofs.LedgerLemmas.{notes_is}
 use Rattle.program_commands.specs.declared.status.Status.{Status}
 use Rattle.program_commands.specs.declared.status.Status.TheVariants.{Done, Usage, FileMissing, FileFault, FileLong, BadDex, BadConfig, BadScript, ScriptLong, ReadFault, WriteFault, BadTeam, NoMemory, DoorFault, UnknownFormat, BadPack, NoTour, KeepFault, KeepFull, BadExport, NoExport}
@@ -25,7 +26,7 @@ use Rattle.program_commands.specs.Words.{Options}
 use Rattle.program_commands.specs.Steps.{dex_in, config_in}
 use Rattle.program_commands.specs.Setups.{Stands, IsSetUp, IsSettled, StepCause, Ended}
 use Rattle.program_commands.proofs.SetupLemmas.{one_config}
-use Rattle.ps_replay.specs.Outcomes.{symbols_of, IsReadable, IsBadScript, ReplayCause}
+use Rattle.ps_replay.specs.Outcomes.{symbols_of, IsReadable, IsBadScript, ReplayCause, IsReadConfig}
 use Rattle.ps_replay.specs.Commands.{Met, IsReplay}
 use Rattle.ps_replay.specs.Dealings.{Dealings, MetWithKeeper, ReadFailed, WriteFailed, KeeperFailed, IsUntouched}
 use Rattle.ps_replay.specs.Archives.{IsRoomFor, IsArchived, InputEnds, IsLoaded, ArchiveEnds, IsOverFull}
@@ -198,17 +199,18 @@ made_some f None v ns is some = absurd cc
 made_some f (Some w) v ns is some = cc
 
 pub all_archived : (config : Settings) (dex : Tables) (loaded more : List Note) (d : Dealings) (bytes : List ℕ) (items : List Item)
-    → long_of bytes ≡ None
+    → IsReadConfig config → long_of bytes ≡ None
     → IsScript (symbols_of config.groups) bytes items → more ≡ notes (setup_of config dex items) items → IsRoomFor loaded more
     → d.kept_after ≡ after_notes more d.kept → Appends d.written d.written_after (output (setup_of config dex items) items)
     → IsArchived config dex loaded d bytes
-all_archived config dex loaded more d bytes items within script is room noted wrote = record {
+all_archived config dex loaded more d bytes items known within script is room noted wrote = record {
   transcript = record {
     within = within;
     items = items;
     script = script;
     wrote = wrote;
     blocks = blocks_of (setup_of config dex items) (symbols_of config.groups) bytes items script;
+    read = read_back (setup_of config dex items) (symbols_of config.groups) bytes items script known.rooms known.formats known.few;
   };
   items = items;
   script = script;

@@ -1,5 +1,5 @@
 -- What a status says.
-use Rattle.std.specs.Prelude.{◌≡◌, ◌⊎◌, ℕ, List, map, Option, Some, None, IfSome}
+use Rattle.std.specs.Prelude.{◌≡◌, ◌⊎◌, ℕ, ◌≤◌, List, length, map, Option, Some, None, IfSome}
 use Rattle.std.specs.Option.{IsSomeAnd}
 use Rattle.std.specs.Io.KnownBytes.{Appends, Keeps}
 use Rattle.ps_group.specs.declared.group.Group.{Group}
@@ -25,6 +25,9 @@ use Rattle.program_commands.specs.declared.status.Status.TheVariants.{BadConfig,
 use Rattle.program_commands.specs.declared.status.Status.TheVariants.{BadTeam, NoMemory, DoorFault, UnknownFormat, BadPack, NoTour}
 use Rattle.program_commands.specs.declared.status.Status.TheVariants.{KeepFault, KeepFull, BadExport, NoExport}
 use Rattle.program_commands.specs.Words.{Options, IfReplay, words_in}
+use Rattle.replay_drill.specs.Plain.{HasPlainFormats}
+use Rattle.program_commands.specs.Rooms.{HasOwnRooms}
+use Rattle.replay_read.specs.Readings.{IsReadBack}
 use Rattle.program_commands.specs.Setups.{HasSetup, IsGood, Stops, IsOption, IsSettled, AreGood}
 
 -- ---- the input
@@ -71,7 +74,8 @@ KeepsInput old new (NoExport set) = new ≡ old
 
 -- ---- what was written
 
--- all of the transcript of the one script, and nothing else; each connection's block from a place is its view there
+-- All of the transcript of the one script, and nothing else. Each connection's block from a place is its view there, and that is what a
+-- reader of the transcript finds.
 pub record IsTranscript (config : Settings) (dex : Tables) (old new : Option (List ℕ)) (bytes : List ℕ) : Type 0 where
   pub within : long_of bytes ≡ None
   pub items : List Item
@@ -79,6 +83,7 @@ pub record IsTranscript (config : Settings) (dex : Tables) (old new : Option (Li
   pub wrote : Appends old new (output (setup_of config dex items) items)
   pub blocks : (conn : ℕ) (place : Place) → block conn place (messages (setup_of config dex items) items)
       ≡ world_view conn place (world_of (setup_of config dex items) items)
+  pub read : IsReadBack (setup_of config dex items) items
 
 -- each text of the script is one entry
 abbrev pub HasOneEntryEachText : Settings → Tables → List ℕ → Type 0
@@ -196,6 +201,12 @@ Settles contents options left file_fault read_fault write_fault status = IsReadi
     → (read_fault → ⊥) → (write_fault → ⊥) → IsSettled status
 
 -- ---- for the code alone
+
+-- what is known of each configuration that a command reads
+pub record IsReadConfig (config : Settings) : Type 0 where
+  pub few : length config.rooms ≤ 16
+  pub rooms : HasOwnRooms config
+  pub formats : HasPlainFormats config
 
 -- a status that the words and the files have no part in
 abbrev pub IsOfInput : Status → Type 0

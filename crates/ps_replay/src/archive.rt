@@ -12,7 +12,7 @@ ghost use Rattle.replay_state.specs.Tables.{item_after, item_ledger, ledger_from
 ghost use Rattle.program_commands.specs.Words.{options_of};
 ghost use Rattle.program_commands.specs.Steps.{dex_in};
 ghost use Rattle.program_commands.specs.Setups.{Stands, IsSetUp};
-ghost use Rattle.ps_replay.specs.Outcomes.{symbols_of};
+ghost use Rattle.ps_replay.specs.Outcomes.{symbols_of, IsReadConfig};
 ghost use Rattle.ps_replay.specs.Dealings.{keeper_status, most_notes};
 ghost use Rattle.ps_replay.specs.Archives.{InputEnds};
 ghost use Rattle.ps_replay.specs.KeptRuns.{IsArchive};
@@ -127,6 +127,7 @@ fn archive_notes<K: Sink, R: Keeper>(
     out: &mut K,
     keeper: &mut R,
 ) -> Status
+    requires known { IsReadConfig (arc_value config.now) }
     requires within { long_of bytes.now ≡ None }
     requires script { IsScript (symbols_of (arc_value config.now).groups) bytes.now items.now }
     requires notes { more.now ≡ notes (setup_of (arc_value config.now) (arc_value dex.now) items.now) items.now }
@@ -165,6 +166,7 @@ fn archive_items<K: Sink, R: Keeper>(
     out: &mut K,
     keeper: &mut R,
 ) -> Status
+    requires known { IsReadConfig (arc_value config.now) }
     requires within { long_of bytes.now ≡ None }
     requires script { IsScript (symbols_of (arc_value config.now).groups) bytes.now items.now }
     requires few { length loaded.now ≤ most_notes }
@@ -202,6 +204,7 @@ fn archive_bytes<K: Sink, R: Keeper>(
     out: &mut K,
     keeper: &mut R,
 ) -> Status
+    requires known { IsReadConfig (arc_value config.now) }
     requires within { long_of bytes.now ≡ None }
     requires small { length bytes.now ≤ 16777216 }
     requires few { length loaded.now ≤ most_notes }
@@ -237,7 +240,8 @@ fn archive_input<S: Source, K: Sink, R: Keeper>(
     out: &mut K,
     keeper: &mut R,
 ) -> Status
-    requires { length loaded.now ≤ most_notes }
+    requires known { IsReadConfig (arc_value config.now) }
+    requires few { length loaded.now ≤ most_notes }
     ensures ends { InputEnds (arc_value config.now) (arc_value dex.now) loaded.now (S.left input.old)
         (Rose (S.faults input.old) (S.faults input.new)) (record {
           written = K.written out.old;
@@ -273,7 +277,8 @@ fn archive_kept<F: Files, S: Source, K: Sink, R: Keeper>(
     out: &mut K,
     keeper: &mut R,
 ) -> Status
-    requires { IsSetUp (F.contents files.old) (options_of options) (arc_value config.now) (arc_value dex.now) }
+    requires known { IsReadConfig (arc_value config.now) }
+    requires set_up { IsSetUp (F.contents files.old) (options_of options) (arc_value config.now) (arc_value dex.now) }
     ensures { IsArchive (options_of options.entry) (record {
       contents = F.contents files.old;
       counts = F.counts files.old;

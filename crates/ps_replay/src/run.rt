@@ -14,7 +14,7 @@ ghost use Rattle.program_commands.specs.Conversions.{HasExport, MakesPacked, Exp
 ghost use Rattle.program_commands.specs.Conversions.{SettlesConversion};
 ghost use Rattle.ps_replay.specs.Outcomes.{symbols_of, IsOfInput, KeepsInput, IsTranscript, HasOneEntryEachText, HasHistories};
 ghost use Rattle.ps_replay.specs.Outcomes.{HallLosesNothing, HasEqualWorlds, IsReplayed, WritesOfInput, ReplayCause, InputCause, Settles};
-ghost use Rattle.ps_replay.specs.Outcomes.{SettlesInput, AtDoneOfReplay};
+ghost use Rattle.ps_replay.specs.Outcomes.{SettlesInput, AtDoneOfReplay, IsReadConfig};
 ghost use Rattle.ps_replay.specs.Drills.{DrillEnds, DrillCause, WritesSummary, SettlesDrill};
 ghost use Rattle.ps_replay.specs.Tours.{IsTour, TourEnds, TourCause, SettlesTour};
 ghost use Rattle.ps_replay.specs.Writes.{Writes};
@@ -48,7 +48,7 @@ fn run_items<K: Sink>(
     items: &[Line<'_>],
     out: &mut K,
 ) -> Status
-    requires few { length (arc_value config.now).rooms ≤ 16 }
+    requires known { IsReadConfig (arc_value config.now) }
     requires within { long_of bytes.now ≡ None }
     requires script { IsScript (symbols_of (arc_value config.now).groups) bytes.now items.now }
     requires one { (others : List Item) → IsScript (symbols_of (arc_value config.now).groups) bytes.now others → others ≡ items.now }
@@ -75,7 +75,7 @@ fn run_bytes<K: Sink>(
     bytes: &[u8],
     out: &mut K,
 ) -> Status
-    requires few { length (arc_value config.now).rooms ≤ 16 }
+    requires known { IsReadConfig (arc_value config.now) }
     requires within { long_of bytes.now ≡ None }
     requires small { length bytes.now ≤ 16777216 }
     ensures of { IsOfInput result }
@@ -106,7 +106,7 @@ fn run_input<S: Source, K: Sink>(
     input: &mut S,
     out: &mut K,
 ) -> Status
-    requires { length (arc_value config.now).rooms ≤ 16 }
+    requires { IsReadConfig (arc_value config.now) }
     ensures of { IsOfInput result }
     ensures whole { result ≡ Status.Done → IsAtEnd (S.left input.new) }
     ensures replayed { result ≡ Status.Done → IfSome (S.left input.old)

@@ -5,6 +5,7 @@ ghost use Rattle.std.specs.Arc.{arc_value};
 ghost use Rattle.replay_drill.specs.Plain.{HasPlainNames, HasPlainFormats};
 ghost use Rattle.program_commands.specs.Steps.{dex_in, config_in};
 ghost use Rattle.program_commands.specs.Setups.{Stands, Gave, Ended, StepCause};
+ghost use Rattle.ps_replay.specs.Outcomes.{IsReadConfig};
 
 use program_commands::config::config_or_standard;
 use program_commands::dex::dex_or_none;
@@ -57,6 +58,7 @@ pub(crate) fn shared_config<F: Files>(
         Stands (F.contents files.old) (option_copied named.entry) (λ lookup. config_in lookup dex.now (option_copied named.entry))
         (arc_value c)) }
     ensures few { IfOk result (λ c. length (arc_value c).rooms ≤ 16) }
+    ensures known { IfOk result (λ c. IsReadConfig (arc_value c)) }
     ensures plain { IfOk result (λ c. HasPlainFormats (arc_value c)) }
     ensures counts { IfOk result (λ _. F.counts files.new ≡ F.counts files.old) }
     ensures ended { IfErr result (Ended (F.contents files.old) (option_copied named.entry) (λ lookup.

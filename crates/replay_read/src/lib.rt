@@ -1,0 +1,4 @@
+//! What a reader finds in a transcript.
+#![tactic(auto)]
+
+pub mod law;
