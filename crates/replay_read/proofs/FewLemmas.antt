@@ -17,6 +17,7 @@ use Rattle.replay_state.specs.Nows.{Now, record_at}
 use Rattle.replay_state.specs.Worlds.{Place, place_of, World, world_after, world_message, room_id}
 use Rattle.replay_state.specs.Entries.{State, idle, quits, text_entry, report_of, ending_at, reports, entry_happenings, session_of, is_open, sent_by, Run, state_of, run_opening, line_in, run_after}
 use Rattle.replay_state.specs.Transcript.{Message, message_if, messages_to, Sign, told, over, signs_from, signs_in, signs}
+use Rattle.replay_state.proofs.ReadLemmas.{passed_second}
 use Rattle.replay_state.proofs.CountLemmas.{opens_next, sends_open, sent_sessions, closed_sessions, open_sessions, count_next}
 use Rattle.replay_read.proofs.SoLemmas.{AreSo, so_append}
 
@@ -91,13 +92,8 @@ closed_ends most s conn false = tt
 
 -- ---- lines
 
-second_passed : {K : Type 0} (a b : Bool) (k l : K) → cond a (cond b None (Some k)) (Some l) ≡ None → b ≡ true
-second_passed true true k l e = refl
-second_passed true false k l e = absurd cc
-second_passed false b k l e = absurd cc
-
 opens_few : (s : Seen) (n : ℕ) → fault_of s (Open n) ≡ None → n ≤ 1024
-opens_few s n e = let t = second_passed (n == length s.opened + 1) (nat_le n 1024) _ _ e in grind (arith, nat_tests)
+opens_few s n e = let t = passed_second (n == length s.opened + 1) (nat_le n 1024) _ _ e in grind (arith, nat_tests)
 
 module _ (s : Seen) (r : Run) (same : length s.opened ≡ length r.sessions) (few : length r.sessions ≤ 1024) where
   sessions_few : (i : Item) → fault_of s i ≡ None → length (line_in r i).sessions ≤ 1024

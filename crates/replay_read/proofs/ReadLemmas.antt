@@ -1,5 +1,5 @@
 -- What is read of a transcript for a connection, from the hall and from each room, is its view there.
-use Rattle.std.proofs.Common.{◌≡◌, ◌≢◌, ◌⊎◌, ℕ, ◌<◌, ◌^◌, Bool, true, false, cond, ◌&&◌, List, [], ◌∷◌, ◌++◌, map, Option, Some, None, append_assoc, refl, sym, ap, ◌∙◌, inl, inr, arith}
+use Rattle.std.proofs.Common.{◌≡◌, ◌≢◌, ◌⊎◌, ℕ, suc, ◌<◌, ◌^◌, Bool, true, false, cond, ◌&&◌, List, [], ◌∷◌, ◌++◌, map, Option, Some, None, append_assoc, refl, sym, ap, ◌∙◌, inl, inr, arith}
 use Rattle.std.specs.Prelude.{◌==◌}
 use Rattle.std.specs.List.{flat_map}
 use Rattle.std.specs.Option.{option_map_or}
@@ -7,16 +7,17 @@ use Rattle.std.proofs.lemmas.Bool.Decides.{nat_tests, eqb_tells}
 use Rattle.std.proofs.lemmas.List.{map-append}
 use Rattle.std.proofs.lemmas.List.Elements.{filter_map-append}
 use Rattle.std.proofs.lemmas.Option.{same_Some}
+use Rattle.ps_base.proofs.CutLemmas.{after_front-append}
 use Rattle.ps_base.specs.Cuts.{after_front}
 use Rattle.ps_base.specs.Messages.{sent, joined}
 use Rattle.ps_room.specs.Stories.{Story, view_of}
 use Rattle.replay_state.specs.Worlds.{Place, in_hall, in_room, World, story_at}
 use Rattle.replay_state.specs.Entries.{world_of}
-use Rattle.replay_state.specs.Transcript.{Message, Sign, told, over, with_id, messages, signs, same_place, picked, block}
+use Rattle.replay_state.specs.Transcript.{HasNoNewline, Message, Sign, told, over, with_id, messages, signs, same_place, picked, block}
 use Rattle.replay_state.proofs.BlockLemmas.{blocks_of}
-use Rattle.replay_read.specs.Readings.{text_of_room, text_of_hall, texts_of_room, texts_of_hall, text_to, ReadsBack}
+use Rattle.replay_read.specs.Readings.{text_of_room, text_of_hall, texts_of_room, texts_of_hall, text_to, AreNumbered, PrintsToBeRead, IsNoRoom, ReadsBack}
 use Rattle.replay_read.proofs.ByteLemmas.{LacksNewline}
-use Rattle.replay_read.proofs.TextLemmas.{found, AreConns, all_read}
+use Rattle.replay_read.proofs.TextLemmas.{AreConns, all_read}
 use Rattle.replay_read.proofs.MessageLemmas.{IsOfPlace, IsOfRoom, AreOfPlaces, messages_placed}
 use Rattle.replay_read.proofs.FewLemmas.{AreUnder, signs_few}
 use Rattle.replay_read.proofs.NameLemmas.{ids_plain, ids_apart}
@@ -63,9 +64,20 @@ as_list (Some text) = text ∷ []
 
 room_from_same : (own : Bool) (id line : List ℕ) (rest : List (List ℕ)) → texts_of_room id (text_if own (Some id) (line ∷ rest)) ≡ map joined (lines_if own true (line ∷ rest))
 room_from_same true id line rest =
-    let text = ap (after_front (id ++ 10 ∷ [])) (sym (append_assoc id (10 ∷ []) (joined (line ∷ rest)))) ∙ found (id ++ 10 ∷ []) (joined (line ∷ rest)) in
+    let text = ap (after_front (id ++ 10 ∷ [])) (sym (append_assoc id (10 ∷ []) (joined (line ∷ rest)))) ∙ after_front-append (id ++ 10 ∷ []) (joined (line ∷ rest)) in
     rw text refl
 room_from_same false id line rest = refl
+
+no_lines : (own : Bool) (lines : List (List ℕ)) → map joined (lines_if own false lines) ≡ []
+no_lines true lines = refl
+no_lines false lines = refl
+
+without_newline : (id : List ℕ) → HasNoNewline id → LacksNewline id
+without_newline [] none = tt
+without_newline (b ∷ id) none =
+    let other : b ≢ 10 = none 0 (omega arith) in
+    let test : (b == 10) ≡ false = grind (arith, nat_tests) in
+    (test, without_newline id (λ i lt. none (suc i) (omega (arith, lt))))
 
 room_from_other : (own : Bool) (id other line : List ℕ) (rest : List (List ℕ)) → LacksNewline id → LacksNewline other → id ≢ other
     → texts_of_room id (text_if own (Some other) (line ∷ rest)) ≡ map joined (lines_if own false (line ∷ rest))
@@ -137,6 +149,38 @@ module _ (conn : ℕ) where
         ∙ ap (λ (texts : List (List ℕ)). map joined (picked conn (in_room number) m) ++ texts) (from_room ms of.1)
         ∙ sym (map-append joined (picked conn (in_room number) m) (block conn (in_room number) ms))
 
+  -- no room has this id
+  module _ (w : World) (id : List ℕ) (no_newline : LacksNewline id) (none : IsNoRoom w id)
+      (plain : (n : ℕ) (t : Story) → story_at n w ≡ Some t → LacksNewline t.opening.id) where
+    nowhere_one : (m : Message) (place : Place) → IsOfPlace w place m.id m.lines → texts_of_room id (text_if (m.conn == conn) m.id m.lines) ≡ []
+    nowhere_one m in_hall of =
+        ap (λ (head : Option (List ℕ)). texts_of_room id (text_if (m.conn == conn) head m.lines)) of.no_id
+        ∙ ap (λ (lines : List (List ℕ)). texts_of_room id (text_if (m.conn == conn) None lines)) of.lines_are
+        ∙ room_from_hall (m.conn == conn) id of.bytes of.rest
+        ∙ no_lines (m.conn == conn) ((124 ∷ of.bytes) ∷ of.rest)
+    nowhere_one m (in_room other) of =
+        ap (λ (head : Option (List ℕ)). texts_of_room id (text_if (m.conn == conn) head m.lines)) of.id_is
+        ∙ ap (λ (lines : List (List ℕ)). texts_of_room id (text_if (m.conn == conn) (Some of.story.opening.id) lines)) of.lines_are
+        ∙ room_from_other (m.conn == conn) id of.story.opening.id of.line of.rest no_newline (plain other of.story of.here) (λ is. none other of.story of.here (sym is))
+        ∙ no_lines (m.conn == conn) (of.line ∷ of.rest)
+
+    from_nowhere : (ms : List Message) → AreOfPlaces w ms → texts_of_room id (flat_map (text_to conn) ms) ≡ []
+    from_nowhere [] of = refl
+    from_nowhere (m ∷ ms) of =
+        filter_map-append (text_of_room id) (text_to conn m) (flat_map (text_to conn) ms)
+        ∙ ap (λ (texts : List (List ℕ)). texts ++ texts_of_room id (flat_map (text_to conn) ms)) (nowhere_one m m.place of.0)
+        ∙ from_nowhere ms of.1
+
+-- ---- what is printed
+
+numbered : (ss : List Sign) → AreNumbered ss → AreConns ss
+numbered [] few = tt
+numbered (told m ∷ ss) few = (omega (arith, few.0), numbered ss few.1)
+numbered (over conn ∷ ss) few = (omega (arith, few.0), numbered ss few.1)
+
+pub to_be_read : PrintsToBeRead
+to_be_read conn signs small few = all_read conn (omega (arith, small)) signs (numbered signs few)
+
 -- ---- a script
 
 conns : (ss : List Sign) → AreUnder 1024 ss → AreConns ss
@@ -157,4 +201,7 @@ read_back s symbols bytes items script own plain few =
           ap (texts_of_room story.opening.id) (all conn small)
           ∙ from_room conn w number story here (ids_plain s items own plain few) (ids_apart s items own plain few) (messages s items) placed
           ∙ ap (map joined) (blocks_of s symbols bytes items script conn (in_room number) ∙ ap (λ (found : Option Story). option_map_or (view_of conn) found []) here);
+      nowhere = λ conn id small clean none.
+          ap (texts_of_room id) (all conn small)
+          ∙ from_nowhere conn w id (without_newline id clean) none (ids_plain s items own plain few) (messages s items) placed;
     }

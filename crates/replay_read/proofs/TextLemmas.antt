@@ -1,5 +1,5 @@
 -- What was printed is read back, text by text, whatever the lines say.
-use Rattle.std.proofs.Common.{◌≡◌, ◌≢◌, ◌⊎◌, ℕ, ◌<◌, ◌≤◌, ◌^◌, Bool, true, false, cond, List, [], ◌∷◌, ◌++◌, map, codes, Option, Some, None, append_assoc, append-nil, refl, sym, ap, ◌∙◌, inl, inr, arith}
+use Rattle.std.proofs.Common.{◌≡◌, ◌≢◌, ◌⊎◌, ℕ, ◌<◌, ◌≤◌, ◌^◌, Bool, true, false, cond, List, [], ◌∷◌, ◌++◌, map, codes, Option, None, append_assoc, append-nil, refl, sym, ap, ◌∙◌, inl, inr, arith}
 use Rattle.std.specs.Prelude.{◌==◌, option_map, option_to_list}
 use Rattle.std.specs.Option.{option_map_or}
 use Rattle.std.specs.List.{flat_map, filter_map, onto_first}
@@ -9,6 +9,7 @@ use Rattle.std.proofs.lemmas.Bool.Decides.{nat_tests, eqb_tells}
 use Rattle.std.proofs.lemmas.Fmt.{decimal_is_IsNumeral, decimal_injective}
 use Rattle.std.proofs.lemmas.Str.Parse.{digit_from_value}
 use Rattle.std.proofs.lemmas.List.Concat.{flat_map-append}
+use Rattle.ps_base.proofs.CutLemmas.{after_front-append}
 use Rattle.ps_base.specs.Cuts.{after_front}
 use Rattle.ps_base.specs.Messages.{sent, behind, joined}
 use Rattle.replay_state.specs.Transcript.{Sign, told, over, message_in, byte_behind, line_behind, further_line, printed, with_id, over_line, print_sign}
@@ -22,10 +23,6 @@ split_line [] rest p = refl
 split_line (b ∷ x) rest p = rw p.0 (ap (onto_first b) (split_line x rest p.1))
 
 -- ---- fronts
-
-pub found : (f x : List ℕ) → after_front f (f ++ x) ≡ Some x
-found [] x = refl
-found (b ∷ f) x = let test : (b == b) ≡ true = grind (arith, nat_tests) in rw test (found f x)
 
 digits_plain : (d : List ℕ) → AllDigits 10 d → LacksNewline d
 digits_plain [] all = tt
@@ -141,14 +138,14 @@ module _ (conn : ℕ) (small : IsConn conn) where
   further_read : (x t rest : List ℕ) → LacksNewline x → rest_in conn (lines_of (piece (front_of_rest conn ++ x) own t rest)) ≡ 10 ∷ ((x ++ t) ++ rest_in conn (lines_of rest))
   further_read x [] rest plain =
       ap (rest_in conn) (text_ends own (front_of_rest conn ++ x) rest (rest_plain x plain))
-      ∙ ap (λ (o : Option (List ℕ)). option_map_or (λ part. 10 ∷ part ++ rest_in conn (lines_of rest)) o []) (found (front_of_rest conn) x)
+      ∙ ap (λ (o : Option (List ℕ)). option_map_or (λ part. 10 ∷ part ++ rest_in conn (lines_of rest)) o []) (after_front-append (front_of_rest conn) x)
       ∙ ap (λ (y : List ℕ). 10 ∷ (y ++ rest_in conn (lines_of rest))) (sym (append-nil x))
   further_read x (b ∷ t) rest plain = elim (eqb_tells b 10) [
     | inl is ↦
         let later = lines_of (piece (front_of_rest conn) own t rest) in
         ap (λ (c : ℕ). rest_in conn (lines_of (piece (front_of_rest conn ++ x) own (c ∷ t) rest))) is.1
         ∙ ap (rest_in conn) (line_ends own (front_of_rest conn ++ x) t rest (rest_plain x plain))
-        ∙ ap (λ (o : Option (List ℕ)). option_map_or (λ part. 10 ∷ part ++ rest_in conn later) o []) (found (front_of_rest conn) x)
+        ∙ ap (λ (o : Option (List ℕ)). option_map_or (λ part. 10 ∷ part ++ rest_in conn later) o []) (after_front-append (front_of_rest conn) x)
         ∙ ap (λ (y : List ℕ). 10 ∷ (x ++ y)) (ap (λ (y : List ℕ). rest_in conn (lines_of (piece y own t rest))) (sym (append-nil (front_of_rest conn))) ∙ further_read [] t rest tt)
         ∙ ap (λ (y : List ℕ). 10 ∷ y) (sym (append_assoc x (10 ∷ t) (rest_in conn (lines_of rest))))
         ∙ ap (λ (c : ℕ). 10 ∷ ((x ++ c ∷ t) ++ rest_in conn (lines_of rest))) (sym is.1)
@@ -214,7 +211,7 @@ module _ (conn : ℕ) (small : IsConn conn) where
       → texts_in conn (lines_of (piece (front_of_text conn ++ x) (decimal conn) t rest)) ≡ ((x ++ t) ++ rest_in conn (lines_of rest)) ∷ texts_in conn (lines_of rest)
   text_read x [] rest plain =
       ap (texts_in conn) (text_ends (decimal conn) (front_of_text conn ++ x) rest (text_plain conn small x plain))
-      ∙ ap (λ (o : Option (List ℕ)). found_in conn (lines_of rest) o ++ texts_in conn (lines_of rest)) (found (front_of_text conn) x)
+      ∙ ap (λ (o : Option (List ℕ)). found_in conn (lines_of rest) o ++ texts_in conn (lines_of rest)) (after_front-append (front_of_text conn) x)
       ∙ ap (λ (y : List ℕ). (y ++ rest_in conn (lines_of rest)) ∷ texts_in conn (lines_of rest)) (sym (append-nil x))
   text_read x (b ∷ t) rest plain = elim (eqb_tells b 10) [
     | inl is ↦
@@ -222,7 +219,7 @@ module _ (conn : ℕ) (small : IsConn conn) where
         let further = lines_of (piece (front_of_rest conn) d t rest) in
         ap (λ (c : ℕ). texts_in conn (lines_of (piece (front_of_text conn ++ x) d (c ∷ t) rest))) is.1
         ∙ ap (texts_in conn) (line_ends d (front_of_text conn ++ x) t rest (text_plain conn small x plain))
-        ∙ ap (λ (o : Option (List ℕ)). found_in conn further o ++ texts_in conn further) (found (front_of_text conn) x)
+        ∙ ap (λ (o : Option (List ℕ)). found_in conn further o ++ texts_in conn further) (after_front-append (front_of_text conn) x)
         ∙ ap (λ (y : List ℕ). (x ++ y) ∷ texts_in conn further) (further_begun conn small t rest)
         ∙ ap (λ (more : List (List ℕ)). (x ++ 10 ∷ (t ++ rest_in conn (lines_of rest))) ∷ more) (
         ap (λ (y : List ℕ). texts_in conn (lines_of (piece y d t rest))) (sym (append-nil (front_of_rest conn)))

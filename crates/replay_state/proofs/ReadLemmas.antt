@@ -45,7 +45,7 @@ line_of s (line ∷ ls) [] i later a = (line, a.0)
 line_of s [] (b ∷ before) i later a = absurd a
 line_of s (line ∷ ls) (b ∷ before) i later a = line_of (next s b) ls before i later a.2
 
-passed_second : {K : Type 0} (a b : Bool) (k l : K) → cond a (cond b None (Some k)) (Some l) ≡ None → b ≡ true
+pub passed_second : {K : Type 0} (a b : Bool) (k l : K) → cond a (cond b None (Some k)) (Some l) ≡ None → b ≡ true
 passed_second true true k l e = refl
 passed_second true false k l e = absurd cc
 passed_second false b k l e = absurd cc

@@ -33,7 +33,7 @@ messages_to zero world placed = []
 messages_to (suc count) world placed = messages_to count world placed
     ++ message_if (suc count) (place_of placed) (room_id world placed) (world_message (suc count) world placed)
 
--- what is printed: a message, or that a connection's session ended
+-- what is printed: a message, or that a connection's session ended at a limit
 pub data Sign : Type 0 where
   told : Message → Sign
   over : ℕ → Sign
@@ -66,11 +66,11 @@ messages setup items = filter_map message_in (signs setup items)
 
 -- ---- printing
 
--- for the code: a line without a newline
+-- a line without a newline, as all are that rooms and the hall make. Nothing here rests on that
 abbrev pub HasNoNewline : List ℕ → Type 0
 HasNoNewline line = (index : ℕ) → index < length line → slice_index line index ≢ characters.newline
 
--- A line behind the digits of its connection. If it had a newline, as none has, it would go on as the text of its message does: so
+-- A line as it is printed: behind a newline in it stand the digits of its connection and `. ` again, as before a further line. So
 -- what is printed can be read back, whatever lines say.
 abbrev pub byte_behind : List ℕ → ℕ → List ℕ
 byte_behind digits byte = if byte == characters.newline then characters.newline ∷ digits ++ codes ". " else byte ∷ []
@@ -78,6 +78,7 @@ byte_behind digits byte = if byte == characters.newline then characters.newline 
 abbrev pub line_behind : List ℕ → List ℕ → List ℕ
 line_behind digits line = flat_map (byte_behind digits) line
 
+-- the first line of a message, and each further one
 abbrev pub first_line : ℕ → List ℕ → List ℕ
 first_line conn line = decimal conn ++ codes "< " ++ line_behind (decimal conn) line ++ characters.newline ∷ []
 
@@ -89,7 +90,7 @@ abbrev pub printed : ℕ → List (List ℕ) → List ℕ
 printed conn [] = []
 printed conn (line ∷ lines) = first_line conn line ++ flat_map (further_line conn) lines
 
--- a room's message begins with its id
+-- a room's message begins with the line `>ID`
 abbrev pub with_id : Option (List ℕ) → List (List ℕ) → List (List ℕ)
 with_id id [] = []
 with_id id (line ∷ lines) = headed id (line ∷ lines)
@@ -97,7 +98,7 @@ with_id id (line ∷ lines) = headed id (line ∷ lines)
 abbrev pub print : Message → List ℕ
 print message = printed message.conn (with_id message.id message.lines)
 
--- the line of a session that ended
+-- the line of a session that ended at a limit
 abbrev pub over_line : ℕ → List ℕ
 over_line conn = decimal conn ++ codes "! OwnLimit" ++ characters.newline ∷ []
 
